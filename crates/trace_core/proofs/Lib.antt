@@ -1,0 +1,17 @@
+pub mod Tables
+pub mod Fronts
+pub mod UsualLines
+pub mod Readings
+pub mod Buffers
+pub mod Splits
+pub mod Collecting
+pub mod Entries
+pub mod Runs
+pub mod Turns
+pub mod Deliveries
+pub mod Steps
+pub mod Advancing
+pub mod Searches
+pub mod Numbers
+pub mod Tasks
+pub mod Judging

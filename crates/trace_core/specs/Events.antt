@@ -1,0 +1,45 @@
+-- The references of an item, and what a trace gives a cache.
+use Rattle.std.specs.Prelude.{ℕ, Bool, true, false, Option, None, Some, List, [], ◌∷◌, map, filter}
+use Rattle.std.specs.Option.{option_to_list}
+use Rattle.trace_core.specs.declared.events.Op.{Op}
+use Rattle.trace_core.specs.declared.events.Op.TheVariants as op
+use Rattle.trace_core.specs.declared.events.Item.{Item}
+use Rattle.trace_core.specs.declared.events.Entry.{Entry}
+use Rattle.trace_core.specs.declared.events.Entry.TheVariants as entry
+use Rattle.trace_core.specs.declared.events.Access.{Access}
+use Rattle.trace_core.specs.declared.events.Access.TheVariants.{Fetch, Read, Write}
+use Rattle.trace_core.specs.declared.events.Ref.{Ref}
+use Rattle.trace_core.specs.declared.events.Event.{Event}
+use Rattle.trace_core.specs.declared.events.Event.TheVariants as event
+use Rattle.trace_core.specs.declared.events.Kind.{Kind}
+use Rattle.trace_core.specs.declared.events.Kind.TheVariants.{All, DataOnly, FetchOnly}
+
+-- one access to an address
+abbrev pub at : Access → ℕ → Ref
+at access addr = record { access = access; addr = addr }
+
+-- a fetch gives a fetch, a load a read, a store a write, a modify a read and then a write
+abbrev pub references_to : Op → ℕ → Ref × Option Ref
+references_to op.Fetch addr = (at Fetch addr, None)
+references_to op.Load addr = (at Read addr, None)
+references_to op.Store addr = (at Write addr, None)
+references_to op.Modify addr = (at Read addr, Some (at Write addr))
+
+abbrev pub references : Item → Ref × Option Ref
+references item = references_to item.op item.addr
+
+-- whether a kind keeps such references
+abbrev pub keeps : Kind → Access → Bool
+keeps All access = true
+keeps DataOnly Fetch = false
+keeps DataOnly Read = true
+keeps DataOnly Write = true
+keeps FetchOnly Fetch = true
+keeps FetchOnly Read = false
+keeps FetchOnly Write = false
+
+-- what an entry gives a cache: the references of its item that are kept, or a flush
+abbrev pub events_of : Kind → Entry → List Event
+events_of kind (entry.Item item) =
+    map event.Reference (filter (λ r. keeps kind r.access) ((references item).0 ∷ option_to_list (references item).1))
+events_of kind entry.Flush = event.Flush ∷ []

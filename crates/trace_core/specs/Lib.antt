@@ -1,0 +1,10 @@
+pub mod Events
+pub mod Fields
+pub mod Line
+pub mod Usual
+pub mod Device
+pub mod Lines
+pub mod Reading
+pub mod Reader
+pub mod Scan
+pub mod Task

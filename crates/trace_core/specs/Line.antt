@@ -1,0 +1,100 @@
+-- What one line stands for, or its fault.
+use Rattle.std.specs.Prelude.{◌≡◌, ℕ, ◌==◌, nat_lt, ◌||◌, Bool, false, List, [], ◌∷◌, Option, None, Some, Result, Ok, Err, if◌then◌else◌}
+use Rattle.std.specs.List.{before_first, after_first}
+use Rattle.trace_core.specs.Fields.{trimmed, fields, number_of, without_0x}
+use Rattle.trace_core.specs.declared.events.Op.{Op}
+use Rattle.trace_core.specs.declared.events.Op.TheVariants.{Fetch, Load, Store, Modify}
+use Rattle.trace_core.specs.declared.events.Entry.{Entry}
+use Rattle.trace_core.specs.declared.events.Entry.TheVariants as entry
+use Rattle.trace_core.specs.declared.line.Format.{Format}
+use Rattle.trace_core.specs.declared.line.Format.TheVariants.{Din, Lackey}
+use Rattle.trace_core.specs.declared.line.LineFault.{LineFault}
+use Rattle.trace_core.specs.declared.line.LineFault.TheVariants.{Label, Address, Size}
+
+-- an item
+abbrev pub item : Op → ℕ → ℕ → Option Entry
+item op addr size = Some (entry.Item (record { op = op; addr = addr; size = size }))
+
+-- what the labels `0` to `4` make of an address: a load, a store, a fetch, nothing, a flush (Dinero IV, traditional format)
+abbrev pub din_entry : ℕ → ℕ → Option Entry
+din_entry label addr =
+    if label == 48 then item Load addr 0
+    else if label == 49 then item Store addr 0
+    else if label == 50 then item Fetch addr 0
+    else if label == 51 then None
+    else Some entry.Flush
+
+-- the address in the second field, after an optional `0x`
+abbrev pub din_address : List (List ℕ) → Option ℕ
+din_address [] = None
+din_address (field ∷ further) = number_of 16 16 (without_0x field)
+
+-- with the address, if there is one
+abbrev pub addressed : Option ℕ → (ℕ → Option Entry) → Result (Option Entry) LineFault
+addressed None make = Err Address
+addressed (Some addr) make = Ok (make addr)
+
+-- A din line by its fields: a label of one byte, an address, and whatever follows.
+abbrev pub din_meaning : List (List ℕ) → Result (Option Entry) LineFault
+din_meaning [] = Ok None
+din_meaning ([] ∷ further) = Err Label
+din_meaning ((label ∷ []) ∷ further) =
+    if nat_lt label 48 || nat_lt 52 label then Err Label else addressed (din_address further) (din_entry label)
+din_meaning ((label ∷ more ∷ bytes) ∷ further) = Err Label
+
+-- what the labels `I`, `L`, `S`, `M` stand for (valgrind's lackey, `--trace-mem=yes`)
+abbrev pub lackey_op : ℕ → Option Op
+lackey_op label =
+    if label == 73 then Some Fetch
+    else if label == 76 then Some Load
+    else if label == 83 then Some Store
+    else if label == 77 then Some Modify
+    else None
+
+abbrev pub is_comma : ℕ → Bool
+is_comma c = c == 44
+
+-- with the size, if there is one
+abbrev pub sized : Option ℕ → (ℕ → Option Entry) → Result (Option Entry) LineFault
+sized None make = Err Size
+sized (Some size) make = Ok (make size)
+
+abbrev pub located : Option ℕ → (ℕ → Result (Option Entry) LineFault) → Result (Option Entry) LineFault
+located None make = Err Address
+located (Some addr) make = make addr
+
+-- the second field: an address up to its first comma, and a size after it
+abbrev pub lackey_access : Op → List (List ℕ) → Result (Option Entry) LineFault
+lackey_access op [] = Err Address
+lackey_access op (field ∷ further) =
+    located (number_of 16 16 (before_first is_comma field))
+    (λ addr. sized (number_of 10 9 (after_first is_comma field)) (item op addr))
+
+abbrev pub labelled : Option Op → (Op → Result (Option Entry) LineFault) → Result (Option Entry) LineFault
+labelled None make = Err Label
+labelled (Some op) make = make op
+
+-- A lackey line by its fields: an operation of one byte, an address and a size, and whatever follows.
+abbrev pub lackey_meaning : List (List ℕ) → Result (Option Entry) LineFault
+lackey_meaning [] = Ok None
+lackey_meaning ([] ∷ further) = Err Label
+lackey_meaning ((label ∷ []) ∷ further) = labelled (lackey_op label) (λ op. lackey_access op further)
+lackey_meaning ((label ∷ more ∷ bytes) ∷ further) = Err Label
+
+-- a message of valgrind's begins with `=`, `-` or `*`
+abbrev pub is_message : List ℕ → Bool
+is_message [] = false
+is_message (c ∷ cs) = c == 61 || c == 45 || c == 42
+
+-- What a line stands for: nothing, where it is skipped, or an entry; or the fault of its leftmost failing field.
+abbrev pub meaning : Format → List ℕ → Result (Option Entry) LineFault
+meaning Din line = din_meaning (fields (trimmed line))
+meaning Lackey line = if is_message line then Ok None else lackey_meaning (fields (trimmed line))
+
+-- A line of a din trace, in the traditional format of Dinero IV, that means this: nothing, where it is skipped, or an entry.
+abbrev pub DinLine : List ℕ → Option Entry → Type 0
+DinLine line means = meaning Din line ≡ Ok means
+
+-- A line of a trace by valgrind's lackey that means this.
+abbrev pub LackeyLine : List ℕ → Option Entry → Type 0
+LackeyLine line means = meaning Lackey line ≡ Ok means

@@ -1,0 +1,28 @@
+-- The lines of a text.
+use Rattle.std.specs.Prelude.{◌≡◌, ⊤, ℕ, suc, ◌==◌, Bool, false, List, [], ◌∷◌, if◌then◌else◌}
+use Rattle.std.specs.List.{onto_first}
+
+abbrev pub is_line_feed : ℕ → Bool
+is_line_feed c = c == 10
+
+-- the pieces between LFs, where an empty last piece is no line
+abbrev pub lines : List ℕ → List (List ℕ)
+lines [] = []
+lines (c ∷ text) = if is_line_feed c then [] ∷ lines text else onto_first c (lines text)
+
+-- no byte is an LF
+abbrev pub HoldsNoFeed : List ℕ → Type 0
+HoldsNoFeed [] = ⊤
+HoldsNoFeed (c ∷ cs) = (is_line_feed c ≡ false) × HoldsNoFeed cs
+
+-- how many lines end with an LF
+abbrev pub line_feeds : List ℕ → ℕ
+line_feeds [] = 0
+line_feeds (c ∷ text) = if is_line_feed c then suc (line_feeds text) else line_feeds text
+
+-- some pieces without their last one where that is empty
+abbrev pub without_empty_last : List (List ℕ) → List (List ℕ)
+without_empty_last [] = []
+without_empty_last ([] ∷ []) = []
+without_empty_last ((c ∷ piece) ∷ []) = (c ∷ piece) ∷ []
+without_empty_last (piece ∷ next ∷ more) = piece ∷ without_empty_last (next ∷ more)

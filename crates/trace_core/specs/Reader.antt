@@ -1,0 +1,95 @@
+-- How a reader stands, and what it has read of a source.
+use Rattle.std.specs.Prelude.{◌≡◌, ◌≢◌, ⊤, IfSome, Bool, true, false, ℕ, List, [], ◌++◌, Option, None, Some, Result, Ok, Err, if◌then◌else◌}
+use Rattle.std.specs.Io.KnownBytes.{Consumes, IsAtEnd}
+use Rattle.std.specs.Option.{option_to_list}
+use Rattle.trace_core.specs.Reading.{Reading, ends, Ending, reading_after, at_end, at_failure}
+use Rattle.trace_core.specs.Device.{one_more}
+use Rattle.trace_core.specs.declared.events.Entry.{Entry}
+use Rattle.trace_core.specs.declared.line.Format.{Format}
+use Rattle.trace_core.specs.declared.fault.TraceFault.{TraceFault}
+use Rattle.trace_core.specs.declared.fault.TraceFault.TheVariants as fault
+use Rattle.trace_core.specs.declared.reader.ReaderState.{ReaderState}
+use Rattle.trace_core.specs.declared.reader.ReaderState.TheVariants as state
+
+-- How a reader stands: how many lines it has read, which bytes were delivered to it and not yet read, and whether it goes on.
+pub record Progress : Type 0 where
+  pub format : Format
+  pub limit : ℕ
+  pub lines : ℕ
+  pub unread : List ℕ
+  pub state : ReaderState
+
+-- what is left of a reading in a state
+abbrev pub left_in : ReaderState → Reading → Reading
+left_in state.Open r = r
+left_in state.Ended r = ends None
+left_in (state.Failed f) r = ends (Some f)
+
+-- what a reader still gives, where these bytes come and then this ending
+abbrev pub still_gives : Ending → Progress → List ℕ → Reading
+still_gives e p later = left_in p.state (reading_after e p.format p.limit p.lines (p.unread ++ later))
+
+-- What may follow the bytes that led to a state, where `told` is what the source still tells of: anything while the reader is
+-- open, nothing after the end or a failure, and after another fault what is told.
+abbrev pub MayFollow : Option (List ℕ) → ReaderState → Ending → List ℕ → Type 0
+MayFollow told state.Open e later = ⊤
+MayFollow told state.Ended e later = (e ≡ at_end) × (later ≡ [])
+MayFollow told (state.Failed (fault.Read n)) e later = (e ≡ at_failure) × (later ≡ [])
+MayFollow told (state.Failed (fault.TooLong n)) e later = (e ≡ at_end) × (told ≡ Some later)
+MayFollow told (state.Failed (fault.TooManyLines n)) e later = (e ≡ at_end) × (told ≡ Some later)
+MayFollow told (state.Failed (fault.Line n f)) e later = (e ≡ at_end) × (told ≡ Some later)
+
+-- these entries, and then a reading
+abbrev pub entries_then : List (ℕ × Entry) → Reading → Reading
+entries_then xs r = record { entries = xs ++ r.entries; fault = r.fault }
+
+-- A reader went from old to new over these bytes and gave these entries: whatever may follow, what old gives is these entries
+-- and then what new gives.
+pub record Advances (told : Option (List ℕ)) (old new : Progress) (bytes : List ℕ) (xs : List (ℕ × Entry)) : Type 0 where
+  pub gives : (e : Ending) (later : List ℕ) → MayFollow told new.state e later
+      → still_gives e old (bytes ++ later) ≡ entries_then xs (still_gives e new later)
+
+-- the state of a reader that began
+abbrev pub begun : Format → ℕ → Progress
+begun format limit = record { format = format; limit = limit; lines = 0; unread = []; state = state.Open }
+
+-- the entry of an answer
+abbrev pub answered : Result (Option (ℕ × Entry)) TraceFault → List (ℕ × Entry)
+answered (Ok x) = option_to_list x
+answered (Err f) = []
+
+-- the state tells what was answered: the end, a fault, or an entry
+abbrev pub Tells : ReaderState → Result (Option (ℕ × Entry)) TraceFault → Type 0
+Tells s (Ok None) = s ≡ state.Ended
+Tells s (Ok (Some x)) = (f : TraceFault) → s ≢ state.Failed f
+Tells s (Err f) = s ≡ state.Failed f
+
+-- whether a state is that of a failed device
+abbrev pub device_failed : ReaderState → Bool
+device_failed state.Open = false
+device_failed state.Ended = false
+device_failed (state.Failed (fault.Read n)) = true
+device_failed (state.Failed (fault.TooLong n)) = false
+device_failed (state.Failed (fault.TooManyLines n)) = false
+device_failed (state.Failed (fault.Line n f)) = false
+
+-- The source told of these bytes before they were delivered, and goes on telling unless it failed.
+abbrev pub Delivers : Option (List ℕ) → Option (List ℕ) → Bool → List ℕ → Type 0
+Delivers old new false bytes = Consumes old new bytes
+Delivers old new true bytes = IfSome old (λ before. IfSome new (λ later. before ≡ bytes ++ later))
+
+-- the answer of a call in a state that isn't open
+abbrev pub stopped_answer : ReaderState → Result (Option (ℕ × Entry)) TraceFault
+stopped_answer state.Open = Ok None
+stopped_answer state.Ended = Ok None
+stopped_answer (state.Failed f) = Err f
+
+-- A reader was begun when a source told of `before` and had failed `failures-before` times, and has read these entries since: the
+-- source delivered some bytes and tells of `told` now, and whatever may follow them, the reading of these bytes is these entries
+-- and then what the reader still gives. The source failed since just where the state says so.
+pub record Reached (format : Format) (limit : ℕ) (before told : Option (List ℕ)) (failures-before failures : ℕ) (xs : List (ℕ × Entry)) (p : Progress) : Type 0 where
+  pub bytes : List ℕ
+  pub delivers : Delivers before told (device_failed p.state) bytes
+  pub reads : Advances told (begun format limit) p bytes xs
+  pub at_end : p.state ≡ state.Ended → IsAtEnd told
+  pub counted : failures ≡ (if device_failed p.state then one_more failures-before else failures-before)

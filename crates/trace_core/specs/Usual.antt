@@ -1,0 +1,22 @@
+-- The front of a line, which decides what it means.
+use Rattle.std.specs.Prelude.{◌≡◌, true, false, ℕ, List, [], ◌∷◌, ◌++◌, Some, Ok}
+use Rattle.trace_core.specs.Fields.{is_trailing, trimmed, fields, ends_field}
+use Rattle.trace_core.specs.Lines.{is_line_feed, HoldsNoFeed}
+use Rattle.trace_core.specs.Line.{meaning}
+use Rattle.trace_core.specs.declared.events.Entry.TheVariants as entry
+use Rattle.trace_core.specs.declared.events.Item.{Item}
+use Rattle.trace_core.specs.declared.line.Format.{Format}
+
+-- A text begins with some bytes, without an LF. A line that begins with them means this item, if a field ends after them.
+pub record BeginsLine (format : Format) (text rest : List ℕ) (item : Item) : Type 0 where
+  pub front : List ℕ
+  pub splits : text ≡ front ++ rest
+  pub unfed : HoldsNoFeed front
+  pub means : (end : List ℕ) → ends_field end ≡ true → meaning format (front ++ end) ≡ Ok (Some (entry.Item item))
+
+-- A text begins with some bytes. A line that begins with them has this label as its first field, and its others come after them.
+pub record BeginsLabel (text rest : List ℕ) (label : ℕ) : Type 0 where
+  pub front : List ℕ
+  pub splits : text ≡ front ++ rest
+  pub unfed : is_line_feed label ≡ false → HoldsNoFeed front
+  pub first : (more : List ℕ) → is_trailing label ≡ false → fields (trimmed (front ++ more)) ≡ (label ∷ []) ∷ fields (trimmed more)

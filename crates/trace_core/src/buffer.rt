@@ -1,0 +1,89 @@
+//! A buffer of fixed size between a source and a reader.
+ghost use Rattle.std.specs.Prelude.{◌≡◌, ℕ, ◌+◌, ◌-◌, ◌<◌, ◌≤◌, List, [], ◌++◌, length, take, drop, slice_range, vec_len, IfOk, OnErr};
+ghost use Rattle.std.specs.Io.KnownBytes.{Consumes, IsAtEnd};
+ghost use Rattle.trace_core.specs.Device.{CountsFailure, StaysOrUntold};
+
+use crate::io::{DeviceFault, Source};
+use std::alloc::{AllocError, Global};
+use std::marker::Model;
+
+/// How many bytes a buffer holds at most.
+pub(crate) const CAPACITY: usize = 65536;
+
+/// The bytes that were delivered and not yet consumed.
+#[derive(Drop)]
+pub(crate) struct Buffer {
+    bytes: Vec<u8>,
+    start: usize,
+    end: usize,
+}
+
+impl Model for Buffer {
+    ghost Value = { List ℕ };
+
+    ghost view = { λ b. slice_range b.bytes.items b.start b.end };
+
+    ghost invariant = { λ b. (b.start ≤ b.end) × (b.end ≤ 65536) × (vec_len b.bytes ≡ 65536) };
+}
+
+impl Buffer {
+    pub(crate) fn new(alloc: Global) -> Result<Buffer, AllocError>
+        ensures { IfOk result (λ b. b ≡ []) }
+    {
+        let mut bytes = Vec::new(alloc);
+        bytes.resize(CAPACITY, 0)?;
+        Ok(Buffer {
+            bytes,
+            start: 0,
+            end: 0,
+        })
+    }
+
+    #[inline(always)]
+    pub(crate) fn as_slice(&self) -> &[u8]
+        ensures value { result.now ≡ self.now }
+        ensures fits { length self.now ≤ CAPACITY }
+    {
+        &self.bytes[self.start..self.end]
+    }
+
+    #[inline(always)]
+    pub(crate) fn consume(&mut self, count: usize)
+        requires { count ≤ length self.old }
+        ensures { self.new ≡ drop count self.old }
+    {
+        self.start += count;
+    }
+
+    /// Asks for as many bytes as there is room for, and answers how many came.
+    pub(crate) fn fill<S: Source>(&mut self, source: &mut S) -> Result<usize, DeviceFault>
+        requires { length self.old < CAPACITY }
+        ensures more { IfOk result (λ n. (more : List ℕ) × (length more ≡ n) × (self.new ≡ self.old ++ more)
+            × Consumes (S.remaining source.old) (S.remaining source.new) more) }
+        ensures end { IfOk result (λ n. n ≡ 0 → IsAtEnd (S.remaining source.new)) }
+        ensures fits { length self.new ≤ CAPACITY }
+        ensures fault { OnErr result ((self.new ≡ self.old)
+            × StaysOrUntold (S.remaining source.old) (S.remaining source.new)) }
+        ensures counted { CountsFailure (S.failures source.old) (S.failures source.new) result }
+    {
+        let held = self.end - self.start;
+        shift(&mut self.bytes, self.start, self.end);
+        self.start = 0;
+        self.end = held;
+        let count = source.read(&mut self.bytes[held..])?;
+        self.end = held + count;
+        Ok(count)
+    }
+}
+
+/// Moves the bytes from `start` to `end` to the front.
+fn shift(bytes: &mut Vec<u8>, start: usize, end: usize)
+    requires order { start ≤ end }
+    requires within { end ≤ vec_len bytes.old }
+    ensures moved { take (end - start) bytes.new.items ≡ slice_range bytes.old.items start end }
+    ensures length { vec_len bytes.new ≡ vec_len bytes.old }
+{
+    if start > 0 {
+        bytes.copy_within(start..end, 0);
+    }
+}

@@ -1,0 +1,107 @@
+//! What a trace says: items, flushes, and the references of an item.
+ghost use Rattle.std.specs.Prelude.{◌≡◌};
+ghost use Rattle.trace_core.specs.Events.{references, keeps};
+
+/// What an item does with its address.
+#[derive(Clone, Copy, Debug, PartialEq, Eq)]
+pub enum Op {
+    /// An instruction is fetched.
+    Fetch,
+    Load,
+    Store,
+    /// A load and then a store of the same address.
+    Modify,
+}
+
+/// One item of a trace.
+#[derive(Clone, Copy, Debug, PartialEq, Eq)]
+pub struct Item {
+    pub op: Op,
+    /// The address of its first byte.
+    pub addr: u64,
+    /// How many bytes it touches; 0 in a din trace, which doesn't tell.
+    pub size: u32,
+}
+
+/// What a line stands for, where it isn't skipped.
+#[derive(Clone, Copy, Debug, PartialEq, Eq)]
+pub enum Entry {
+    Item(Item),
+    /// All caches are emptied.
+    Flush,
+}
+
+impl Entry {
+    /// The same entry, put together from its fields. What a call that is not inlined answers lies
+    /// in memory, and so does what is merged with it; a cold call's answer goes through here, so
+    /// that the hot one stays in registers.
+    #[inline(always)]
+    pub(crate) fn rebuilt(self) -> Entry
+        ensures { result ≡ self }
+    {
+        match self {
+            Entry::Item(Item { op, addr, size }) => Entry::Item(Item { op, addr, size }),
+            Entry::Flush => Entry::Flush,
+        }
+    }
+}
+
+/// How a cache is accessed.
+#[derive(Clone, Copy, Debug, PartialEq, Eq)]
+pub enum Access {
+    Fetch,
+    Read,
+    Write,
+}
+
+/// One access to one address.
+#[derive(Clone, Copy, Debug, PartialEq, Eq)]
+pub struct Ref {
+    pub access: Access,
+    pub addr: u64,
+}
+
+/// What a cache is given: a reference or a flush.
+#[derive(Clone, Copy, Debug, PartialEq, Eq)]
+pub enum Event {
+    Reference(Ref),
+    Flush,
+}
+
+/// Which references are kept. A flush is always kept.
+#[derive(Clone, Copy, Debug, PartialEq, Eq)]
+pub enum Kind {
+    All,
+    /// Reads and writes.
+    DataOnly,
+    FetchOnly,
+}
+
+impl Kind {
+    /// Whether references of this access are kept.
+    #[inline(always)]
+    pub fn keeps(self, access: Access) -> bool
+        ensures { result ≡ keeps self access }
+    {
+        match self {
+            Kind::All => true,
+            Kind::DataOnly => !matches!(access, Access::Fetch),
+            Kind::FetchOnly => matches!(access, Access::Fetch),
+        }
+    }
+}
+
+/// The references of an item: a modify reads and then writes.
+#[inline(always)]
+pub fn refs_of(item: Item) -> (Ref, Option<Ref>)
+    ensures { result ≡ references item }
+{
+    let addr = item.addr;
+    let at = |access| Ref { access, addr };
+    match item.op {
+        Op::Fetch => (at(Access::Fetch), None),
+        Op::Load => (at(Access::Read), None),
+        Op::Store => (at(Access::Write), None),
+        Op::Modify => (at(Access::Read), Some(at(Access::Write))),
+    }
+}

@@ -1,0 +1,67 @@
+//! Why a trace can't be read on, and why a run over one stops.
+ghost use Rattle.std.specs.Prelude.{◌≡◌};
+ghost use Rattle.trace_core.specs.declared.fault.RunFault.TheVariants.{Memory, Trace, Write};
+
+use crate::io::DeviceFault;
+use crate::line::LineFault;
+use crate::reader::MAX_LINE;
+use std::alloc::AllocError;
+use thiserror::Error;
+
+/// Why a trace can't be read on. Lines are numbered from 1.
+#[derive(Clone, Copy, Debug, PartialEq, Eq, Error)]
+pub enum TraceFault {
+    /// The source failed in this line, before what came of the line was at fault.
+    #[error("line {line}: read failed")]
+    Read { line: u64 },
+    /// More than `MAX_LINE` bytes of this line came without an LF.
+    #[error("line {line}: longer than {MAX_LINE} bytes")]
+    TooLong { line: u64 },
+    /// A byte came after this many lines, the most that there may be.
+    #[error("more than {limit} lines")]
+    TooManyLines { limit: u64 },
+    /// This line is whole, and stands for nothing.
+    #[error("line {line}: {fault}")]
+    Line { line: u64, fault: LineFault },
+}
+
+/// Why a run stopped before its end. A run takes its memory, then reads its trace, and then writes
+/// what it still owes.
+#[derive(Clone, Copy, Debug, PartialEq, Eq, Error)]
+pub enum RunFault {
+    /// There was not enough memory.
+    #[error("out of memory")]
+    Memory,
+    /// The trace can't be read on, or its source failed.
+    #[error("{0}")]
+    Trace(TraceFault),
+    /// The sink failed.
+    #[error("write failed")]
+    Write,
+}
+
+impl From<AllocError> for RunFault {
+    ghost from_gives = { λ _ fault. fault ≡ Memory };
+
+    fn from(_error: AllocError) -> RunFault {
+        RunFault::Memory
+    }
+}
+
+impl From<TraceFault> for RunFault {
+    ghost from_gives = { λ trace fault. fault ≡ Trace trace };
+
+    fn from(fault: TraceFault) -> RunFault {
+        RunFault::Trace(fault)
+    }
+}
+
+/// A device's failure that comes to a run is its sink's: a reader tells that of its source as a
+/// fault of the trace.
+impl From<DeviceFault> for RunFault {
+    ghost from_gives = { λ _ fault. fault ≡ Write };
+
+    fn from(_fault: DeviceFault) -> RunFault {
+        RunFault::Write
+    }
+}

@@ -1,0 +1,146 @@
+//! Where bytes come from and go to, and how often that failed.
+ghost use Rattle.std.specs.Prelude.{◌≡◌, ℕ, ◌<◌, ◌≤◌, ◌==◌, List, Option, None, Some, IfOk, OnOk, OnErr, MatchResult, length, drop, if◌then◌else◌};
+ghost use Rattle.std.specs.Io.KnownBytes.{Keeps, Appends};
+ghost use Rattle.trace_core.specs.Device.{CountsFailure, Gives, Takes, StaysOrUntold, WritesPrefix};
+
+use std::io::{Read, Write};
+
+/// A device failed. It says no more.
+#[derive(Clone, Copy, Debug, PartialEq, Eq)]
+pub struct DeviceFault;
+
+/// Where bytes come from.
+pub trait Source {
+    // How often calls failed so far, a stored `u64` that stays at its greatest value.
+    ghost failures: { Self → ℕ };
+
+    // The bytes still to come, where they are told.
+    ghost remaining: { Self → Option (List ℕ) };
+
+    /// Puts bytes into the front of `into`, and answers how many. 0 for a nonempty slice means the
+    /// end.
+    fn read(&mut self, into: &mut [u8]) -> Result<usize, DeviceFault>
+        ensures bound { IfOk result (λ n. n ≤ length into.new) }
+        ensures bytes { Gives (remaining self.old) (remaining self.new) result into.new }
+        ensures counted { CountsFailure (failures self.old) (failures self.new) result };
+}
+
+/// Where bytes go to.
+pub trait Sink {
+    // How often calls failed so far, a stored `u64` that stays at its greatest value.
+    ghost failures: { Self → ℕ };
+
+    // The bytes written, where they are told.
+    ghost written: { Self → Option (List ℕ) };
+
+    /// Takes bytes from the front of `from`, and answers how many.
+    fn write(&mut self, from: &[u8]) -> Result<usize, DeviceFault>
+        ensures bound { IfOk result (λ n. n ≤ length from.now) }
+        ensures some { IfOk result (λ n. 0 < length from.now → 0 < n) }
+        ensures bytes { Takes (written self.old) (written self.new) result from.now }
+        ensures counted { CountsFailure (failures self.old) (failures self.new) result };
+
+    /// Passes on what a device below holds back.
+    fn flush(&mut self) -> Result<(), DeviceFault>
+        ensures bytes { MatchResult result (λ _. Keeps (written self.old) (written self.new))
+            (λ _. StaysOrUntold (written self.old) (written self.new)) }
+        ensures counted { CountsFailure (failures self.old) (failures self.new) result };
+}
+
+/// A source over a reader. Every error of the reader, `Interrupted` included, is one failure, and
+/// it doesn't try again. It tells what the reader tells until a read fails, and nothing afterwards.
+#[derive(Drop)]
+pub struct FromRead<R: Drop> {
+    reader: R,
+    failures: u64,
+}
+
+impl<R: Read + Drop> FromRead<R> {
+    pub fn new(reader: R) -> FromRead<R>
+        ensures failures { ⟦<FromRead<R> as Source>⟧.failures result ≡ 0 }
+        ensures bytes { ⟦<FromRead<R> as Source>⟧.remaining result ≡ R.remaining reader }
+    {
+        FromRead {
+            reader,
+            failures: 0,
+        }
+    }
+}
+
+impl<R: Read + Drop> Source for FromRead<R> {
+    ghost failures = { λ s. s.failures };
+
+    ghost remaining = { λ s. if s.failures == 0 then R.remaining s.reader else None };
+
+    fn read(&mut self, into: &mut [u8]) -> Result<usize, DeviceFault> {
+        match self.reader.read(into) {
+            Ok(count) => Ok(count),
+            Err(_) => {
+                self.failures = self.failures.saturating_add(1);
+                Err(DeviceFault)
+            }
+        }
+    }
+}
+
+/// A sink over a writer. Every error of the writer is one failure, and so is `Ok(0)` for a nonempty
+/// slice. It tells what the writer tells until a call fails, and nothing afterwards.
+#[derive(Drop)]
+pub struct ToWrite<W: Drop> {
+    writer: W,
+    failures: u64,
+}
+
+impl<W: Write + Drop> ToWrite<W> {
+    pub fn new(writer: W) -> ToWrite<W>
+        ensures failures { ⟦<ToWrite<W> as Sink>⟧.failures result ≡ 0 }
+        ensures bytes { ⟦<ToWrite<W> as Sink>⟧.written result ≡ W.contents writer }
+    {
+        ToWrite {
+            writer,
+            failures: 0,
+        }
+    }
+}
+
+impl<W: Write + Drop> Sink for ToWrite<W> {
+    ghost failures = { λ s. s.failures };
+
+    ghost written = { λ s. if s.failures == 0 then W.contents s.writer else None };
+
+    fn write(&mut self, from: &[u8]) -> Result<usize, DeviceFault> {
+        match self.writer.write(from) {
+            Ok(count) if count > 0 || from.is_empty() => Ok(count),
+            _ => {
+                self.failures = self.failures.saturating_add(1);
+                Err(DeviceFault)
+            }
+        }
+    }
+
+    fn flush(&mut self) -> Result<(), DeviceFault> {
+        match self.writer.flush() {
+            Ok(()) => Ok(()),
+            Err(_) => {
+                self.failures = self.failures.saturating_add(1);
+                Err(DeviceFault)
+            }
+        }
+    }
+}
+
+/// Writes all the bytes, in as many calls as it takes. It doesn't flush, and stops at the first
+/// failure.
+pub fn write_all<S: Sink>(sink: &mut S, bytes: &[u8]) -> Result<(), DeviceFault>
+    ensures ok { OnOk result (Appends (S.written sink.old) (S.written sink.new) bytes.now) }
+    ensures counted { CountsFailure (S.failures sink.old) (S.failures sink.new) result }
+    ensures fault { OnErr result (WritesPrefix (S.written sink.old) (S.written sink.new) bytes.now) }
+{
+    let mut rest = bytes;
+    while !rest.is_empty() {
+        let count = sink.write(rest)?;
+        let (_, later) = rest.split_at(count);
+        rest = later;
+    }
+    Ok(())
+}

@@ -1,0 +1,110 @@
+//! Laws over the definitions: each is the contract of a function with no code.
+ghost use Rattle.std.specs.Prelude.{◌≡◌, ℕ, List, [], ◌∷◌, ◌++◌, Option, None, Some, Err, false, ◌↔◌, All, IsOk, is_ok, slice_get, take, drop, ◌+◌, filter_map, flat_map};
+ghost use Rattle.std.specs.List.{enumerate_from, prefix_len, slice_split};
+ghost use Rattle.trace_core.specs.Events.{events_of};
+ghost use Rattle.trace_core.specs.Lines.{is_line_feed, lines, line_feeds, without_empty_last};
+ghost use Rattle.trace_core.specs.Reader.{Progress, Reached, begun, device_failed, entries_then};
+ghost use Rattle.trace_core.specs.Reading.{Reading, reading, cut_reading, first_fault, judgements, whole_judgements, cut_off, numbered_entry, entries, events};
+ghost use Rattle.trace_core.specs.Task.{entries_of};
+ghost use Rattle.trace_core.specs.declared.events.Entry.{Entry};
+ghost use Rattle.trace_core.specs.declared.events.Kind.{Kind};
+ghost use Rattle.trace_core.specs.declared.fault.TraceFault.{TraceFault};
+ghost use Rattle.trace_core.specs.declared.line.Format.{Format};
+
+use crate::fault::TraceFault;
+use crate::reader::ReaderState;
+
+/// The lines of a text are the pieces between its LFs, without an empty last one.
+pub fn lines_are_pieces()
+    ensures { (text : List ℕ) → lines text ≡ without_empty_last (slice_split is_line_feed text) }
+{}
+
+/// The fault of a text is that of the first line that is judged to be at fault, and it has none
+/// where no line is.
+pub fn first_fault_is_least()
+    ensures some { (format : Format) (limit : ℕ) (text : List ℕ) (fault : TraceFault) →
+        (first_fault format limit text ≡ Some fault)
+        ↔ ((n : ℕ) × (slice_get (judgements format limit text) n ≡ Some (Err fault))
+        × All IsOk (take n (judgements format limit text))) }
+    ensures none { (format : Format) (limit : ℕ) (text : List ℕ) →
+        (first_fault format limit text ≡ None) ↔ All IsOk (judgements format limit text) }
+{}
+
+/// Where a source fails after some bytes, the fault is that of the first of their whole lines that
+/// is judged to be at fault, and else what the piece after their last LF settles: a byte past the
+/// limit, too many bytes, or the failure itself.
+pub fn failure_comes_after_what_was_delivered()
+    ensures line { (format : Format) (limit : ℕ) (text : List ℕ) (n : ℕ) (fault : TraceFault) →
+        slice_get (whole_judgements format limit text) n ≡ Some (Err fault) →
+        All IsOk (take n (whole_judgements format limit text)) →
+        (cut_reading format limit text).fault ≡ Some fault }
+    ensures piece { (format : Format) (limit : ℕ) (text : List ℕ) →
+        All IsOk (whole_judgements format limit text) →
+        (cut_reading format limit text).fault
+        ≡ Some (cut_off limit (line_feeds text + 1) (drop (line_feeds text) (lines text))) }
+{}
+
+/// The entries of a reading are those of the lines before the first that is at fault, each with its
+/// line's number.
+pub fn entries_come_before_the_fault()
+    ensures { (format : Format) (limit : ℕ) (text : List ℕ) → (reading format limit text).entries
+        ≡ filter_map (numbered_entry format)
+        (take (prefix_len is_ok (judgements format limit text)) (enumerate_from 1 (lines text))) }
+{}
+
+/// Where a text has no fault, its reading has all its entries, and gives a cache all its events.
+pub fn faultless_reading_is_whole()
+    ensures entries { (format : Format) (limit : ℕ) (text : List ℕ) →
+        first_fault format limit text ≡ None →
+        entries_of (reading format limit text).entries ≡ entries format text }
+    ensures events { (format : Format) (limit : ℕ) (kind : Kind) (text : List ℕ) →
+        first_fault format limit text ≡ None →
+        flat_map (events_of kind) (entries_of (reading format limit text).entries) ≡ events format kind text }
+{}
+
+/// A reader that began has read nothing.
+pub fn begun_reader_has_read_nothing()
+    ensures { (format : Format) (limit : ℕ) (told : Option (List ℕ)) (failures : ℕ) →
+        Reached format limit told told failures failures [] (begun format limit) }
+{}
+
+/// A reader at its end gave the entries of the whole text, which has no fault, and nothing is left
+/// of the text.
+pub fn ended_reader_has_read_all()
+    ensures reading { (format : Format) (limit : ℕ) (text : List ℕ) (told : Option (List ℕ))
+        (a b : ℕ) (xs : List (ℕ × Entry)) (p : Progress) →
+        Reached format limit (Some text) told a b xs p → p.state ≡ ReaderState.Ended →
+        reading format limit text ≡ record { entries = xs; fault = None } }
+    ensures left { (format : Format) (limit : ℕ) (text : List ℕ) (told : Option (List ℕ)) (a b : ℕ)
+        (xs : List (ℕ × Entry)) (p : Progress) →
+        Reached format limit (Some text) told a b xs p → p.state ≡ ReaderState.Ended → told ≡ Some [] }
+{}
+
+/// A reader that met a fault of the trace met the first fault of the text, and gave the entries
+/// before it.
+pub fn failed_reader_met_the_first_fault()
+    ensures { (format : Format) (limit : ℕ) (text : List ℕ) (told : Option (List ℕ)) (a b : ℕ)
+        (xs : List (ℕ × Entry)) (p : Progress) (fault : TraceFault) →
+        Reached format limit (Some text) told a b xs p → p.state ≡ ReaderState.Failed fault →
+        device_failed p.state ≡ false →
+        reading format limit text ≡ record { entries = xs; fault = Some fault } }
+{}
+
+/// A reader whose source failed gave the entries of the bytes that the source delivered, and the
+/// failure is the first fault of these.
+pub fn cut_reader_has_read_what_was_delivered()
+    ensures { (format : Format) (limit : ℕ) (text rest : List ℕ) (a b : ℕ) (xs : List (ℕ × Entry))
+        (p : Progress) (line : ℕ) →
+        Reached format limit (Some text) (Some rest) a b xs p →
+        p.state ≡ ReaderState.Failed (TraceFault.Read line) →
+        (delivered : List ℕ) × (text ≡ delivered ++ rest)
+        × (cut_reading format limit delivered ≡ record { entries = xs; fault = Some (TraceFault.Read line) }) }
+{}
+
+/// A reader that reads on gave the first entries of the text.
+pub fn open_reader_has_read_the_first_entries()
+    ensures { (format : Format) (limit : ℕ) (text : List ℕ) (told : Option (List ℕ)) (a b : ℕ)
+        (xs : List (ℕ × Entry)) (p : Progress) →
+        Reached format limit (Some text) told a b xs p → p.state ≡ ReaderState.Open →
+        (later : Reading) × (reading format limit text ≡ entries_then xs later) }
+{}

@@ -1,0 +1,14 @@
+//! Traces: sources of bytes, din and lackey lines, and the references that they stand for.
+#![tactic(auto)]
+
+mod buffer;
+pub mod devices;
+mod digits;
+pub mod events;
+pub mod fault;
+pub mod io;
+pub mod laws;
+pub mod line;
+pub mod reader;
+mod scan;
+mod usual;

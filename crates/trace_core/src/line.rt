@@ -1,0 +1,236 @@
+//! Judging one line.
+ghost use Rattle.std.specs.Prelude.{◌≡◌, ℕ, ◌≤◌, [], ◌∷◌, false, length, Ok, Some, IfSome, MatchOption};
+ghost use Rattle.std.specs.List.{position_or_len, before_first, after_first};
+ghost use Rattle.trace_core.specs.Fields.{is_blank, is_field_byte, is_trailing, trimmed, fields, ends_field, without_0x, number_of};
+ghost use Rattle.trace_core.specs.Line.{meaning, din_meaning, din_address, din_entry, lackey_meaning, lackey_access, lackey_op, item, is_comma};
+
+use crate::digits::read_number;
+use crate::events::{Entry, Item, Op};
+use crate::usual::read_usual;
+use memchr::memchr;
+use thiserror::Error;
+
+/// How lines are written.
+#[derive(Clone, Copy, Debug, PartialEq, Eq)]
+pub enum Format {
+    /// Dinero IV's traditional format: a label `0` (load), `1` (store), `2` (fetch), `3` (nothing)
+    /// or `4` (flush), a hexadecimal address, and a comment.
+    Din,
+    /// The log of valgrind's lackey with `--trace-mem=yes`: `I`, `L`, `S` or `M`, a hexadecimal
+    /// address, a comma and a decimal size.
+    Lackey,
+}
+
+/// The leftmost field of a line that is wrong.
+#[derive(Clone, Copy, Debug, PartialEq, Eq, Error)]
+pub enum LineFault {
+    #[error("bad label")]
+    Label,
+    #[error("bad address")]
+    Address,
+    #[error("bad size")]
+    Size,
+}
+
+/// What a line stands for, given without its LF: nothing, where it is skipped, or an entry. The
+/// line may have any length, and a byte 10 in it is a byte like others.
+#[inline(always)]
+pub fn read_line(format: Format, line: &[u8]) -> Result<Option<Entry>, LineFault>
+    ensures { result ≡ meaning format line.now }
+{
+    match read_usual(format, line) {
+        Some((item, end)) if ends_field(end) => Ok(Some(Entry::Item(item))),
+        _ => Ok(read_any(format, line)?.map(Entry::rebuilt)),
+    }
+}
+
+/// Whether a field ends where these bytes follow it in a line.
+#[inline(always)]
+fn ends_field(rest: &[u8]) -> bool
+    ensures { result ≡ ends_field rest.now }
+{
+    matches!(rest, [] | [b' ' | b'\t', ..] | [b'\r'])
+}
+
+/// What a line of any form stands for.
+#[cold]
+#[inline(never)]
+fn read_any(format: Format, line: &[u8]) -> Result<Option<Entry>, LineFault>
+    ensures { result ≡ meaning format line.now }
+{
+    match format {
+        Format::Din => read_din(trim_end(line)),
+        Format::Lackey => match line {
+            [b'=' | b'-' | b'*', ..] => Ok(None),
+            _ => read_lackey(trim_end(line)),
+        },
+    }
+}
+
+fn read_din(line: &[u8]) -> Result<Option<Entry>, LineFault>
+    ensures { result ≡ din_meaning (fields line.now) }
+{
+    let Some((label, rest)) = split_field(line) else {
+        return Ok(None);
+    };
+    let [label @ b'0'..=b'4'] = *label else {
+        return Err(LineFault::Label);
+    };
+    let Some(addr) = read_din_address(rest) else {
+        return Err(LineFault::Address);
+    };
+    Ok(din_entry(label, addr))
+}
+
+/// What a din line with one of the labels `0` to `4` stands for.
+#[inline(always)]
+fn din_entry(label: u8, addr: u64) -> Option<Entry>
+    ensures { result ≡ din_entry label addr }
+{
+    let item = |op| Some(Entry::Item(Item { op, addr, size: 0 }));
+    match label {
+        b'0' => item(Op::Load),
+        b'1' => item(Op::Store),
+        b'2' => item(Op::Fetch),
+        b'3' => None,
+        _ => Some(Entry::Flush),
+    }
+}
+
+fn read_din_address(rest: &[u8]) -> Option<u64>
+    ensures { result ≡ din_address (fields rest.now) }
+{
+    let (field, _) = split_field(rest)?;
+    read_number(16, 16, without_0x(field))
+}
+
+/// The text without a `0x` or `0X` in front.
+#[inline(always)]
+pub(crate) fn without_0x(text: &[u8]) -> &[u8]
+    ensures { result.now ≡ without_0x text.now }
+{
+    match text {
+        [b'0', b'x' | b'X', digits @ ..] => digits,
+        _ => text,
+    }
+}
+
+fn read_lackey(line: &[u8]) -> Result<Option<Entry>, LineFault>
+    ensures { result ≡ lackey_meaning (fields line.now) }
+{
+    let Some((label, rest)) = split_field(line) else {
+        return Ok(None);
+    };
+    let [label] = *label else {
+        return Err(LineFault::Label);
+    };
+    let Some(op) = lackey_op(label) else {
+        return Err(LineFault::Label);
+    };
+    read_lackey_access(op, rest)
+}
+
+/// What a label of a lackey line stands for.
+#[inline(always)]
+pub(crate) fn lackey_op(label: u8) -> Option<Op>
+    ensures { result ≡ lackey_op label }
+{
+    match label {
+        b'I' => Some(Op::Fetch),
+        b'L' => Some(Op::Load),
+        b'S' => Some(Op::Store),
+        b'M' => Some(Op::Modify),
+        _ => None,
+    }
+}
+
+fn read_lackey_access(op: Op, rest: &[u8]) -> Result<Option<Entry>, LineFault>
+    ensures { result ≡ lackey_access op (fields rest.now) }
+{
+    let Some((field, _)) = split_field(rest) else {
+        return Err(LineFault::Address);
+    };
+    let (digits, size) = split_comma(field);
+    let Some(addr) = read_number(16, 16, digits) else {
+        return Err(LineFault::Address);
+    };
+    let Some(size) = read_number(10, 9, size) else {
+        return Err(LineFault::Size);
+    };
+    let size = size as u32;
+    Ok(Some(Entry::Item(Item { op, addr, size })))
+}
+
+/// What stands before the first comma, and after it.
+fn split_comma(field: &[u8]) -> (&[u8], &[u8])
+    ensures before { result.0.now ≡ before_first is_comma field.now }
+    ensures after { result.1.now ≡ after_first is_comma field.now }
+{
+    match memchr(b',', field) {
+        Some(at) => (&field[..at], &field[at + 1..]),
+        None => (field, &[]),
+    }
+}
+
+/// The line without the blanks and CRs at its end.
+fn trim_end(line: &[u8]) -> &[u8]
+    ensures { result.now ≡ trimmed line.now }
+{
+    let mut end = line.len();
+    while end > 0 && is_trailing(line[end - 1]) {
+        end -= 1;
+    }
+    &line[..end]
+}
+
+/// The first field, and the bytes after it.
+fn split_field(bytes: &[u8]) -> Option<(&[u8], &[u8])>
+    ensures { MatchOption result (fields bytes.now ≡ [])
+        (λ parts. fields bytes.now ≡ parts.0.now ∷ fields parts.1.now) }
+{
+    let (_, text) = bytes.split_at(blanks_len(bytes));
+    if text.is_empty() {
+        return None;
+    }
+    Some(text.split_at(field_len(text)))
+}
+
+#[inline]
+fn is_blank(c: u8) -> bool
+    ensures { result ≡ is_blank c }
+{
+    c == b' ' || c == b'\t'
+}
+
+#[inline]
+fn is_trailing(c: u8) -> bool
+    ensures { result ≡ is_trailing c }
+{
+    is_blank(c) || c == b'\r'
+}
+
+/// How many blanks the bytes begin with.
+fn blanks_len(bytes: &[u8]) -> usize
+    ensures value { result ≡ position_or_len is_field_byte bytes.now }
+    ensures within { result ≤ length bytes.now }
+{
+    for (i, &c) in bytes.iter().enumerate() {
+        if !is_blank(c) {
+            return i;
+        }
+    }
+    bytes.len()
+}
+
+/// The place of the first blank, or the length.
+fn field_len(bytes: &[u8]) -> usize
+    ensures value { result ≡ position_or_len is_blank bytes.now }
+    ensures within { result ≤ length bytes.now }
+{
+    for (i, &c) in bytes.iter().enumerate() {
+        if is_blank(c) {
+            return i;
+        }
+    }
+    bytes.len()
+}

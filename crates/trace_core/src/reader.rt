@@ -1,0 +1,105 @@
+//! Reading a trace.
+ghost use Rattle.std.specs.Prelude.{◌≡◌, ◌≢◌, ℕ, ◌<◌, ◌≤◌, List, ◌++◌, Option, IfOk, IfSome, if◌then◌else◌};
+ghost use Rattle.trace_core.specs.Device.{one_more};
+
+use crate::buffer::Buffer;
+use crate::events::Entry;
+use crate::fault::TraceFault;
+use crate::io::Source;
+use crate::line::Format;
+use crate::scan::Scan;
+use std::alloc::{AllocError, Global};
+use std::marker::Model;
+
+/// The most bytes that a line may have before its LF.
+pub const MAX_LINE: usize = 4096;
+
+/// The most lines that a reader may be asked to take.
+pub const MAX_LINES: u64 = 1_099_511_627_776;
+
+/// How a reader stands: it reads on, or it met the end or a fault.
+#[derive(Clone, Copy, Debug, PartialEq, Eq)]
+pub enum ReaderState {
+    Open,
+    Ended,
+    Failed(TraceFault),
+}
+
+/// A reader of the entries of a trace, whose source is given to each call.
+#[derive(Drop)]
+pub struct Lines {
+    scan: Scan,
+}
+
+impl Model for Lines {
+    ghost use Rattle.trace_core.specs.Reader.{Progress};
+
+    ghost Value = { Progress };
+
+    ghost use Rattle.trace_core.specs.Scan.{progress};
+
+    ghost view = { λ l. progress l.scan };
+}
+
+impl Lines {
+    ghost use Rattle.trace_core.specs.Reader.{Progress, Reached, Tells, answered, begun, device_failed, stopped_answer};
+
+    /// A reader of lines in a format, of which there may be at most `max_lines`. It takes one
+    /// buffer of a fixed size, the same for every limit, and fails only where there is no memory
+    /// for it.
+    pub fn new(alloc: Global, format: Format, max_lines: u64) -> Result<Lines, AllocError>
+        requires some { 1 ≤ max_lines }
+        requires most { max_lines ≤ MAX_LINES }
+        ensures { IfOk result (λ lines. lines ≡ begun format max_lines) }
+    {
+        Ok(Lines {
+            scan: Scan {
+                format,
+                limit: max_lines,
+                lines: 0,
+                buffer: Buffer::new(alloc)?,
+                state: ReaderState::Open,
+            },
+        })
+    }
+
+    /// The next entry with the number of its line, counted from 1, or `None` at the end. Skipped
+    /// lines are counted.
+    ///
+    /// It fails at the first line that is at fault, or where the source fails before such a line
+    /// was delivered. What was delivered is judged before a failure that comes after it.
+    #[inline(always)]
+    pub fn next<S: Source>(&mut self, source: &mut S) -> Result<Option<(u64, Entry)>, TraceFault>
+        // What was read of a source is read on.
+        ensures reached { (format : Format) (limit : ℕ) (before : Option (List ℕ)) (failures : ℕ)
+            (xs : List (ℕ × Entry)) →
+            Reached format limit before (S.remaining source.old) failures (S.failures source.old) xs self.old →
+            Reached format limit before (S.remaining source.new) failures (S.failures source.new)
+            (xs ++ answered result) self.new }
+
+        // The state tells what was answered, and after the end and after a fault it is answered
+        // again, without a read.
+        ensures tells { Tells self.new.state result }
+        ensures stopped { self.old.state ≢ ReaderState.Open →
+            (source.new ≡ source.old) × (self.new ≡ self.old)
+            × (result ≡ stopped_answer self.old.state) }
+
+        // The source failed in just the calls that go from an open reader to a failed device.
+        ensures counted { self.old.state ≡ ReaderState.Open → S.failures source.new
+            ≡ (if device_failed self.new.state then one_more (S.failures source.old) else S.failures source.old) }
+
+        // An entry bears the number of the last line that was read.
+        ensures entry { IfOk result (λ found. IfSome found (λ x.
+            (x.0 ≡ self.new.lines) × (self.old.lines < self.new.lines))) }
+        ensures within { self.new.lines ≤ self.new.limit }
+        ensures same { (self.new.format ≡ self.old.format) × (self.new.limit ≡ self.old.limit) }
+    {
+        match self.scan.next(source) {
+            Some(entry) => Ok(Some(entry)),
+            None => match self.scan.state {
+                ReaderState::Failed(fault) => Err(fault),
+                _ => Ok(None),
+            },
+        }
+    }
+}

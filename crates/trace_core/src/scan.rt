@@ -1,0 +1,240 @@
+//! The lines of what a source delivers, judged one by one.
+ghost use Rattle.std.specs.Prelude.{◌≡◌, ◌≢◌, ℕ, ◌+◌, ◌<◌, ◌≤◌, List, [], ◌++◌, Option, None, Some, length, drop, IfSome, IfNone, OnSome, if◌then◌else◌};
+ghost use Rattle.std.specs.Option.{option_to_list};
+ghost use Rattle.std.specs.Io.KnownBytes.{IsAtEnd};
+ghost use Rattle.memchr.specs.Find.{IsFirstByte, is_byte};
+ghost use Rattle.trace_core.specs.Device.{one_more};
+
+use crate::buffer::Buffer;
+use crate::events::Entry;
+use crate::fault::TraceFault;
+use crate::io::{DeviceFault, Source};
+use crate::line::{Format, read_line};
+use crate::reader::{MAX_LINE, ReaderState};
+use crate::usual::usual_line;
+use memchr::memchr;
+
+/// A reader that shows its fields.
+#[derive(Drop)]
+pub(crate) struct Scan {
+    pub(crate) format: Format,
+    pub(crate) limit: u64,
+    pub(crate) lines: u64,
+    pub(crate) buffer: Buffer,
+    pub(crate) state: ReaderState,
+    ghost limited: { limit ≤ 1099511627776 },
+    ghost within: { lines ≤ limit },
+}
+
+impl Scan {
+    ghost use Rattle.trace_core.specs.Scan.{progress, distance};
+    ghost use Rattle.trace_core.specs.Reader.{Advances, Delivers, device_failed};
+
+    /// Reads on to the next entry. Without one, the state says why.
+    #[inline(always)]
+    pub(crate) fn next<S: Source>(&mut self, source: &mut S) -> Option<(u64, Entry)>
+        ensures advances { (bytes : List ℕ)
+            × Delivers (S.remaining source.old) (S.remaining source.new) (device_failed self.new.state) bytes
+            × Advances (S.remaining source.new) (progress self.old) (progress self.new) bytes (option_to_list result) }
+        ensures at_end { self.old.state ≡ ReaderState.Open → self.new.state ≡ ReaderState.Ended →
+            IsAtEnd (S.remaining source.new) }
+        ensures counted { self.old.state ≡ ReaderState.Open → S.failures source.new
+            ≡ (if device_failed self.new.state then one_more (S.failures source.old) else S.failures source.old) }
+        ensures stopped { self.old.state ≢ ReaderState.Open → (source.new ≡ source.old)
+            × (self.new ≡ self.old) × (result ≡ None) }
+        ensures same { (self.new.format ≡ self.old.format) × (self.new.limit ≡ self.old.limit) }
+        ensures entry { IfSome result (λ x. (x.0 ≡ self.new.lines) × (self.old.lines < self.new.lines)) }
+        ensures goes_on { OnSome result ((f : TraceFault) → self.new.state ≢ ReaderState.Failed f) }
+        ensures none { IfNone result (self.new.state ≢ ReaderState.Open) }
+    {
+        while let ReaderState::Open = self.state {
+            if let Some(entry) = self.step(source) {
+                return Some(entry);
+            }
+        }
+        None
+    }
+
+    /// Takes a line that was delivered, or asks for more.
+    #[inline(always)]
+    fn step<S: Source>(&mut self, source: &mut S) -> Option<(u64, Entry)>
+        requires { self.old.state ≡ ReaderState.Open }
+        ensures advances { (bytes : List ℕ)
+            × Delivers (S.remaining source.old) (S.remaining source.new) (device_failed self.new.state) bytes
+            × Advances (S.remaining source.new) (progress self.old) (progress self.new) bytes (option_to_list result) }
+        ensures at_end { self.new.state ≡ ReaderState.Ended → IsAtEnd (S.remaining source.new) }
+        ensures counted { S.failures source.new
+            ≡ (if device_failed self.new.state then one_more (S.failures source.old) else S.failures source.old) }
+        ensures same { (self.new.format ≡ self.old.format) × (self.new.limit ≡ self.old.limit) }
+        ensures entry { IfSome result (λ x. (x.0 ≡ self.new.lines) × (self.old.lines < self.new.lines)) }
+        ensures lines { self.old.lines ≤ self.new.lines }
+        ensures goes_on { OnSome result ((f : TraceFault) → self.new.state ≢ ReaderState.Failed f) }
+        ensures nearer { self.new.state ≡ ReaderState.Open → distance self.new < distance self.old }
+    {
+        let unread = self.buffer.as_slice();
+        if self.lines == self.limit && !unread.is_empty() {
+            self.state = ReaderState::Failed(TraceFault::TooManyLines { limit: self.limit });
+            return None;
+        }
+        match usual_line(self.format, unread) {
+            Some((item, at)) if at <= MAX_LINE => Some((self.pass_line(at + 1), Entry::Item(item))),
+            _ => self
+                .step_any(source)
+                .map(|(line, entry)| (line, entry.rebuilt())),
+        }
+    }
+
+    /// Takes a line of any form, or asks for more.
+    #[inline(never)]
+    fn step_any<S: Source>(&mut self, source: &mut S) -> Option<(u64, Entry)>
+        requires open { self.old.state ≡ ReaderState.Open }
+        requires below { 0 < length self.old.buffer → self.old.lines < self.old.limit }
+        ensures advances { (bytes : List ℕ)
+            × Delivers (S.remaining source.old) (S.remaining source.new) (device_failed self.new.state) bytes
+            × Advances (S.remaining source.new) (progress self.old) (progress self.new) bytes (option_to_list result) }
+        ensures at_end { self.new.state ≡ ReaderState.Ended → IsAtEnd (S.remaining source.new) }
+        ensures counted { S.failures source.new
+            ≡ (if device_failed self.new.state then one_more (S.failures source.old) else S.failures source.old) }
+        ensures same { (self.new.format ≡ self.old.format) × (self.new.limit ≡ self.old.limit) }
+        ensures entry { IfSome result (λ x. (x.0 ≡ self.new.lines) × (self.old.lines < self.new.lines)) }
+        ensures lines { self.old.lines ≤ self.new.lines }
+        ensures goes_on { OnSome result ((f : TraceFault) → self.new.state ≢ ReaderState.Failed f) }
+        ensures nearer { self.new.state ≡ ReaderState.Open → distance self.new < distance self.old }
+    {
+        match memchr(b'\n', self.buffer.as_slice()) {
+            Some(at) => self.take_line(at),
+            None => self.refill(source),
+        }
+    }
+
+    /// Passes over a line of so many bytes, the LF included, and answers its number.
+    #[inline(always)]
+    fn pass_line(&mut self, len: usize) -> u64
+        requires within { len ≤ length self.old.buffer }
+        requires below { self.old.lines < self.old.limit }
+        ensures number { result ≡ self.new.lines }
+        ensures lines { self.new.lines ≡ self.old.lines + 1 }
+        ensures buffer { self.new.buffer ≡ drop len self.old.buffer }
+        ensures same { (self.new.format ≡ self.old.format) × (self.new.limit ≡ self.old.limit)
+            × (self.new.state ≡ self.old.state) }
+    {
+        self.buffer.consume(len);
+        self.lines += 1;
+        self.lines
+    }
+
+    /// Judges the line that ends at an LF.
+    #[inline(always)]
+    fn take_line(&mut self, at: usize) -> Option<(u64, Entry)>
+        requires open { self.old.state ≡ ReaderState.Open }
+        requires line { IsFirstByte (is_byte 10) self.old.buffer (Some at) }
+        requires below { self.old.lines < self.old.limit }
+        ensures advances { (told : Option (List ℕ)) →
+            Advances told (progress self.old) (progress self.new) [] (option_to_list result) }
+        ensures state { self.new.state ≢ ReaderState.Ended }
+        ensures device { device_failed self.new.state ≡ device_failed ReaderState.Open }
+        ensures same { (self.new.format ≡ self.old.format) × (self.new.limit ≡ self.old.limit) }
+        ensures entry { IfSome result (λ x. (x.0 ≡ self.new.lines) × (self.old.lines < self.new.lines)) }
+        ensures lines { self.old.lines ≤ self.new.lines }
+        ensures goes_on { OnSome result (self.new.state ≡ ReaderState.Open) }
+        ensures nearer { self.new.state ≡ ReaderState.Open → distance self.new < distance self.old }
+    {
+        let line = self.lines + 1;
+        match judge(self.format, line, &self.buffer.as_slice()[..at]) {
+            Ok(entry) => {
+                self.pass_line(at + 1);
+                entry.map(|entry| (line, entry))
+            }
+            Err(fault) => {
+                self.state = ReaderState::Failed(fault);
+                None
+            }
+        }
+    }
+
+    /// Asks for more bytes, where no whole line is left.
+    #[cold]
+    #[inline(never)]
+    fn refill<S: Source>(&mut self, source: &mut S) -> Option<(u64, Entry)>
+        requires open { self.old.state ≡ ReaderState.Open }
+        requires no_line { IsFirstByte (is_byte 10) self.old.buffer None }
+        requires below { 0 < length self.old.buffer → self.old.lines < self.old.limit }
+        ensures advances { (bytes : List ℕ)
+            × Delivers (S.remaining source.old) (S.remaining source.new) (device_failed self.new.state) bytes
+            × Advances (S.remaining source.new) (progress self.old) (progress self.new) bytes (option_to_list result) }
+        ensures at_end { self.new.state ≡ ReaderState.Ended → IsAtEnd (S.remaining source.new) }
+        ensures counted { S.failures source.new
+            ≡ (if device_failed self.new.state then one_more (S.failures source.old) else S.failures source.old) }
+        ensures same { (self.new.format ≡ self.old.format) × (self.new.limit ≡ self.old.limit) }
+        ensures entry { IfSome result (λ x. (x.0 ≡ self.new.lines) × (self.old.lines < self.new.lines)) }
+        ensures lines { self.old.lines ≤ self.new.lines }
+        ensures goes_on { OnSome result (self.new.state ≡ ReaderState.Ended) }
+        ensures nearer { self.new.state ≡ ReaderState.Open → distance self.new < distance self.old }
+    {
+        let line = self.lines + 1;
+        if self.buffer.as_slice().len() > MAX_LINE {
+            self.state = ReaderState::Failed(TraceFault::TooLong { line });
+            return None;
+        }
+        match self.buffer.fill(source) {
+            Ok(0) => self.finish(),
+            Ok(_) => None,
+            Err(DeviceFault) => {
+                self.state = ReaderState::Failed(TraceFault::Read { line });
+                None
+            }
+        }
+    }
+
+    /// Judges a last line without LF, at the end.
+    #[cold]
+    #[inline(never)]
+    fn finish(&mut self) -> Option<(u64, Entry)>
+        requires open { self.old.state ≡ ReaderState.Open }
+        requires no_line { IsFirstByte (is_byte 10) self.old.buffer None }
+        requires below { 0 < length self.old.buffer → self.old.lines < self.old.limit }
+        requires short { length self.old.buffer ≤ 4096 }
+        ensures advances { (told : Option (List ℕ)) → IsAtEnd told →
+            Advances told (progress self.old) (progress self.new) [] (option_to_list result) }
+        ensures state { self.new.state ≢ ReaderState.Open }
+        ensures device { device_failed self.new.state ≡ device_failed ReaderState.Open }
+        ensures same { (self.new.format ≡ self.old.format) × (self.new.limit ≡ self.old.limit) }
+        ensures entry { IfSome result (λ x. (x.0 ≡ self.new.lines) × (self.old.lines < self.new.lines)) }
+        ensures lines { self.old.lines ≤ self.new.lines }
+        ensures goes_on { OnSome result (self.new.state ≡ ReaderState.Ended) }
+    {
+        let unread = self.buffer.as_slice();
+        if unread.is_empty() {
+            self.state = ReaderState::Ended;
+            return None;
+        }
+        let line = self.lines + 1;
+        match judge(self.format, line, unread) {
+            Ok(entry) => {
+                self.lines = line;
+                self.state = ReaderState::Ended;
+                entry.map(|entry| (line, entry))
+            }
+            Err(fault) => {
+                self.state = ReaderState::Failed(fault);
+                None
+            }
+        }
+    }
+}
+
+ghost use Rattle.trace_core.specs.Reading.{judge};
+
+/// What line number `line` stands for, or its fault.
+#[inline(always)]
+fn judge(format: Format, line: u64, bytes: &[u8]) -> Result<Option<Entry>, TraceFault>
+    ensures { (limit : ℕ) → line ≤ limit → result ≡ judge format limit line bytes.now }
+{
+    if bytes.len() > MAX_LINE {
+        return Err(TraceFault::TooLong { line });
+    }
+    match read_line(format, bytes) {
+        Ok(entry) => Ok(entry),
+        Err(fault) => Err(TraceFault::Line { line, fault }),
+    }
+}

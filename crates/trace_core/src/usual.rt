@@ -1,0 +1,127 @@
+//! Lines in the form that most have, read in one pass from their front.
+ghost use Rattle.std.specs.Prelude.{◌≡◌, ℕ, ◌≤◌, List, ◌++◌, true, Ok, Some, IfSome, take};
+ghost use Rattle.std.specs.List.{list_all};
+ghost use Rattle.memchr.specs.Find.{IsFirstByte, is_byte};
+ghost use Rattle.trace_core.specs.Fields.{is_blank, ends_field};
+ghost use Rattle.trace_core.specs.Line.{meaning, din_entry, item};
+ghost use Rattle.trace_core.specs.Usual.{BeginsLine, BeginsLabel};
+ghost use Rattle.trace_core.specs.declared.events.Entry.TheVariants as entry;
+
+use crate::digits::split_number;
+use crate::events::{Entry, Item, Op};
+use crate::line::{Format, lackey_op, without_0x};
+use memchr::memchr;
+
+/// The item of the line that a text begins with, where the line has the usual form, and the place
+/// of the line's LF.
+#[inline(always)]
+pub(crate) fn usual_line(format: Format, text: &[u8]) -> Option<(Item, usize)>
+    ensures line { IfSome result (λ found. IsFirstByte (is_byte 10) text.now (Some found.1)) }
+    ensures item { IfSome result (λ found. meaning format (take found.1 text.now) ≡ Ok (Some (Entry.Item found.0))) }
+{
+    let (item, rest) = read_usual(format, text)?;
+    let end = line_end(rest)?;
+    Some((item, text.len() - rest.len() + end))
+}
+
+/// The place of a line's LF in what follows its last field that matters.
+#[inline(always)]
+fn line_end(rest: &[u8]) -> Option<usize>
+    ensures line { IfSome result (λ end. IsFirstByte (is_byte 10) rest.now (Some end)) }
+    ensures ends { IfSome result (λ end. ends_field (take end rest.now) ≡ true) }
+{
+    match rest {
+        [b'\n', ..] => Some(0),
+        _ => late_end(rest),
+    }
+}
+
+/// The same where it comes after a CR, or after a blank and a comment.
+#[inline(never)]
+fn late_end(rest: &[u8]) -> Option<usize>
+    ensures line { IfSome result (λ end. IsFirstByte (is_byte 10) rest.now (Some end)) }
+    ensures ends { IfSome result (λ end. ends_field (take end rest.now) ≡ true) }
+{
+    match rest {
+        [b'\r', b'\n', ..] => Some(1),
+        [b' ' | b'\t', ..] => memchr(b'\n', rest),
+        _ => None,
+    }
+}
+
+/// The item of a line that begins like a text, if a field ends where the answered rest of the text
+/// begins.
+#[inline(always)]
+pub(crate) fn read_usual(format: Format, text: &[u8]) -> Option<(Item, &[u8])>
+    ensures { IfSome result (λ found. BeginsLine format text.now found.1.now found.0) }
+{
+    match format {
+        Format::Din => read_usual_din(text),
+        Format::Lackey => read_usual_lackey(text),
+    }
+}
+
+/// A label and an address.
+#[inline(always)]
+fn read_usual_din(text: &[u8]) -> Option<(Item, &[u8])>
+    ensures { IfSome result (λ found. BeginsLine Format.Din text.now found.1.now found.0) }
+{
+    let (label, rest) = split_label(text)?;
+    let op = din_op(label)?;
+    let (addr, rest) = split_number(16, 16, without_0x(rest))?;
+    Some((Item { op, addr, size: 0 }, rest))
+}
+
+/// A label, an address, a comma and a size.
+#[inline(always)]
+fn read_usual_lackey(text: &[u8]) -> Option<(Item, &[u8])>
+    ensures { IfSome result (λ found. BeginsLine Format.Lackey text.now found.1.now found.0) }
+{
+    let (label, rest) = split_label(text)?;
+    let op = lackey_op(label)?;
+    let (addr, rest) = split_number(16, 16, rest)?;
+    let [b',', rest @ ..] = rest else {
+        return None;
+    };
+    let (size, rest) = split_number(10, 9, rest)?;
+    let size = size as u32;
+    Some((Item { op, addr, size }, rest))
+}
+
+/// What a din line with one of the labels `0` to `2` does with its address.
+#[inline(always)]
+fn din_op(label: u8) -> Option<Op>
+    ensures entry { IfSome result (λ op. (addr : ℕ) → din_entry label addr ≡ item op addr 0) }
+    ensures label { IfSome result (λ op. (48 ≤ label) × (label ≤ 50)) }
+{
+    match label {
+        b'0' => Some(Op::Load),
+        b'1' => Some(Op::Store),
+        b'2' => Some(Op::Fetch),
+        _ => None,
+    }
+}
+
+/// A label of one byte with a blank after it, and what comes after the blanks.
+#[inline(always)]
+fn split_label(text: &[u8]) -> Option<(u8, &[u8])>
+    ensures { IfSome result (λ parts. BeginsLabel text.now parts.1.now parts.0) }
+{
+    match skip_blanks(text) {
+        [label, b' ' | b'\t', rest @ ..] => Some((*label, skip_blanks(rest))),
+        _ => None,
+    }
+}
+
+/// The bytes without the blanks in front.
+#[inline(always)]
+fn skip_blanks(bytes: &[u8]) -> &[u8]
+    ensures { (blanks : List ℕ) × (bytes.now ≡ blanks ++ result.now)
+        × (list_all is_blank blanks ≡ true) }
+{
+    let mut rest = bytes;
+    while let [b' ' | b'\t', more @ ..] = rest {
+        rest = more;
+    }
+    rest
+}
