@@ -1,0 +1,94 @@
+-- A new cache and a flush, as the cache sees them and as the machine sees them.
+use Rattle.std.proofs.Common.{◌≡◌, ℕ, zero, suc, ◌+◌, ◌^◌, ◌<◌, cond, List, [], ◌∷◌, length, set, replicate, Some, sym, ◌∙◌, ap, refl, arith, ⊎_elim, map, zero-add, length-set, get_or-set_same, get_or-set_other}
+use Rattle.std.specs.Prelude.{count_by}
+use Rattle.std.proofs.lemmas.List.{length-replicate}
+use Rattle.std.proofs.lemmas.List.Sums.{sum_by-set, sum_by-cons}
+use Rattle.std.proofs.lemmas.Bool.{eq-eqb}
+use Rattle.std.proofs.lemmas.Bool.Decides.{eqb_tells}
+use Rattle.std.proofs.Math.Nat.{one-le-pow}
+use Rattle.std.proofs.lemmas.Nat.{mod_below}
+use Rattle.cache_core.specs.declared.outcome.Slot.{Slot}
+use Rattle.cache_core.specs.declared.outcome.Repl.{Repl}
+use Rattle.cache_core.specs.declared.outcome.Repl.TheVariants.{Lru, Fifo, Random}
+use Rattle.cache_core.specs.Geometry.{Shape, set_of_block}
+use Rattle.cache_core.specs.Machine.{Machine, MachineState, Line, slot_of, lines_of_set, start, dirty_count}
+use Rattle.cache_core.specs.Order.{Contents, Flushes, slots_of, dirty_slots}
+use Rattle.cache_core.specs.Stands.{IsState, IsGood, IsSound}
+use Rattle.cache_core.proofs.Lines.{ne-eqb}
+
+-- no set has a slot
+pub none_anywhere : (n k : ℕ) → slots_of (replicate n []) k ≡ []
+none_anywhere zero zero = refl
+none_anywhere zero (suc k) = refl
+none_anywhere (suc n) zero = refl
+none_anywhere (suc n) (suc k) = none_anywhere n k
+
+-- the dirty slots of all sets are the dirty lines
+abbrev dirty_of : List Slot → ℕ
+dirty_of slots = count_by (λ slot. slot.dirty) slots
+
+none_dirty : (sets : List (List Slot)) → ((k : ℕ) → dirty_of (slots_of sets k) ≡ 0) → dirty_slots sets ≡ 0
+none_dirty [] h = refl
+none_dirty (x ∷ xs) h =
+    let here : dirty_of x ≡ 0 = h zero in
+    let rest = none_dirty xs (λ k. h (suc k)) in
+    omega (arith, sum_by-cons (count_by (λ (s : Slot). s.dirty)) x xs, here, rest)
+
+pub dirty_all : (g : Shape) (lines : List Line) (sets : List (List Slot)) → length sets ≡ 2 ^ g.s → ((k : ℕ) → count_by (λ (slot : Slot). slot.dirty) (slots_of sets k) ≡ count_by (λ (slot : Slot). slot.dirty) (map slot_of (lines_of_set g k lines))) → dirty_slots sets ≡ count_by (λ (line : Line). line.dirty) lines
+dirty_all g [] sets l h = none_dirty sets h
+dirty_all g (x ∷ lines) sets l h =
+    let k = set_of_block g x.block in
+    let count : List Slot → ℕ = count_by (λ (s : Slot). s.dirty) in
+    let one : ℕ = cond x.dirty 1 0 in
+    let old : List Slot = map slot_of (lines_of_set g k lines) in
+    let pos : 0 < 2 ^ g.s = one-le-pow g.s 2 (omega arith) in
+    let in_sets : k < length sets = omega (arith, l, mod_below x.block (2 ^ g.s) pos) in
+    let here : count (slots_of sets k) ≡ count (slot_of x ∷ old) = h k ∙ rw (eq-eqb k k refl) refl in
+    let less : List (List Slot) = set sets k old in
+    let less_sets : (j : ℕ) → count (slots_of less j) ≡ count (map slot_of (lines_of_set g j lines)) = λ j. ⊎_elim
+    (λ t. rw t.1 (ap count (get_or-set_same sets k old [] in_sets)))
+    (λ f. ap count (get_or-set_other sets k j old [] f.1) ∙ h j ∙ rw (ne-eqb k j (λ q. f.1 (sym q))) refl)
+    (eqb_tells j k) in
+    let i = dirty_all g lines less (length-set sets k old ∙ l) less_sets in
+    let moved = sum_by-set count sets k old [] in_sets in
+    let counted : count (slots_of sets k) ≡ one + count old = here ∙ sum_by-cons (λ (s : Slot). cond s.dirty 1 0) (slot_of x) old in
+    omega (arith, i, moved, counted, sum_by-cons (λ (line : Line). cond line.dirty 1 0) x lines)
+
+pub empty_good : (m : Machine) (c : ℕ) → IsGood m.policy c []
+empty_good m c = good m.policy
+  where
+    good : (p : Repl) → IsGood p c []
+    good Lru = record { distinct = tt; order = tt }
+    good Fifo = record { distinct = tt; order = tt }
+    good Random = record { distinct = tt; order = tt }
+
+pub start_sound : (m : Machine) → IsSound m start
+start_sound m k = empty_good m 0
+
+pub start_state : (m : Machine) (c : Contents) → c.design ≡ m.design → c.rule ≡ Some m.policy → c.words ≡ m.words → c.sets ≡ replicate (2 ^ m.design.geometry.s) [] → IsState m start c
+start_state m c d r w e = record {
+  design = d;
+  rule = r;
+  words = w ∙ (λ i n. m.words ((sym (zero-add n)) i));
+  count = ap length e ∙ length-replicate (2 ^ m.design.geometry.s) [];
+  sets = λ k. ap (λ s. slots_of s k) e ∙ none_anywhere (2 ^ m.design.geometry.s) k;
+}
+
+-- what a flush leads to
+pub record FlushFollows (m : Machine) (st : MachineState) (dirty : ℕ) (new : Contents) : Type 0 where
+  pub state : IsState m (record st { lines = [] }) new
+  pub told : dirty ≡ dirty_count st
+  pub sound : IsSound m (record st { lines = [] })
+
+pub flush_law : (m : Machine) (st : MachineState) (old : Contents) (dirty : ℕ) (new : Contents) → IsState m st old → Flushes old dirty new → FlushFollows m st dirty new
+flush_law m st old dirty new i f = record {
+  state = record {
+    design = f.design ∙ i.design;
+    rule = f.rule ∙ i.rule;
+    words = f.words ∙ i.words;
+    count = ap length f.empty ∙ length-replicate (length old.sets) [] ∙ i.count;
+    sets = λ k. ap (λ s. slots_of s k) f.empty ∙ none_anywhere (length old.sets) k;
+  };
+  told = f.counted ∙ dirty_all m.design.geometry st.lines old.sets i.count (λ k. ap (count_by (λ (slot : Slot). slot.dirty)) (i.sets k));
+  sound = λ k. empty_good m st.clock;
+}

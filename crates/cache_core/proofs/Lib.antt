@@ -1,0 +1,31 @@
+pub mod Bounds
+pub mod Lists
+pub mod Distances
+pub mod Places
+pub mod Lawful
+pub mod WordLemmas
+pub mod Addresses
+pub mod Slabs
+pub mod Lines
+pub mod SetLaw
+pub mod StateLaw
+pub mod FlushLaw
+pub mod SoundLaw
+pub mod RunLaw
+pub mod DirtyLaw
+pub mod DownLaw
+pub mod LruSet
+pub mod LruRun
+pub mod Pushes
+pub mod Exponents
+pub mod ShapeLaw
+pub mod Counters
+pub mod SystemPushes
+pub mod FirstLevelLaw
+pub mod SystemLaw
+mod PlanRows
+pub mod WindowRows
+pub mod MachineRows
+mod SystemRows
+pub mod SlotSums
+pub mod AnyLaw

@@ -1,0 +1,191 @@
+-- The LRU machine with write-allocate holds the fronts of the stacks, after every list of events.
+use Rattle.std.proofs.Common.{◌≡◌, ℕ, zero, suc, ◌+◌, ◌≤◌, Bool, true, not, cond, eqb, ltb, List, [], ◌∷◌, ◌++◌, take, map, append_assoc, append-nil, refl, sym, ◌∙◌, ap, subst, arith, ⊎_elim, find}
+use Rattle.std.specs.Prelude.{is_some, fold}
+use Rattle.std.specs.List.{list_any, count_by}
+use Rattle.std.proofs.lemmas.List.Folds.{list_any_kept}
+use Rattle.std.proofs.lemmas.Bool.{ne_eqb, eq-eqb, and_parts, and_from, lt-ltb, ltb-true}
+use Rattle.std.proofs.lemmas.Bool.Decides.{eqb_tells}
+use Rattle.std.proofs.lemmas.List.{length-map}
+use Rattle.std.proofs.lemmas.List.Sums.{sum_by-cons}
+use Rattle.trace_core.specs.declared.events.Ref.{Ref}
+use Rattle.trace_core.specs.declared.events.Event.{Event}
+use Rattle.trace_core.specs.declared.events.Event.TheVariants as event
+use Rattle.cache_core.specs.declared.outcome.Outcome.{Outcome}
+use Rattle.cache_core.specs.declared.outcome.WriteMode.{WriteMode}
+use Rattle.cache_core.specs.declared.outcome.Repl.TheVariants.{Lru}
+use Rattle.cache_core.specs.Geometry.{Shape, block_of, set_of_block}
+use Rattle.cache_core.specs.Outcomes.{Answer}
+use Rattle.cache_core.specs.Machine.{Machine, MachineState, Line, slot_of, is_block, lines_of_set, start, step, answer, next, run, answered_from, answers}
+use Rattle.cache_core.specs.Stands.{IsSound}
+use Rattle.cache_core.specs.Windows.{window, window_after, distinct_of_set, has_last, distance, is_hit, is_evict, places, counts}
+use Rattle.cache_core.specs.LruLaws.{lru_machine, holds, HitLaw, VictimLaw, CountLaw, NextLaw, HitInclusion, HeldInclusion}
+use Rattle.cache_core.proofs.Lists.{is}
+use Rattle.cache_core.proofs.Distances.{distinct_of_set-nil, distinct_of_set-other}
+use Rattle.cache_core.proofs.Places.{places_from, places-from, window-nil, window-push}
+use Rattle.cache_core.proofs.StateLaw.{step_agrees}
+use Rattle.cache_core.proofs.FlushLaw.{start_sound}
+use Rattle.cache_core.proofs.SoundLaw.{IsFew, visit_exists, sound_ref, sound_next}
+use Rattle.cache_core.proofs.LruSet.{blocks_of, visit_moves}
+
+-- the answers from a state
+abbrev pub answers_from : Machine → MachineState → List Event → List Answer
+answers_from m st events = map (λ p. p.1) (answered_from m st events)
+
+abbrev pub blocks_in : List Line → List ℕ
+blocks_in lines = map (λ line. line.block) lines
+
+blocks_slots : (lines : List Line) → blocks_of (map slot_of lines) ≡ blocks_in lines
+blocks_slots [] = refl
+blocks_slots (l ∷ ls) = ap (λ xs. l.block ∷ xs) (blocks_slots ls)
+
+-- a sound state whose sets hold the fronts of the window's stacks
+pub record IsStacked (g : Shape) (write : WriteMode) (w : List ℕ) (st : MachineState) : Type 0 where
+  pub sound : IsSound (lru_machine g write) st
+  pub few : IsFew (lru_machine g write) st
+  pub fronts : (k : ℕ) → blocks_in (lines_of_set g k st.lines) ≡ take g.e (distinct_of_set g k w)
+
+take_nil : (n : ℕ) → take {A = ℕ} n [] ≡ []
+take_nil zero = refl
+take_nil (suc n) = refl
+
+pub stacked_start : (g : Shape) (write : WriteMode) → IsStacked g write [] start
+stacked_start g write = record {
+  sound = start_sound (lru_machine g write);
+  few = λ k. omega arith;
+  fronts = λ k. sym (take_nil g.e) ∙ ap (take g.e) (sym (distinct_of_set-nil g k));
+}
+
+-- one reference
+record Follows (g : Shape) (write : WriteMode) (w : List ℕ) (st : MachineState) (ref : Ref) : Type 0 where
+  stacked : IsStacked g write (block_of g ref.addr ∷ w) (step (lru_machine g write) st ref)
+  hits : (answer (lru_machine g write) st ref).hit ≡ is_hit g (record { block = block_of g ref.addr; window = w })
+  evicts : is_some (answer (lru_machine g write) st ref).evicted ≡ is_evict g (record { block = block_of g ref.addr; window = w })
+
+follows : (g : Shape) (write : WriteMode) (w : List ℕ) (st : MachineState) (ref : Ref) → 1 ≤ g.e → IsStacked g write w st → Follows g write w st ref
+follows g write w st ref some h =
+    let m : Machine = lru_machine g write in
+    let x : ℕ = block_of g ref.addr in
+    let k : ℕ = set_of_block g x in
+    let here : List Line = lines_of_set g k st.lines in
+    let words : ℕ → ℕ = λ n. m.words (st.drawn + n) in
+    let v = visit_exists m.design Lru words ref (map slot_of here) some (omega (arith, h.few k, length-map here slot_of)) in
+    let a = step_agrees m st ref words v.outcome v.new v.rest (find (is_block x) st.lines) h.sound refl refl v.visit in
+    let moved = visit_moves g write words ref w (map slot_of here) v.outcome v.new v.rest some (blocks_slots here ∙ h.fronts k) v.visit in
+    let after = sound_ref m st ref some h.sound h.few in
+    record {
+      stacked = record {
+        sound = after.0;
+        few = after.1;
+        fronts = λ j. ⊎_elim
+            (λ t. subst (λ (i : ℕ). blocks_in (lines_of_set g i (step m st ref).lines) ≡ take g.e (distinct_of_set g i (x ∷ w))) (sym t.1)
+            (sym (blocks_slots (lines_of_set g k (step m st ref).lines)) ∙ ap blocks_of (sym a.held) ∙ moved.front))
+            (λ n. ap blocks_in (a.others j n.1) ∙ h.fronts j ∙ ap (take g.e) (sym (distinct_of_set-other g j x w (ne_eqb k j (λ q. n.1 (sym q))))))
+            (eqb_tells j k);
+      };
+      hits = ap (λ (o : Outcome). o.hit) (sym a.told) ∙ moved.hits;
+      evicts = ap (λ (o : Outcome). is_some o.evicted) (sym a.told) ∙ moved.evicts;
+    }
+
+stacked_next : (g : Shape) (write : WriteMode) (w : List ℕ) (st : MachineState) (event : Event) → 1 ≤ g.e → IsStacked g write w st → IsStacked g write (window_after g w event) (next (lru_machine g write) st event)
+stacked_next g write w st (event.Reference ref) some h = (follows g write w st ref some h).stacked
+stacked_next g write w st event.Flush some h =
+    let after = sound_next (lru_machine g write) st event.Flush some h.sound h.few in
+    record { sound = after.0; few = after.1; fronts = λ k. sym (take_nil g.e) ∙ ap (take g.e) (sym (distinct_of_set-nil g k)) }
+
+pub stacked_run : (g : Shape) (write : WriteMode) (w : List ℕ) (st : MachineState) (events : List Event) → 1 ≤ g.e → IsStacked g write w st → IsStacked g write (fold (window_after g) w events) (fold (next (lru_machine g write)) st events)
+stacked_run g write w st [] some h = h
+stacked_run g write w st (v ∷ events) some h = stacked_run g write (window_after g w v) (next (lru_machine g write) st v) events some (stacked_next g write w st v some h)
+
+pub hits_from : (g : Shape) (write : WriteMode) (w : List ℕ) (st : MachineState) (events : List Event) → 1 ≤ g.e → IsStacked g write w st →
+    map (λ a. a.hit) (answers_from (lru_machine g write) st events) ≡ map (is_hit g) (places_from g w events)
+unfolding places_from
+hits_from g write w st [] some h = refl
+hits_from g write w st (event.Reference ref ∷ events) some h =
+    let f = follows g write w st ref some h in
+    let m : Machine = lru_machine g write in
+    ap (λ t. t ∷ map (λ a. a.hit) (answers_from m (step m st ref) events)) f.hits
+    ∙ ap (λ ts. is_hit g (record { block = block_of g ref.addr; window = w }) ∷ ts) (hits_from g write (block_of g ref.addr ∷ w) (step m st ref) events some f.stacked)
+hits_from g write w st (event.Flush ∷ events) some h = hits_from g write [] (next (lru_machine g write) st event.Flush) events some (stacked_next g write w st event.Flush some h)
+
+pub victims_from : (g : Shape) (write : WriteMode) (w : List ℕ) (st : MachineState) (events : List Event) → 1 ≤ g.e → IsStacked g write w st →
+    map (λ a. is_some a.evicted) (answers_from (lru_machine g write) st events) ≡ map (is_evict g) (places_from g w events)
+unfolding places_from
+victims_from g write w st [] some h = refl
+victims_from g write w st (event.Reference ref ∷ events) some h =
+    let f = follows g write w st ref some h in
+    let m : Machine = lru_machine g write in
+    ap (λ t. t ∷ map (λ a. is_some a.evicted) (answers_from m (step m st ref) events)) f.evicts
+    ∙ ap (λ ts. is_evict g (record { block = block_of g ref.addr; window = w }) ∷ ts) (victims_from g write (block_of g ref.addr ∷ w) (step m st ref) events some f.stacked)
+victims_from g write w st (event.Flush ∷ events) some h = victims_from g write [] (next (lru_machine g write) st event.Flush) events some (stacked_next g write w st event.Flush some h)
+
+-- a count over a list is one over its tests' answers
+pub count_by-map : {X : Type 0} (p : X → Bool) (xs : List X) → count_by p xs ≡ count_by (λ b. b) (map p xs)
+count_by-map p [] = refl
+count_by-map p (x ∷ xs) = sum_by-cons (λ y. cond (p y) 1 0) x xs ∙ ap (λ n. cond (p x) 1 0 + n) (count_by-map p xs) ∙ sym (sum_by-cons (λ b. cond b 1 0) (p x) (map p xs))
+
+pub count_by-not : {X : Type 0} (p : X → Bool) (xs : List X) → count_by (λ x. not (p x)) xs ≡ count_by not (map p xs)
+count_by-not p [] = refl
+count_by-not p (x ∷ xs) = sum_by-cons (λ y. cond (not (p y)) 1 0) x xs ∙ ap (λ n. cond (not (p x)) 1 0 + n) (count_by-not p xs) ∙ sym (sum_by-cons (λ b. cond (not b) 1 0) (p x) (map p xs))
+
+-- a block is held if it is among the front of its set's stack
+any_set : (g : Shape) (x : ℕ) (lines : List Line) → list_any (is_block x) lines ≡ list_any (is x) (blocks_in (lines_of_set g (set_of_block g x) lines))
+any_set g x [] = refl
+any_set g x (l ∷ ls) = ⊎_elim
+    (λ t. let s : eqb (set_of_block g l.block) (set_of_block g x) ≡ true = eq-eqb _ _ (ap (set_of_block g) t.1) in rw (s, t.0) refl)
+    (λ f. rw f.0 (⊎_elim
+    (λ t. rw (t.0, f.0) (any_set g x ls))
+    (λ o. rw o.0 (any_set g x ls))
+    (eqb_tells (set_of_block g l.block) (set_of_block g x))))
+    (eqb_tells l.block x)
+
+pub holds_is : (g : Shape) (write : WriteMode) (w : List ℕ) (st : MachineState) (x : ℕ) → IsStacked g write w st → holds st x ≡ list_any (is x) (take g.e (distinct_of_set g (set_of_block g x) w))
+holds_is g write w st x h = any_set g x st.lines ∙ ap (list_any (is x)) (h.fronts (set_of_block g x))
+
+-- the machine hits where the windows say so, and a block leaves there
+pub hit_law : HitLaw
+hit_law g write events some = hits_from g write [] start events some (stacked_start g write) ∙ ap (map (is_hit g)) (sym (places-from g events))
+
+pub victim_law : VictimLaw
+victim_law g write events some = victims_from g write [] start events some (stacked_start g write) ∙ ap (map (is_evict g)) (sym (places-from g events))
+
+-- so the machine's counts are the windows'
+pub count_law : CountLaw
+unfolding counts
+count_law g write events some =
+    let all = answers (lru_machine g write) events in
+    let hits = count_by-map (λ a. a.hit) all ∙ ap (count_by (λ t. t)) (hit_law g write events some) ∙ sym (count_by-map (is_hit g) (places g events)) in
+    let misses = count_by-not (λ a. a.hit) all ∙ ap (count_by not) (hit_law g write events some) ∙ sym (count_by-not (is_hit g) (places g events)) in
+    let evictions = count_by-map (λ a. is_some a.evicted) all ∙ ap (count_by (λ t. t)) (victim_law g write events some) ∙ sym (count_by-map (is_evict g) (places g events)) in
+    cc (hits, misses, evictions)
+
+-- the window of a list, carried along
+window_folds : (g : Shape) (before es : List Event) → fold (window_after g) (window g before) es ≡ window g (before ++ es)
+window_folds g before [] = ap (window g) (sym (append-nil before))
+window_folds g before (e ∷ es) = ap (λ w. fold (window_after g) w es) (sym (window-push g before e)) ∙ window_folds g (before ++ e ∷ []) es ∙ ap (window g) (append_assoc before (e ∷ []) es)
+
+-- the state after a list holds the fronts of its window's stacks
+pub run_stacked : (g : Shape) (write : WriteMode) (events : List Event) → 1 ≤ g.e → IsStacked g write (window g events) (run (lru_machine g write) events)
+run_stacked g write events some =
+    subst (λ w. IsStacked g write w (run (lru_machine g write) events)) (ap (λ w. fold (window_after g) w events) (sym (window-nil g)) ∙ window_folds g [] events)
+    (stacked_run g write [] start events some (stacked_start g write))
+
+pub next_law : NextLaw
+next_law g write events ref some =
+    let f = follows g write (window g events) (run (lru_machine g write) events) ref some (run_stacked g write events some) in
+    (f.hits, f.evicts)
+
+-- what a cache holds, one with a line more in each set holds
+pub held_law : HeldInclusion
+unfolding window distinct_of_set
+held_law g write events x some h =
+    let bigger : Shape = record g { e = g.e + 1 } in
+    let fewer = holds_is g write (window g events) (run (lru_machine g write) events) x (run_stacked g write events some) in
+    let more = holds_is bigger write (window g events) (run (lru_machine bigger write) events) x (run_stacked bigger write events (omega arith)) in
+    more ∙ list_any_kept (is x) (distinct_of_set g (set_of_block g x) (window g events)) g.e (sym fewer ∙ h)
+
+-- what a cache hits, one with a line more in each set hits
+pub hit_inclusion : HitInclusion
+unfolding distinct_of_set
+hit_inclusion g p h =
+    let parts = and_parts (has_last p) (ltb (distance g p) g.e) h in
+    and_from (has_last p) (ltb (distance g p) (g.e + 1)) parts.0 (lt-ltb (distance g p) (g.e + 1) (omega (arith, ltb-true (distance g p) g.e parts.1)))

@@ -1,0 +1,104 @@
+-- Worked runs of the stamp machine under each policy and mode, computed.
+use Rattle.std.proofs.Common.{◌≡◌, ℕ, true, false, not, List, [], ◌∷◌, ◌++◌, map, Some, None, refl}
+use Rattle.std.specs.Prelude.{is_some, count_by as count}
+use Rattle.trace_core.specs.declared.events.Ref.{Ref}
+use Rattle.trace_core.specs.declared.events.Access.TheVariants.{Fetch, Read, Write}
+use Rattle.trace_core.specs.declared.events.Event.{Event}
+use Rattle.trace_core.specs.declared.events.Event.TheVariants as event
+use Rattle.cache_core.specs.declared.outcome.Repl.{Repl}
+use Rattle.cache_core.specs.declared.outcome.Repl.TheVariants.{Lru, Fifo, Random}
+use Rattle.cache_core.specs.declared.outcome.WriteMode.{WriteMode}
+use Rattle.cache_core.specs.declared.outcome.WriteMode.TheVariants.{Back, Through}
+use Rattle.cache_core.specs.declared.outcome.AllocMode.{AllocMode}
+use Rattle.cache_core.specs.declared.outcome.AllocMode.TheVariants.{Always, Never}
+use Rattle.cache_core.specs.Outcomes.{Answer}
+use Rattle.cache_core.specs.Machine.{Machine, answer, answers, run, dirty_count}
+use Rattle.rand_pcg.specs.Lcg.{state_after}
+use Rattle.cache_core.specs.Words.{word_of, seeded}
+use Rattle.cache_core.proofs.WindowRows.{twelve}
+
+-- one set of so many lines of 16 bytes, with the random words of seed 42
+abbrev machine : Repl → ℕ → WriteMode → AllocMode → Machine
+machine policy ways write alloc = record {
+  design = record { geometry = record { s = 0; e = ways; b = 4 }; write = write; alloc = alloc };
+  policy = policy;
+  words = word_of (seeded 42);
+}
+
+abbrev pub read : ℕ → Event
+read a = event.Reference (record { access = Read; addr = a })
+
+abbrev pub write : ℕ → Event
+write a = event.Reference (record { access = Write; addr = a })
+
+abbrev pub fetch : ℕ → Event
+fetch a = event.Reference (record { access = Fetch; addr = a })
+
+-- hits, misses and evictions
+abbrev counts : Machine → List Event → ℕ × ℕ × ℕ
+counts m events =
+    let all = answers m events in
+    (count (λ a. a.hit) all, count (λ a. not a.hit) all, count (λ a. is_some a.evicted) all)
+
+-- with FIFO more lines can miss more (Belady, Nelson and Shedler 1969)
+fifo_of_three : counts (machine Fifo 3 Back Always) twelve ≡ (3, 9, 6)
+fifo_of_three = refl
+
+fifo_of_four : counts (machine Fifo 4 Back Always) twelve ≡ (2, 10, 6)
+fifo_of_four = refl
+
+abbrev pub six : List Event
+six = read 0x10 ∷ read 0x20 ∷ read 0x30 ∷ read 0x10 ∷ read 0x20 ∷ read 0x10 ∷ []
+
+six_by_lru : counts (machine Lru 2 Back Always) six ≡ (1, 5, 3)
+six_by_lru = refl
+
+six_by_fifo : counts (machine Fifo 2 Back Always) six ≡ (1, 5, 3)
+six_by_fifo = refl
+
+six_by_random : counts (machine Random 2 Back Always) six ≡ (2, 4, 2)
+unfolding state_after
+six_by_random = refl
+
+-- the first words of the generator (the PCG32 demonstration of O'Neill 2014)
+first_words : map (word_of (seeded 42)) (0 ∷ 1 ∷ 2 ∷ 3 ∷ []) ≡ 0xa15c02b7 ∷ 0x7b47f409 ∷ 0xba1d3330 ∷ 0x83d2f293 ∷ []
+unfolding state_after
+first_words = refl
+
+-- a flush empties the ways, and the generator goes on where it was
+words_go_on_after_a_flush : counts (machine Random 2 Back Always) (six ++ event.Flush ∷ read 0x10 ∷ read 0x20 ∷ read 0x30 ∷ []) ≡ (2, 7, 3)
+unfolding state_after
+words_go_on_after_a_flush = refl
+
+clean_blocks_are_not_flushed : dirty_count (run (machine Random 2 Back Always) six) ≡ 0
+unfolding state_after
+clean_blocks_are_not_flushed = refl
+
+third_word_takes_way_zero : (answer (machine Random 2 Back Always) (run (machine Random 2 Back Always) (six ++ event.Flush ∷ read 0x10 ∷ read 0x20 ∷ [])) (record { access = Read; addr = 0x30 })).evicted ≡ Some (record { block = 1; dirty = false })
+unfolding state_after
+third_word_takes_way_zero = refl
+
+-- one reference after another one, in one line
+abbrev after : WriteMode → AllocMode → List Event → Ref → Answer
+after w a events ref = answer (machine Lru 1 w a) (run (machine Lru 1 w a) events) ref
+
+dirty_victim_goes_down_first : after Back Always (write 0 ∷ []) (record { access = Read; addr = 0x1f }) ≡ record { hit = false; evicted = Some (record { block = 0; dirty = true }); placed = true; down = record { access = Write; addr = 0 } ∷ record { access = Read; addr = 0x10 } ∷ [] }
+dirty_victim_goes_down_first = refl
+
+write_miss_fills : after Back Always (read 0 ∷ []) (record { access = Write; addr = 0x1f }) ≡ record { hit = false; evicted = Some (record { block = 0; dirty = false }); placed = true; down = record { access = Read; addr = 0x10 } ∷ [] }
+write_miss_fills = refl
+
+write_goes_through_after_the_fill : after Through Always [] (record { access = Write; addr = 0x1f }) ≡ record { hit = false; evicted = None; placed = true; down = record { access = Read; addr = 0x10 } ∷ record { access = Write; addr = 0x1f } ∷ [] }
+write_goes_through_after_the_fill = refl
+
+write_hit_goes_through : after Through Always (read 0x10 ∷ []) (record { access = Write; addr = 0x1f }) ≡ record { hit = true; evicted = None; placed = false; down = record { access = Write; addr = 0x1f } ∷ [] }
+write_hit_goes_through = refl
+
+write_miss_passes : after Back Never (read 0 ∷ []) (record { access = Write; addr = 0x1f }) ≡ record { hit = false; evicted = None; placed = false; down = record { access = Write; addr = 0x1f } ∷ [] }
+write_miss_passes = refl
+
+write_hit_stays : after Back Never (read 0x10 ∷ []) (record { access = Write; addr = 0x1f }) ≡ record { hit = true; evicted = None; placed = false; down = [] }
+write_hit_stays = refl
+
+fetch_fills_by_a_fetch : after Back Always [] (record { access = Fetch; addr = 0x1f }) ≡ record { hit = false; evicted = None; placed = true; down = record { access = Fetch; addr = 0x10 } ∷ [] }
+fetch_fills_by_a_fetch = refl

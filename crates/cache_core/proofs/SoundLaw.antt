@@ -1,0 +1,150 @@
+-- The machine stays sound, whatever references and flushes come.
+use Rattle.std.proofs.Common.{◌≡◌, ℕ, ◌+◌, ◌%◌, ◌<◌, ◌≤◌, Bool, true, false, List, [], ◌∷◌, ◌++◌, length, get_or, Option, Some, None, sym, ap, refl, subst, arith, ⊎_elim, map, find, length-set, length-append}
+use Rattle.std.specs.Prelude.{MatchOption, MatchBool, slice_set, remove, fold}
+use Rattle.std.proofs.lemmas.List.{length-map}
+use Rattle.std.proofs.lemmas.List.Edits.{length-remove}
+use Rattle.std.proofs.lemmas.Option.{slice_get-get_or}
+use Rattle.std.proofs.lemmas.Bool.{cases_lt}
+use Rattle.std.proofs.lemmas.Bool.Decides.{eqb_tells}
+use Rattle.trace_core.specs.declared.events.Ref.{Ref}
+use Rattle.trace_core.specs.declared.events.Event.{Event}
+use Rattle.trace_core.specs.declared.events.Event.TheVariants as event
+use Rattle.cache_core.specs.declared.outcome.Slot.{Slot}
+use Rattle.cache_core.specs.declared.outcome.Outcome.{Outcome}
+use Rattle.cache_core.specs.declared.outcome.Design.{Design}
+use Rattle.cache_core.specs.declared.outcome.Repl.{Repl}
+use Rattle.cache_core.specs.declared.outcome.Repl.TheVariants.{Lru, Fifo, Random}
+use Rattle.cache_core.specs.Geometry.{set_of_block, block_of}
+use Rattle.cache_core.specs.Outcomes.{outcome_of, on_hit, on_placing, on_passing, dirties, allocates}
+use Rattle.cache_core.specs.Machine.{Machine, MachineState, slot_of, is_block, lines_of_set, start, step, next, run}
+use Rattle.cache_core.specs.Order.{Visits, Hits, Fills, Passes, Touches, TakesIn, marked, position_of, words_after}
+use Rattle.cache_core.specs.Stands.{IsSound}
+use Rattle.cache_core.proofs.StateLaw.{step_agrees, sound_step}
+use Rattle.cache_core.proofs.FlushLaw.{start_sound, empty_good}
+use Rattle.cache_core.proofs.DirtyLaw.{place_lt}
+
+touch_exists : (p : Repl) (slots : List Slot) (at : ℕ) → at < length slots → (new : List Slot) × Touches (Some p) slots at new × (length new ≡ length slots)
+touch_exists Lru slots at h =
+    let x = get_or slots at (record { block = 0; dirty = false }) in
+    (x ∷ remove slots at, (x, slice_get-get_or slots at (record { block = 0; dirty = false }) h, refl), omega (arith, length-remove slots at h))
+touch_exists Fifo slots at h = (slots, refl, refl)
+touch_exists Random slots at h = (slots, refl, refl)
+
+record Unsnoc (slots : List Slot) : Type 0 where
+  front : List Slot
+  gone : Slot
+  split : slots ≡ front ++ gone ∷ []
+
+unsnoc : (slots : List Slot) → 0 < length slots → Unsnoc slots
+unsnoc [] h = absurd (omega arith)
+unsnoc (x ∷ []) h = record { front = []; gone = x; split = refl }
+unsnoc (x ∷ y ∷ slots) h =
+    let r = unsnoc (y ∷ slots) (omega arith) in
+    record { front = x ∷ r.front; gone = r.gone; split = ap (λ s. x ∷ s) r.split }
+
+record Placed (p : Repl) (word room : ℕ) (slots : List Slot) (slot : Slot) : Type 0 where
+  evicted : Option Slot
+  new : List Slot
+  places : TakesIn (Some p) word room slots slot evicted new
+  few : length new ≤ room
+
+front_exists : (word room : ℕ) (slots : List Slot) (slot : Slot) → 0 < room → length slots ≡ room → Placed Lru word room slots slot
+front_exists word room slots slot r e =
+    let u = unsnoc slots (omega arith) in
+    record { evicted = Some u.gone; new = slot ∷ u.front; places = (e, (u.front, u.split, refl)); few = omega (arith, length-append u.front (u.gone ∷ []), ap length u.split) }
+
+place_exists : (p : Repl) (word room : ℕ) (slots : List Slot) (slot : Slot) → 0 < room → length slots ≤ room → Placed p word room slots slot
+place_exists p word room slots slot r l = ⊎_elim
+    (λ (t : length slots < room). insert p t)
+    (λ (f : room ≤ length slots). exchange p (omega arith))
+    (cases_lt (length slots) room)
+  where
+    insert : (q : Repl) → length slots < room → Placed q word room slots slot
+    insert Lru t = record { evicted = None; new = slot ∷ slots; places = (t, refl); few = omega arith }
+    insert Fifo t = record { evicted = None; new = slot ∷ slots; places = (t, refl); few = omega arith }
+    insert Random t = record { evicted = None; new = slots ++ slot ∷ []; places = (t, refl); few = omega (arith, length-append slots (slot ∷ [])) }
+
+    exchange : (q : Repl) → length slots ≡ room → Placed q word room slots slot
+    exchange Lru e = front_exists word room slots slot r e
+    exchange Fifo e =
+        let u = unsnoc slots (omega arith) in
+        record { evicted = Some u.gone; new = slot ∷ u.front; places = (e, (u.front, u.split, refl)); few = omega (arith, length-append u.front (u.gone ∷ []), ap length u.split) }
+    exchange Random e =
+        let way : word % length slots < length slots = omega arith in
+        let none : Slot = record { block = 0; dirty = false } in
+        record { evicted = Some (get_or slots (word % length slots) none); new = slice_set slots (word % length slots) slot; places = (e, (slice_get-get_or slots (word % length slots) none way, refl)); few = omega (arith, length-set slots (word % length slots) slot) }
+
+-- some visit of a set, whatever the reference
+pub record Visited (d : Design) (p : Repl) (words : ℕ → ℕ) (ref : Ref) (slots : List Slot) : Type 0 where
+  pub outcome : Outcome
+  pub new : List Slot
+  pub rest : ℕ → ℕ
+  pub visit : Visits d (Some p) words ref slots outcome new rest
+  pub few : length new ≤ d.geometry.e
+
+marked_length : (b : Bool) (slots : List Slot) (at : ℕ) → length (marked b slots at) ≡ length slots
+marked_length true slots at = length-set slots at _
+marked_length false slots at = refl
+
+pub visit_exists : (d : Design) (p : Repl) (words : ℕ → ℕ) (ref : Ref) (slots : List Slot) → 0 < d.geometry.e → length slots ≤ d.geometry.e → Visited d p words ref slots
+visit_exists d p words ref slots r l = by_place (position_of (block_of d.geometry ref.addr) slots) refl
+  where
+    by_alloc : (al : Bool) → (outcome : Outcome) × (new : List Slot) × (rest : ℕ → ℕ) × MatchBool al (Fills d (Some p) words ref slots outcome new rest) (Passes words ref slots outcome new rest) × (length new ≤ d.geometry.e)
+    by_alloc true =
+        let x = place_exists p (words 0) d.geometry.e slots (record { block = block_of d.geometry ref.addr; dirty = dirties d.write ref.access }) r l in
+        (outcome_of (on_placing d.geometry d.write ref (block_of d.geometry ref.addr) x.evicted), x.new, words_after (Some p) x.evicted words, record { order = x.places; undrawn = refl; answers = refl }, x.few)
+    by_alloc false = (outcome_of (on_passing ref), slots, words, record { order = refl; undrawn = refl; answers = refl }, l)
+
+    by_place : (o : Option ℕ) → position_of (block_of d.geometry ref.addr) slots ≡ o → Visited d p words ref slots
+    by_place None e =
+        let x = by_alloc (allocates d.alloc ref.access) in
+        record {
+          outcome = x.0;
+          new = x.1;
+          rest = x.2;
+          visit = subst (λ o. MatchOption o (MatchBool (allocates d.alloc ref.access) (Fills d (Some p) words ref slots x.0 x.1 x.2) (Passes words ref slots x.0 x.1 x.2)) (λ at. Hits d (Some p) words ref at slots x.0 x.1 x.2)) (sym e) x.3;
+          few = x.4;
+        }
+    by_place (Some at) e =
+        let s = marked (dirties d.write ref.access) slots at in
+        let h : at < length s = omega (arith, place_lt _ _ at e, marked_length (dirties d.write ref.access) slots at) in
+        let x = touch_exists p s at h in
+        let out = outcome_of (on_hit d.write ref) in
+        record {
+          outcome = out;
+          new = x.0;
+          rest = words;
+          visit = subst (λ o. MatchOption o (MatchBool (allocates d.alloc ref.access) (Fills d (Some p) words ref slots out x.0 words) (Passes words ref slots out x.0 words)) (λ n. Hits d (Some p) words ref n slots out x.0 words)) (sym e) (record { order = x.1; undrawn = refl; answers = refl });
+          few = omega (arith, x.2, marked_length (dirties d.write ref.access) slots at);
+        }
+
+-- no set has more lines than ways
+abbrev pub IsFew : Machine → MachineState → Type 0
+IsFew m st = (k : ℕ) → length (lines_of_set m.design.geometry k st.lines) ≤ m.design.geometry.e
+
+pub sound_ref : (m : Machine) (st : MachineState) (ref : Ref) → 0 < m.design.geometry.e → IsSound m st → IsFew m st → IsSound m (step m st ref) × IsFew m (step m st ref)
+sound_ref m st ref r s f =
+    let g = m.design.geometry in
+    let b = block_of g ref.addr in
+    let k = set_of_block g b in
+    let words : ℕ → ℕ = λ n. m.words (st.drawn + n) in
+    let here = lines_of_set g k st.lines in
+    let v = visit_exists m.design m.policy words ref (map slot_of here) r (omega (arith, f k, length-map here slot_of)) in
+    let a = step_agrees m st ref words v.outcome v.new v.rest (find (is_block b) st.lines) s refl refl v.visit in (
+      sound_step m st (step m st ref) k v.new v.rest v.outcome _ s a,
+      λ j. ⊎_elim
+          (λ t. subst (λ i. length (lines_of_set g i (step m st ref).lines) ≤ g.e) (sym t.1) (omega (arith, v.few, ap length a.held, length-map (lines_of_set g k (step m st ref).lines) slot_of)))
+          (λ n. rw (a.others j n.1) (f j))
+          (eqb_tells j k),
+    )
+
+pub sound_next : (m : Machine) (st : MachineState) (e : Event) → 0 < m.design.geometry.e → IsSound m st → IsFew m st → IsSound m (next m st e) × IsFew m (next m st e)
+sound_next m st (event.Reference ref) r s f = sound_ref m st ref r s f
+sound_next m st event.Flush r s f = ((λ k. empty_good m st.clock), (λ k. omega arith))
+
+fold_sound : (m : Machine) (st : MachineState) (events : List Event) → 0 < m.design.geometry.e → IsSound m st → IsFew m st → IsSound m (fold (next m) st events) × IsFew m (fold (next m) st events)
+fold_sound m st [] r s f = (s, f)
+fold_sound m st (e ∷ events) r s f = let n = sound_next m st e r s f in fold_sound m (next m st e) events r n.0 n.1
+
+pub run_sound : (m : Machine) (events : List Event) → 0 < m.design.geometry.e → IsSound m (run m events) × IsFew m (run m events)
+run_sound m events r = fold_sound m start events r (start_sound m) (λ k. omega arith)

@@ -1,0 +1,5 @@
+use Rattle.cache_core.proofs.ShapeLaw.{limits_of, within_of}
+use Rattle.cache_core.proofs.laws.limits_are_tested.Goals as goal
+
+pub returns : goal.returns
+returns c = λ g. (limits_of g, within_of g)

@@ -1,0 +1,8 @@
+use Rattle.cache_core.proofs.Places.{window-nil, window-push}
+use Rattle.cache_core.proofs.laws.window_grows.Goals as goal
+
+pub returns-clause-start : goal.returns-clause-start
+returns-clause-start c = window-nil
+
+pub returns-clause-more : goal.returns-clause-more
+returns-clause-more c = window-push

@@ -1,0 +1,48 @@
+-- Any lawful policy: a cache under it does what the stamp machine does, where any line of a full set may leave.
+use Rattle.std.specs.Prelude.{◌≡◌, ℕ, ◌≤◌, ◌^◌, Bool, true, false, ◌&&◌, List, [], Option, None, Some, is_none, find, map, length, replicate, Contains, IsPermutation}
+use Rattle.trace_core.specs.declared.events.Ref.{Ref}
+use Rattle.trace_core.specs.declared.events.Event.TheVariants as event
+use Rattle.cache_core.specs.declared.outcome.Outcome.{Outcome}
+use Rattle.cache_core.specs.Geometry.{block_of, set_of}
+use Rattle.cache_core.specs.Machine.{Machine, MachineState, Line, start, slot_of, is_block, lines_of_set, is_full, step_with, answer_with, next, dirty_count}
+use Rattle.cache_core.specs.Order.{Contents, Accesses, Flushes, slots_of}
+use Rattle.cache_core.specs.Outcomes.{allocates, outcome_of}
+use Rattle.cache_core.specs.Stands.{Distinct}
+
+-- Each set holds the slots of the machine's lines of it, in some order; a block has one line at most.
+pub record HoldsSame (m : Machine) (st : MachineState) (c : Contents) : Type 0 where
+  pub design : c.design ≡ m.design
+  pub count : length c.sets ≡ 2 ^ m.design.geometry.s
+  pub sets : (k : ℕ) → IsPermutation (slots_of c.sets k) (map slot_of (lines_of_set m.design.geometry k st.lines))
+  pub distinct : (k : ℕ) → Distinct (lines_of_set m.design.geometry k st.lines)
+
+-- whether a reference places its block in a full set
+abbrev pub needs_room : Machine → MachineState → Ref → Bool
+needs_room m st ref =
+    is_none (find (is_block (block_of m.design.geometry ref.addr)) st.lines) && allocates m.design.alloc ref.access && is_full m st (set_of m.design.geometry ref.addr)
+
+-- A line leaves exactly where a block needs room, and then it is any line of the set.
+abbrev pub MayLeave : Bool → List Line → Option Line → Type 0
+MayLeave needed here None = needed ≡ false
+MayLeave needed here (Some line) = (needed ≡ true) × Contains here line
+
+-- what one access is to the machine: its step and its answer, where some line leaves that may
+pub record AnyStep (m : Machine) (st : MachineState) (ref : Ref) (outcome : Outcome) (new : Contents) : Type 0 where
+  pub gone : Option Line
+  pub may : MayLeave (needs_room m st ref) (lines_of_set m.design.geometry (set_of m.design.geometry ref.addr) st.lines) gone
+  pub told : outcome ≡ outcome_of (answer_with m ref gone st)
+  pub holds : HoldsSame m (step_with m ref gone st) new
+
+-- a new cache holds what the machine holds at its start
+abbrev pub AnyStartLaw : Type 0
+AnyStartLaw = (m : Machine) (c : Contents) → c.design ≡ m.design → c.sets ≡ replicate (2 ^ m.design.geometry.s) [] → HoldsSame m start c
+
+-- an access is such a step, whatever lawful policy there is, and whatever keys the machine gives
+abbrev pub AnyAccessLaw : Type 0
+AnyAccessLaw = (m : Machine) (st : MachineState) (old : Contents) (ref : Ref) (outcome : Outcome) (new : Contents) →
+    1 ≤ m.design.geometry.e → HoldsSame m st old → Accesses old ref outcome new → AnyStep m st ref outcome new
+
+-- a flush is the machine's flush
+abbrev pub AnyFlushLaw : Type 0
+AnyFlushLaw = (m : Machine) (st : MachineState) (old : Contents) (dirty : ℕ) (new : Contents) →
+    HoldsSame m st old → Flushes old dirty new → HoldsSame m (next m st event.Flush) new × (dirty ≡ dirty_count st)

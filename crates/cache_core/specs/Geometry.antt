@@ -1,0 +1,46 @@
+-- The shape of a cache: 2^s sets of e lines, each of a block of 2^b bytes.
+use Rattle.std.specs.Prelude.{ℕ, ◌≤◌, ◌+◌, ◌*◌, ◌/◌, ◌%◌, ◌^◌, Bool, ◌&&◌, nat_le, Option, None, Some, if◌then◌else◌}
+
+pub record Shape : Type 0 where
+  pub s : ℕ
+  pub e : ℕ
+  pub b : ℕ
+
+abbrev pub shape : ℕ → ℕ → ℕ → Shape
+shape s e b = record { s = s; e = e; b = b }
+
+-- the limits of a geometry: at most 2^20 sets, blocks of at most 2^20 bytes, 1 to 65,536 lines a set and at most 2^22 in all
+pub record IsGeometry (g : Shape) : Type 0 where
+  pub sets : g.s ≤ 20
+  pub blocks : g.b ≤ 20
+  pub some : 1 ≤ g.e
+  pub ways : g.e ≤ 65536
+  pub lines : g.e * 2 ^ g.s ≤ 2 ^ 22
+
+-- the same as a test
+abbrev pub is_geometry : Shape → Bool
+is_geometry g = nat_le g.s 20 && nat_le g.b 20 && nat_le 1 g.e && nat_le g.e 65536 && nat_le (g.e * 2 ^ g.s) (2 ^ 22)
+
+-- a shape within the limits
+abbrev pub geometry_of : ℕ → ℕ → ℕ → Option Shape
+geometry_of s e b = if is_geometry (shape s e b) then Some (shape s e b) else None
+
+-- the size in bytes
+abbrev pub size_of : Shape → ℕ
+size_of g = g.e * 2 ^ (g.s + g.b)
+
+-- the number of the block that holds an address
+abbrev pub block_of : Shape → ℕ → ℕ
+block_of g addr = addr / 2 ^ g.b
+
+-- the set of a block
+abbrev pub set_of_block : Shape → ℕ → ℕ
+set_of_block g block = block % 2 ^ g.s
+
+-- the set of an address
+abbrev pub set_of : Shape → ℕ → ℕ
+set_of g addr = set_of_block g (block_of g addr)
+
+-- the address of a block
+abbrev pub address_of : Shape → ℕ → ℕ
+address_of g block = block * 2 ^ g.b

@@ -1,0 +1,15 @@
+pub mod Geometry
+pub mod Windows
+pub mod Outcomes
+pub mod Words
+pub mod Machine
+pub mod Order
+pub mod Slab
+pub mod Stands
+pub mod LruLaws
+pub mod Levels
+pub mod Systems
+pub mod Stages
+pub mod SystemSteps
+pub mod SystemStands
+pub mod AnyPolicy

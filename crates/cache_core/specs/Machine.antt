@@ -1,0 +1,182 @@
+-- The stamp machine: a cache as a map with stamps. It holds blocks, each with a key and a dirty mark; the key says which
+-- block of a full set leaves. (LRU by stamps: Mattson, Gecsei, Slutz and Traiger 1970.)
+use Rattle.std.specs.Prelude.{ℕ, ◌+◌, ◌%◌, Bool, true, false, ◌||◌, ◌&&◌, not, List, [], ◌∷◌, ◌++◌, Option, Some, None, if◌then◌else◌, ◌==◌, nat_lt, length, filter, map, find, fold, count_by, is_some}
+use Rattle.trace_core.specs.declared.events.Ref.{Ref}
+use Rattle.trace_core.specs.declared.events.Event.{Event}
+use Rattle.trace_core.specs.declared.events.Event.TheVariants as event
+use Rattle.cache_core.specs.declared.outcome.Slot.{Slot}
+use Rattle.cache_core.specs.declared.outcome.Counts.{Counts}
+use Rattle.cache_core.specs.declared.outcome.Design.{Design}
+use Rattle.cache_core.specs.declared.outcome.Repl.{Repl}
+use Rattle.cache_core.specs.declared.outcome.Repl.TheVariants.{Lru, Fifo, Random}
+use Rattle.cache_core.specs.Geometry.{Shape, block_of, set_of_block, set_of}
+use Rattle.cache_core.specs.Outcomes.{Answer, on_hit, on_placing, on_passing, dirties, allocates}
+
+-- a block that is held. Its key is the clock of the last touch or placing (LRU), the clock of placing
+-- (FIFO), or the way (random)
+pub record Line : Type 0 where
+  pub block : ℕ
+  pub key : ℕ
+  pub dirty : Bool
+
+-- The clock, the blocks held, and how many random words were drawn. The lines of each set stand in the policy's order, which
+-- is that of their keys (the law `sets_in_order`), so nothing hangs on how the lines of different sets are mixed.
+pub record MachineState : Type 0 where
+  pub clock : ℕ
+  pub lines : List Line
+  pub drawn : ℕ
+
+-- what a machine is made of: words n is the random word number n, from 0
+pub record Machine : Type 0 where
+  pub design : Design
+  pub policy : Repl
+  pub words : ℕ → ℕ
+
+abbrev pub start : MachineState
+start = record { clock = 0; lines = []; drawn = 0 }
+
+-- the line without its key
+abbrev pub slot_of : Line → Slot
+slot_of line = record { block = line.block; dirty = line.dirty }
+
+abbrev pub option_slot : Option Line → Option Slot
+option_slot None = None
+option_slot (Some line) = Some (slot_of line)
+
+abbrev pub is_block : ℕ → Line → Bool
+is_block block line = line.block == block
+
+-- the lines of one set
+abbrev pub lines_of_set : Shape → ℕ → List Line → List Line
+lines_of_set g set lines = filter (λ line. set_of_block g line.block == set) lines
+
+-- the lines without that of a block
+abbrev pub without : ℕ → List Line → List Line
+without block lines = filter (λ line. not (is_block block line)) lines
+
+-- the lines with another in the place of that of a block
+abbrev pub exchange : ℕ → Line → List Line → List Line
+exchange block new lines = map (λ line. if is_block block line then new else line) lines
+
+-- the line with the least key; no two lines of a set have the same one
+abbrev pub lesser : Line → Option Line → Line
+lesser line None = line
+lesser line (Some other) = if nat_lt line.key other.key then line else other
+
+abbrev pub least : List Line → Option Line
+least [] = None
+least (line ∷ lines) = Some (lesser line (least lines))
+
+-- the line that leaves a full set, where word is the next random word
+abbrev pub victim : Repl → ℕ → ℕ → List Line → Option Line
+victim Lru ways word lines = least lines
+victim Fifo ways word lines = least lines
+victim Random ways word lines = find (λ line. line.key == word % ways) lines
+
+-- whether a full set draws a word
+abbrev pub draws : Repl → Bool
+draws Lru = false
+draws Fifo = false
+draws Random = true
+
+-- a line that is touched, at this clock
+abbrev pub touch : Repl → ℕ → Line → List Line → List Line
+touch Lru clock line lines = record line { key = clock } ∷ without line.block lines
+touch Fifo clock line lines = exchange line.block line lines
+touch Random clock line lines = exchange line.block line lines
+
+-- a new block at this clock, where so many blocks stand in its set and this line leaves
+abbrev pub with_block : Repl → ℕ → ℕ → Slot → Option Line → List Line → List Line
+with_block Random clock count new None lines = lines ++ record { block = new.block; key = count; dirty = new.dirty } ∷ []
+with_block Random clock count new (Some gone) lines =
+    exchange gone.block (record { block = new.block; key = gone.key; dirty = new.dirty }) lines
+with_block Lru clock count new None lines = record { block = new.block; key = clock; dirty = new.dirty } ∷ lines
+with_block Lru clock count new (Some gone) lines =
+    record { block = new.block; key = clock; dirty = new.dirty } ∷ without gone.block lines
+with_block Fifo clock count new None lines = record { block = new.block; key = clock; dirty = new.dirty } ∷ lines
+with_block Fifo clock count new (Some gone) lines =
+    record { block = new.block; key = clock; dirty = new.dirty } ∷ without gone.block lines
+
+-- whether a set has no room for one more block
+abbrev pub is_full : Machine → MachineState → ℕ → Bool
+is_full m st set = not (nat_lt (length (lines_of_set m.design.geometry set st.lines)) m.design.geometry.e)
+
+-- a block that is placed, where this line of its set leaves, if any
+abbrev pub placing : Machine → Ref → ℕ → Option Line → MachineState → MachineState
+placing m ref block leaving st =
+    let set = set_of_block m.design.geometry block in
+    record {
+      clock = st.clock + 1;
+      lines = with_block m.policy (st.clock + 1) (length (lines_of_set m.design.geometry set st.lines)) (record { block = block; dirty = dirties m.design.write ref.access }) leaving st.lines;
+      drawn = (if is_full m st set && draws m.policy then st.drawn + 1 else st.drawn);
+    }
+
+-- one reference to a block, where this line leaves if the block is placed; the line of the block, if it is held, comes last
+abbrev pub step_at : Machine → Ref → ℕ → Option Line → MachineState → Option Line → MachineState
+step_at m ref block leaving st (Some line) = record st {
+  clock = st.clock + 1;
+  lines = touch m.policy (st.clock + 1) (record line { dirty = dirties m.design.write ref.access || line.dirty }) st.lines;
+}
+step_at m ref block leaving st None =
+    if allocates m.design.alloc ref.access then placing m ref block leaving st else record st { clock = st.clock + 1 }
+
+abbrev pub answer_at : Machine → Ref → ℕ → Option Line → Option Line → Answer
+answer_at m ref block leaving (Some line) = on_hit m.design.write ref
+answer_at m ref block leaving None =
+    if allocates m.design.alloc ref.access then on_placing m.design.geometry m.design.write ref block (option_slot leaving) else on_passing ref
+
+-- the state after one reference, and the answer to it, where this line leaves if the block is placed
+abbrev pub step_with : Machine → Ref → Option Line → MachineState → MachineState
+step_with m ref leaving st =
+    let block = block_of m.design.geometry ref.addr in step_at m ref block leaving st (find (is_block block) st.lines)
+
+abbrev pub answer_with : Machine → Ref → Option Line → MachineState → Answer
+answer_with m ref leaving st =
+    let block = block_of m.design.geometry ref.addr in answer_at m ref block leaving (find (is_block block) st.lines)
+
+-- the line that leaves for a block of this set by the policy, if the set is full
+abbrev pub leaves : Machine → MachineState → ℕ → Option Line
+leaves m st set =
+    let here = lines_of_set m.design.geometry set st.lines in
+    if nat_lt (length here) m.design.geometry.e then None else victim m.policy m.design.geometry.e (m.words st.drawn) here
+
+-- the state after one reference, and the answer to it
+abbrev pub step : Machine → MachineState → Ref → MachineState
+step m st ref = step_with m ref (leaves m st (set_of m.design.geometry ref.addr)) st
+
+abbrev pub answer : Machine → MachineState → Ref → Answer
+answer m st ref = answer_with m ref (leaves m st (set_of m.design.geometry ref.addr)) st
+
+-- how many blocks are dirty
+abbrev pub dirty_count : MachineState → ℕ
+dirty_count st = count_by (λ line. line.dirty) st.lines
+
+-- the state after one event: a flush empties the cache, and keeps the number of words drawn
+abbrev pub next : Machine → MachineState → Event → MachineState
+next m st (event.Reference ref) = step m st ref
+next m st event.Flush = record st { lines = [] }
+
+-- the state after a list of events
+abbrev pub run : Machine → List Event → MachineState
+run m events = fold (next m) start events
+
+-- the references of a list of events, each with the machine's answer, from a state
+abbrev pub answered_from : Machine → MachineState → List Event → List (Ref × Answer)
+answered_from m st [] = []
+answered_from m st (event.Reference ref ∷ events) = (ref, answer m st ref) ∷ answered_from m (step m st ref) events
+answered_from m st (event.Flush ∷ events) = answered_from m (next m st event.Flush) events
+
+abbrev pub answered : Machine → List Event → List (Ref × Answer)
+answered m events = answered_from m start events
+
+-- the answers alone
+abbrev pub answers : Machine → List Event → List Answer
+answers m events = map (λ p. p.1) (answered m events)
+
+-- how many of the answers hit, missed and took out a block
+abbrev pub counts_in : List Answer → Counts
+counts_in all = record {
+  hits = count_by (λ a. a.hit) all;
+  misses = count_by (λ a. not a.hit) all;
+  evictions = count_by (λ a. is_some a.evicted) all;
+}

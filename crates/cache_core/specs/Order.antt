@@ -1,0 +1,125 @@
+-- What a cache holds, each set in its policy's order, and one access to it.
+use Rattle.std.specs.Prelude.{◌≡◌, ◌≢◌, ◌<◌, ◌≤◌, ℕ, ◌+◌, ◌%◌, Bool, true, false, List, [], ◌∷◌, ◌++◌, Option, Some, None, if◌then◌else◌, ◌==◌, length, MatchOption, MatchBool, slice_get, slice_set, slice_index_or, remove, position, sum_by, count_by, replicate, IsPermutation}
+use Rattle.trace_core.specs.declared.events.Ref.{Ref}
+use Rattle.cache_core.specs.declared.outcome.Slot.{Slot}
+use Rattle.cache_core.specs.declared.outcome.Outcome.{Outcome}
+use Rattle.cache_core.specs.declared.outcome.Design.{Design}
+use Rattle.cache_core.specs.declared.outcome.Repl.{Repl}
+use Rattle.cache_core.specs.declared.outcome.Repl.TheVariants.{Lru, Fifo, Random}
+use Rattle.cache_core.specs.Geometry.{block_of, set_of}
+use Rattle.cache_core.specs.Outcomes.{outcome_of, on_hit, on_placing, on_passing, dirties, allocates, is_write}
+
+-- A touch of the slot at a place. LRU brings it to the front; FIFO and random leave the order. Of any
+-- other rule it is known that the slots are the same.
+abbrev pub Touches : Option Repl → List Slot → ℕ → List Slot → Type 0
+Touches None old at new = IsPermutation old new
+Touches (Some Lru) old at new = (x : Slot) × (slice_get old at ≡ Some x) × (new ≡ x ∷ remove old at)
+Touches (Some Fifo) old at new = new ≡ old
+Touches (Some Random) old at new = new ≡ old
+
+-- A slot put into a set with room: LRU and FIFO put it in front, random in the next way.
+abbrev pub Inserts : Option Repl → List Slot → Slot → List Slot → Type 0
+Inserts None old slot new = IsPermutation (slot ∷ old) new
+Inserts (Some Lru) old slot new = new ≡ slot ∷ old
+Inserts (Some Fifo) old slot new = new ≡ slot ∷ old
+Inserts (Some Random) old slot new = new ≡ old ++ slot ∷ []
+
+-- A slot put into a full set, where one leaves: LRU and FIFO put it in front and take out the last,
+-- random exchanges the way that the word names.
+abbrev pub Exchanges : Option Repl → ℕ → List Slot → Slot → Slot → List Slot → Type 0
+Exchanges None word old slot gone new =
+    (rest : List Slot) × IsPermutation old (gone ∷ rest) × IsPermutation (slot ∷ rest) new
+Exchanges (Some Lru) word old slot gone new = (front : List Slot) × (old ≡ front ++ gone ∷ []) × (new ≡ slot ∷ front)
+Exchanges (Some Fifo) word old slot gone new = (front : List Slot) × (old ≡ front ++ gone ∷ []) × (new ≡ slot ∷ front)
+Exchanges (Some Random) word old slot gone new =
+    (slice_get old (word % length old) ≡ Some gone) × (new ≡ slice_set old (word % length old) slot)
+
+-- A slot placed in a set of so many places, by what leaves.
+abbrev pub TakesIn : Option Repl → ℕ → ℕ → List Slot → Slot → Option Slot → List Slot → Type 0
+TakesIn rule word room old slot None new = (length old < room) × Inserts rule old slot new
+TakesIn rule word room old slot (Some gone) new = (length old ≡ room) × Exchanges rule word old slot gone new
+
+-- only random draws a word, and only when a slot leaves
+abbrev pub words_after : Option Repl → Option Slot → (ℕ → ℕ) → ℕ → ℕ
+words_after (Some Random) (Some _) words n = words (n + 1)
+words_after (Some Random) None words n = words n
+words_after (Some Lru) _ words n = words n
+words_after (Some Fifo) _ words n = words n
+words_after None _ words n = words n
+
+-- the slots with that at a place marked dirty, if it is to be
+abbrev pub marked : Bool → List Slot → ℕ → List Slot
+marked false slots at = slots
+marked true slots at =
+    slice_set slots at (record (slice_index_or slots at (record { block = 0; dirty = false })) { dirty = true })
+
+-- where a block stands among slots
+abbrev pub position_of : ℕ → List Slot → Option ℕ
+position_of block slots = position (λ x. x.block == block) slots
+
+-- a reference whose block stands at a place of its set
+pub record Hits (d : Design) (rule : Option Repl) (words : ℕ → ℕ) (ref : Ref) (at : ℕ) (old : List Slot) (outcome : Outcome) (new : List Slot) (rest : ℕ → ℕ) : Type 0 where
+  pub order : Touches rule (marked (dirties d.write ref.access) old at) at new
+  pub undrawn : rest ≡ words
+  pub answers : outcome ≡ outcome_of (on_hit d.write ref)
+
+-- a reference whose block is placed
+pub record Fills (d : Design) (rule : Option Repl) (words : ℕ → ℕ) (ref : Ref) (old : List Slot) (outcome : Outcome) (new : List Slot) (rest : ℕ → ℕ) : Type 0 where
+  pub order : TakesIn rule (words 0) d.geometry.e old (record { block = block_of d.geometry ref.addr; dirty = dirties d.write ref.access }) outcome.evicted new
+  pub undrawn : rest ≡ words_after rule outcome.evicted words
+  pub answers : outcome ≡ outcome_of (on_placing d.geometry d.write ref (block_of d.geometry ref.addr) outcome.evicted)
+
+-- a reference that the cache passes on
+pub record Passes (words : ℕ → ℕ) (ref : Ref) (old : List Slot) (outcome : Outcome) (new : List Slot) (rest : ℕ → ℕ) : Type 0 where
+  pub order : new ≡ old
+  pub undrawn : rest ≡ words
+  pub answers : outcome ≡ outcome_of (on_passing ref)
+
+-- One access, as its set sees it: the slots and the words to come, before it and after it.
+abbrev pub Visits : Design → Option Repl → (ℕ → ℕ) → Ref → List Slot → Outcome → List Slot → (ℕ → ℕ) → Type 0
+Visits d rule words ref old outcome new rest =
+    MatchOption (position_of (block_of d.geometry ref.addr) old)
+    (MatchBool (allocates d.alloc ref.access) (Fills d rule words ref old outcome new rest) (Passes words ref old outcome new rest))
+    (λ at. Hits d rule words ref at old outcome new rest)
+
+-- what a cache holds: its sets, each in its policy's order, and the random words still to come
+pub record Contents : Type 0 where
+  pub design : Design
+  pub rule : Option Repl
+  pub words : ℕ → ℕ
+  pub sets : List (List Slot)
+
+abbrev pub slots_of : List (List Slot) → ℕ → List Slot
+slots_of sets set = slice_index_or sets set []
+
+-- one access: its set is visited, and the others stay
+pub record Accesses (old : Contents) (ref : Ref) (outcome : Outcome) (new : Contents) : Type 0 where
+  pub visit : Visits old.design old.rule old.words ref (slots_of old.sets (set_of old.design.geometry ref.addr)) outcome (slots_of new.sets (set_of old.design.geometry ref.addr)) new.words
+  pub others : (k : ℕ) → k ≢ set_of old.design.geometry ref.addr → slots_of new.sets k ≡ slots_of old.sets k
+  pub count : length new.sets ≡ length old.sets
+  pub design : new.design ≡ old.design
+  pub rule : new.rule ≡ old.rule
+
+-- how many slots are dirty
+abbrev pub dirty_slots : List (List Slot) → ℕ
+dirty_slots sets = sum_by (count_by (λ slot. slot.dirty)) sets
+
+-- a flush empties each set and keeps the words; it answers how many slots were dirty
+pub record Flushes (old : Contents) (dirty : ℕ) (new : Contents) : Type 0 where
+  pub empty : new.sets ≡ replicate (length old.sets) []
+  pub words : new.words ≡ old.words
+  pub counted : dirty ≡ dirty_slots old.sets
+  pub design : new.design ≡ old.design
+  pub rule : new.rule ≡ old.rule
+
+abbrev pub is_dirty : Option Slot → Bool
+is_dirty None = false
+is_dirty (Some slot) = slot.dirty
+
+abbrev pub one_if : Bool → ℕ
+one_if b = if b then 1 else 0
+
+-- each dirty slot, and each dirty one that left, comes of a write
+abbrev pub DirtiesByWrites : List (List Slot) → Ref → Outcome → List (List Slot) → Type 0
+DirtiesByWrites old ref outcome new =
+    dirty_slots new + one_if (is_dirty outcome.evicted) ≤ dirty_slots old + one_if (is_write ref.access)

@@ -1,0 +1,78 @@
+-- What one reference does to a cache, apart from which line leaves: the table of outcomes. (Write-back and write-through,
+-- and allocation on writes, as the options wback and walloc of the Dinero IV manual.)
+use Rattle.std.specs.Prelude.{ℕ, Bool, true, false, not, List, [], ◌∷◌, ◌++◌, Option, Some, None, if◌then◌else◌}
+use Rattle.trace_core.specs.declared.events.Ref.{Ref}
+use Rattle.trace_core.specs.declared.events.Access.{Access}
+use Rattle.trace_core.specs.declared.events.Access.TheVariants.{Fetch, Read, Write}
+use Rattle.cache_core.specs.declared.outcome.Slot.{Slot}
+use Rattle.cache_core.specs.declared.outcome.Outcome.{Outcome}
+use Rattle.cache_core.specs.declared.outcome.WriteMode.{WriteMode}
+use Rattle.cache_core.specs.declared.outcome.WriteMode.TheVariants.{Back, Through}
+use Rattle.cache_core.specs.declared.outcome.AllocMode.{AllocMode}
+use Rattle.cache_core.specs.declared.outcome.AllocMode.TheVariants.{Always, Never}
+use Rattle.cache_core.specs.Geometry.{Shape, address_of}
+
+abbrev pub is_write : Access → Bool
+is_write Fetch = false
+is_write Read = false
+is_write Write = true
+
+-- the line is dirty after it: a write, in a write-back cache
+abbrev pub dirties : WriteMode → Access → Bool
+dirties Back a = is_write a
+dirties Through a = false
+
+-- a miss places its block: any but a write without allocation
+abbrev pub allocates : AllocMode → Access → Bool
+allocates Always a = true
+allocates Never a = not (is_write a)
+
+-- a write-through cache sends each write on
+abbrev pub writes_through : WriteMode → Ref → List Ref
+writes_through Back ref = []
+writes_through Through ref = if is_write ref.access then ref ∷ [] else []
+
+-- a dirty victim is written back
+abbrev pub writes_back : Shape → Option Slot → List Ref
+writes_back g None = []
+writes_back g (Some victim) =
+    if victim.dirty then record { access = Write; addr = address_of g victim.block } ∷ [] else []
+
+-- the block is fetched for a fetch, and read for a read or a write
+abbrev pub fill_access : Access → Access
+fill_access Fetch = Fetch
+fill_access Read = Read
+fill_access Write = Read
+
+-- what one reference does, and what goes down, in order
+pub record Answer : Type 0 where
+  pub hit : Bool
+  pub evicted : Option Slot
+  pub placed : Bool
+  pub down : List Ref
+
+abbrev pub on_hit : WriteMode → Ref → Answer
+on_hit write ref = record { hit = true; evicted = None; placed = false; down = writes_through write ref }
+
+-- a miss that places the block, where this victim left, if any
+abbrev pub on_placing : Shape → WriteMode → Ref → ℕ → Option Slot → Answer
+on_placing g write ref block victim = record {
+  hit = false;
+  evicted = victim;
+  placed = true;
+  down = writes_back g victim ++ record { access = fill_access ref.access; addr = address_of g block } ∷ writes_through write ref;
+}
+
+-- a write that misses without allocation
+abbrev pub on_passing : Ref → Answer
+on_passing ref = record { hit = false; evicted = None; placed = false; down = ref ∷ [] }
+
+-- a list of at most two in two places, filled from the first on
+abbrev pub two_places : List Ref → List (Option Ref)
+two_places [] = None ∷ None ∷ []
+two_places (x ∷ []) = Some x ∷ None ∷ []
+two_places (x ∷ y ∷ _) = Some x ∷ Some y ∷ []
+
+-- an answer as an outcome of the code
+abbrev pub outcome_of : Answer → Outcome
+outcome_of a = record { hit = a.hit; evicted = a.evicted; placed = a.placed; down = two_places a.down }

@@ -1,0 +1,42 @@
+-- A cache's sets in one array of slots: each has a segment of as many slots as it has ways, and the
+-- first of them are filled.
+use Rattle.std.specs.Prelude.{◌≡◌, ◌<◌, ◌≤◌, ℕ, ◌*◌, ◌^◌, List, [], ◌∷◌, Option, length, take, drop, All, replicate}
+use Rattle.cache_core.specs.Geometry.{Shape, IsGeometry}
+use Rattle.cache_core.specs.declared.outcome.Slot.{Slot}
+use Rattle.cache_core.specs.declared.outcome.Design.{Design}
+use Rattle.cache_core.specs.declared.outcome.Repl.{Repl}
+use Rattle.cache_core.specs.Order.{Contents}
+
+-- the filled slots of each segment
+abbrev pub sets_of : ℕ → List Slot → List ℕ → List (List Slot)
+sets_of ways slots [] = []
+sets_of ways slots (n ∷ filled) = take n slots ∷ sets_of ways (drop ways slots) filled
+
+-- each slot's address is an address
+abbrev pub Addressable : ℕ → List Slot → Type 0
+Addressable b slots = All (λ slot. slot.block * 2 ^ b < 2 ^ 64) slots
+
+-- what a cache keeps of its arrays
+pub record IsSlab (d : Design) (slots : List Slot) (filled : List ℕ) : Type 0 where
+  pub shape : IsGeometry d.geometry
+  pub segments : length slots ≡ d.geometry.e * 2 ^ d.geometry.s
+  pub sets : length filled ≡ 2 ^ d.geometry.s
+  pub within : All (λ n. n ≤ d.geometry.e) filled
+  pub addresses : All (Addressable d.geometry.b) (sets_of d.geometry.e slots filled)
+
+-- what a slab holds
+abbrev pub slab_contents : Design → Option Repl → (ℕ → ℕ) → List Slot → List ℕ → Contents
+slab_contents d rule words slots filled = record { design = d; rule = rule; words = words; sets = sets_of d.geometry.e slots filled }
+
+-- a cache: its design, its policy and its sets
+pub record CacheValue (P : Type 0) : Type 0 where
+  pub design : Design
+  pub policy : P
+  pub sets : List (List Slot)
+
+-- what it holds, where rule and words are those of its policy's type
+abbrev pub contents_of : {P : Type 0} → (P → Option Repl) → (P → ℕ → ℕ) → CacheValue P → Contents
+contents_of rule words c = record { design = c.design; rule = rule c.policy; words = words c.policy; sets = c.sets }
+
+abbrev pub empty_sets : Shape → List (List Slot)
+empty_sets g = replicate (2 ^ g.s) []

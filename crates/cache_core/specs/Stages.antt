@@ -1,0 +1,79 @@
+-- A cache of a system: its policy, one reference or one flush at it, and what it counts.
+use Rattle.std.specs.Prelude.{◌≡◌, ◌<◌, ◌≤◌, ℕ, ◌+◌, ◌&&◌, not, Option, Some, None, is_some}
+use Rattle.trace_core.specs.declared.events.Ref.{Ref}
+use Rattle.cache_core.specs.declared.outcome.Outcome.{Outcome}
+use Rattle.cache_core.specs.declared.outcome.Repl.{Repl}
+use Rattle.cache_core.specs.declared.outcome.Repl.TheVariants.{Lru as LruRule, Fifo as FifoRule, Random as RandomRule}
+use Rattle.cache_core.specs.declared.plan.CacheStats.{CacheStats}
+use Rattle.cache_core.specs.declared.stage.Policy.{Policy}
+use Rattle.cache_core.specs.declared.stage.Policy.TheVariants.{Lru, Fifo, Random}
+use Rattle.cache_core.specs.declared.stage.Stage.{Stage}
+use Rattle.cache_core.specs.Order.{Contents, Accesses, Flushes, dirty_slots, is_dirty, one_if}
+use Rattle.cache_core.specs.Outcomes.{is_write}
+use Rattle.cache_core.specs.Slab.{contents_of}
+use Rattle.cache_core.specs.Systems.{is_fetch, is_read}
+use Rattle.cache_core.specs.Words.{word_of}
+
+abbrev pub rule_of : Policy → Option Repl
+rule_of (Lru p) = Some LruRule
+rule_of (Fifo p) = Some FifoRule
+rule_of (Random p) = Some RandomRule
+
+abbrev pub words_of : Policy → ℕ → ℕ
+words_of (Lru p) = λ n. 0
+words_of (Fifo p) = λ n. 0
+words_of (Random p) = word_of p
+
+-- the counts after one more access
+abbrev pub tally : CacheStats → Ref → Outcome → CacheStats
+tally s ref outcome = record {
+  fetches = s.fetches + one_if (is_fetch ref.access);
+  fetch_misses = s.fetch_misses + one_if (is_fetch ref.access && not outcome.hit);
+  reads = s.reads + one_if (is_read ref.access);
+  read_misses = s.read_misses + one_if (is_read ref.access && not outcome.hit);
+  writes = s.writes + one_if (is_write ref.access);
+  write_misses = s.write_misses + one_if (is_write ref.access && not outcome.hit);
+  evictions = s.evictions + one_if (is_some outcome.evicted);
+  copybacks = s.copybacks + one_if (is_dirty outcome.evicted);
+}
+
+-- each count is below a number
+pub record IsBelow (s : CacheStats) (n : ℕ) : Type 0 where
+  pub fetches : s.fetches < n
+  pub fetch_misses : s.fetch_misses < n
+  pub reads : s.reads < n
+  pub read_misses : s.read_misses < n
+  pub writes : s.writes < n
+  pub write_misses : s.write_misses < n
+  pub evictions : s.evictions < n
+  pub copybacks : s.copybacks < n
+
+-- what the cache holds
+abbrev pub contents_of_stage : Stage → Contents
+contents_of_stage stage = contents_of rule_of words_of stage.cache
+
+-- one reference at a cache of a system
+pub record Enters (old : Stage) (ref : Ref) (outcome : Outcome) (new : Stage) : Type 0 where
+  pub access : Accesses (contents_of_stage old) ref outcome (contents_of_stage new)
+  pub counts : new.stats ≡ tally old.stats ref outcome
+
+-- one flush of it: its dirty lines are copybacks
+pub record Empties (old : Stage) (dirty : ℕ) (new : Stage) : Type 0 where
+  pub flush : Flushes (contents_of_stage old) dirty (contents_of_stage new)
+  pub counts : new.stats ≡ record old.stats { copybacks = old.stats.copybacks + dirty }
+
+-- Each count is at most n. Each copyback, and each dirty line that is held, comes of a write.
+pub record CountsWithin (n : ℕ) (stage : Stage) : Type 0 where
+  pub fetches : stage.stats.fetches ≤ n
+  pub fetch_misses : stage.stats.fetch_misses ≤ n
+  pub reads : stage.stats.reads ≤ n
+  pub read_misses : stage.stats.read_misses ≤ n
+  pub writes : stage.stats.writes ≤ n
+  pub write_misses : stage.stats.write_misses ≤ n
+  pub evictions : stage.stats.evictions ≤ n
+  pub copybacks : stage.stats.copybacks + dirty_slots stage.cache.sets ≤ stage.stats.writes
+
+-- the same of a cache that a system may have
+abbrev pub LevelWithin : ℕ → Option Stage → Type 0
+LevelWithin n None = Unit {0}
+LevelWithin n (Some stage) = CountsWithin n stage

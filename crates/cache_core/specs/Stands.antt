@@ -1,0 +1,97 @@
+-- What a cache holds, as what a machine holds after a list of events.
+use Rattle.std.specs.Prelude.{◌≡◌, ◌≢◌, ◌<◌, ◌≤◌, ℕ, ◌+◌, List, [], ◌∷◌, ◌++◌, Some, map, length, replicate, ◌^◌}
+use Rattle.trace_core.specs.declared.events.Ref.{Ref}
+use Rattle.trace_core.specs.declared.events.Event.{Event}
+use Rattle.trace_core.specs.declared.events.Event.TheVariants as event
+use Rattle.cache_core.specs.declared.outcome.Outcome.{Outcome}
+use Rattle.cache_core.specs.declared.outcome.Repl.{Repl}
+use Rattle.cache_core.specs.declared.outcome.Repl.TheVariants.{Lru, Fifo, Random}
+use Rattle.cache_core.specs.Machine.{Machine, MachineState, Line, run, slot_of, lines_of_set, answer, dirty_count}
+use Rattle.cache_core.specs.Order.{Contents, Accesses, Flushes, slots_of}
+use Rattle.cache_core.specs.Outcomes.{outcome_of}
+
+-- Each set holds the slots of the machine's lines of it, in their order, and the words still to come
+-- are those that the machine hasn't drawn.
+pub record IsState (m : Machine) (st : MachineState) (c : Contents) : Type 0 where
+  pub design : c.design ≡ m.design
+  pub rule : c.rule ≡ Some m.policy
+  pub words : c.words ≡ (λ n. m.words (st.drawn + n))
+  pub count : length c.sets ≡ 2 ^ m.design.geometry.s
+  pub sets : (k : ℕ) → slots_of c.sets k ≡ map slot_of (lines_of_set m.design.geometry k st.lines)
+
+-- keys that fall from one line to the next, the first below a number
+abbrev pub Falls : ℕ → List Line → Type 0
+Falls n [] = Unit {0}
+Falls n (line ∷ lines) = (line.key < n) × Falls line.key lines
+
+-- keys that count up by one from a number
+abbrev pub CountsUp : ℕ → List Line → Type 0
+CountsUp n [] = Unit {0}
+CountsUp n (line ∷ lines) = (line.key ≡ n) × CountsUp (n + 1) lines
+
+-- the lines of a set stand in the policy's order: the newest key first, or way after way
+abbrev pub InOrder : Repl → ℕ → List Line → Type 0
+InOrder Lru clock lines = Falls (clock + 1) lines
+InOrder Fifo clock lines = Falls (clock + 1) lines
+InOrder Random clock lines = CountsUp 0 lines
+
+-- no line of this block
+abbrev pub Absent : ℕ → List Line → Type 0
+Absent b [] = Unit {0}
+Absent b (l ∷ ls) = (l.block ≢ b) × Absent b ls
+
+-- each block has one line at most
+abbrev pub Distinct : List Line → Type 0
+Distinct [] = Unit {0}
+Distinct (l ∷ ls) = Absent l.block ls × Distinct ls
+
+-- what a set keeps
+pub record IsGood (policy : Repl) (clock : ℕ) (ls : List Line) : Type 0 where
+  pub distinct : Distinct ls
+  pub order : InOrder policy clock ls
+
+-- each set of the machine is good
+abbrev pub IsSound : Machine → MachineState → Type 0
+IsSound m st = (k : ℕ) → IsGood m.policy st.clock (lines_of_set m.design.geometry k st.lines)
+
+-- a cache that holds what the machine holds after a list of events
+abbrev pub StandsFor : Machine → List Event → Contents → Type 0
+StandsFor m events c = IsState m (run m events) c
+
+-- a new cache stands for no event
+abbrev pub StartLaw : Type 0
+StartLaw = (m : Machine) (c : Contents) → c.design ≡ m.design → c.rule ≡ Some m.policy → c.words ≡ m.words → c.sets ≡ replicate (2 ^ m.design.geometry.s) [] → StandsFor m [] c
+
+-- a list of events at a cache, one after another
+abbrev pub Runs : Contents → List Event → Contents → Type 0
+Runs old [] new = new ≡ old
+Runs old (event.Reference ref ∷ events) new = (outcome : Outcome) × (half : Contents) × Accesses old ref outcome half × Runs half events new
+Runs old (event.Flush ∷ events) new = (dirty : ℕ) × (half : Contents) × Flushes old dirty half × Runs half events new
+
+-- an access leads from a list of events to that list with the reference, and answers as the machine does
+abbrev pub AccessLaw : Type 0
+AccessLaw =
+    (m : Machine) (events : List Event) (old : Contents) (ref : Ref) (outcome : Outcome) (new : Contents) →
+    1 ≤ m.design.geometry.e → StandsFor m events old → Accesses old ref outcome new →
+    StandsFor m (events ++ event.Reference ref ∷ []) new × (outcome ≡ outcome_of (answer m (run m events) ref))
+
+-- a flush leads to that list with a flush, and answers how many blocks the machine holds dirty
+abbrev pub FlushLaw : Type 0
+FlushLaw =
+    (m : Machine) (events : List Event) (old : Contents) (dirty : ℕ) (new : Contents) →
+    StandsFor m events old → Flushes old dirty new →
+    StandsFor m (events ++ event.Flush ∷ []) new × (dirty ≡ dirty_count (run m events))
+
+-- so a list of events leads to that list with the others behind it
+abbrev pub RunLaw : Type 0
+RunLaw = (m : Machine) (events more : List Event) (old new : Contents) →
+    1 ≤ m.design.geometry.e → StandsFor m events old → Runs old more new → StandsFor m (events ++ more) new
+
+-- Each set of the machine has one line at most for a block, and stands in the policy's order: for LRU
+-- and FIFO the newest key first, for random way after way.
+abbrev pub OrderLaw : Type 0
+OrderLaw = (m : Machine) (events : List Event) → 1 ≤ m.design.geometry.e → IsSound m (run m events)
+
+-- never more than two references go down
+abbrev pub DownLaw : Type 0
+DownLaw = (m : Machine) (events : List Event) (ref : Ref) → length (answer m (run m events) ref).down ≤ 2

@@ -1,0 +1,140 @@
+-- A system of caches: a first level, perhaps a second one, and memory below. (The levels -l1-i, -l1-d, -l1-u and -l2-u of the
+-- Dinero IV manual.)
+use Rattle.std.specs.Prelude.{ℕ, ◌+◌, Bool, true, false, ◌||◌, ◌&&◌, not, List, [], ◌∷◌, ◌++◌, Option, Some, None, if◌then◌else◌, count_by, map, flat_map, filter, is_some}
+use Rattle.trace_core.specs.declared.events.Ref.{Ref}
+use Rattle.trace_core.specs.declared.events.Access.{Access}
+use Rattle.trace_core.specs.declared.events.Access.TheVariants.{Fetch, Read, Write}
+use Rattle.trace_core.specs.declared.events.Event.{Event}
+use Rattle.trace_core.specs.declared.events.Event.TheVariants as event
+use Rattle.cache_core.specs.declared.outcome.Repl.{Repl}
+use Rattle.cache_core.specs.declared.outcome.Repl.TheVariants.{Lru, Fifo, Random}
+use Rattle.cache_core.specs.declared.plan.Level.{Level}
+use Rattle.cache_core.specs.declared.plan.CacheName.{CacheName}
+use Rattle.cache_core.specs.declared.plan.CacheName.TheVariants.{L1I, L1D, L1U, L2U}
+use Rattle.cache_core.specs.declared.plan.CacheStats.{CacheStats}
+use Rattle.cache_core.specs.declared.plan.Stats.{Stats}
+use Rattle.cache_core.specs.Outcomes.{is_write}
+use Rattle.cache_core.specs.Machine.{Machine, MachineState, start, step, answer, next, run, dirty_count, answered}
+use Rattle.cache_core.specs.Order.{is_dirty}
+use Rattle.cache_core.specs.Levels.{Levels}
+use Rattle.cache_core.specs.Words.{word_of, seeded}
+
+-- the words of a policy: only random has a generator
+abbrev pub words_for : Repl → ℕ → ℕ → ℕ
+words_for Lru seed = λ n. 0
+words_for Fifo seed = λ n. 0
+words_for Random seed = word_of (seeded seed)
+
+-- each cache with random replacement has a generator of its own, of the same seed
+abbrev pub machine_of : ℕ → Level → Machine
+machine_of seed level = record { design = level.design; policy = level.repl; words = words_for level.repl seed }
+
+abbrev pub is_fetch : Access → Bool
+is_fetch Fetch = true
+is_fetch Read = false
+is_fetch Write = false
+
+abbrev pub is_read : Access → Bool
+is_read Fetch = false
+is_read Read = true
+is_read Write = false
+
+-- which references a cache of the first level takes
+abbrev pub takes : CacheName → Ref → Bool
+takes L1I ref = is_fetch ref.access
+takes L1D ref = not (is_fetch ref.access)
+takes L1U ref = true
+takes L2U ref = false
+
+-- its events: those references, and each flush
+abbrev pub takes_event : CacheName → Event → Bool
+takes_event name (event.Reference ref) = takes name ref
+takes_event name event.Flush = true
+
+abbrev pub events_for : CacheName → List Event → List Event
+events_for name events = filter (takes_event name) events
+
+-- what goes down from a cache of the first level for a reference, after earlier events
+abbrev pub sends : ℕ → CacheName → Option Level → List Event → Ref → List Ref
+sends seed name None earlier ref = []
+sends seed name (Some level) earlier ref =
+    if takes name ref then (answer (machine_of seed level) (run (machine_of seed level) (events_for name earlier)) ref).down else []
+
+-- what goes down from the first level for a reference
+abbrev pub sent : Levels → ℕ → List Event → Ref → List Ref
+sent plan seed earlier ref =
+    sends seed L1I plan.i earlier ref ++ sends seed L1D plan.d earlier ref ++ sends seed L1U plan.u earlier ref
+
+-- what goes down from the first level, in order, with each flush at its place
+abbrev pub below_from : Levels → ℕ → List Event → List Event → List Event
+below_from plan seed earlier [] = []
+below_from plan seed earlier (event.Reference ref ∷ events) =
+    map event.Reference (sent plan seed earlier ref) ++ below_from plan seed (earlier ++ event.Reference ref ∷ []) events
+below_from plan seed earlier (event.Flush ∷ events) = event.Flush ∷ below_from plan seed (earlier ++ event.Flush ∷ []) events
+
+abbrev pub below : Levels → ℕ → List Event → List Event
+below plan seed events = below_from plan seed [] events
+
+-- how many dirty blocks its flushes find
+abbrev pub flushed_from : Machine → MachineState → List Event → ℕ
+flushed_from m st [] = 0
+flushed_from m st (event.Reference ref ∷ events) = flushed_from m (step m st ref) events
+flushed_from m st (event.Flush ∷ events) = dirty_count st + flushed_from m (next m st event.Flush) events
+
+abbrev pub flushed : Machine → List Event → ℕ
+flushed m events = flushed_from m start events
+
+-- what a cache counts over its events
+abbrev pub cache_stats : Machine → List Event → CacheStats
+cache_stats m events =
+    let all = answered m events in
+    record {
+      fetches = count_by (λ p. is_fetch p.0.access) all;
+      fetch_misses = count_by (λ p. is_fetch p.0.access && not p.1.hit) all;
+      reads = count_by (λ p. is_read p.0.access) all;
+      read_misses = count_by (λ p. is_read p.0.access && not p.1.hit) all;
+      writes = count_by (λ p. is_write p.0.access) all;
+      write_misses = count_by (λ p. is_write p.0.access && not p.1.hit) all;
+      evictions = count_by (λ p. is_some p.1.evicted) all;
+      copybacks = count_by (λ p. is_dirty p.1.evicted) all + flushed m events;
+    }
+
+abbrev pub level_counts : ℕ → Option Level → List Event → Option CacheStats
+level_counts seed None events = None
+level_counts seed (Some level) events = Some (cache_stats (machine_of seed level) events)
+
+abbrev pub level_flushed : ℕ → Option Level → List Event → ℕ
+level_flushed seed None events = 0
+level_flushed seed (Some level) events = flushed (machine_of seed level) events
+
+-- the references of a list of events
+abbrev pub references_in : List Event → List Ref
+references_in [] = []
+references_in (event.Reference ref ∷ events) = ref ∷ references_in events
+references_in (event.Flush ∷ events) = references_in events
+
+-- what goes down from the last level, where these events come to the second
+abbrev pub to_memory : ℕ → Option Level → List Event → List Ref
+to_memory seed None events = references_in events
+to_memory seed (Some level) events = flat_map (λ p. p.1.down) (answered (machine_of seed level) events)
+
+-- whether some cache of the first level takes a reference
+abbrev pub is_taken : Levels → Ref → Bool
+is_taken plan ref = is_some plan.u || (is_some plan.i && takes L1I ref) || (is_some plan.d && takes L1D ref)
+
+-- the statistics of a system after a list of events
+abbrev pub system_run : Levels → ℕ → List Event → Stats
+system_run plan seed events =
+    let lower = below plan seed events in
+    let memory = to_memory seed plan.second lower in
+    record {
+      l1i = level_counts seed plan.i (events_for L1I events);
+      l1d = level_counts seed plan.d (events_for L1D events);
+      l1u = level_counts seed plan.u (events_for L1U events);
+      l2u = level_counts seed plan.second lower;
+      memory_reads = count_by (λ ref. not (is_write ref.access)) memory;
+      memory_writes = count_by (λ ref. is_write ref.access) memory
+          + (level_flushed seed plan.i (events_for L1I events) + level_flushed seed plan.d (events_for L1D events)
+          + level_flushed seed plan.u (events_for L1U events) + level_flushed seed plan.second lower);
+      bypassed = count_by (λ ref. not (is_taken plan ref)) (references_in events);
+    }

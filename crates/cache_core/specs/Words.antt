@@ -1,0 +1,12 @@
+-- The random words of a generator: PCG32 (O'Neill 2014), of stream 54.
+use Rattle.std.specs.Prelude.{ℕ}
+use Rattle.rand_pcg.specs.Lcg.{Lcg, advance, started, increment_of}
+use Rattle.rand_pcg.specs.Pcg.{pcg32, multiplier_64}
+
+-- word n that the generator gives, from 0
+abbrev pub word_of : Lcg → ℕ → ℕ
+word_of g n = (pcg32 (advance 64 multiplier_64 n g)).0
+
+-- the generator of a seed
+abbrev pub seeded : ℕ → Lcg
+seeded seed = started 64 multiplier_64 seed (increment_of 64 54)

@@ -1,0 +1,310 @@
+//! One cache, under any policy.
+ghost use Rattle.std.specs.Prelude.{◌≡◌, ◌≤◌, ◌<◌, ◌+◌, ◌*◌, ◌^◌, ℕ, length, take, Some, IsSome, IfOk, All, Option, Bool, IfSome, option_to_list, count_by, replicate};
+ghost use Rattle.cache_core.specs.Geometry.{block_of, address_of};
+ghost use Rattle.cache_core.specs.Outcomes.{outcome_of, on_hit, on_placing, on_passing, dirties, allocates, writes_through, fill_access};
+ghost use Rattle.cache_core.specs.Order.{Touches, TakesIn, Visits, words_after, position_of, marked, Accesses, Flushes, dirty_slots, DirtiesByWrites};
+ghost use Rattle.cache_core.specs.Slab.{Addressable, IsSlab, slab_contents, sets_of};
+
+use crate::geometry::Geometry;
+use crate::outcome::{AllocMode, Design, Outcome, Slot, WriteMode};
+use crate::replacement::Replacement;
+use std::alloc::{AllocError, Global};
+use std::marker::Model;
+use trace_core::events::{Access, Ref};
+
+/// Where a block stands.
+#[inline(always)]
+fn find_block(slots: &[Slot], block: u64) -> Option<usize>
+    ensures { result ≡ position_of block slots.now }
+{
+    slots.iter().position(|slot| slot.block == block)
+}
+
+/// Whether the line is dirty after a reference.
+#[inline(always)]
+fn dirties_line(write: WriteMode, access: Access) -> bool
+    ensures { result ≡ dirties write access }
+{
+    write == WriteMode::Back && access == Access::Write
+}
+
+/// Whether a miss places its block.
+#[inline(always)]
+fn allocates_line(alloc: AllocMode, access: Access) -> bool
+    ensures { result ≡ allocates alloc access }
+{
+    alloc == AllocMode::Always || access != Access::Write
+}
+
+/// What goes down for the reference itself: a write, from a write-through cache.
+#[inline(always)]
+fn written_through(write: WriteMode, reference: Ref) -> Option<Ref>
+    ensures { writes_through write reference ≡ option_to_list result }
+{
+    (write == WriteMode::Through && reference.access == Access::Write).then_some(reference)
+}
+
+/// What goes down for the block: a fetch for a fetch, and otherwise a read.
+#[inline(always)]
+fn fill_of(geometry: Geometry, reference: Ref, block: u64) -> Ref
+    requires { block * 2 ^ geometry.b < 2 ^ 64 }
+    ensures access { result.access ≡ fill_access reference.access }
+    ensures addr { result.addr ≡ address_of geometry block }
+{
+    let access = match reference.access {
+        Access::Fetch => Access::Fetch,
+        Access::Read | Access::Write => Access::Read,
+    };
+    let addr = geometry.address_of(block);
+    Ref { access, addr }
+}
+
+#[inline(always)]
+fn hit_outcome(write: WriteMode, reference: Ref) -> Outcome
+    ensures { result ≡ outcome_of (on_hit write reference) }
+{
+    Outcome {
+        hit: true,
+        evicted: None,
+        placed: false,
+        down: [written_through(write, reference), None],
+    }
+}
+
+#[inline(always)]
+fn placing_outcome(design: Design, reference: Ref, block: u64, evicted: Option<Slot>) -> Outcome
+    requires block { block * 2 ^ design.geometry.b < 2 ^ 64 }
+    requires victim { IfSome evicted (λ slot. slot.block * 2 ^ design.geometry.b < 2 ^ 64) }
+    ensures { result ≡ outcome_of (on_placing design.geometry design.write reference block evicted) }
+{
+    let fill = fill_of(design.geometry, reference, block);
+    let down = match evicted {
+        Some(victim) if victim.dirty => {
+            let access = Access::Write;
+            let addr = design.geometry.address_of(victim.block);
+            [Some(Ref { access, addr }), Some(fill)]
+        }
+        _ => [Some(fill), written_through(design.write, reference)],
+    };
+    Outcome {
+        hit: false,
+        evicted,
+        placed: true,
+        down,
+    }
+}
+
+#[inline(always)]
+fn passing_outcome(reference: Ref) -> Outcome
+    ensures { result ≡ outcome_of (on_passing reference) }
+{
+    Outcome {
+        hit: false,
+        evicted: None,
+        placed: false,
+        down: [Some(reference), None],
+    }
+}
+
+/// Uses the slot at a place, and marks it dirty where it is to be.
+#[inline(always)]
+fn use_slot<P: Replacement>(policy: &mut P, slots: &mut [Slot], at: usize, dirty: bool)
+    requires { at < length slots.old }
+    ensures order { Touches (P.rule policy.old) (marked dirty slots.old at) at slots.new }
+    ensures words { P.words policy.new ≡ P.words policy.old }
+    ensures rule { P.rule policy.new ≡ P.rule policy.old }
+    ensures addresses { (b : ℕ) → Addressable b slots.old → Addressable b slots.new }
+{
+    if dirty {
+        slots[at].dirty = true;
+    }
+    policy.touch(slots, at);
+}
+
+/// One access, in the room of its set. Answers how many places are filled then, too.
+#[inline(always)]
+fn visit<P: Replacement>(
+    design: Design,
+    policy: &mut P,
+    room: &mut [Slot],
+    filled: usize,
+    reference: Ref,
+) -> (Outcome, usize)
+    requires filled { filled ≤ length room.old }
+    requires room { length room.old ≡ design.geometry.e }
+    requires some { 1 ≤ design.geometry.e }
+    requires addresses { Addressable design.geometry.b (take filled room.old) }
+    ensures visit { Visits design (P.rule policy.old) (P.words policy.old) reference
+        (take filled room.old) result.0 (take result.1 room.new) (P.words policy.new) }
+    ensures rule { P.rule policy.new ≡ P.rule policy.old }
+    ensures within { result.1 ≤ design.geometry.e }
+    ensures addresses { Addressable design.geometry.b (take result.1 room.new) }
+{
+    let block = design.geometry.block_of(reference.addr);
+    let dirty = dirties_line(design.write, reference.access);
+    if let Some(at) = find_block(&room[..filled], block) {
+        use_slot(policy, &mut room[..filled], at, dirty);
+        return (hit_outcome(design.write, reference), filled);
+    }
+    if !allocates_line(design.alloc, reference.access) {
+        return (passing_outcome(reference), filled);
+    }
+    let (_, evicted) = policy.place(room, filled, Slot { block, dirty });
+    let outcome = placing_outcome(design, reference, block, evicted);
+    (outcome, (filled + 1).min(room.len()))
+}
+
+/// One access, in a slab of rooms.
+#[inline(always)]
+fn visit_slab<P: Replacement>(
+    design: Design,
+    policy: &mut P,
+    slots: &mut [Slot],
+    filled: &mut [u32],
+    reference: Ref,
+) -> Outcome
+    requires { IsSlab design slots.old filled.old }
+    ensures slab { IsSlab design slots.new filled.new }
+    ensures access { Accesses
+        (slab_contents design (P.rule policy.old) (P.words policy.old) slots.old filled.old) reference result
+        (slab_contents design (P.rule policy.new) (P.words policy.new) slots.new filled.new) }
+    ensures dirty { DirtiesByWrites (sets_of design.geometry.e slots.old filled.old) reference result
+        (sets_of design.geometry.e slots.new filled.new) }
+{
+    design.geometry.limits();
+    let ways = design.geometry.e() as usize;
+    let set = design.geometry.set_of(reference.addr) as usize;
+    let start = set * ways;
+    let room = &mut slots[start..start + ways];
+    let (outcome, count) = visit(design, policy, room, filled[set] as usize, reference);
+    filled[set] = count as u32;
+    outcome
+}
+
+/// How many filled slots of a slab are dirty.
+fn count_dirty(slots: &[Slot], filled: &[u32], ways: usize) -> u64
+    requires segments { length slots.now ≡ ways * length filled.now }
+    requires within { All (λ n. n ≤ ways) filled.now }
+    requires few { length slots.now ≤ 2 ^ 22 }
+    ensures { result ≡ dirty_slots (sets_of ways slots.now filled.now) }
+{
+    let mut dirty = 0;
+    let mut rest = slots;
+    for count in filled {
+        let (room, after) = rest.split_at(ways);
+        dirty += count_dirty_slots(&room[..*count as usize]);
+        rest = after;
+    }
+    dirty
+}
+
+fn count_dirty_slots(slots: &[Slot]) -> u64
+    ensures value { result ≡ count_by (λ slot. slot.dirty) slots.now }
+    ensures bound { result ≤ length slots.now }
+{
+    slots.iter().filter(|slot| slot.dirty).count() as u64
+}
+
+/// Leaves no slot filled.
+fn clear(filled: &mut [u32])
+    ensures { filled.new ≡ replicate (length filled.old) 0 }
+{
+    filled.fill(0);
+}
+
+/// So many sets with no filled slot.
+fn no_slots(alloc: Global, sets: usize) -> Result<Vec<u32>, AllocError>
+    ensures { IfOk result (λ filled. filled.items ≡ replicate sets 0) }
+{
+    vec![in alloc; 0; sets]
+}
+
+/// A cache under a policy. A set's slots stand in the policy's order in one array, each set in a segment of its own.
+#[derive(Drop)]
+pub struct Cache<P> {
+    design: Design,
+    policy: P,
+    slots: Vec<Slot>,
+    filled: Vec<u32>,
+}
+
+impl<P> Model for Cache<P> {
+    ghost use Rattle.cache_core.specs.Slab.{CacheValue};
+
+    ghost Value = { CacheValue P };
+
+    ghost use Rattle.cache_core.specs.Slab.{sets_of, IsSlab};
+
+    ghost view = { λ c. record {
+      design = c.design;
+      policy = c.policy;
+      sets = sets_of c.design.geometry.e c.slots.items c.filled.items;
+    } };
+
+    ghost invariant = { λ c. IsSlab c.design c.slots.items c.filled.items };
+}
+
+impl<P: Replacement> Cache<P> {
+    ghost use Rattle.cache_core.specs.Slab.{contents_of, empty_sets};
+
+    /// An empty cache. It takes all its lines, and that alone can fail.
+    pub fn new(
+        alloc: Global,
+        geometry: Geometry,
+        policy: P,
+        write: WriteMode,
+        allocate: AllocMode,
+    ) -> Result<Self, AllocError>
+        ensures design { IfOk result (λ cache.
+            cache.design ≡ record { geometry = geometry; write = write; alloc = allocate }) }
+        ensures policy { IfOk result (λ cache. cache.policy ≡ policy) }
+        ensures empty { IfOk result (λ cache. cache.sets ≡ empty_sets geometry) }
+    {
+        geometry.limits();
+        let free = Slot {
+            block: 0,
+            dirty: false,
+        };
+        let slots = vec![in alloc; free; geometry.lines() as usize]?;
+        let filled = no_slots(alloc, geometry.sets() as usize)?;
+        Ok(Cache {
+            design: Design {
+                geometry,
+                write,
+                alloc: allocate,
+            },
+            policy,
+            slots,
+            filled,
+        })
+    }
+
+    /// One reference: what the table of outcomes says of it, with the slot that leaves a full set by the policy. It takes no
+    /// memory.
+    #[inline(always)]
+    pub fn access(&mut self, reference: Ref) -> Outcome
+        ensures step { Accesses (contents_of P.rule P.words self.old) reference result
+            (contents_of P.rule P.words self.new) }
+        ensures dirty { DirtiesByWrites self.old.sets reference result self.new.sets }
+    {
+        visit_slab(
+            self.design,
+            &mut self.policy,
+            &mut self.slots,
+            &mut self.filled,
+            reference,
+        )
+    }
+
+    /// Empties the cache, and answers how many dirty lines it held. Nothing is evicted, and a random policy goes on with its
+    /// words.
+    pub fn flush(&mut self) -> u64
+        ensures { Flushes (contents_of P.rule P.words self.old) result
+            (contents_of P.rule P.words self.new) }
+    {
+        let ways = self.design.geometry.e() as usize;
+        let dirty = count_dirty(&self.slots, &self.filled, ways);
+        clear(&mut self.filled);
+        dirty
+    }
+}

@@ -1,0 +1,109 @@
+//! Laws over the definitions: each is the contract of a function with no code, which a caller cites by calling it.
+ghost use Rattle.std.specs.Prelude.{◌≡◌, ◌↔◌, true, List, [], ◌∷◌, ◌++◌};
+ghost use Rattle.trace_core.specs.declared.events.Ref.{Ref};
+ghost use Rattle.trace_core.specs.declared.events.Event.{Event};
+ghost use Rattle.trace_core.specs.declared.events.Event.TheVariants as event;
+ghost use Rattle.cache_core.specs.Geometry.{Shape, IsGeometry, is_geometry, block_of};
+ghost use Rattle.cache_core.specs.Windows.{window, window_after, places};
+ghost use Rattle.cache_core.specs.Stands.{StartLaw, AccessLaw, FlushLaw, RunLaw, OrderLaw, DownLaw};
+ghost use Rattle.cache_core.specs.AnyPolicy.{AnyStartLaw, AnyAccessLaw, AnyFlushLaw};
+ghost use Rattle.cache_core.specs.LruLaws.{HitLaw, VictimLaw, CountLaw, NextLaw, HitInclusion, HeldInclusion};
+ghost use Rattle.cache_core.specs.Levels.{ShapeLaw};
+ghost use Rattle.cache_core.specs.SystemStands.{NewSystemLaw, StepLaw, SystemFlushLaw, SystemRunLaw};
+
+/// A reference puts its block in front of the window, and a flush empties it.
+pub fn window_grows()
+    ensures start { (g : Shape) → window g [] ≡ [] }
+    ensures more { (g : Shape) (events : List Event) (e : Event) →
+        window g (events ++ e ∷ []) ≡ window_after g (window g events) e }
+{}
+
+/// One more reference is one more place, with the window of the list before it; a flush is none.
+pub fn places_grow()
+    ensures reference { (g : Shape) (events : List Event) (ref : Ref) →
+        places g (events ++ event.Reference ref ∷ []) ≡ places g events ++ record { block = block_of g ref.addr; window = window g events } ∷ [] }
+    ensures flush { (g : Shape) (events : List Event) →
+        places g (events ++ event.Flush ∷ []) ≡ places g events }
+{}
+
+/// A new cache stands for no event.
+pub fn new_stands()
+    ensures { StartLaw }
+{}
+
+/// An access adds its reference to the list that a cache stands for, and its outcome is the machine's.
+pub fn access_stands()
+    ensures { AccessLaw }
+{}
+
+/// A flush adds itself to the list, and answers the machine's number of dirty blocks.
+pub fn flush_stands()
+    ensures { FlushLaw }
+{}
+
+/// A list of events, one after another, adds itself to the list that a cache stands for.
+pub fn run_stands()
+    ensures { RunLaw }
+{}
+
+/// Each set of the machine stands in its policy's order.
+pub fn sets_in_order()
+    ensures { OrderLaw }
+{}
+
+/// Never more than two references go down.
+pub fn two_go_down_at_most()
+    ensures { DownLaw }
+{}
+
+/// Under any lawful policy an access is a step of the machine in which any line of the full set may leave; the slots of a set
+/// are known up to their order then.
+pub fn any_policy()
+    ensures start { AnyStartLaw }
+    ensures access { AnyAccessLaw }
+    ensures flush { AnyFlushLaw }
+{}
+
+/// The LRU machine hits, and a block leaves, exactly where the windows say so; so the counts agree.
+pub fn window_is_machine()
+    ensures hits { HitLaw }
+    ensures victims { VictimLaw }
+    ensures counts { CountLaw }
+    ensures next { NextLaw }
+{}
+
+/// What an LRU cache hits and holds, one with a line more in each set hits and holds.
+pub fn inclusion()
+    ensures hits { HitInclusion }
+    ensures held { HeldInclusion }
+{}
+
+/// The test of a geometry is that its limits hold.
+pub fn limits_are_tested()
+    ensures { (g : Shape) → (is_geometry g ≡ true) ↔ IsGeometry g }
+{}
+
+/// The shape of a cache is the one that its numbers tell.
+pub fn shape_is()
+    ensures { ShapeLaw }
+{}
+
+/// A new system stands for no event.
+pub fn new_system_stands()
+    ensures { NewSystemLaw }
+{}
+
+/// A step of a system adds its reference to the list that it stands for.
+pub fn step_stands()
+    ensures { StepLaw }
+{}
+
+/// A flush of a system adds itself to the list.
+pub fn system_flush_stands()
+    ensures { SystemFlushLaw }
+{}
+
+/// A list of events, one after another, adds itself to the list that a system stands for.
+pub fn system_run_stands()
+    ensures { SystemRunLaw }
+{}

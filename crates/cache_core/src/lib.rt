@@ -1,0 +1,12 @@
+//! Set-associative caches: geometry, replacement, one cache, levels of caches, and what an LRU cache does by look-back windows.
+#![tactic(auto)]
+
+pub mod cache;
+pub mod geometry;
+pub mod laws;
+pub mod outcome;
+pub mod plan;
+pub mod replacement;
+pub mod simulate;
+mod stage;
+pub mod system;

@@ -1,0 +1,58 @@
+//! What a cache does: how it is made, and what one access does.
+use crate::geometry::Geometry;
+use trace_core::events::Ref;
+
+/// A block that a cache holds.
+#[derive(Clone, Copy, Debug, PartialEq, Eq)]
+pub struct Slot {
+    pub block: u64,
+    pub dirty: bool,
+}
+
+/// Whether a write stays in the cache until its block leaves, or goes down at once.
+#[derive(Clone, Copy, Debug, PartialEq, Eq)]
+pub enum WriteMode {
+    Back,
+    Through,
+}
+
+/// Whether a write that misses places its block.
+#[derive(Clone, Copy, Debug, PartialEq, Eq)]
+pub enum AllocMode {
+    Always,
+    Never,
+}
+
+/// A replacement rule by name.
+#[derive(Clone, Copy, Debug, PartialEq, Eq)]
+pub enum Repl {
+    Lru,
+    Fifo,
+    Random,
+}
+
+/// How a cache is made, apart from its policy.
+#[derive(Clone, Copy, Debug)]
+pub struct Design {
+    pub geometry: Geometry,
+    pub write: WriteMode,
+    pub alloc: AllocMode,
+}
+
+/// What one access did: whether its block was held, the slot that left for it, whether it was placed, and what goes down to the
+/// next level, in order, from the first place on.
+#[derive(Clone, Copy, Debug, PartialEq, Eq)]
+pub struct Outcome {
+    pub hit: bool,
+    pub evicted: Option<Slot>,
+    pub placed: bool,
+    pub down: [Option<Ref>; 2],
+}
+
+/// How the references of a trace went. An eviction is a miss at which a block left.
+#[derive(Clone, Copy, Debug, PartialEq, Eq)]
+pub struct Counts {
+    pub hits: u64,
+    pub misses: u64,
+    pub evictions: u64,
+}

@@ -1,0 +1,273 @@
+//! Plans of a system of caches, and its statistics.
+ghost use Rattle.std.specs.Prelude.{◌≡◌, ◌≤◌, ◌<◌, ◌*◌, ◌^◌, true, false, IfSome, MatchResult, option_and_then};
+ghost use Rattle.cache_core.specs.Levels.{exponent_of, shape_of, level_of, lacks_shape, has_none, is_mixed, has_larger_block, has_small_block};
+
+use crate::geometry::Geometry;
+use crate::outcome::{AllocMode, Design, Repl, WriteMode};
+use std::fmt::{self, Display, Formatter, Write};
+use std::marker::Model;
+use thiserror::Error;
+
+/// A cache as it is asked for: its size and block size in bytes, and its lines in a set.
+#[derive(Clone, Copy, Debug, PartialEq, Eq)]
+pub struct CacheSpec {
+    pub size: u64,
+    pub bsize: u64,
+    pub assoc: u64,
+    pub repl: Repl,
+    pub wback: WriteMode,
+    pub walloc: AllocMode,
+}
+
+/// The first level as it is asked for: one cache for all references, or one for fetches, one for reads and writes, or both.
+#[derive(Clone, Copy, Debug, PartialEq, Eq)]
+pub struct FirstLevel {
+    pub i: Option<CacheSpec>,
+    pub d: Option<CacheSpec>,
+    pub u: Option<CacheSpec>,
+}
+
+/// A cache of a system, by name. It is shown as `l1-i`, `l1-d`, `l1-u` or `l2-u`.
+#[derive(Clone, Copy, Debug, PartialEq, Eq)]
+pub enum CacheName {
+    L1I,
+    L1D,
+    L1U,
+    L2U,
+}
+
+impl Display for CacheName {
+    ghost use Rattle.std.specs.Prelude.{Some};
+    ghost use Rattle.cache_core.specs.Levels.{label_of};
+
+    ghost output = { λ name. Some (label_of name) };
+
+    fn fmt<W: Write>(&self, f: &mut Formatter<W>) -> fmt::Result {
+        f.write_str(match self {
+            CacheName::L1I => "l1-i",
+            CacheName::L1D => "l1-d",
+            CacheName::L1U => "l1-u",
+            CacheName::L2U => "l2-u",
+        })
+    }
+}
+
+/// A cache of a plan: its design, and the rule by which slots leave.
+#[derive(Clone, Copy, Debug)]
+pub struct Level {
+    pub design: Design,
+    pub repl: Repl,
+}
+
+/// What one cache counted: its accesses and misses by kind, the blocks that left, and the dirty ones among those that left or
+/// were flushed.
+#[derive(Clone, Copy, Debug, PartialEq, Eq)]
+pub struct CacheStats {
+    pub fetches: u64,
+    pub fetch_misses: u64,
+    pub reads: u64,
+    pub read_misses: u64,
+    pub writes: u64,
+    pub write_misses: u64,
+    pub evictions: u64,
+    pub copybacks: u64,
+}
+
+/// What a system counted: for each of its caches, what came to memory, and the references that no first-level cache takes.
+#[derive(Clone, Copy, Debug, PartialEq, Eq)]
+pub struct Stats {
+    pub l1i: Option<CacheStats>,
+    pub l1d: Option<CacheStats>,
+    pub l1u: Option<CacheStats>,
+    pub l2u: Option<CacheStats>,
+    pub memory_reads: u64,
+    pub memory_writes: u64,
+    pub bypassed: u64,
+}
+
+/// Why a plan is refused: the first cause that applies, in this order.
+#[derive(Clone, Copy, Debug, PartialEq, Eq, Error)]
+pub enum PlanFault {
+    #[error("no first-level cache")]
+    NoFirst,
+    #[error("unified cache beside a split first level")]
+    MixedFirst,
+    /// The first cache, in the order of the names, that has no geometry of its size, block size and associativity.
+    #[error("{cache}: bad geometry")]
+    BadGeometry { cache: CacheName },
+    #[error("l2-u: block size smaller than in the first level")]
+    SmallBlock,
+}
+
+/// The caches of a system, each with its geometry.
+#[derive(Clone, Copy, Debug)]
+pub struct Plan {
+    i: Option<Level>,
+    d: Option<Level>,
+    u: Option<Level>,
+    second: Option<Level>,
+}
+
+impl Model for Plan {
+    ghost use Rattle.cache_core.specs.Levels.{Levels, IsPlan};
+
+    ghost Value = { Levels };
+
+    ghost view = { λ p. record { i = p.i; d = p.d; u = p.u; second = p.second } };
+
+    ghost invariant = { λ p. IsPlan (record { i = p.i; d = p.d; u = p.u; second = p.second }) };
+
+    ghost inverse = { λ v. record { i = v.i; d = v.d; u = v.u; second = v.second } };
+}
+
+/// The power of two, up to 2^20, by which a unit gives a number.
+fn exponent_of(unit: u128, number: u64) -> Option<u64>
+    requires { unit < 2 ^ 100 }
+    ensures value { result ≡ exponent_of unit number }
+    ensures found { IfSome result (λ k. (k ≤ 20) × (unit * 2 ^ k ≡ number)) }
+{
+    for k in 0..21 {
+        if unit << k == u128::from(number) {
+            return Some(k);
+        }
+    }
+    None
+}
+
+/// The geometry of a cache, if it has one.
+fn geometry_of(spec: CacheSpec) -> Option<Geometry>
+    ensures { result ≡ shape_of spec }
+{
+    let b = exponent_of(1, spec.bsize)?;
+    let s = exponent_of(u128::from(spec.assoc) * u128::from(spec.bsize), spec.size)?;
+    Geometry::new(s, spec.assoc, b)
+}
+
+/// The cache of this name, if it is asked for.
+fn level_for(cache: CacheName, spec: Option<CacheSpec>) -> Result<Option<Level>, PlanFault>
+    ensures { MatchResult result
+        (λ level. (lacks_shape spec ≡ false) × (level ≡ option_and_then level_of spec))
+        (λ fault. (lacks_shape spec ≡ true) × (fault ≡ PlanFault.BadGeometry cache)) }
+{
+    let Some(spec) = spec else {
+        return Ok(None);
+    };
+    match geometry_of(spec) {
+        Some(geometry) => {
+            let design = Design {
+                geometry,
+                write: spec.wback,
+                alloc: spec.walloc,
+            };
+            Ok(Some(Level {
+                design,
+                repl: spec.repl,
+            }))
+        }
+        None => Err(PlanFault::BadGeometry { cache }),
+    }
+}
+
+impl CacheSpec {
+    /// Whether this cache is there and has larger blocks.
+    fn is_below(&self, first: Option<CacheSpec>) -> bool
+        ensures { result ≡ has_larger_block self.now first }
+    {
+        match first {
+            Some(first) => self.bsize < first.bsize,
+            None => false,
+        }
+    }
+}
+
+impl FirstLevel {
+    /// Whether it has no cache.
+    fn has_none(&self) -> bool
+        ensures { result ≡ has_none self.now }
+    {
+        self.i.is_none() && self.d.is_none() && self.u.is_none()
+    }
+
+    /// Whether it has a unified cache beside another.
+    fn is_mixed(&self) -> bool
+        ensures { result ≡ is_mixed self.now }
+    {
+        self.u.is_some() && (self.i.is_some() || self.d.is_some())
+    }
+
+    /// Whether a cache has larger blocks than the second level.
+    fn has_small_block(&self, second: Option<CacheSpec>) -> bool
+        ensures { result ≡ has_small_block self.now second }
+    {
+        match second {
+            Some(second) => {
+                second.is_below(self.i) || second.is_below(self.d) || second.is_below(self.u)
+            }
+            None => false,
+        }
+    }
+}
+
+impl Plan {
+    ghost use Rattle.cache_core.specs.Levels.{plan_of, IsPlan};
+
+    /// A plan of these caches, or the first cause against it.
+    pub fn new(first: FirstLevel, second: Option<CacheSpec>) -> Result<Self, PlanFault>
+        ensures { result ≡ plan_of first second }
+    {
+        if first.has_none() {
+            return Err(PlanFault::NoFirst);
+        }
+        if first.is_mixed() {
+            return Err(PlanFault::MixedFirst);
+        }
+        let i = level_for(CacheName::L1I, first.i)?;
+        let d = level_for(CacheName::L1D, first.d)?;
+        let u = level_for(CacheName::L1U, first.u)?;
+        let lower = level_for(CacheName::L2U, second)?;
+        if first.has_small_block(second) {
+            return Err(PlanFault::SmallBlock);
+        }
+        Ok(Plan {
+            i,
+            d,
+            u,
+            second: lower,
+        })
+    }
+
+    /// What each plan keeps: some first level, none beside a unified one, and each cache within the limits.
+    pub fn keeps(&self)
+        ensures { IsPlan self.now }
+    {
+        let _ = &self.i;
+    }
+
+    /// The cache for fetches.
+    pub(crate) fn first_i(&self) -> Option<Level>
+        ensures { result ≡ self.now.i }
+    {
+        self.i
+    }
+
+    /// The cache for data.
+    pub(crate) fn first_d(&self) -> Option<Level>
+        ensures { result ≡ self.now.d }
+    {
+        self.d
+    }
+
+    /// The unified cache.
+    pub(crate) fn first_u(&self) -> Option<Level>
+        ensures { result ≡ self.now.u }
+    {
+        self.u
+    }
+
+    /// The cache of the second level.
+    pub(crate) fn second(&self) -> Option<Level>
+        ensures { result ≡ self.now.second }
+    {
+        self.second
+    }
+}

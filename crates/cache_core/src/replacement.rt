@@ -1,0 +1,169 @@
+//! Replacement: which slot leaves a full set.
+ghost use Rattle.std.specs.Prelude.{◌≡◌, ◌≤◌, ◌<◌, ◌+◌, ℕ, List, length, take, slice_get, Option, Some, None, IsPermutation};
+ghost use Rattle.cache_core.specs.Order.{Touches, TakesIn, words_after};
+
+use crate::outcome::{Repl, Slot};
+use rand_core::utils::NextWord;
+use rand_pcg::Pcg32;
+use std::marker::Model;
+
+/// The stream of every generator (PCG32, O'Neill 2014).
+const STREAM: u64 = 54;
+
+/// A replacement policy. It sees the slots of one set at a time, in an order of its own.
+pub trait Replacement: Drop {
+    ghost use Rattle.cache_core.specs.declared.outcome.Repl.{Repl};
+
+    /// Which of the three rules it keeps, if any.
+    ghost rule: { Self → Option Repl } = { λ _. None };
+
+    /// The random words that it still has to draw.
+    ghost words: { Self → ℕ → ℕ } = { λ _ _. 0 };
+
+    /// The slot at a place of the filled part is used. Answers where it stands then.
+    fn touch(&mut self, set: &mut [Slot], at: usize) -> usize
+        requires { at < length set.old }
+        ensures same_slots { IsPermutation set.old set.new }
+        ensures place { slice_get set.new result ≡ slice_get set.old at }
+        ensures order { Touches (rule self.old) set.old at set.new }
+        ensures words { words self.new ≡ words self.old }
+        ensures rule { rule self.new ≡ rule self.old };
+
+    /// Puts a slot into a set whose first places are filled. Answers where it stands in the part that is filled then, and the
+    /// slot that left, which is one exactly if the set was full.
+    fn place(&mut self, set: &mut [Slot], filled: usize, new: Slot) -> (usize, Option<Slot>)
+        requires filled { filled ≤ length set.old }
+        requires room { 1 ≤ length set.old }
+        ensures lawful { TakesIn None 0 (length set.old) (take filled set.old) new
+            result.1 (take (filled + 1) set.new) }
+        ensures place { slice_get (take (filled + 1) set.new) result.0 ≡ Some new }
+        ensures order { TakesIn (rule self.old) (words self.old 0) (length set.old) (take filled set.old) new
+            result.1 (take (filled + 1) set.new) }
+        ensures words { words self.new ≡ words_after (rule self.old) result.1 (words self.old) }
+        ensures rule { rule self.new ≡ rule self.old };
+}
+
+/// Least recently used: the most recent slot stands in front.
+#[derive(Clone, Copy, Debug)]
+pub struct Lru;
+
+impl Lru {
+    /// The policy, which has no state.
+    pub fn new() -> Self
+        ensures { ⟦<Lru as Replacement>⟧.rule result ≡ Some Repl.Lru }
+    {
+        Lru
+    }
+}
+
+impl Replacement for Lru {
+    ghost use Rattle.cache_core.specs.declared.outcome.Repl.TheVariants.{Lru as LruRule};
+
+    ghost rule = { λ _. Some LruRule };
+
+    fn touch(&mut self, set: &mut [Slot], at: usize) -> usize {
+        set[..=at].rotate_right(1);
+        0
+    }
+
+    fn place(&mut self, set: &mut [Slot], filled: usize, new: Slot) -> (usize, Option<Slot>) {
+        let oldest = put_in_front(set, filled, new);
+        (0, oldest)
+    }
+}
+
+/// Puts a slot in front, and takes out the last one of a full set.
+fn put_in_front(set: &mut [Slot], filled: usize, new: Slot) -> Option<Slot>
+    requires filled { filled ≤ length set.old }
+    requires room { 1 ≤ length set.old }
+    ensures order { TakesIn (Some Repl.Lru) 0 (length set.old) (take filled set.old) new
+        result (take (filled + 1) set.new) }
+    ensures front { slice_get set.new 0 ≡ Some new }
+{
+    let last = filled.min(set.len() - 1);
+    let gone = (filled == set.len()).then_some(set[last]);
+    set[last] = new;
+    set[..=last].rotate_right(1);
+    gone
+}
+
+/// First in, first out: the slot that was placed last stands in front.
+#[derive(Clone, Copy, Debug)]
+pub struct Fifo;
+
+impl Fifo {
+    /// The policy, which has no state.
+    pub fn new() -> Self
+        ensures { ⟦<Fifo as Replacement>⟧.rule result ≡ Some Repl.Fifo }
+    {
+        Fifo
+    }
+}
+
+impl Replacement for Fifo {
+    ghost use Rattle.cache_core.specs.declared.outcome.Repl.TheVariants.{Fifo as FifoRule};
+
+    ghost rule = { λ _. Some FifoRule };
+
+    fn touch(&mut self, _: &mut [Slot], at: usize) -> usize {
+        at
+    }
+
+    fn place(&mut self, set: &mut [Slot], filled: usize, new: Slot) -> (usize, Option<Slot>) {
+        let first = put_in_front(set, filled, new);
+        (0, first)
+    }
+}
+
+/// Random: a slot stays in its way, and a random way of a full set is exchanged.
+#[derive(Drop)]
+pub struct Random {
+    generator: Pcg32,
+}
+
+impl Model for Random {
+    ghost use Rattle.rand_pcg.specs.Lcg.{Lcg};
+
+    ghost Value = { Lcg };
+
+    ghost view = { λ r. r.generator };
+}
+
+impl Random {
+    ghost use Rattle.cache_core.specs.Words.{seeded, word_of};
+
+    /// The policy with the generator of a seed. It draws a word only where a full set has to give up a slot.
+    pub fn new(seed: u64) -> Self
+        ensures value { result ≡ seeded seed }
+        ensures rule { ⟦<Random as Replacement>⟧.rule result ≡ Some Repl.Random }
+        ensures words { ⟦<Random as Replacement>⟧.words result ≡ word_of (seeded seed) }
+    {
+        Random {
+            generator: Pcg32::new(seed, STREAM),
+        }
+    }
+}
+
+impl Replacement for Random {
+    ghost use Rattle.cache_core.specs.declared.outcome.Repl.TheVariants.{Random as RandomRule};
+    ghost use Rattle.cache_core.specs.Words.{word_of};
+
+    ghost rule = { λ _. Some RandomRule };
+
+    ghost words = { word_of };
+
+    fn touch(&mut self, _set: &mut [Slot], at: usize) -> usize {
+        at
+    }
+
+    fn place(&mut self, set: &mut [Slot], filled: usize, new: Slot) -> (usize, Option<Slot>) {
+        if filled < set.len() {
+            set[filled] = new;
+            return (filled, None);
+        }
+        let way = self.generator.next_word() as usize % set.len();
+        let gone = set[way];
+        set[way] = new;
+        (way, Some(gone))
+    }
+}

@@ -1,0 +1,59 @@
+//! The separate simulation of one configuration.
+ghost use Rattle.std.specs.Prelude.{◌≡◌, ◌<◌, ◌^◌, ◌+◌, IfOk, map};
+ghost use Rattle.trace_core.specs.declared.events.Event.TheVariants as event;
+ghost use Rattle.cache_core.specs.Windows.{counts};
+ghost use Rattle.cache_core.specs.Machine.{answers, counts_in};
+ghost use Rattle.cache_core.specs.LruLaws.{lru_machine, counted};
+
+use crate::cache::Cache;
+use crate::geometry::Geometry;
+use crate::outcome::{AllocMode, Counts, Outcome, WriteMode};
+use crate::replacement::Lru;
+use std::alloc::{AllocError, Global};
+use trace_core::events::Ref;
+
+impl Counts {
+    /// Counts one access.
+    fn count(&mut self, outcome: &Outcome)
+        requires hits { self.old.hits + 1 < 2 ^ 64 }
+        requires misses { self.old.misses + 1 < 2 ^ 64 }
+        requires evictions { self.old.evictions + 1 < 2 ^ 64 }
+        ensures { self.new ≡ counted self.old outcome.now }
+    {
+        if outcome.hit {
+            self.hits += 1;
+        } else {
+            self.misses += 1;
+        }
+        if outcome.evicted.is_some() {
+            self.evictions += 1;
+        }
+    }
+}
+
+/// The counts of an LRU write-back cache that allocates on writes, empty at first, after these references. It takes the cache's
+/// memory, and that alone can fail.
+pub fn simulate(alloc: Global, geometry: &Geometry, refs: &[Ref]) -> Result<Counts, AllocError>
+    ensures machine { IfOk result (λ c.
+        c ≡ counts_in (answers (lru_machine geometry.now WriteMode.Back) (map event.Reference refs.now))) }
+    ensures windows { IfOk result (λ c. c ≡ counts geometry.now (map event.Reference refs.now)) }
+{
+    geometry.limits();
+    let mut cache = Cache::new(
+        alloc,
+        *geometry,
+        Lru::new(),
+        WriteMode::Back,
+        AllocMode::Always,
+    )?;
+    let mut counts = Counts {
+        hits: 0,
+        misses: 0,
+        evictions: 0,
+    };
+    for reference in refs {
+        let outcome = cache.access(*reference);
+        counts.count(&outcome);
+    }
+    Ok(counts)
+}

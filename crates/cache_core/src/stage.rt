@@ -1,0 +1,148 @@
+//! A cache of a system: under a policy that is known when it runs, and with what it counted.
+ghost use Rattle.std.specs.Prelude.{◌≡◌, ◌≤◌, ◌<◌, ◌+◌, ◌^◌, ℕ, Option, Some, Bool, IfSome, IfOk};
+ghost use Rattle.cache_core.specs.Order.{dirty_slots, one_if};
+ghost use Rattle.cache_core.specs.Slab.{contents_of};
+ghost use Rattle.cache_core.specs.Stages.{tally, IsBelow, rule_of, words_of};
+ghost use Rattle.cache_core.specs.Systems.{words_for};
+
+use crate::cache::Cache;
+use crate::outcome::{Outcome, Repl, Slot};
+use crate::plan::{CacheStats, Level};
+use crate::replacement::{Fifo, Lru, Random, Replacement};
+use std::alloc::{AllocError, Global};
+use trace_core::events::{Access, Ref};
+
+/// A policy that is chosen when the system is made.
+#[derive(Drop)]
+pub(crate) enum Policy {
+    Lru(Lru),
+    Fifo(Fifo),
+    Random(Random),
+}
+
+impl Replacement for Policy {
+    ghost use Rattle.cache_core.specs.Stages.{rule_of, words_of};
+
+    ghost rule = { rule_of };
+
+    ghost words = { words_of };
+
+    fn touch(&mut self, set: &mut [Slot], at: usize) -> usize {
+        match self {
+            Policy::Lru(policy) => policy.touch(set, at),
+            Policy::Fifo(policy) => policy.touch(set, at),
+            Policy::Random(policy) => policy.touch(set, at),
+        }
+    }
+
+    fn place(&mut self, set: &mut [Slot], filled: usize, new: Slot) -> (usize, Option<Slot>) {
+        match self {
+            Policy::Lru(policy) => policy.place(set, filled, new),
+            Policy::Fifo(policy) => policy.place(set, filled, new),
+            Policy::Random(policy) => policy.place(set, filled, new),
+        }
+    }
+}
+
+/// One more if it holds.
+fn one_if(counted: bool) -> u64
+    ensures value { result ≡ one_if counted }
+    ensures small { result ≤ 1 }
+{
+    if counted { 1 } else { 0 }
+}
+
+impl CacheStats {
+    /// Counts one access.
+    fn count(&mut self, reference: Ref, outcome: &Outcome)
+        requires { IsBelow self.old (2 ^ 63) }
+        ensures { self.new ≡ tally self.old reference outcome.now }
+    {
+        let missed = !outcome.hit;
+        match reference.access {
+            Access::Fetch => {
+                self.fetches += 1;
+                self.fetch_misses += one_if(missed);
+            }
+            Access::Read => {
+                self.reads += 1;
+                self.read_misses += one_if(missed);
+            }
+            Access::Write => {
+                self.writes += 1;
+                self.write_misses += one_if(missed);
+            }
+        }
+        if let Some(victim) = outcome.evicted {
+            self.evictions += 1;
+            self.copybacks += one_if(victim.dirty);
+        }
+    }
+}
+
+/// A cache of a system, with what it counted.
+#[derive(Drop)]
+pub(crate) struct Stage {
+    pub(crate) cache: Cache<Policy>,
+    pub(crate) stats: CacheStats,
+}
+
+/// The policy of a rule, with a generator of this seed.
+fn policy_of(repl: Repl, seed: u64) -> Policy
+    ensures rule { rule_of result ≡ Some repl }
+    ensures words { words_of result ≡ words_for repl seed }
+{
+    match repl {
+        Repl::Lru => Policy::Lru(Lru::new()),
+        Repl::Fifo => Policy::Fifo(Fifo::new()),
+        Repl::Random => Policy::Random(Random::new(seed)),
+    }
+}
+
+impl Stage {
+    /// A new cache of a system.
+    pub(crate) fn new(alloc: Global, level: Level, seed: u64) -> Result<Self, AllocError>
+        ensures { IfOk result (IsNewStage seed level) }
+    {
+        let Level { design, repl } = level;
+        let policy = policy_of(repl, seed);
+        let cache = Cache::new(alloc, design.geometry, policy, design.write, design.alloc)?;
+        let stats = CacheStats {
+            fetches: 0,
+            fetch_misses: 0,
+            reads: 0,
+            read_misses: 0,
+            writes: 0,
+            write_misses: 0,
+            evictions: 0,
+            copybacks: 0,
+        };
+        Ok(Stage { cache, stats })
+    }
+
+    ghost use Rattle.cache_core.specs.Stages.{Enters, Empties};
+    ghost use Rattle.cache_core.specs.Stages.{CountsWithin};
+    ghost use Rattle.cache_core.specs.SystemSteps.{IsNewStage};
+
+    /// One reference enters.
+    pub(crate) fn access(&mut self, reference: Ref) -> Outcome
+        requires { CountsWithin (2 ^ 62) self.old }
+        ensures value { Enters self.old reference result self.new }
+        ensures within { (n : ℕ) → CountsWithin n self.old → CountsWithin (n + 1) self.new }
+    {
+        let outcome = self.cache.access(reference);
+        self.stats.count(reference, &outcome);
+        outcome
+    }
+
+    /// Empties the cache. Its dirty lines count as copybacks.
+    pub(crate) fn flush(&mut self) -> u64
+        requires { CountsWithin (2 ^ 62) self.old }
+        ensures value { Empties self.old result self.new }
+        ensures within { (n : ℕ) → CountsWithin n self.old → CountsWithin n self.new }
+    {
+        let dirty = self.cache.flush();
+        self.stats.copybacks += dirty;
+        dirty
+    }
+}

@@ -1,0 +1,269 @@
+//! A system of caches.
+ghost use Rattle.std.specs.Prelude.{◌≡◌, ◌≤◌, ◌<◌, ◌+◌, ◌*◌, ◌^◌, ℕ, Option, Some, None, MatchOption, List, length, ◌∷◌, [], IfOk};
+ghost use Rattle.cache_core.specs.SystemSteps.{listed, reaches, all_reach, Descends, AllDescend, Answers, FirstAnswers, EmptiesLevel, copied, stats_held, IsNewLevel};
+ghost use Rattle.cache_core.specs.Stages.{CountsWithin, LevelWithin};
+
+use crate::outcome::Outcome;
+use crate::plan::{CacheStats, Level, Plan, Stats};
+use crate::stage::Stage;
+use std::alloc::{AllocError, Global};
+use std::marker::Model;
+use trace_core::events::{Access, Ref};
+
+/// What reached memory.
+#[derive(Clone, Copy, Debug, PartialEq, Eq)]
+pub(crate) struct Memory {
+    pub(crate) reads: u64,
+    pub(crate) writes: u64,
+}
+
+impl Memory {
+    /// Counts a reference.
+    fn count(&mut self, reference: Ref)
+        requires reads { self.old.reads < 2 ^ 63 }
+        requires writes { self.old.writes < 2 ^ 63 }
+        ensures value { self.new ≡ reaches self.old reference }
+        ensures bound { self.new.reads + self.new.writes ≡ self.old.reads + self.old.writes + 1 }
+    {
+        if reference.access == Access::Write {
+            self.writes += 1;
+        } else {
+            self.reads += 1;
+        }
+    }
+
+    /// Counts what goes down from the last level.
+    fn count_all(&mut self, outcome: &Outcome)
+        requires { self.old.reads + self.old.writes < 2 ^ 62 }
+        ensures value { self.new ≡ all_reach self.old (listed outcome.now.down) }
+        ensures bound { self.new.reads + self.new.writes ≤ self.old.reads + self.old.writes + 2 }
+    {
+        let [first, second] = outcome.down;
+        if let Some(reference) = first {
+            self.count(reference);
+        }
+        if let Some(reference) = second {
+            self.count(reference);
+        }
+    }
+}
+
+/// A reference comes down to the second level, or to memory.
+fn descend(second: &mut Option<Stage>, memory: &mut Memory, reference: Ref)
+    requires stage { LevelWithin (2 ^ 62) second.old }
+    requires memory { memory.old.reads + memory.old.writes < 2 ^ 62 }
+    ensures value { Descends reference second.old memory.old second.new memory.new }
+    ensures stage { (n : ℕ) → LevelWithin n second.old → LevelWithin (n + 1) second.new }
+    ensures memory { memory.new.reads + memory.new.writes ≤ memory.old.reads + memory.old.writes + 2 }
+{
+    match second {
+        Some(stage) => {
+            let outcome = stage.access(reference);
+            memory.count_all(&outcome);
+        }
+        None => memory.count(reference),
+    }
+}
+
+/// A reference at a cache of the first level.
+fn answer(stage: &mut Option<Stage>, reference: Ref) -> Option<[Option<Ref>; 2]>
+    requires { LevelWithin (2 ^ 62) stage.old }
+    ensures value { Answers stage.old reference result stage.new }
+    ensures within { (n : ℕ) → LevelWithin n stage.old → LevelWithin (n + 1) stage.new }
+{
+    match stage {
+        Some(stage) => Some(stage.access(reference).down),
+        None => None,
+    }
+}
+
+/// A reference comes down, if there is one.
+fn descend_if(second: &mut Option<Stage>, memory: &mut Memory, reference: Option<Ref>)
+    requires stage { LevelWithin (2 ^ 62) second.old }
+    requires memory { memory.old.reads + memory.old.writes < 2 ^ 62 }
+    ensures value { AllDescend (listed (reference ∷ [])) second.old memory.old second.new memory.new }
+    ensures stage { (n : ℕ) → LevelWithin n second.old → LevelWithin (n + 1) second.new }
+    ensures memory { memory.new.reads + memory.new.writes ≤ memory.old.reads + memory.old.writes + 2 }
+{
+    if let Some(reference) = reference {
+        descend(second, memory, reference);
+    }
+}
+
+/// What goes down for one reference, one after another.
+fn descend_all(second: &mut Option<Stage>, memory: &mut Memory, down: [Option<Ref>; 2])
+    requires stage { LevelWithin (2 ^ 61) second.old }
+    requires memory { memory.old.reads + memory.old.writes < 2 ^ 61 }
+    ensures value { AllDescend (listed down) second.old memory.old second.new memory.new }
+    ensures stage { (n : ℕ) → LevelWithin n second.old → LevelWithin (n + 1 + 1) second.new }
+    ensures memory { memory.new.reads + memory.new.writes ≤ memory.old.reads + memory.old.writes + 4 }
+{
+    let [first, next] = down;
+    descend_if(second, memory, first);
+    descend_if(second, memory, next);
+}
+
+/// A reference at the first level. None if no cache takes it.
+fn first_level(
+    i: &mut Option<Stage>,
+    d: &mut Option<Stage>,
+    u: &mut Option<Stage>,
+    reference: Ref,
+) -> Option<[Option<Ref>; 2]>
+    requires i { LevelWithin (2 ^ 62) i.old }
+    requires d { LevelWithin (2 ^ 62) d.old }
+    requires u { LevelWithin (2 ^ 62) u.old }
+    ensures value { FirstAnswers i.old d.old u.old reference result i.new d.new u.new }
+    ensures i { (n : ℕ) → LevelWithin n i.old → LevelWithin (n + 1) i.new }
+    ensures d { (n : ℕ) → LevelWithin n d.old → LevelWithin (n + 1) d.new }
+    ensures u { (n : ℕ) → LevelWithin n u.old → LevelWithin (n + 1) u.new }
+{
+    if u.is_some() {
+        return answer(u, reference);
+    }
+    if reference.access == Access::Fetch {
+        return answer(i, reference);
+    }
+    answer(d, reference)
+}
+
+/// Empties a cache of a system, if it is there.
+fn empty(stage: &mut Option<Stage>) -> u64
+    requires { LevelWithin (2 ^ 62) stage.old }
+    ensures value { EmptiesLevel stage.old result stage.new }
+    ensures within { (n : ℕ) → LevelWithin n stage.old → LevelWithin n stage.new }
+    ensures copied { copied stage.new ≡ copied stage.old + result }
+{
+    match stage {
+        Some(stage) => stage.flush(),
+        None => 0,
+    }
+}
+
+/// What a cache of a system counted, if it is there.
+fn counts(stage: &Option<Stage>) -> Option<CacheStats>
+    ensures { result ≡ stats_held stage.now }
+{
+    match stage {
+        Some(stage) => Some(stage.stats),
+        None => None,
+    }
+}
+
+/// A cache of a system, if the plan has it.
+fn new_level(alloc: Global, level: Option<Level>, seed: u64) -> Result<Option<Stage>, AllocError>
+    ensures value { IfOk result (IsNewLevel seed level) }
+    ensures within { IfOk result (LevelWithin 0) }
+{
+    match level {
+        Some(level) => Ok(Some(Stage::new(alloc, level, seed)?)),
+        None => Ok(None),
+    }
+}
+
+/// A system of caches.
+#[derive(Drop)]
+pub struct System {
+    i: Option<Stage>,
+    d: Option<Stage>,
+    u: Option<Stage>,
+    second: Option<Stage>,
+    memory: Memory,
+    bypassed: u64,
+    steps: u64,
+}
+
+impl Model for System {
+    ghost use Rattle.cache_core.specs.SystemSteps.{SystemValue, IsCounted};
+
+    ghost Value = { SystemValue };
+
+    ghost view = { λ s. record { i = s.i; d = s.d; u = s.u; second = s.second; memory = s.memory; bypassed = s.bypassed; steps = s.steps } };
+
+    ghost invariant = { λ s. IsCounted (record { i = s.i; d = s.d; u = s.u; second = s.second; memory = s.memory; bypassed = s.bypassed; steps = s.steps }) };
+}
+
+impl System {
+    ghost use Rattle.cache_core.specs.SystemSteps.{Steps, FlushStep, stats_of, HasWritten, IsNewSystem};
+    ghost use Rattle.trace_core.specs.declared.events.Event.{Event};
+    ghost use Rattle.cache_core.specs.Levels.{Levels};
+    ghost use Rattle.cache_core.specs.Systems.{system_run};
+    ghost use Rattle.cache_core.specs.SystemStands.{SystemStands};
+
+    /// A system of the caches of a plan. It takes all their lines.
+    pub fn new(alloc: Global, plan: Plan, seed: u64) -> Result<Self, AllocError>
+        ensures { IfOk result (IsNewSystem plan seed) }
+    {
+        let i = new_level(alloc, plan.first_i(), seed)?;
+        let d = new_level(alloc, plan.first_d(), seed)?;
+        let u = new_level(alloc, plan.first_u(), seed)?;
+        let second = new_level(alloc, plan.second(), seed)?;
+        let memory = Memory {
+            reads: 0,
+            writes: 0,
+        };
+        Ok(System {
+            i,
+            d,
+            u,
+            second,
+            memory,
+            bypassed: 0,
+            steps: 0,
+        })
+    }
+
+    /// How many steps it has made.
+    pub fn steps(&self) -> u64
+        ensures value { result ≡ self.now.steps }
+        ensures trace { (plan : Levels) (seed : ℕ) (events : List Event) →
+            SystemStands plan seed events self.now → result ≡ length events }
+    {
+        self.steps
+    }
+
+    /// One reference.
+    pub fn step(&mut self, reference: Ref)
+        requires { self.old.steps < 2 ^ 41 }
+        ensures { Steps self.old reference self.new }
+    {
+        self.steps += 1;
+        let down = first_level(&mut self.i, &mut self.d, &mut self.u, reference);
+        match down {
+            Some(down) => descend_all(&mut self.second, &mut self.memory, down),
+            None => self.bypassed += 1,
+        }
+    }
+
+    /// Empties every cache.
+    pub fn flush(&mut self)
+        requires { self.old.steps < 2 ^ 41 }
+        ensures { FlushStep self.old self.new }
+    {
+        self.steps += 1;
+        let i = empty(&mut self.i);
+        let d = empty(&mut self.d);
+        let u = empty(&mut self.u);
+        let second = empty(&mut self.second);
+        self.memory.writes += i + d + u + second;
+    }
+
+    /// What it counted. No cache copied back more blocks than it took writes.
+    pub fn stats(&self) -> Stats
+        ensures value { result ≡ stats_of self.now }
+        ensures copybacks { HasWritten result.l1i × HasWritten result.l1d
+            × HasWritten result.l1u × HasWritten result.l2u }
+        ensures trace { (plan : Levels) (seed : ℕ) (events : List Event) →
+            SystemStands plan seed events self.now → result ≡ system_run plan seed events }
+    {
+        Stats {
+            l1i: counts(&self.i),
+            l1d: counts(&self.d),
+            l1u: counts(&self.u),
+            l2u: counts(&self.second),
+            memory_reads: self.memory.reads,
+            memory_writes: self.memory.writes,
+            bypassed: self.bypassed,
+        }
+    }
+}
