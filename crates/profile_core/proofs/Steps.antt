@@ -1,0 +1,58 @@
+-- What a reference does to a profile, over the trace that it stands for.
+use Rattle.std.proofs.Common.{◌≡◌, ℕ, ◌+◌, ◌<◌, ◌≤◌, Bool, true, false, not, ◌&&◌, cond, eqb, ltb, min, List, length, take, refl, sym, ◌∙◌, ap, subst, arith, get_or, get_or-set_same, get_or-set_other, length-take}
+use Rattle.std.proofs.lemmas.Bool.Decides.{nat_tests}
+use Rattle.std.proofs.lemmas.List.Sums.{prefix_len-le-length}
+use Rattle.cache_core.proofs.Lists.{is, list_any_is, position_or_len-take}
+use Rattle.cache_core.proofs.Distances.{has_last_is, distance_is}
+use Rattle.cache_core.specs.Geometry.{Shape, set_of_block}
+use Rattle.cache_core.specs.Windows.{Place, distinct_of_set, has_last, distance, seen}
+use Rattle.profile_core.specs.State.{raise}
+use Rattle.profile_core.specs.Moves.{place_of, is_in}
+
+-- a block at place d of a list of n, seen through its first m
+pub hit_within : (d n m : ℕ) → d ≤ n → (ltb d n && ltb d m) ≡ ltb (min d m) (min m n)
+hit_within d n m h = grind (arith, nat_tests)
+
+pub distance_within : (d n m i : ℕ) → i < m → (ltb d n && eqb d i) ≡ (ltb (min d m) (min m n) && eqb (min d m) i)
+distance_within d n m i h = grind (arith, nat_tests)
+
+pub probes_within : (d n m : ℕ) → d ≤ n → cond (ltb d n && ltb d m) (d + 1) (min n m) ≡ min (min d m + 1) (min m n)
+probes_within d n m h = grind (arith, nat_tests)
+
+pub raise_at : (ns : List ℕ) (i d : ℕ) → i < length ns → get_or (raise ns i) d 0 ≡ get_or ns d 0 + cond (eqb i d) 1 0
+raise_at ns i d h = grind (arith, nat_tests, get_or-set_same, get_or-set_other)
+
+pub raise_if : (b : Bool) (ns : List ℕ) (i d : ℕ) → (b ≡ true → i < length ns) → get_or (cond b (raise ns i) ns) d 0 ≡ get_or ns d 0 + cond (b && eqb i d) 1 0
+raise_if true ns i d h = raise_at ns i d (h refl)
+raise_if false ns i d h = omega arith
+
+pub raise_unless : (b : Bool) (ns : List ℕ) (i d : ℕ) → (b ≡ false → i < length ns) → get_or (cond b ns (raise ns i)) d 0 ≡ get_or ns d 0 + cond (not b && eqb i d) 1 0
+raise_unless true ns i d h = omega arith
+raise_unless false ns i d h = raise_at ns i d (h refl)
+
+-- what a reference finds at its place, by the first n different blocks of its set
+pub record Finds (g : Shape) (n : ℕ) (p : Place) (xs : List ℕ) : Type 0 where
+  pub last : has_last p ≡ ltb (distance g p) (seen g p)
+  pub within : distance g p ≤ seen g p
+  pub place : place_of p.block xs ≡ min (distance g p) n
+  pub len : length xs ≡ min n (seen g p)
+  pub found : is_in p.block xs ≡ ltb (min (distance g p) n) (min n (seen g p))
+  pub hit : (has_last p && ltb (distance g p) n) ≡ is_in p.block xs
+
+pub finds : (g : Shape) (n : ℕ) (p : Place) (xs : List ℕ) → xs ≡ take n (distinct_of_set g (set_of_block g p.block) p.window) → Finds g n p xs
+finds g n p xs e =
+    let st : List ℕ = distinct_of_set g (set_of_block g p.block) p.window in
+    let d = distance_is g p in
+    let last : has_last p ≡ ltb (distance g p) (seen g p) = has_last_is g p ∙ list_any_is (is p.block) st ∙ ap (λ k. ltb k (length st)) (sym d) in
+    let within : distance g p ≤ seen g p = subst (λ (k : ℕ). k ≤ length st) (sym d) (prefix_len-le-length (λ y. not (eqb y p.block)) st) in
+    let place : place_of p.block xs ≡ min (distance g p) n = ap (place_of p.block) e ∙ position_or_len-take (is p.block) n st ∙ ap (λ k. min k n) (sym d) in
+    let len : length xs ≡ min n (seen g p) = ap length e ∙ length-take n st in
+    let found : is_in p.block xs ≡ ltb (min (distance g p) n) (min n (seen g p)) = list_any_is (is p.block) xs ∙ ap (λ k. ltb k (length xs)) place ∙ ap (λ k. ltb (min (distance g p) n) k) len in
+    record {
+      last = last;
+      within = within;
+      place = place;
+      len = len;
+      found = found;
+      hit = ap (λ b. b && ltb (distance g p) n) last ∙ hit_within (distance g p) (seen g p) n within ∙ sym found;
+    }

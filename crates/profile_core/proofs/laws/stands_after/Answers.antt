@@ -1,0 +1,5 @@
+use Rattle.profile_core.proofs.Runs.{stands_after}
+use Rattle.profile_core.proofs.laws.stands_after.Goals as goal
+
+pub returns : goal.returns
+returns c = stands_after

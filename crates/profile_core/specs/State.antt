@@ -1,0 +1,87 @@
+-- What a profile holds, and how a reference and a flush change it.
+use Rattle.std.specs.Prelude.{ℕ, ◌≡◌, ◌≤◌, ◌+◌, ◌*◌, ◌^◌, min, if◌then◌else◌, List, [], length, take, drop, sum, sum_by, replicate, slice_set, slice_index, slice_index_or}
+use Rattle.trace_core.specs.declared.events.Event.{Event}
+use Rattle.trace_core.specs.declared.events.Event.TheVariants as event
+use Rattle.cache_core.specs.declared.outcome.Counts.{Counts}
+use Rattle.cache_core.specs.Geometry.{Shape, block_of, set_of_block}
+use Rattle.profile_core.specs.Slab.{Lists}
+use Rattle.profile_core.specs.Moves.{place_of, is_in, move_to_front}
+
+-- for each set a list of at most geometry.e blocks, the most recent first; how many references found their block at each place of its list;
+-- how many did not find it in a list of each length; and the comparisons made
+pub record ProfileState : Type 0 where
+  pub geometry : Shape
+  pub lists : List (List ℕ)
+  pub distances : List ℕ
+  pub fills : List ℕ
+  pub probes : ℕ
+
+-- a profile to which nothing was fed
+abbrev pub empty : Shape → ProfileState
+empty g = record { geometry = g; lists = replicate (2 ^ g.s) []; distances = replicate g.e 0; fills = replicate (g.e + 1) 0; probes = 0 }
+
+-- the list of a set
+abbrev pub list_of : ProfileState → ℕ → List ℕ
+list_of v k = slice_index_or v.lists k []
+
+-- one more at a place
+abbrev pub raise : List ℕ → ℕ → List ℕ
+raise ns i = slice_set ns i (slice_index ns i + 1)
+
+-- after a reference to block x, whose set has the list xs
+abbrev pub referenced : ProfileState → ℕ → List ℕ → ProfileState
+referenced v x xs = record v {
+  lists = slice_set v.lists (set_of_block v.geometry x) (take v.geometry.e (move_to_front x xs));
+  distances = if is_in x xs then raise v.distances (place_of x xs) else v.distances;
+  fills = if is_in x xs then v.fills else raise v.fills (length xs);
+  probes = v.probes + min (place_of x xs + 1) (length xs);
+}
+
+-- after a reference to a block
+abbrev pub after_reference : ProfileState → ℕ → ProfileState
+after_reference v x = referenced v x (list_of v (set_of_block v.geometry x))
+
+-- after a flush
+abbrev pub after_flush : ProfileState → ProfileState
+after_flush v = record v { lists = replicate (2 ^ v.geometry.s) [] }
+
+-- after an event
+abbrev pub after_event : ProfileState → Event → ProfileState
+after_event v (event.Reference r) = after_reference v (block_of v.geometry r.addr)
+after_event v event.Flush = after_flush v
+
+-- the references fed
+abbrev pub fed_of : ProfileState → ℕ
+fed_of v = sum v.distances + sum v.fills
+
+-- the blocks in all lists
+abbrev pub held_of : ProfileState → ℕ
+held_of v = sum_by length v.lists
+
+-- the counts of an LRU cache of e lines a set
+abbrev pub counts_held : ProfileState → ℕ → Counts
+counts_held v e = record {
+  hits = sum (take e v.distances);
+  misses = sum (drop e v.distances) + sum v.fills;
+  evictions = sum (drop e v.distances) + sum (drop e v.fills);
+}
+
+-- what a tally holds: an associativity, and the sums up to it
+pub record TallyState : Type 0 where
+  pub ways : ℕ
+  pub hits : ℕ
+  pub early : ℕ
+  pub fed : ℕ
+
+-- the tally of a profile at an associativity
+abbrev pub tally_at : ProfileState → ℕ → TallyState
+tally_at v e = record { ways = e; hits = sum (take e v.distances); early = sum (take e v.fills); fed = fed_of v }
+
+-- what is true of the fields of every profile
+pub record IsSound (g : Shape) (lists : Lists) (distances fills : List ℕ) (probes : ℕ) : Type 0 where
+  pub depth : lists.depth ≡ g.e
+  pub sets : length lists.lists ≡ 2 ^ g.s
+  pub near : length distances ≡ g.e
+  pub far : length fills ≡ g.e + 1
+  pub fed : sum distances + sum fills ≤ 2 ^ 41
+  pub compared : probes ≤ (sum distances + sum fills) * g.e
