@@ -1,0 +1,137 @@
+-- The search for the least configuration.
+use Rattle.std.proofs.Common.{◌≡◌, ℕ, ◌+◌, ◌^◌, ◌<◌, ◌≤◌, ◌==◌, Bool, true, false, ◌&&◌, refl, sym, ap, ◌∙◌, arith, Some, inl, inr, ltb}
+use Rattle.std.proofs.lemmas.Bool.{and_parts, and_from, false≢true, not-true, not_from_false, eqb-true, eq-eqb, false_from_ne_true, cases_eq, cases_lt, ltb-false, le-ltb}
+use Rattle.std.proofs.Math.Pow.{pow_mono}
+use Rattle.std.proofs.lemmas.Nat.{pow_pos}
+use Rattle.sweep_core.specs.declared.config.Config.{Config}
+use Rattle.sweep_core.specs.Space.{Ranges, is_power, is_in_range, is_valid}
+use Rattle.sweep_core.specs.Table.{is_less}
+use Rattle.sweep_core.specs.Least.{IsLeast, config, is_from, is_from_with, is_from_pair}
+use Rattle.sweep_core.proofs.Validity.{IsLimited, valid_of, is_in_range-from, exponent_of}
+use Rattle.sweep_core.proofs.Orders.{Less, less_of, is_less-from}
+
+same_pair : (b s : ℕ) (d : Config) → d.bsize ≡ b → d.sets ≡ s → d ≡ config b s d.assoc
+same_pair b s d p q = ap (λ x. config x d.sets d.assoc) p ∙ ap (λ y. config b y d.assoc) q
+
+pub record IsFromPair (space : Ranges) (from : Config) (b s : ℕ) (d : Config) : Type 0 where
+  pub valid : is_valid space d ≡ true
+  pub from_on : is_less d from ≡ false
+  pub same : d ≡ config b s d.assoc
+
+pub pair_of : (space : Ranges) (from : Config) (b s : ℕ) (d : Config) → is_from_pair space from b s d ≡ true → IsFromPair space from b s d
+pair_of space from b s d h =
+    let w = and_parts _ _ h in let v = and_parts _ _ w.0 in let u = and_parts _ _ v.0 in
+    record { valid = u.0; from_on = not-true _ u.1; same = same_pair b s d (eqb-true _ _ v.1) (eqb-true _ _ w.1) }
+
+pub pair-none_bsize : (space : Ranges) (from : Config) (b s : ℕ) → is_in_range space.bsize b ≡ false → (d : Config) → is_from_pair space from b s d ≡ false
+pair-none_bsize space from b s out d =
+    false_from_ne_true _ (λ h. let f = pair_of space from b s d h in
+    false≢true (sym out ∙ ap (λ (c : Config). is_in_range space.bsize c.bsize) (sym f.same) ∙ is_in_range-from _ _ (valid_of space d f.valid).bsize))
+
+pub pair-none_sets : (space : Ranges) (from : Config) (b s : ℕ) → is_in_range space.sets s ≡ false → (d : Config) → is_from_pair space from b s d ≡ false
+pair-none_sets space from b s out d =
+    false_from_ne_true _ (λ h. let f = pair_of space from b s d h in
+    false≢true (sym out ∙ ap (λ (c : Config). is_in_range space.sets c.sets) (sym f.same) ∙ is_in_range-from _ _ (valid_of space d f.valid).sets))
+
+pub pair-none_less : (space : Ranges) (from : Config) (b s : ℕ) → ((e : ℕ) → is_less (config b s e) from ≡ true) → (d : Config) → is_from_pair space from b s d ≡ false
+pair-none_less space from b s less d =
+    false_from_ne_true _ (λ h. let f = pair_of space from b s d h in
+    false≢true (sym f.from_on ∙ ap (λ c. is_less c from) f.same ∙ less d.assoc))
+
+-- a configuration of the pair that isn't less has at least the least associativity
+least_is : (space : Ranges) (from : Config) (b s least : ℕ) (d : Config) → ((e : ℕ) → is_less (config b s e) from ≡ ltb e least) → IsFromPair space from b s d → least ≤ d.assoc
+least_is space from b s least d is f = ltb-false _ _ (sym (is d.assoc) ∙ ap (λ c. is_less c from) (sym f.same) ∙ f.from_on)
+
+pub pair-none : (space : Ranges) (from : Config) (b s least : ℕ) → ((e : ℕ) → is_less (config b s e) from ≡ ltb e least)
+    → ((e : ℕ) → least ≤ e → is_valid space (config b s e) ≡ false) → (d : Config) → is_from_pair space from b s d ≡ false
+pair-none space from b s least is none d =
+    false_from_ne_true _ (λ h. let f = pair_of space from b s d h in
+    false≢true (sym (none d.assoc (least_is space from b s least d is f)) ∙ ap (is_valid space) (sym f.same) ∙ f.valid))
+
+pub pair-some : (space : Ranges) (from : Config) (b s least n : ℕ) → ((e : ℕ) → is_less (config b s e) from ≡ ltb e least)
+    → least ≤ n → is_valid space (config b s n) ≡ true → ((e : ℕ) → least ≤ e → is_valid space (config b s e) ≡ true → n ≤ e)
+    → IsLeast (is_from_pair space from b s) (Some (config b s n))
+pair-some space from b s least n is low valid first = (
+  and_from _ _ (and_from _ _ (and_from _ _ valid (not_from_false _ (is n ∙ le-ltb _ _ low))) (eq-eqb b b refl)) (eq-eqb s s refl),
+  λ d h. let f = pair_of space from b s d h in
+      let m : n ≤ d.assoc = first d.assoc (least_is space from b s least d is f) (ap (is_valid space) (sym f.same) ∙ f.valid) in
+      false_from_ne_true _ (λ k. not_below d.assoc m (less_of (config b s d.assoc) (config b s n) (ap (λ c. is_less c (config b s n)) (sym f.same) ∙ k))),
+)
+  where
+    not_below : (e : ℕ) → n ≤ e → Less (config b s e) (config b s n) → ⊥
+    not_below e m (inl x) = omega arith
+    not_below e m (inr (x, inl y)) = omega arith
+    not_below e m (inr (x, inr (y, z))) = omega arith
+
+-- a loop over the powers of two of a number of the configurations that pass
+module _ (passes : Config → Bool) (number : Config → ℕ) (power : (d : Config) → passes d ≡ true → (is_power (number d) ≡ true) × (number d ≤ 1048576)) where
+  -- those that pass have at least this number
+  abbrev pub Reached : ℕ → Type 0
+  Reached k = (d : Config) → passes d ≡ true → 2 ^ k ≤ number d
+
+  pub reached-first : Reached 0
+  reached-first d h = let e = exponent_of (number d) (power d h).0 (power d h).1 in let m : 0 < 2 ^ e.0 = pow_pos e.0 in omega arith
+
+  pub reached-next : (k : ℕ) → Reached k → ((d : Config) → (passes d && number d == 2 ^ k) ≡ false) → Reached (k + 1)
+  reached-next k r none d h =
+      let e = exponent_of (number d) (power d h).0 (power d h).1 in
+      elim (cases_lt k e.0) [
+        | inl more ↦ let m : 2 ^ (k + 1) ≤ 2 ^ e.0 = pow_mono (omega arith) in omega arith
+        | inr less ↦ let m : 2 ^ e.0 ≤ 2 ^ k = pow_mono less in
+            absurd (false≢true (sym (none d) ∙ and_from _ _ h (eq-eqb _ _ (omega (arith, r d h)))))
+      ]
+
+  pub reached-end : Reached 21 → (d : Config) → passes d ≡ false
+  reached-end r d = false_from_ne_true _ (λ h. let p = power d h in let m = r d h in let two : 2 ^ 21 ≡ 2097152 = refl in omega arith)
+
+  pub reached-found : ((c d : Config) → passes c ≡ true → passes d ≡ true → number c < number d → is_less d c ≡ false)
+      → (k : ℕ) (c : Config) → Reached k → IsLeast (λ d. passes d && number d == 2 ^ k) (Some c) → IsLeast passes (Some c)
+  reached-found apart k c r found =
+      let w = and_parts _ _ found.0 in let here : number c ≡ 2 ^ k = eqb-true _ _ w.1 in (
+        w.0,
+        λ d h. elim (cases_eq (number d) (2 ^ k)) [
+          | inl same ↦ found.1 d (and_from _ _ h (eq-eqb _ _ same))
+          | inr other ↦ apart c d w.0 h (omega (arith, r d h))
+        ],
+      )
+
+-- the two loops
+pub with-power : (space : Ranges) (from : Config) (b : ℕ) → IsLimited space → (d : Config) → is_from_with space from b d ≡ true → (is_power d.sets ≡ true) × (d.sets ≤ 1048576)
+with-power space from b l d h =
+    let w = and_parts _ _ h in let v = valid_of space d (and_parts _ _ w.0).0 in
+    (v.set_power, omega (arith, v.sets.1, l.sets.1))
+
+pub with-apart : (space : Ranges) (from : Config) (b : ℕ) (c d : Config) → is_from_with space from b c ≡ true → is_from_with space from b d ≡ true → c.sets < d.sets → is_less d c ≡ false
+with-apart space from b c d p q less =
+    let x : c.bsize ≡ b = eqb-true _ _ (and_parts _ _ p).1 in let y : d.bsize ≡ b = eqb-true _ _ (and_parts _ _ q).1 in
+    false_from_ne_true _ (λ k. not_less (x ∙ sym y) (less_of d c k))
+  where
+    not_less : c.bsize ≡ d.bsize → Less d c → ⊥
+    not_less e (inl u) = omega arith
+    not_less e (inr (u, inl v)) = omega arith
+    not_less e (inr (u, inr (v, w))) = omega arith
+
+pub from-power : (space : Ranges) (from : Config) → IsLimited space → (d : Config) → is_from space from d ≡ true → (is_power d.bsize ≡ true) × (d.bsize ≤ 1048576)
+from-power space from l d h =
+    let v = valid_of space d (and_parts _ _ h).0 in (v.block_power, omega (arith, v.bsize.1, l.bsize.1))
+
+pub from-apart : (space : Ranges) (from : Config) (c d : Config) → is_from space from c ≡ true → is_from space from d ≡ true → c.bsize < d.bsize → is_less d c ≡ false
+from-apart space from c d p q less = false_from_ne_true _ (λ k. not_less (less_of d c k))
+  where
+    not_less : Less d c → ⊥
+    not_less (inl u) = omega arith
+    not_less (inr (u, inl v)) = omega arith
+    not_less (inr (u, inr (v, w))) = omega arith
+
+-- none is of a block size outside the range, or below that of the configuration to begin from
+pub with-none_bsize : (space : Ranges) (from : Config) (b : ℕ) → is_in_range space.bsize b ≡ false → (d : Config) → is_from_with space from b d ≡ false
+with-none_bsize space from b out d =
+    false_from_ne_true _ (λ h.
+    let w = and_parts _ _ h in let e : d.bsize ≡ b = eqb-true _ _ w.1 in
+    false≢true (sym out ∙ ap (is_in_range space.bsize) (sym e) ∙ is_in_range-from _ _ (valid_of space d (and_parts _ _ w.0).0).bsize))
+
+pub with-none_less : (space : Ranges) (from : Config) (b : ℕ) → b < from.bsize → (d : Config) → is_from_with space from b d ≡ false
+with-none_less space from b low d =
+    false_from_ne_true _ (λ h.
+    let w = and_parts _ _ h in let e : d.bsize ≡ b = eqb-true _ _ w.1 in
+    false≢true (sym (not-true _ (and_parts _ _ w.0).1) ∙ is_less-from d from (inl (omega arith))))

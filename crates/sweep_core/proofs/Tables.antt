@@ -1,0 +1,149 @@
+-- Rising lists of configurations.
+use Rattle.std.proofs.Common.{◌≡◌, ℕ, suc, zero, ◌+◌, ◌-◌, ◌^◌, ◌<◌, ◌≤◌, Bool, true, false, cond, List, [], ◌∷◌, ◌++◌, map, refl, sym, ap, ◌∙◌, arith, subst}
+use Rattle.std.specs.Prelude.{◌⊎◌, filter, flat_map, ⊤}
+use Rattle.std.proofs.Common.{inl, inr}
+use Rattle.std.specs.List.{range_with_len, AllByRecursion as Each}
+use Rattle.std.proofs.lemmas.Bool.{cases_Bool, false≢true, cond-true, cond-false, cases_lt}
+use Rattle.std.proofs.Math.Pow.{pow-lt}
+use Rattle.sweep_core.specs.declared.config.Config.{Config}
+use Rattle.sweep_core.specs.Table.{IsRising, is_less, powers_of_two, numbers, all_configs}
+use Rattle.sweep_core.specs.Least.{config}
+use Rattle.sweep_core.proofs.Orders.{is_less-asym, is_less-same, is_less-from}
+
+abbrev pub Member : {A : Type 0} → A → List A → Type 0
+Member a [] = ⊥
+Member a (x ∷ xs) = (x ≡ a) ⊎ Member a xs
+
+pub Each-member : {A : Type 0} (P : A → Type 0) (a : A) (xs : List A) → Each P xs → Member a xs → P a
+Each-member P a [] all m = absurd m
+Each-member P a (x ∷ xs) all (inl e) = subst P e all.0
+Each-member P a (x ∷ xs) all (inr m) = Each-member P a xs all.1 m
+
+pub Each-weaker : {A : Type 0} (P Q : A → Type 0) → ((a : A) → P a → Q a) → (xs : List A) → Each P xs → Each Q xs
+Each-weaker P Q w [] all = tt
+Each-weaker P Q w (x ∷ xs) all = (w x all.0, Each-weaker P Q w xs all.1)
+
+pub Each-append : {A : Type 0} (P : A → Type 0) (xs ys : List A) → Each P xs → Each P ys → Each P (xs ++ ys)
+Each-append P [] ys p q = q
+Each-append P (x ∷ xs) ys p q = (p.0, Each-append P xs ys p.1 q)
+
+pub Each-flat_map : {A B : Type 0} (P : B → Type 0) (f : A → List B) → (xs : List A) → Each (λ x. Each P (f x)) xs → Each P (flat_map f xs)
+Each-flat_map P f [] h = tt
+Each-flat_map P f (x ∷ xs) h = Each-append P (f x) (flat_map f xs) h.0 (Each-flat_map P f xs h.1)
+
+pub filter-agree : {A : Type 0} (p q : A → Bool) (xs : List A) → Each (λ x. p x ≡ q x) xs → filter p xs ≡ filter q xs
+filter-agree p q [] h = refl
+filter-agree p q (x ∷ xs) h = rw h.0 (ap (λ l. cond (q x) (x ∷ l) l) (filter-agree p q xs h.1))
+
+pub filter-none : {A : Type 0} (p : A → Bool) → ((x : A) → p x ≡ false) → (xs : List A) → filter p xs ≡ []
+filter-none p h [] = refl
+filter-none p h (x ∷ xs) = cond-false _ _ _ (h x) ∙ filter-none p h xs
+
+-- the least that passes p stands first, and then those that pass q, which are the greater ones
+pub filter-peel : (p q : Config → Bool) (c : Config) → p c ≡ true → ((d : Config) → p d ≡ true → is_less d c ≡ false)
+    → ((d : Config) → is_less c d ≡ true → p d ≡ q d) → ((d : Config) → is_less c d ≡ false → q d ≡ false)
+    → (xs : List Config) → IsRising xs → Member c xs → filter p xs ≡ c ∷ filter q xs
+filter-peel p q c pc least later earlier [] r m = absurd m
+filter-peel p q c pc least later earlier (x ∷ xs) r (inl e) =
+    let px : p x ≡ true = ap p e ∙ pc in
+    let qx : q x ≡ false = earlier x (ap (is_less c) e ∙ is_less-same c) in
+    let rest : filter p xs ≡ filter q xs = filter-agree p q xs (Each-weaker _ _ (λ d h. later d (ap (λ y. is_less y d) (sym e) ∙ h)) xs r.0) in
+    cond-true _ _ _ px ∙ ap (λ y. y ∷ filter p xs) e ∙ ap (λ l. c ∷ l) (rest ∙ sym (cond-false _ _ _ qx))
+filter-peel p q c pc least later earlier (x ∷ xs) r (inr m) =
+    let below : is_less x c ≡ true = Each-member _ c xs r.0 m in
+    let px : p x ≡ false = elim (cases_Bool (p x)) [ inl passes ↦ absurd (false≢true (sym (least x passes) ∙ below)) | inr fails ↦ fails ] in
+    let qx : q x ≡ false = earlier x (is_less-asym x c below) in
+    cond-false _ _ _ px ∙ filter-peel p q c pc least later earlier xs r.1 m ∙ ap (λ l. c ∷ l) (sym (cond-false _ _ _ qx))
+
+Rising-append : (xs ys : List Config) → IsRising xs → IsRising ys → Each (λ x. Each (λ y. is_less x y ≡ true) ys) xs → IsRising (xs ++ ys)
+Rising-append [] ys p q h = q
+Rising-append (x ∷ xs) ys p q h = (Each-append _ xs ys p.0 h.0, Rising-append xs ys p.1 q h.1)
+
+-- each number is below those after it
+abbrev Grows : List ℕ → Type 0
+Grows [] = ⊤
+Grows (x ∷ xs) = Each (λ y. x < y) xs × Grows xs
+
+-- one stretch for each number, where a number of a stretch is told by K
+Rising-flat_map : (K : ℕ → Config → Type 0) (f : ℕ → List Config) → ((x : ℕ) → IsRising (f x)) → ((x : ℕ) → Each (K x) (f x))
+    → ((x y : ℕ) (c d : Config) → x < y → K x c → K y d → is_less c d ≡ true)
+    → (xs : List ℕ) → Grows xs → IsRising (flat_map f xs)
+Rising-flat_map K f rises told less [] g = tt
+Rising-flat_map K f rises told less (x ∷ xs) g =
+    Rising-append (f x) (flat_map f xs) (rises x) (Rising-flat_map K f rises told less xs g.1)
+    (Each-weaker (K x) _ (λ c kc. Each-flat_map _ f xs (Each-weaker (λ y. x < y) _ (λ y lt. Each-weaker (K y) _ (λ d kd. less x y c d lt kc kd) (f y) (told y)) xs g.0)) (f x) (told x))
+
+Grows-powers : (a n : ℕ) → Grows (map (λ k. 2 ^ k) (range_with_len a n))
+Grows-powers a zero = tt
+Grows-powers a (suc n) = (above a (a + 1) n (omega arith), Grows-powers (a + 1) n)
+  where
+    above : (i j m : ℕ) → i < j → Each (λ y. 2 ^ i < y) (map (λ k. 2 ^ k) (range_with_len j m))
+    above i j zero h = tt
+    above i j (suc m) h = (pow-lt h, above i (j + 1) m (omega arith))
+
+ways_told : (b s a n : ℕ) → Each (λ c. (c.bsize ≡ b) × (c.sets ≡ s)) (map (config b s) (range_with_len a n))
+ways_told b s a zero = tt
+ways_told b s a (suc n) = ((refl, refl), ways_told b s (a + 1) n)
+
+ways_above : (b s i j m : ℕ) → i < j → Each (λ y. is_less (config b s i) y ≡ true) (map (config b s) (range_with_len j m))
+ways_above b s i j zero h = tt
+ways_above b s i j (suc m) h = (is_less-from (config b s i) (config b s j) (inr (refl, inr (refl, h))), ways_above b s i (j + 1) m (omega arith))
+
+ways_rise : (b s a n : ℕ) → IsRising (map (config b s) (range_with_len a n))
+ways_rise b s a zero = tt
+ways_rise b s a (suc n) = (ways_above b s a (a + 1) n (omega arith), ways_rise b s (a + 1) n)
+
+abbrev of_bsize : ℕ × ℕ → ℕ → List Config
+of_bsize range b = flat_map (λ s. map (config b s) (numbers range)) powers_of_two
+
+sets_told : (range : ℕ × ℕ) (b : ℕ) (xs : List ℕ) → Each (λ s. Each (λ c. c.bsize ≡ b) (map (config b s) (numbers range))) xs
+sets_told range b [] = tt
+sets_told range b (s ∷ xs) =
+    (Each-weaker (λ c. (c.bsize ≡ b) × (c.sets ≡ s)) (λ c. c.bsize ≡ b) (λ c h. h.0) (map (config b s) (numbers range)) (ways_told b s range.0 (range.1 + 1 - range.0)), sets_told range b xs)
+
+bsize_told : (range : ℕ × ℕ) (b : ℕ) → Each (λ c. c.bsize ≡ b) (of_bsize range b)
+bsize_told range b = Each-flat_map (λ c. c.bsize ≡ b) (λ s. map (config b s) (numbers range)) powers_of_two (sets_told range b powers_of_two)
+
+bsize_rises : (range : ℕ × ℕ) (b : ℕ) → IsRising (of_bsize range b)
+bsize_rises range b =
+    Rising-flat_map (λ s c. (c.bsize ≡ b) × (c.sets ≡ s)) (λ s. map (config b s) (numbers range))
+    (λ s. ways_rise b s range.0 (range.1 + 1 - range.0)) (λ s. ways_told b s range.0 (range.1 + 1 - range.0))
+    (λ x y c d lt kc kd. is_less-from c d (inr (kc.0 ∙ sym kd.0, inl (omega arith)))) powers_of_two (Grows-powers 0 21)
+
+pub all_configs-rise : (range : ℕ × ℕ) → IsRising (all_configs range)
+unfolding all_configs
+all_configs-rise range =
+    Rising-flat_map (λ b c. c.bsize ≡ b) (of_bsize range) (bsize_rises range) (bsize_told range)
+    (λ x y c d lt kc kd. is_less-from c d (inl (omega arith))) powers_of_two (Grows-powers 0 21)
+
+Member-append_left : {A : Type 0} (a : A) (xs ys : List A) → Member a xs → Member a (xs ++ ys)
+Member-append_left a [] ys m = absurd m
+Member-append_left a (x ∷ xs) ys (inl e) = inl e
+Member-append_left a (x ∷ xs) ys (inr m) = inr (Member-append_left a xs ys m)
+
+Member-append_right : {A : Type 0} (a : A) (xs ys : List A) → Member a ys → Member a (xs ++ ys)
+Member-append_right a [] ys m = m
+Member-append_right a (x ∷ xs) ys m = inr (Member-append_right a xs ys m)
+
+Member-flat_map : {A B : Type 0} (f : A → List B) (a : A) (b : B) (xs : List A) → Member a xs → Member b (f a) → Member b (flat_map f xs)
+Member-flat_map f a b [] m k = absurd m
+Member-flat_map f a b (x ∷ xs) (inl e) k = Member-append_left b (f x) (flat_map f xs) (subst (λ y. Member b (f y)) (sym e) k)
+Member-flat_map f a b (x ∷ xs) (inr m) k = Member-append_right b (f x) (flat_map f xs) (Member-flat_map f a b xs m k)
+
+Member-map : {A B : Type 0} (f : A → B) (a : A) (xs : List A) → Member a xs → Member (f a) (map f xs)
+Member-map f a [] m = absurd m
+Member-map f a (x ∷ xs) (inl e) = inl (ap f e)
+Member-map f a (x ∷ xs) (inr m) = inr (Member-map f a xs m)
+
+Member-range : (k a n : ℕ) → a ≤ k → k < a + n → Member k (range_with_len a n)
+Member-range k a zero from below = absurd (omega arith)
+Member-range k a (suc n) from below =
+    elim (cases_lt a k) [ inl later ↦ inr (Member-range k (a + 1) n (omega arith) (omega arith)) | inr here ↦ inl (omega arith) ]
+
+-- what stands in the list of all
+pub all_configs-member : (range : ℕ × ℕ) (i j e : ℕ) → i < 21 → j < 21 → range.0 ≤ e → e ≤ range.1 → Member (config (2 ^ i) (2 ^ j) e) (all_configs range)
+unfolding all_configs
+all_configs-member range i j e hi hj low high =
+    Member-flat_map (of_bsize range) (2 ^ i) _ powers_of_two (Member-map (λ k. 2 ^ k) i (range_with_len 0 21) (Member-range i 0 21 (omega arith) (omega arith)))
+    (Member-flat_map (λ s. map (config (2 ^ i) s) (numbers range)) (2 ^ j) _ powers_of_two (Member-map (λ k. 2 ^ k) j (range_with_len 0 21) (Member-range j 0 21 (omega arith) (omega arith)))
+    (Member-map (config (2 ^ i) (2 ^ j)) e (numbers range) (Member-range e range.0 (range.1 + 1 - range.0) low (omega arith))))

@@ -1,0 +1,5 @@
+use Rattle.sweep_core.proofs.Depths.{log2-is}
+use Rattle.sweep_core.proofs.laws.log2_is.Goals as goal
+
+pub returns : goal.returns
+returns c = log2-is

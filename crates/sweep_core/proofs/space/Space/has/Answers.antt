@@ -1,0 +1,37 @@
+use Rattle.std.proofs.Common.{◌≡◌, ◌*◌, ◌^◌, ◌<◌, None, true, sym, ◌∙◌, arith}
+use Rattle.sweep_core.specs.Space.{Ranges, ranges, is_in_range, fault_of}
+use Rattle.sweep_core.specs.declared.config.Config.{Config}
+use Rattle.sweep_core.proofs.Validity.{limits_of, within_of, products}
+use Rattle.sweep_core.proofs.space.Space.has.Goals as goal
+
+-- the products of numbers in the ranges fit
+record Fit (c : Config) : Type 0 where
+  pair : c.bsize * c.sets < 2 ^ 64
+  size : c.bsize * c.sets * c.assoc < 2 ^ 64
+  lines : c.assoc * c.sets < 2 ^ 64
+
+fit : (r : Ranges) (c : Config) → fault_of r ≡ None → is_in_range r.bsize c.bsize ≡ true → is_in_range r.sets c.sets ≡ true → is_in_range r.assoc c.assoc ≡ true → Fit c
+fit r c sound block set way =
+    let p = products r c.bsize c.sets c.assoc (limits_of r sound) (within_of _ _ block) (within_of _ _ set) (within_of _ _ way) in
+    record { pair = p.1; size = p.2; lines = p.3 }
+
+pub overflow_mul-bsize : goal.overflow_mul-bsize
+overflow_mul-bsize c =
+    let i = c.self.inside in
+    let f = fit (ranges i.bsize i.sets i.assoc i.size i.powers) c.args.config.now c.self.invariant (sym c.is_in_range.ensures ∙ c.if-not-is_in_range.false)
+    (sym c.is_in_range-else-not-is_in_range.ensures ∙ c.if-not-is_in_range-2.false) (sym c.is_in_range-else-not-is_in_range-2.ensures ∙ c.if-not-is_in_range-3.false) in
+    omega (arith, f.pair)
+
+pub overflow_mul-bsize-2 : goal.overflow_mul-bsize-2
+overflow_mul-bsize-2 c =
+    let i = c.self.inside in
+    let f = fit (ranges i.bsize i.sets i.assoc i.size i.powers) c.args.config.now c.self.invariant (sym c.is_in_range.ensures ∙ c.if-not-is_in_range.false)
+    (sym c.is_in_range-else-not-is_in_range.ensures ∙ c.if-not-is_in_range-2.false) (sym c.is_in_range-else-not-is_in_range-2.ensures ∙ c.if-not-is_in_range-3.false) in
+    omega (arith, f.size)
+
+pub overflow_mul-result : goal.overflow_mul-result
+overflow_mul-result c =
+    let i = c.self.inside in
+    let f = fit (ranges i.bsize i.sets i.assoc i.size i.powers) c.args.config.now c.self.invariant (sym c.is_in_range.ensures ∙ c.if-not-is_in_range.false)
+    (sym c.is_in_range-else-not-is_in_range.ensures ∙ c.if-not-is_in_range-2.false) (sym c.is_in_range-else-not-is_in_range-2.ensures ∙ c.if-not-is_in_range-3.false) in
+    omega (arith, f.lines)

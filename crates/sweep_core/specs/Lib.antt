@@ -1,0 +1,8 @@
+pub mod Space
+pub mod Table
+pub mod Least
+pub mod SweepText
+pub mod Work
+pub mod Pass
+pub mod Walk
+pub mod Gathering

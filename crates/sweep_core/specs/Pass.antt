@@ -1,0 +1,66 @@
+-- What the profiles of a sweep hold.
+use Rattle.std.specs.Prelude.{◌≡◌, ℕ, Option, None, List, map, flat_map, fold, Result, Ok, Err}
+use Rattle.std.specs.List.{AllByRecursion}
+use Rattle.trace_core.specs.declared.events.Event.{Event}
+use Rattle.trace_core.specs.Events.{events_of}
+use Rattle.trace_core.specs.Reader.{Progress, Reached}
+use Rattle.trace_core.specs.Task.{entries_of}
+use Rattle.trace_core.specs.declared.events.Entry.{Entry}
+use Rattle.trace_core.specs.declared.events.Kind.{Kind}
+use Rattle.trace_core.specs.declared.line.Format.{Format}
+use Rattle.trace_core.specs.declared.fault.TraceFault.{TraceFault}
+use Rattle.trace_core.specs.declared.reader.ReaderState.{ReaderState}
+use Rattle.trace_core.specs.declared.reader.ReaderState.TheVariants as state
+use Rattle.cache_core.specs.Geometry.{IsGeometry, block_of}
+use Rattle.profile_core.specs.State.{empty, after_reference, after_flush, after_event}
+use Rattle.sweep_core.specs.declared.config.Config.{Config}
+use Rattle.sweep_core.specs.declared.request.Request.{Request}
+use Rattle.sweep_core.specs.declared.profiles.PairProfile.{PairProfile}
+use Rattle.sweep_core.specs.Space.{fault_of}
+use Rattle.sweep_core.specs.SweepText.{all_of, rows_of}
+use Rattle.sweep_core.specs.Work.{pairs, shape_of_pair}
+
+-- the profile of a pair after a reference to an address
+abbrev pub referenced : ℕ → PairProfile → PairProfile
+referenced addr x = record x { profile = after_reference x.profile (block_of x.profile.geometry addr) }
+
+-- after a flush
+abbrev pub flushed : PairProfile → PairProfile
+flushed x = record x { profile = after_flush x.profile }
+
+-- after some events
+abbrev pub after_events : List Event → PairProfile → PairProfile
+after_events es x = record x { profile = fold after_event x.profile es }
+
+-- some profiles after some events
+abbrev pub all_after : List Event → List PairProfile → List PairProfile
+all_after es xs = map (after_events es) xs
+
+-- the profile of a pair before any event, as deep as the greatest associativity of the pair in all
+abbrev pub begun_for : List Config → ℕ × ℕ → PairProfile
+begun_for all p = record { bsize = p.0; sets = p.1; profile = empty (shape_of_pair all p) }
+
+-- the profiles that a sweep makes: one for each pair of its rows
+abbrev pub made_for : List Config → List Config → List PairProfile
+made_for all rows = map (begun_for all) (pairs rows)
+
+-- a pair is within the limits at its depth
+abbrev pub HasGeometry : List Config → ℕ × ℕ → Type 0
+HasGeometry all p = IsGeometry (shape_of_pair all p)
+
+-- the profiles of a sweep after some events
+pub record Swept (r : Request) (es : List Event) (profiles : List PairProfile) : Type 0 where
+  pub space : fault_of r.space ≡ None
+  pub sound : AllByRecursion (HasGeometry (all_of r)) (pairs (rows_of r))
+  pub fed : profiles ≡ all_after es (made_for (all_of r) (rows_of r))
+
+-- the state in which a reader ends that answers this
+abbrev pub state_after : Result (Unit {0}) TraceFault → ReaderState
+state_after (Ok done) = state.Ended
+state_after (Err fault) = state.Failed fault
+
+-- These entries were read of a source, and what they give a cache was fed to each profile.
+pub record Feeds (kind : Kind) (format : Format) (limit : ℕ) (before told : Option (List ℕ)) (failures-before failures : ℕ) (p : Progress) (old new : List PairProfile) : Type 0 where
+  pub read : List (ℕ × Entry)
+  pub reached : Reached format limit before told failures-before failures read p
+  pub fed : new ≡ all_after (flat_map (events_of kind) (entries_of read)) old

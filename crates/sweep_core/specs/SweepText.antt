@@ -1,0 +1,77 @@
+-- What a sweep writes.
+use Rattle.std.specs.Prelude.{◌≡◌, ℕ, Bool, true, false, Result, Ok, Err, Option, None, Some, List, [], ◌∷◌, ◌++◌, map, flat_map, take, drop, decimal, codes}
+use Rattle.std.specs.List.{join_with_byte}
+use Rattle.std.specs.Int.{w64, trailing_zeros}
+use Rattle.trace_core.specs.declared.events.Event.{Event}
+use Rattle.trace_core.specs.Reading.{events}
+use Rattle.trace_core.specs.Task.{Task}
+use Rattle.trace_core.specs.declared.fault.RunFault.{RunFault}
+use Rattle.trace_core.specs.declared.fault.RunFault.TheVariants.{Memory, Trace, Write}
+use Rattle.cache_core.specs.declared.outcome.Counts.{Counts}
+use Rattle.cache_core.specs.Geometry.{Shape, shape}
+use Rattle.cache_core.specs.Windows.{counts}
+use Rattle.sweep_core.specs.declared.config.Config.{Config}
+use Rattle.sweep_core.specs.declared.request.Request.{Request}
+use Rattle.sweep_core.specs.Space.{bytes_of}
+use Rattle.sweep_core.specs.Table.{table, first_rows}
+
+-- the exponent of a power of two
+abbrev pub log2 : ℕ → ℕ
+log2 n = trailing_zeros w64 n
+
+-- the shape of a configuration
+abbrev pub shape_of_config : Config → Shape
+shape_of_config c = shape (log2 c.sets) c.assoc (log2 c.bsize)
+
+-- the counts of a configuration over a trace
+abbrev pub row_counts : List Event → Config → Counts
+row_counts es c = counts (shape_of_config c) es
+
+-- numbers in decimal, with commas between them, and an LF
+abbrev pub line_of : List ℕ → List ℕ
+line_of numbers = join_with_byte 44 (map decimal numbers) ++ 10 ∷ []
+
+-- the line of a configuration
+abbrev pub row_of : Config → Counts → List ℕ
+row_of c n = line_of (c.bsize ∷ c.sets ∷ c.assoc ∷ bytes_of c ∷ n.hits ∷ n.misses ∷ n.evictions ∷ [])
+
+-- the header, which stands only where a sweep begins at the first configuration
+abbrev pub heading : Option Config → List ℕ
+heading None = codes "bsize,sets,assoc,size,hits,misses,evictions\n"
+heading (Some after) = []
+
+-- the lines of some configurations over a trace
+unfoldable pub rows_text : List Event → List Config → List ℕ
+rows_text es rows = flat_map (λ c. row_of c (row_counts es c)) rows
+
+-- the configurations that a request may write
+abbrev pub all_of : Request → List Config
+all_of r = table r.space r.after
+
+-- those that it writes
+abbrev pub rows_of : Request → List Config
+rows_of r = first_rows r.rows (all_of r)
+
+-- what a sweep of a text writes: the heading, and a line for each configuration
+unfoldable pub sweep_text : Request → List ℕ → List ℕ
+sweep_text r text = heading r.after ++ rows_text (events r.format r.kind text) (rows_of r)
+
+-- a sweep writes nothing before it has read a whole text
+unfoldable pub sweep_task : Request → Task
+sweep_task r = record { format = r.format; limit = r.max_lines; whole = sweep_text r; partial = λ es. [] }
+
+-- A sweep in pages of n rows: the first page, and then those after its last row, until no configuration follows.
+abbrev pub ArePages : ℕ → Request → List Request → Type 0
+ArePages n r [] = ⊥
+ArePages n r (page ∷ []) = (page ≡ record r { rows = Some n }) × (drop n (all_of r) ≡ [])
+ArePages n r (page ∷ next ∷ more) =
+    (page ≡ record r { rows = Some n })
+    × (front : List Config) × (last : Config) × (take n (all_of r) ≡ front ++ last ∷ [])
+    × ArePages n (record r { after = Some last }) (next ∷ more)
+
+-- whether an answer says that the trace was read to its end
+abbrev pub has_read : {T : Type 0} → Result T RunFault → Bool
+has_read (Ok x) = true
+has_read (Err Memory) = false
+has_read (Err (Trace f)) = false
+has_read (Err Write) = true

@@ -1,0 +1,34 @@
+-- How many comparisons a sweep makes.
+use Rattle.std.specs.Prelude.{ℕ, ◌==◌, ◌&&◌, not, max, Bool, List, [], ◌∷◌, map, filter, fold, sum_by}
+use Rattle.trace_core.specs.declared.events.Event.{Event}
+use Rattle.trace_core.specs.Reading.{events}
+use Rattle.cache_core.specs.Geometry.{Shape, shape}
+use Rattle.cache_core.specs.Windows.{probes}
+use Rattle.sweep_core.specs.declared.config.Config.{Config}
+use Rattle.sweep_core.specs.declared.request.Request.{Request}
+use Rattle.sweep_core.specs.SweepText.{log2, all_of, rows_of}
+
+-- whether a configuration has these block size and set count
+abbrev pub has_pair : ℕ × ℕ → Config → Bool
+has_pair p c = c.bsize == p.0 && c.sets == p.1
+
+-- the pairs of block size and set count that some configurations have, each once
+unfoldable pub pairs : List Config → List (ℕ × ℕ)
+pairs [] = []
+pairs (c ∷ cs) = (c.bsize, c.sets) ∷ filter (λ p. not (has_pair p c)) (pairs cs)
+
+-- the greatest associativity that some configurations of a pair have
+unfoldable pub depth : List Config → ℕ × ℕ → ℕ
+depth all p = fold max 0 (map (λ c. c.assoc) (filter (has_pair p) all))
+
+-- the shape of the deepest cache of a pair
+abbrev pub shape_of_pair : List Config → ℕ × ℕ → Shape
+shape_of_pair all p = shape (log2 p.1) (depth all p) (log2 p.0)
+
+-- the comparisons of one profile for each pair of the rows, as deep as the greatest associativity of that pair in all
+unfoldable pub work : List Event → List Config → List Config → ℕ
+work es all rows = sum_by (λ p. probes (shape_of_pair all p) es) (pairs rows)
+
+-- the comparisons that a sweep of a text makes
+unfoldable pub sweep_work : Request → List ℕ → ℕ
+sweep_work r text = work (events r.format r.kind text) (all_of r) (rows_of r)

@@ -1,0 +1,88 @@
+//! Bytes on their way to a sink, gathered so that one call takes many rows.
+ghost use Rattle.std.specs.Prelude.{◌≡◌, ◌+◌, ◌≤◌, ◌++◌, [], length, IfOk, OnOk, OnErr};
+ghost use Rattle.std.specs.Io.KnownBytes.{Appends};
+ghost use Rattle.trace_core.specs.Device.{CountsFailure, WritesPrefix};
+ghost use Rattle.sweep_core.specs.Gathering.{Passes};
+
+use std::alloc::{AllocError, Global};
+use std::marker::Model;
+use trace_core::io::{DeviceFault, Sink, write_all};
+
+/// The most bytes that wait.
+pub(crate) const ROOM: usize = 65_536;
+
+/// Bytes that wait for their sink.
+#[derive(Drop)]
+pub(crate) struct Gathered {
+    bytes: Vec<u8>,
+    len: usize,
+}
+
+impl Model for Gathered {
+    ghost use Rattle.std.specs.Prelude.{◌≡◌, ◌≤◌, List, ℕ, length, take};
+
+    ghost Value = { List ℕ };
+
+    ghost view = { λ g. take g.len g.bytes.items };
+
+    ghost invariant = { λ g. (g.len ≤ 65536) × (length g.bytes.items ≡ 65536) };
+}
+
+impl Gathered {
+    /// None yet. It takes all its memory here.
+    pub(crate) fn new(alloc: Global) -> Result<Gathered, AllocError>
+        ensures { IfOk result (λ gathered. gathered ≡ []) }
+    {
+        Ok(Gathered {
+            bytes: vec![in alloc; 0; ROOM]?,
+            len: 0,
+        })
+    }
+
+    /// Adds a piece. Where there is no room for it, what waits is written first.
+    pub(crate) fn put<S: Sink>(&mut self, sink: &mut S, piece: &[u8]) -> Result<(), DeviceFault>
+        requires { length piece.now ≤ ROOM }
+        ensures ok { OnOk result (Passes (S.written sink.old) (S.written sink.new) self.old self.new piece.now) }
+        ensures fault { OnErr result (WritesPrefix (S.written sink.old) (S.written sink.new) self.old) }
+        ensures counted { CountsFailure (S.failures sink.old) (S.failures sink.new) result }
+    {
+        self.make_room(sink, piece.len())?;
+        self.push(piece);
+        Ok(())
+    }
+
+    /// Writes what waits.
+    pub(crate) fn write_out<S: Sink>(&mut self, sink: &mut S) -> Result<(), DeviceFault>
+        ensures ok { OnOk result (Appends (S.written sink.old) (S.written sink.new) self.old) }
+        ensures none { OnOk result (self.new ≡ []) }
+        ensures fault { OnErr result (WritesPrefix (S.written sink.old) (S.written sink.new) self.old) }
+        ensures counted { CountsFailure (S.failures sink.old) (S.failures sink.new) result }
+    {
+        write_all(sink, &self.bytes[..self.len])?;
+        self.len = 0;
+        Ok(())
+    }
+
+    /// Sees to it that so many bytes more have room.
+    fn make_room<S: Sink>(&mut self, sink: &mut S, count: usize) -> Result<(), DeviceFault>
+        requires { count ≤ ROOM }
+        ensures ok { OnOk result (Passes (S.written sink.old) (S.written sink.new) self.old self.new []) }
+        ensures room { OnOk result (length self.new + count ≤ ROOM) }
+        ensures fault { OnErr result (WritesPrefix (S.written sink.old) (S.written sink.new) self.old) }
+        ensures counted { CountsFailure (S.failures sink.old) (S.failures sink.new) result }
+    {
+        if self.len + count <= ROOM {
+            return Ok(());
+        }
+        self.write_out(sink)
+    }
+
+    fn push(&mut self, piece: &[u8])
+        requires { length self.old + length piece.now ≤ ROOM }
+        ensures { self.new ≡ self.old ++ piece.now }
+    {
+        let end = self.len + piece.len();
+        self.bytes[self.len..end].copy_from_slice(piece);
+        self.len = end;
+    }
+}

@@ -1,0 +1,82 @@
+//! One pass over a trace: what is read is fed to each profile as it comes.
+ghost use Rattle.std.specs.Prelude.{◌≡◌, ◌∷◌, [], ℕ, ◌+◌, ◌^◌, ◌<◌, ◌≤◌, All, map, filter};
+ghost use Rattle.trace_core.specs.Events.{events_of, keeps};
+ghost use Rattle.trace_core.specs.Reader.{begun};
+ghost use Rattle.trace_core.specs.declared.events.Event.TheVariants as event;
+ghost use Rattle.profile_core.specs.State.{fed_of};
+ghost use Rattle.sweep_core.specs.Pass.{referenced, flushed, all_after, state_after, Feeds};
+
+use crate::profiles::PairProfile;
+use trace_core::events::{Entry, Kind, Ref, refs_of};
+use trace_core::fault::TraceFault;
+use trace_core::io::Source;
+use trace_core::reader::Lines;
+
+#[inline(always)]
+fn feed_reference(profiles: &mut [PairProfile], addr: u64)
+    requires { All (λ x. fed_of x.profile < 2 ^ 41) profiles.old }
+    ensures fed { profiles.new ≡ map (referenced addr) profiles.old }
+    ensures few { (n : ℕ) → All (λ x. fed_of x.profile ≤ n) profiles.old → All (λ x. fed_of x.profile ≤ n + 1) profiles.new }
+{
+    for pair in profiles.iter_mut() {
+        pair.profile.feed(addr);
+    }
+}
+
+fn flush(profiles: &mut [PairProfile])
+    ensures { profiles.new ≡ map flushed profiles.old }
+{
+    for pair in profiles.iter_mut() {
+        pair.profile.flush();
+    }
+}
+
+#[inline(always)]
+fn feed_kept(profiles: &mut [PairProfile], kind: Kind, reference: Ref)
+    requires { All (λ x. fed_of x.profile < 2 ^ 41) profiles.old }
+    ensures fed { profiles.new ≡ all_after (map event.Reference (filter (λ r. keeps kind r.access) (reference ∷ []))) profiles.old }
+    ensures few { (n : ℕ) → All (λ x. fed_of x.profile ≤ n) profiles.old → All (λ x. fed_of x.profile ≤ n + 1) profiles.new }
+{
+    if kind.keeps(reference.access) {
+        feed_reference(profiles, reference.addr);
+    }
+}
+
+/// Feeds what an entry gives: its references of a kind, or a flush.
+#[inline(always)]
+fn feed_entry(profiles: &mut [PairProfile], kind: Kind, entry: Entry)
+    requires { All (λ x. fed_of x.profile + 1 < 2 ^ 41) profiles.old }
+    ensures fed { profiles.new ≡ all_after (events_of kind entry) profiles.old }
+    ensures few { (n : ℕ) → All (λ x. fed_of x.profile ≤ n) profiles.old → All (λ x. fed_of x.profile ≤ n + 2) profiles.new }
+{
+    match entry {
+        Entry::Item(item) => {
+            let (first, second) = refs_of(item);
+            feed_kept(profiles, kind, first);
+            if let Some(second) = second {
+                feed_kept(profiles, kind, second);
+            }
+        }
+        Entry::Flush => flush(profiles),
+    }
+}
+
+/// Reads a trace up to its end or its first fault, and feeds it. No reference is kept.
+pub(crate) fn read_trace<S: Source>(
+    lines: &mut Lines,
+    kind: Kind,
+    source: &mut S,
+    profiles: &mut [PairProfile],
+) -> Result<(), TraceFault>
+    requires begun { lines.old ≡ begun lines.old.format lines.old.limit }
+    requires limited { lines.old.limit ≤ 2 ^ 40 }
+    requires unfed { All (λ x. fed_of x.profile ≤ 0) profiles.old }
+    ensures fed { Feeds kind lines.old.format lines.old.limit (S.remaining source.old) (S.remaining source.new)
+        (S.failures source.old) (S.failures source.new) lines.new profiles.old profiles.new }
+    ensures tells { lines.new.state ≡ state_after result }
+{
+    while let Some((_, entry)) = lines.next(source)? {
+        feed_entry(profiles, kind, entry);
+    }
+    Ok(())
+}

@@ -1,0 +1,188 @@
+//! The ranges of a sweep, and which configurations lie in them.
+mod search;
+
+ghost use Rattle.std.specs.Prelude.{◌≡◌, ◌<◌, ◌^◌, MatchResult, None, Some};
+ghost use Rattle.sweep_core.specs.Space.{is_power, is_in_range, order_cause, limit_cause, power_cause};
+
+use crate::config::Config;
+use cache_core::geometry::{MAX_BITS, MAX_CACHE_LINES, MAX_WAYS};
+use std::fmt;
+use std::marker::Model;
+use thiserror::Error;
+
+/// A range of a space.
+#[derive(Clone, Copy, Debug, PartialEq, Eq)]
+pub enum Which {
+    Bsize,
+    Sets,
+    Assoc,
+    Size,
+}
+
+impl fmt::Display for Which {
+    ghost use Rattle.std.specs.Prelude.{Some};
+    ghost use Rattle.sweep_core.specs.Space.{name_of};
+
+    ghost output = { λ which. Some (name_of which) };
+
+    fn fmt<W: fmt::Write>(&self, f: &mut fmt::Formatter<W>) -> fmt::Result {
+        f.write_str(match self {
+            Which::Bsize => "bsize",
+            Which::Sets => "sets",
+            Which::Assoc => "assoc",
+            Which::Size => "size",
+        })
+    }
+}
+
+/// What is wrong with a range. Where several causes apply, the first counts.
+#[derive(Clone, Copy, Debug, PartialEq, Eq, Error)]
+pub enum Cause {
+    /// An end is no power of two. Judged for block sizes and set counts.
+    #[error("not a power of two")]
+    NotPower,
+    /// An end is outside the limits. Judged for all but sizes.
+    #[error("out of limits")]
+    Limit,
+    /// The lowest value is above the greatest.
+    #[error("reversed range")]
+    Reversed,
+}
+
+/// The first range that is refused, and why.
+#[derive(Clone, Copy, Debug, PartialEq, Eq, Error)]
+#[error("{which}: {cause}")]
+pub struct SpaceFault {
+    pub which: Which,
+    pub cause: Cause,
+}
+
+/// The greatest block size in bytes, and the greatest set count.
+const MAX_POWER: u64 = 1 << MAX_BITS;
+
+/// The configurations of a sweep: a lowest and a greatest value for each number, and for the size in bytes.
+#[derive(Clone, Copy, Debug)]
+pub struct Space {
+    bsize: (u64, u64),
+    sets: (u64, u64),
+    assoc: (u64, u64),
+    size: (u64, u64),
+    powers: bool,
+}
+
+impl Model for Space {
+    ghost use Rattle.std.specs.Prelude.{◌≡◌, None};
+    ghost use Rattle.sweep_core.specs.Space.{Ranges, ranges, fault_of};
+
+    ghost Value = { Ranges };
+
+    ghost view = { λ s. ranges s.bsize s.sets s.assoc s.size s.powers };
+
+    ghost invariant = { λ s. fault_of (ranges s.bsize s.sets s.assoc s.size s.powers) ≡ None };
+
+    ghost inverse = { λ r. record { bsize = r.bsize; sets = r.sets; assoc = r.assoc; size = r.size; powers = r.powers } };
+}
+
+impl Space {
+    ghost use Rattle.std.specs.Prelude.{◌≡◌, None};
+    ghost use Rattle.sweep_core.specs.Space.{is_valid, space_of, fault_of};
+
+    /// The space of these ranges, each a lowest and a greatest value, or the first of them that is refused. With `powers`
+    /// only associativities that are powers of two count.
+    pub fn new(
+        bsize: (u64, u64),
+        sets: (u64, u64),
+        assoc: (u64, u64),
+        size: (u64, u64),
+        powers: bool,
+    ) -> Result<Space, SpaceFault>
+        ensures { result ≡ space_of bsize sets assoc size powers }
+    {
+        judge(Which::Bsize, power_cause(MAX_POWER, bsize))?;
+        judge(Which::Sets, power_cause(MAX_POWER, sets))?;
+        judge(Which::Assoc, limit_cause(MAX_WAYS, assoc))?;
+        judge(Which::Size, order_cause(size))?;
+        Ok(Space {
+            bsize,
+            sets,
+            assoc,
+            size,
+            powers,
+        })
+    }
+
+    /// Its ranges make a space, which the laws ask for.
+    pub fn limits(&self)
+        ensures { fault_of self.now ≡ None }
+    {
+        let _ = &self.powers;
+    }
+
+    /// Whether it has a configuration, whose numbers may be any.
+    pub fn has(&self, config: &Config) -> bool
+        ensures { result ≡ is_valid self.now config.now }
+    {
+        let Config { bsize, sets, assoc } = *config;
+        if !is_in_range(self.bsize, bsize)
+            || !is_in_range(self.sets, sets)
+            || !is_in_range(self.assoc, assoc)
+        {
+            return false;
+        }
+        is_in_range(self.size, bsize * sets * assoc)
+            && is_power(bsize)
+            && is_power(sets)
+            && (!self.powers || is_power(assoc))
+            && assoc * sets <= MAX_CACHE_LINES
+    }
+}
+
+/// The fault of a range, where there is a cause.
+fn judge(which: Which, cause: Option<Cause>) -> Result<(), SpaceFault>
+    ensures { MatchResult result (λ _. cause ≡ None) (λ fault. (fault.which ≡ which) × (cause ≡ Some fault.cause)) }
+{
+    match cause {
+        None => Ok(()),
+        Some(cause) => Err(SpaceFault { which, cause }),
+    }
+}
+
+fn order_cause(range: (u64, u64)) -> Option<Cause>
+    ensures { result ≡ order_cause range }
+{
+    (range.1 < range.0).then_some(Cause::Reversed)
+}
+
+fn limit_cause(most: u64, range: (u64, u64)) -> Option<Cause>
+    ensures { result ≡ limit_cause most range }
+{
+    if is_in_range((1, most), range.0) && is_in_range((1, most), range.1) {
+        order_cause(range)
+    } else {
+        Some(Cause::Limit)
+    }
+}
+
+fn power_cause(most: u64, range: (u64, u64)) -> Option<Cause>
+    ensures { result ≡ power_cause most range }
+{
+    if is_power(range.0) && is_power(range.1) {
+        limit_cause(most, range)
+    } else {
+        Some(Cause::NotPower)
+    }
+}
+
+#[inline]
+fn is_in_range(range: (u64, u64), n: u64) -> bool
+    ensures { result ≡ is_in_range range n }
+{
+    range.0 <= n && n <= range.1
+}
+
+#[inline]
+fn is_power(n: u64) -> bool
+    ensures { result ≡ is_power n }
+{
+    n.is_power_of_two()
+}

@@ -1,0 +1,159 @@
+//! The search for the configuration that comes next, and for the greatest associativity of a pair.
+ghost use Rattle.std.specs.Prelude.{◌≡◌, ◌<◌, ◌≤◌, ◌-◌, ◌^◌, ℕ, not, true, nat_lt, MatchOption};
+ghost use Rattle.sweep_core.specs.Table.{is_less, is_after};
+ghost use Rattle.sweep_core.specs.Least.{config};
+ghost use Rattle.sweep_core.specs.declared.config.Config.{Config};
+ghost use Rattle.sweep_core.specs.Space.{is_power};
+
+use super::{Space, is_in_range};
+use crate::config::Config;
+use cache_core::geometry::{MAX_BITS, MAX_CACHE_LINES};
+
+/// How many powers of two there are up to the greatest block size.
+const POWERS: u32 = MAX_BITS as u32 + 1;
+
+impl Space {
+    ghost use Rattle.std.specs.Prelude.{◌≡◌, ◌≤◌, ◌∷◌, [], ℕ, true, MatchOption, None, Some};
+    ghost use Rattle.sweep_core.specs.Space.{is_valid, is_in_range};
+    ghost use Rattle.sweep_core.specs.Table.{table};
+    ghost use Rattle.sweep_core.specs.Least.{config, IsLeast, IsLeastFrom, is_from, is_from_with, is_from_pair};
+
+    /// The least associativity from `least` on with which it has a configuration of a pair.
+    fn first_assoc(&self, bsize: u64, sets: u64, least: u64) -> Option<u64>
+        requires block { is_in_range self.now.bsize bsize ≡ true }
+        requires set { is_in_range self.now.sets sets ≡ true }
+        ensures { IsLeastFrom least (λ assoc. is_valid self.now (config bsize sets assoc)) result }
+    {
+        let lowest = least
+            .max(self.assoc.0)
+            .max(self.size.0.div_ceil(bsize * sets));
+        if lowest > self.assoc.1 {
+            return None;
+        }
+        let assoc = first_way(lowest, self.powers);
+        let config = Config { bsize, sets, assoc };
+        if self.has(&config) { Some(assoc) } else { None }
+    }
+
+    /// The least configuration of a pair that it has, from another on.
+    fn first_of_pair(&self, bsize: u64, sets: u64, from: &Config) -> Option<Config>
+        ensures { IsLeast (is_from_pair self.now from.now bsize sets) result }
+    {
+        if !is_in_range(self.bsize, bsize) || !is_in_range(self.sets, sets) {
+            return None;
+        }
+        let least = least_of_pair(bsize, sets, from)?;
+        let assoc = self.first_assoc(bsize, sets, least)?;
+        Some(Config { bsize, sets, assoc })
+    }
+
+    /// The least configuration of a block size that it has, from another on.
+    fn first_with(&self, bsize: u64, from: &Config) -> Option<Config>
+        ensures { IsLeast (is_from_with self.now from.now bsize) result }
+    {
+        self.limits();
+        if !is_in_range(self.bsize, bsize) || bsize < from.bsize {
+            return None;
+        }
+        for bits in 0..POWERS {
+            if let Some(found) = self.first_of_pair(bsize, power(bits), from) {
+                return Some(found);
+            }
+        }
+        None
+    }
+
+    /// The least configuration that it has, from another on.
+    fn first_from(&self, from: &Config) -> Option<Config>
+        ensures { IsLeast (is_from self.now from.now) result }
+    {
+        self.limits();
+        for bits in 0..POWERS {
+            if let Some(found) = self.first_with(power(bits), from) {
+                return Some(found);
+            }
+        }
+        None
+    }
+
+    /// The least configuration that it has and that is greater than another.
+    pub(crate) fn next_after(&self, after: Option<Config>) -> Option<Config>
+        ensures { MatchOption result (table self.now after ≡ []) (λ c. table self.now after ≡ c ∷ table self.now (Some c)) }
+    {
+        self.limits();
+        self.first_from(&from_after(after))
+    }
+
+    /// The greatest associativity with which it has a configuration of the pair of another.
+    pub(crate) fn depth_of(&self, config: &Config) -> u64
+        requires { is_valid self.now config.now ≡ true }
+        ensures valid { is_valid self.now (record config.now { assoc = result }) ≡ true }
+        ensures greatest { (e : ℕ) → is_valid self.now (record config.now { assoc = e }) ≡ true → e ≤ result }
+    {
+        let Config { bsize, sets, .. } = *config;
+        let most = self
+            .assoc
+            .1
+            .min(MAX_CACHE_LINES / sets)
+            .min(self.size.1 / (bsize * sets));
+        if self.powers {
+            power(most.ilog2())
+        } else {
+            most
+        }
+    }
+}
+
+/// The least number from `lowest` on, or the least power of two.
+fn first_way(lowest: u64, powers: bool) -> u64
+    requires { lowest ≤ 2 ^ 63 }
+    ensures from { lowest ≤ result }
+    ensures power { powers ≡ true → is_power result ≡ true }
+    ensures least { (e : ℕ) → lowest ≤ e → (powers ≡ true → is_power e ≡ true) → result ≤ e }
+{
+    if powers {
+        lowest.next_power_of_two()
+    } else {
+        lowest
+    }
+}
+
+/// The triple from which on those with a smaller associativity than `u64::MAX` are greater than `after`.
+fn from_after(after: Option<Config>) -> Config
+    ensures { (c : Config) → c.assoc < 2 ^ 64 - 1 → is_less c result ≡ not (is_after after c) }
+{
+    match after {
+        None => Config {
+            bsize: 0,
+            sets: 0,
+            assoc: 0,
+        },
+        Some(config) => Config {
+            assoc: config.assoc.saturating_add(1),
+            ..config
+        },
+    }
+}
+
+/// The least associativity with which a configuration of a pair isn't less than another, if there is one.
+fn least_of_pair(bsize: u64, sets: u64, from: &Config) -> Option<u64>
+    ensures { MatchOption result ((e : ℕ) → is_less (config bsize sets e) from.now ≡ true)
+        (λ least. (e : ℕ) → is_less (config bsize sets e) from.now ≡ nat_lt e least) }
+{
+    if bsize < from.bsize || bsize == from.bsize && sets < from.sets {
+        None
+    } else if bsize == from.bsize && sets == from.sets {
+        Some(from.assoc)
+    } else {
+        Some(0)
+    }
+}
+
+/// 2 to a power.
+#[inline]
+fn power(bits: u32) -> u64
+    requires { bits < 64 }
+    ensures { result ≡ 2 ^ bits }
+{
+    1 << bits
+}
