@@ -1,0 +1,61 @@
+-- The command that the words give.
+use Rattle.std.specs.Prelude.{Bool, true, false, List, Option, Some, None, Result, Ok, Err, codes}
+use Rattle.std.specs.Prelude.{if◌then◌else◌, option_and_then, option_map, string_bytes}
+use Rattle.std.specs.Str.{bytes_eq}
+use Rattle.clap.specs.Words.{Row, Text, first_of, subcommand_of}
+use Rattle.clap.specs.declared.error.kind.ErrorKind.{ErrorKind}
+use Rattle.clap.specs.declared.error.kind.ErrorKind.TheVariants as kind
+use Rattle.cachesim.specs.Csim.{csim_of}
+use Rattle.cachesim.specs.Din.{din_of}
+use Rattle.cachesim.specs.Faults.{Judgement, judgement_of}
+use Rattle.cachesim.specs.Options.{cachesim_app}
+use Rattle.cachesim.specs.Readings.{and_then}
+use Rattle.cachesim.specs.Respell.{respelled}
+use Rattle.cachesim.specs.Sweep.{sweep_of}
+use Rattle.cachesim.specs.declared.faults.WordsFault.{WordsFault}
+use Rattle.cachesim.specs.declared.faults.WordsFault.TheVariants as fault
+use Rattle.cachesim.specs.declared.parse.Command.{Command}
+use Rattle.cachesim.specs.declared.execute.Job.{Job}
+
+-- a job, and the name of the trace's file
+pub record Order : Type 0 where
+  pub job : Job
+  pub trace : Option Text
+
+abbrev pub order_of : Command → Order
+order_of c = record { job = c.job; trace = option_map string_bytes c.trace }
+
+-- what the entries of a subcommand say
+abbrev pub job_named : Text → List Row → Option (Result Job Judgement)
+job_named name rows = if bytes_eq name (codes "csim") then Some (csim_of rows)
+    else (if bytes_eq name (codes "din") then Some (din_of rows)
+    else (if bytes_eq name (codes "sweep") then Some (sweep_of rows) else None))
+
+abbrev pub with_file : List Row → Result Job Judgement → Result Order Judgement
+with_file rows read = and_then read (λ j. Ok (record { job = j; trace = first_of (codes "-t") rows }))
+
+abbrev pub ordered : Text × List Row → Option (Result Order Judgement)
+ordered s = option_map (with_file s.1) (job_named s.0 s.1)
+
+-- the subcommand and the entries that clap gives for the respelled words, read
+abbrev pub command_of : List Text → Option (Result Order Judgement)
+command_of words = option_and_then ordered (subcommand_of cachesim_app (respelled words))
+
+-- what `parse` answers, but for want of memory and what clap refuses
+abbrev pub answer_of : Result Command WordsFault → Option (Result Order Judgement)
+answer_of (Ok c) = Some (Ok (order_of c))
+answer_of (Err e) = option_map Err (judgement_of e)
+
+-- where clap refused the words, whether it says that help was asked for
+abbrev pub usage_of : WordsFault → Option Bool
+usage_of (fault.Usage text help) = Some help
+usage_of _ = None
+
+-- the same of an answer of `parse`
+abbrev pub refusal_of : Result Command WordsFault → Option Bool
+refusal_of (Ok c) = None
+refusal_of (Err e) = usage_of e
+
+abbrev pub is_help : ErrorKind → Bool
+is_help kind.DisplayHelp = true
+is_help _ = false

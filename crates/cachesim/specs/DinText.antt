@@ -1,0 +1,41 @@
+-- What `din` writes of a trace: a line for each cache, one for memory and one for the references that no cache took. The layout is
+-- this project's; what is counted is Dinero IV's.
+use Rattle.std.specs.Prelude.{ℕ, List, [], ◌++◌, Option, None, Some, codes}
+use Rattle.std.specs.Fmt.{decimal}
+use Rattle.trace_core.specs.declared.events.Kind.TheVariants.{All}
+use Rattle.trace_core.specs.declared.line.Format.{Format}
+use Rattle.trace_core.specs.Reading.{events}
+use Rattle.trace_core.specs.Task.{Task}
+use Rattle.cache_core.specs.declared.plan.CacheStats.{CacheStats}
+use Rattle.cache_core.specs.declared.plan.Stats.{Stats}
+use Rattle.cache_core.specs.Levels.{Levels}
+use Rattle.cache_core.specs.Systems.{system_run}
+
+-- a name, and its number behind it
+abbrev pub field : List ℕ → ℕ → List ℕ
+field name n = name ++ decimal n
+
+-- the line of a cache, if there is one
+abbrev pub cache_line : List ℕ → Option CacheStats → List ℕ
+cache_line name None = []
+cache_line name (Some c) =
+    name ++ field (codes " fetches=") c.fetches ++ field (codes " fetch-misses=") c.fetch_misses
+    ++ field (codes " reads=") c.reads ++ field (codes " read-misses=") c.read_misses
+    ++ field (codes " writes=") c.writes ++ field (codes " write-misses=") c.write_misses
+    ++ field (codes " evictions=") c.evictions ++ field (codes " copybacks=") c.copybacks ++ codes "\n"
+
+-- the report of a system
+abbrev pub report_of : Stats → List ℕ
+report_of s =
+    cache_line (codes "l1-i") s.l1i ++ cache_line (codes "l1-d") s.l1d
+    ++ cache_line (codes "l1-u") s.l1u ++ cache_line (codes "l2-u") s.l2u
+    ++ field (codes "memory reads=") s.memory_reads ++ field (codes " writes=") s.memory_writes ++ codes "\n"
+    ++ field (codes "bypassed=") s.bypassed ++ codes "\n"
+
+-- all that `din` writes of a text without a fault
+abbrev pub din_text : Levels → ℕ → Format → List ℕ → List ℕ
+din_text plan seed format text = report_of (system_run plan seed (events format All text))
+
+-- At a fault `din` has written nothing.
+unfoldable pub din_task : Levels → ℕ → Format → ℕ → Task
+din_task plan seed format limit = record { format = format; limit = limit; whole = din_text plan seed format; partial = λ es. [] }

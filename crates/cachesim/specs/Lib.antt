@@ -1,0 +1,14 @@
+pub mod CommandLine
+pub mod Csim
+pub mod CsimText
+pub mod Din
+pub mod DinText
+pub mod Faults
+pub mod Job
+pub mod Numbers
+pub mod Options
+pub mod Readings
+pub mod Respell
+pub mod Simulation
+pub mod Sweep
+pub mod Text

@@ -1,0 +1,71 @@
+-- How numbers are written in words.
+use Rattle.std.specs.Prelude.{ℕ, Bool, List, [], ◌∷◌, ◌+◌, ◌-◌, ◌*◌, ◌^◌, ◌==◌, ◌&&◌, ◌||◌, Option, Some, None}
+use Rattle.std.specs.Prelude.{length, take, slice_get, if◌then◌else◌, nat_lt, option_map, option_and_then}
+use Rattle.std.specs.List.{list_all, list_any, before_first, after_first}
+use Rattle.std.specs.Option.{option_map_or}
+use Rattle.std.specs.Char.{is_ascii_digit}
+use Rattle.clap.specs.Words.{Text}
+use Rattle.sweep_core.specs.declared.config.Config.{Config}
+
+-- the value of decimal digits: each times its power of ten
+abbrev pub value_of_digits : List ℕ → ℕ
+value_of_digits [] = 0
+value_of_digits (d ∷ ds) = (d - 48) * 10 ^ length ds + value_of_digits ds
+
+-- one decimal digit or more, and nothing else
+abbrev pub is_numeral : Text → Bool
+is_numeral text = nat_lt 0 (length text) && list_all is_ascii_digit text
+
+-- n, where it is below 2^64
+abbrev pub within_u64 : ℕ → Option ℕ
+within_u64 n = if nat_lt n (2 ^ 64) then Some n else None
+
+-- a numeral times the scale, where the product is below 2^64
+abbrev pub scaled_numeral : Text → ℕ → Option ℕ
+scaled_numeral text scale =
+    if is_numeral text then within_u64 (value_of_digits text * scale) else None
+
+-- `read_number`
+abbrev pub number_of : Text → Option ℕ
+number_of text = if is_numeral text then within_u64 (value_of_digits text) else None
+
+-- what a letter stands for behind a number: k K m M g G
+abbrev pub scale_of : ℕ → Option ℕ
+scale_of c = if c == 107 || c == 75 then Some (2 ^ 10)
+    else (if c == 109 || c == 77 then Some (2 ^ 20)
+    else (if c == 103 || c == 71 then Some (2 ^ 30) else None))
+
+-- `read_scaled`
+abbrev pub scaled_of : Text → Option ℕ
+scaled_of text = option_map_or (scaled_numeral (take (length text - 1) text))
+    (option_and_then scale_of (slice_get text (length text - 1))) (number_of text)
+
+-- both numbers, where there are both
+abbrev pub both_of : Option ℕ → Option ℕ → Option (ℕ × ℕ)
+both_of low high = option_and_then (λ x. option_map (λ y. (x, y)) high) low
+
+abbrev pub is_dash : ℕ → Bool
+is_dash c = c == 45
+
+-- `read_range`
+abbrev pub range_of : Text → Option (ℕ × ℕ)
+range_of text =
+    if list_any is_dash text
+    then both_of (scaled_of (before_first is_dash text)) (scaled_of (after_first is_dash text))
+    else option_map (λ x. (x, x)) (scaled_of text)
+
+abbrev pub is_comma : ℕ → Bool
+is_comma c = c == 44
+
+abbrev pub config_of : Option ℕ → Option ℕ → Option ℕ → Option Config
+config_of (Some b) (Some s) (Some e) = Some (record { bsize = b; sets = s; assoc = e })
+config_of _ _ _ = None
+
+-- `read_triple`: the numbers before the first comma, before the second, and after it
+abbrev pub triple_of : Text → Option Config
+triple_of text =
+    let rest = after_first is_comma text in
+    if list_any is_comma text && list_any is_comma rest
+    then config_of (number_of (before_first is_comma text))
+    (number_of (before_first is_comma rest)) (number_of (after_first is_comma rest))
+    else None

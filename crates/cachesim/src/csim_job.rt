@@ -1,0 +1,32 @@
+//! The options of `csim`.
+ghost use Rattle.std.specs.Prelude.{◌≡◌, IfOk, Some};
+ghost use Rattle.clap.specs.Words.{found_of, rows_of};
+ghost use Rattle.cachesim.specs.Csim.{csim_of};
+ghost use Rattle.cachesim.specs.Faults.{told};
+ghost use Rattle.cachesim.specs.Job.{max_lines_of};
+
+use crate::execute::Job;
+use crate::faults::WordsFault;
+use crate::readings::{is_flagged, number_at};
+use cache_core::geometry::Geometry;
+use clap::ArgMatches;
+use trace_core::reader::MAX_LINES;
+
+/// The job of `csim`.
+pub fn csim_job(matches: &ArgMatches<'_>) -> Result<Job, WordsFault>
+    ensures job { told result ≡ Some (csim_of (rows_of (found_of matches.now))) }
+    ensures limit { IfOk result (λ job. max_lines_of job ≡ MAX_LINES) }
+{
+    let s = number_at(matches, "-s")?;
+    let e = number_at(matches, "-E")?;
+    let b = number_at(matches, "-b")?;
+    let verbose = is_flagged(matches, "-v");
+    match Geometry::new(s, e, b) {
+        Some(geometry) => Ok(Job::Csim {
+            geometry,
+            verbose,
+            max_lines: MAX_LINES,
+        }),
+        None => Err(WordsFault::BadShape),
+    }
+}

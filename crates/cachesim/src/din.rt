@@ -1,0 +1,92 @@
+//! The command `din`.
+ghost use Rattle.std.specs.Prelude.{◌≡◌, ◌≤◌, ◌+◌, ◌^◌, ◌++◌, ℕ, List, Err, false, true, IfSome, OnOk, if◌then◌else◌};
+ghost use Rattle.trace_core.specs.Device.{one_more};
+ghost use Rattle.trace_core.specs.Events.{events_of};
+ghost use Rattle.trace_core.specs.Task.{BreaksOff, Completes, StopsAt, CutsOff, is_failed_read, source_failed, sink_failed};
+ghost use Rattle.trace_core.specs.declared.events.Event.{Event};
+ghost use Rattle.cache_core.specs.Levels.{Levels, IsPlan};
+ghost use Rattle.cache_core.specs.SystemStands.{SystemStands};
+ghost use Rattle.cachesim.specs.DinText.{din_task};
+
+use crate::report::set_report;
+use crate::text::{Text, write_last};
+use cache_core::plan::Plan;
+use cache_core::system::System;
+use std::alloc::Global;
+use trace_core::events::{Entry, Kind, refs_of};
+use trace_core::fault::{RunFault, TraceFault};
+use trace_core::io::{Sink, Source};
+use trace_core::line::Format;
+use trace_core::reader::{Lines, MAX_LINES};
+
+/// All the references of an entry, or a flush.
+#[inline(always)]
+fn step(system: &mut System, entry: Entry)
+    requires { system.old.steps + 2 ≤ 2 ^ 41 }
+    ensures stands { (plan : Levels) (seed : ℕ) (events : List Event) → IsPlan plan → SystemStands plan seed events system.old →
+        SystemStands plan seed (events ++ events_of Kind.All entry) system.new }
+    ensures few { system.new.steps ≤ system.old.steps + 2 }
+{
+    match entry {
+        Entry::Item(item) => {
+            let (first, second) = refs_of(item);
+            system.step(first);
+            if let Some(second) = second {
+                system.step(second);
+            }
+        }
+        Entry::Flush => system.flush(),
+    }
+}
+
+/// Runs a trace through the caches of a plan, and writes the report after its end; then the sink is flushed, once. Each cache with
+/// random replacement draws from a generator of its own, of this seed. All memory is taken before the first read. `max_lines` is the
+/// most lines that the trace may have.
+///
+/// Errors: `Memory`, with nothing read or written; `Trace` where the trace has a fault or the source failed, with nothing written;
+/// `Write` where the sink failed, with what it took written.
+pub fn din<S: Source, K: Sink>(
+    alloc: Global,
+    plan: Plan,
+    seed: u64,
+    format: Format,
+    max_lines: u64,
+    source: &mut S,
+    sink: &mut K,
+) -> Result<(), RunFault>
+    requires some { 1 ≤ max_lines }
+    requires most { max_lines ≤ MAX_LINES }
+    ensures ok { OnOk result (IfSome (S.remaining source.old) (λ text. Completes (din_task plan seed format max_lines)
+        text (S.remaining source.new) (K.written sink.old) (K.written sink.new))) }
+
+    // Nothing was written at a fault of the trace or a failure of the source.
+    ensures fault { (f : TraceFault) → result ≡ Err (RunFault.Trace f) → is_failed_read f ≡ false →
+        IfSome (S.remaining source.old) (λ text. StopsAt (din_task plan seed format max_lines) f
+        text (K.written sink.old) (K.written sink.new)) }
+    ensures cut { (f : TraceFault) → result ≡ Err (RunFault.Trace f) → is_failed_read f ≡ true →
+        IfSome (S.remaining source.old) (λ text. IfSome (S.remaining source.new) (λ rest.
+        CutsOff (din_task plan seed format max_lines) f text rest (K.written sink.old) (K.written sink.new))) }
+    ensures silent { (f : TraceFault) → result ≡ Err (RunFault.Trace f) → sink.new ≡ sink.old }
+
+    // The sink failed after the whole text was read.
+    ensures write { result ≡ Err RunFault.Write → IfSome (S.remaining source.old) (λ text.
+        BreaksOff (din_task plan seed format max_lines) text (S.remaining source.new) (K.written sink.old) (K.written sink.new)) }
+    ensures memory { result ≡ Err RunFault.Memory → (source.new ≡ source.old) × (sink.new ≡ sink.old) }
+
+    // Each device failed exactly where the answer says so.
+    ensures reads { S.failures source.new
+        ≡ (if source_failed result then one_more (S.failures source.old) else S.failures source.old) }
+    ensures writes { K.failures sink.new
+        ≡ (if sink_failed result then one_more (K.failures sink.old) else K.failures sink.old) }
+{
+    plan.keeps();
+    let mut lines = Lines::new(alloc, format, max_lines)?;
+    let mut system = System::new(alloc, plan, seed)?;
+    while let Some((_, entry)) = lines.next(source)? {
+        step(&mut system, entry);
+    }
+    let mut text = Text::new();
+    set_report(&mut text, &system.stats());
+    write_last(&text, sink)?;
+    Ok(())
+}

@@ -1,0 +1,116 @@
+//! A trace-driven simulator of processor caches.
+#![tactic(auto)]
+
+mod cache_options;
+mod csim;
+mod csim_job;
+mod din;
+mod din_job;
+mod execute;
+mod faults;
+mod help;
+mod numbers;
+mod options;
+mod parse;
+mod readings;
+mod report;
+mod respell;
+mod simulation;
+mod sweep_job;
+mod text;
+mod verbose;
+
+ghost use Rattle.std.specs.Prelude.{◌≤◌};
+ghost use Rattle.cachesim.specs.Job.{max_lines_of};
+
+use crate::execute::{Job, execute};
+use crate::faults::{ProgramFault, WordsFault};
+use crate::parse::{Command, parse};
+use std::alloc::{AllocError, Global};
+use std::env::{self, Args};
+use std::fs::File;
+use std::io::{BufWriter, ErrorKind, Write};
+use std::process::ExitCode;
+use trace_core::fault::RunFault;
+use trace_core::io::{FromRead, Sink, Source, ToWrite};
+use trace_core::reader::MAX_LINES;
+
+/// How many bytes of the output are gathered before they are written.
+const OUTPUT_BUFFER: usize = 65_536;
+
+fn main(rt: HostRuntime) -> ExitCode {
+    match run(&rt) {
+        Ok(()) => ExitCode::SUCCESS,
+        Err(fault) => told(&rt, &fault),
+    }
+}
+
+/// Does what the words ask for.
+fn run(rt: &HostRuntime) -> Result<(), ProgramFault> {
+    let words = words_of(rt)?;
+    let Command { job, trace } = parse(rt.alloc(), words.as_slice())?;
+    match trace {
+        Some(name) => run_on(rt, &job, FromRead::new(opened(rt, name)?)),
+        None => run_on(rt, &job, FromRead::new(rt.stdin())),
+    }
+}
+
+/// The words of the command line.
+fn words_of(rt: &HostRuntime) -> Result<Vec<String>, ProgramFault> {
+    let args = match env::args(rt) {
+        Ok(args) => args,
+        Err(error) if error.kind() == ErrorKind::OutOfMemory => return Err(ProgramFault::Memory),
+        Err(_) => return Err(ProgramFault::NotText),
+    };
+    pushed(rt.alloc(), args).map_err(|_error: AllocError| ProgramFault::Memory)
+}
+
+/// The words one by one: `collect` would ask for less room where the room for all of them is refused.
+fn pushed(alloc: Global, args: Args) -> Result<Vec<String>, AllocError> {
+    let mut words = Vec::new(alloc);
+    for word in args {
+        words.push(word)?;
+    }
+    Ok(words)
+}
+
+/// The file of the trace.
+fn opened(rt: &HostRuntime, name: String) -> Result<File, ProgramFault> {
+    match File::open(rt, name.as_str()) {
+        Ok(file) => Ok(file),
+        Err(error) if error.kind() == ErrorKind::OutOfMemory => Err(ProgramFault::Memory),
+        Err(_) => Err(ProgramFault::Open(name)),
+    }
+}
+
+/// Does a job on a trace. What it wrote before a fault of the trace is written out; a failed output is left alone.
+fn run_on<S: Source + Drop>(rt: &HostRuntime, job: &Job, mut source: S) -> Result<(), ProgramFault>
+    requires some { 1 ≤ max_lines_of job.now }
+    requires most { max_lines_of job.now ≤ MAX_LINES }
+{
+    let Ok(mut output) = BufWriter::with_capacity(rt.alloc(), OUTPUT_BUFFER, rt.stdout()) else {
+        return Err(ProgramFault::Memory);
+    };
+    let outcome = execute(rt.alloc(), job, &mut source, &mut ToWrite::new(&mut output));
+    match outcome {
+        Ok(()) => Ok(()),
+        Err(fault) => {
+            if let RunFault::Trace(_) = fault {
+                let _ = output.flush();
+            }
+            let (_stdout, _unwritten) = output.into_parts();
+            Err(ProgramFault::Run(fault))
+        }
+    }
+}
+
+/// Tells a fault on standard error, or help on standard output.
+fn told(rt: &HostRuntime, fault: &ProgramFault) -> ExitCode {
+    if let ProgramFault::Words(WordsFault::Usage { text, help: true }) = fault {
+        let _ = println!(rt; "{text}");
+        let _ = rt.stdout().flush();
+    } else {
+        let _ = eprintln!(rt; "cachesim: {fault}");
+    }
+    ExitCode::from(fault.status())
+}

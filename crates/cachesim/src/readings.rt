@@ -1,0 +1,111 @@
+//! How the text of an option is read.
+ghost use Rattle.std.specs.Prelude.{◌≡◌, Some, option_map};
+ghost use Rattle.clap.specs.Words.{first_of, found_of, rows_of};
+ghost use Rattle.cachesim.specs.Faults.{told};
+ghost use Rattle.cachesim.specs.Numbers.{number_of, range_of, triple_of};
+ghost use Rattle.cachesim.specs.Readings.{format_named, is_flagged, kind_named, optional_value, required_value, value_or};
+
+use crate::faults::WordsFault;
+use crate::numbers::{read_number, read_range, read_triple};
+use clap::ArgMatches;
+use sweep_core::config::Config;
+use trace_core::events::Kind;
+use trace_core::line::Format;
+
+/// The text of an option, where it was given.
+pub fn text_at<'a>(matches: &ArgMatches<'a>, option: &str) -> Option<&'a str>
+    ensures { option_map (λ s. s.now) result ≡ first_of option.now (rows_of (found_of matches.now)) }
+{
+    matches.get_str(option)
+}
+
+/// A range that has to be there.
+pub fn range_at(matches: &ArgMatches<'_>, option: &'static str) -> Result<(u64, u64), WordsFault>
+    ensures { told result ≡ Some (required_value option.entry.now range_of (rows_of (found_of matches.now))) }
+{
+    let Some(text) = text_at(matches, option) else {
+        return Err(WordsFault::Value { option });
+    };
+    match read_range(text) {
+        Some(range) => Ok(range),
+        None => Err(WordsFault::Value { option }),
+    }
+}
+
+/// A number that has to be there.
+pub fn number_at(matches: &ArgMatches<'_>, option: &'static str) -> Result<u64, WordsFault>
+    ensures { told result ≡ Some (required_value option.entry.now number_of (rows_of (found_of matches.now))) }
+{
+    let Some(text) = text_at(matches, option) else {
+        return Err(WordsFault::Value { option });
+    };
+    match read_number(text) {
+        Some(number) => Ok(number),
+        None => Err(WordsFault::Value { option }),
+    }
+}
+
+/// A number that may be left out.
+pub fn optional_number_at(
+    matches: &ArgMatches<'_>,
+    option: &'static str,
+) -> Result<Option<u64>, WordsFault>
+    ensures { told result ≡ Some (optional_value option.entry.now number_of (rows_of (found_of matches.now))) }
+{
+    let Some(text) = text_at(matches, option) else {
+        return Ok(None);
+    };
+    match read_number(text) {
+        Some(number) => Ok(Some(number)),
+        None => Err(WordsFault::Value { option }),
+    }
+}
+
+/// A triple that may be left out.
+pub fn config_at(
+    matches: &ArgMatches<'_>,
+    option: &'static str,
+) -> Result<Option<Config>, WordsFault>
+    ensures { told result ≡ Some (optional_value option.entry.now triple_of (rows_of (found_of matches.now))) }
+{
+    let Some(text) = text_at(matches, option) else {
+        return Ok(None);
+    };
+    match read_triple(text) {
+        Some(config) => Ok(Some(config)),
+        None => Err(WordsFault::Value { option }),
+    }
+}
+
+/// The kind of `--kind`, all where it is left out.
+pub fn kind_at(matches: &ArgMatches<'_>, option: &'static str) -> Result<Kind, WordsFault>
+    ensures { told result ≡ Some (value_or Kind.All option.entry.now kind_named (rows_of (found_of matches.now))) }
+{
+    match text_at(matches, option).unwrap_or("u") {
+        "u" => Ok(Kind::All),
+        "d" => Ok(Kind::DataOnly),
+        "i" => Ok(Kind::FetchOnly),
+        _ => Err(WordsFault::Value { option }),
+    }
+}
+
+/// The format of `--format` or `-informat`, din where it is left out.
+pub fn format_at(matches: &ArgMatches<'_>, option: &'static str) -> Result<Format, WordsFault>
+    ensures { told result ≡ Some (value_or Format.Din option.entry.now format_named (rows_of (found_of matches.now))) }
+{
+    match text_at(matches, option).unwrap_or("d") {
+        "d" => Ok(Format::Din),
+        "l" => Ok(Format::Lackey),
+        _ => Err(WordsFault::Value { option }),
+    }
+}
+
+/// Whether a flag was given.
+pub fn is_flagged(matches: &ArgMatches<'_>, option: &str) -> bool
+    ensures { result ≡ is_flagged option.now (rows_of (found_of matches.now)) }
+{
+    match text_at(matches, option) {
+        Some(text) => text == "true",
+        None => false,
+    }
+}

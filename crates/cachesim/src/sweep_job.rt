@@ -1,0 +1,40 @@
+//! The options of `sweep`.
+ghost use Rattle.std.specs.Prelude.{◌≡◌, IfOk, Some};
+ghost use Rattle.clap.specs.Words.{found_of, rows_of};
+ghost use Rattle.cachesim.specs.Faults.{told};
+ghost use Rattle.cachesim.specs.Job.{max_lines_of};
+ghost use Rattle.cachesim.specs.Sweep.{sweep_of};
+
+use crate::execute::Job;
+use crate::faults::WordsFault;
+use crate::readings::{config_at, format_at, is_flagged, kind_at, optional_number_at, range_at};
+use clap::ArgMatches;
+use sweep_core::request::Request;
+use sweep_core::space::Space;
+use trace_core::reader::MAX_LINES;
+
+/// The job of `sweep`.
+pub fn sweep_job(matches: &ArgMatches<'_>) -> Result<Job, WordsFault>
+    ensures job { told result ≡ Some (sweep_of (rows_of (found_of matches.now))) }
+    ensures limit { IfOk result (λ job. max_lines_of job ≡ MAX_LINES) }
+{
+    let bsize = range_at(matches, "--bsize")?;
+    let sets = range_at(matches, "--sets")?;
+    let assoc = range_at(matches, "--assoc")?;
+    let size = range_at(matches, "--size")?;
+    let kind = kind_at(matches, "--kind")?;
+    let format = format_at(matches, "--format")?;
+    let after = config_at(matches, "--after")?;
+    let rows = optional_number_at(matches, "--rows")?;
+    let powers = is_flagged(matches, "--pow2");
+    let space = Space::new(bsize, sets, assoc, size, powers)?;
+    let request = Request {
+        space,
+        kind,
+        format,
+        after,
+        rows,
+        max_lines: MAX_LINES,
+    };
+    Ok(Job::Sweep { request })
+}
