@@ -1,0 +1,13 @@
+use Rattle.std.proofs.Common.{◌+◌, arith}
+use Rattle.cache_core.proofs.Lawful.{written}
+use Rattle.worked_examples.proofs.Fronts.{front_exchanged}
+use Rattle.worked_examples.proofs.policies.MruReplacement.place.Goals as goal
+
+pub returns-clause-order : goal.returns-clause-order
+returns-clause-order c = front_exchanged c.args.set.now c.args.filled c.args.new _ (omega arith) c.requires.room
+
+pub returns-clause-lawful : goal.returns-clause-lawful
+returns-clause-lawful c = returns-clause-order c
+
+pub returns-clause-place : goal.returns-clause-place
+returns-clause-place c = written (c.args.filled + 1) _ 0 _ c.requires.room (omega arith)

@@ -1,0 +1,19 @@
+//! Worked examples of the libraries' calls, as tests. It has no code of its own: what a user can type is a case of `tests/cases`.
+#![tactic(auto)]
+
+#[cfg(test)]
+mod caches;
+#[cfg(test)]
+mod devices;
+#[cfg(test)]
+mod memory;
+#[cfg(test)]
+mod policies;
+#[cfg(test)]
+mod profiles;
+#[cfg(test)]
+mod reader;
+#[cfg(test)]
+mod sweeps;
+#[cfg(test)]
+mod systems;

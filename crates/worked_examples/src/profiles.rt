@@ -1,0 +1,224 @@
+//! Profiles: one pass counts what a separate cache of every associativity counts.
+ghost use Rattle.std.specs.Prelude.{◌≡◌, ◌≤◌, ◌+◌, ◌^◌, IfOk, length};
+ghost use Rattle.profile_core.specs.State.{fed_of};
+
+use cache_core::geometry::Geometry;
+use cache_core::outcome::Counts;
+use cache_core::simulate::simulate;
+use profile_core::profile::Profile;
+use std::alloc::{AllocError, Global};
+use std::process::Abort;
+use std::test::Fail;
+use trace_core::events::{Access, Ref};
+
+/// More references than these are not fed.
+const MOST: u64 = 2_199_023_255_552;
+
+const SHORT: [u64; 9] = [0x10, 0x20, 0x20, 0x22, 0x18, 0x110, 0x210, 0x12, 0x12];
+
+const CYCLIC: [u64; 12] = [
+    0x10, 0x20, 0x30, 0x40, 0x10, 0x20, 0x50, 0x10, 0x20, 0x30, 0x40, 0x50,
+];
+
+fn counts(hits: u64, misses: u64, evictions: u64) -> Counts {
+    Counts {
+        hits,
+        misses,
+        evictions,
+    }
+}
+
+/// A profile with nothing fed.
+fn new_profile(alloc: Global, geometry: Geometry) -> Result<Profile, AllocError>
+    ensures geometry { IfOk result (λ profile. profile.geometry ≡ geometry) }
+    ensures unfed { IfOk result (λ profile. fed_of profile ≡ 0) }
+{
+    geometry.limits();
+    Profile::new(alloc, geometry.b(), geometry.s(), geometry.e())
+}
+
+/// A profile of one set of blocks of 16 bytes.
+fn one_set(alloc: Global, depth: u64) -> Result<Profile, Fail>
+    ensures geometry { IfOk result (λ profile. profile.geometry.e ≡ depth) }
+    ensures unfed { IfOk result (λ profile. fed_of profile ≡ 0) }
+{
+    let geometry = Geometry::new(0, depth, 4).ok_or("no geometry")?;
+    Ok(new_profile(alloc, geometry)?)
+}
+
+/// Feeds addresses.
+fn feed_all(profile: &mut Profile, addrs: &[u64])
+    requires few { fed_of profile.old + length addrs.now ≤ 2 ^ 41 }
+    ensures geometry { profile.new.geometry ≡ profile.old.geometry }
+    ensures fed { fed_of profile.new ≡ fed_of profile.old + length addrs.now }
+{
+    for addr in addrs {
+        profile.feed(*addr);
+    }
+}
+
+/// Feeds addresses, and compares how many comparisons each takes.
+fn expect_probes(rt: &impl Abort, profile: &mut Profile, steps: &[(u64, u64)]) {
+    for (i, (addr, wanted)) in steps.iter().enumerate() {
+        let before = profile.probes();
+        assert!(rt; profile.fed() < MOST);
+        profile.feed(*addr);
+        assert!(rt;
+            profile.probes().saturating_sub(before) == *wanted,
+            "at place {i}"
+        );
+    }
+}
+
+/// The counts from one way on, asked for one by one and by a tally that rises.
+fn expect_counts(rt: &impl Abort, profile: &Profile, wanted: &[Counts])
+    requires { length wanted.now ≤ profile.now.geometry.e }
+{
+    let mut tally = profile.begin_tally();
+    for (i, counts) in wanted.iter().enumerate() {
+        let ways = i as u64 + 1;
+        let rising = profile.counts_next(&mut tally, ways);
+        assert!(rt;
+            rising == *counts && profile.counts(ways) == *counts,
+            "{ways} ways"
+        );
+    }
+}
+
+/// How many references were fed, how many blocks are held, and how many comparisons were made.
+fn numbers(profile: &Profile) -> (u64, u64, u64) {
+    (profile.fed(), profile.held(), profile.probes())
+}
+
+#[test]
+fn a_short_trace_in_one_set(rt: HostRuntime) -> Result<(), Fail> {
+    let mut profile = one_set(rt.alloc(), 3)?;
+    feed_all(&mut profile, &SHORT);
+    expect_counts(
+        &rt,
+        &profile,
+        &[counts(3, 6, 5), counts(4, 5, 3), counts(5, 4, 1)],
+    );
+    assert!(rt; numbers(&profile) == (9, 3, 14));
+    Ok(())
+}
+
+#[test]
+fn a_cyclic_trace_in_one_set(rt: HostRuntime) -> Result<(), Fail> {
+    let mut profile = one_set(rt.alloc(), 5)?;
+    feed_all(&mut profile, &CYCLIC);
+    let wanted = [
+        counts(0, 12, 11),
+        counts(0, 12, 10),
+        counts(2, 10, 7),
+        counts(4, 8, 4),
+        counts(7, 5, 0),
+    ];
+    expect_counts(&rt, &profile, &wanted);
+    assert!(rt; numbers(&profile) == (12, 5, 39));
+    let mut tally = profile.begin_tally();
+    assert!(rt; profile.counts_next(&mut tally, 2) == counts(0, 12, 10));
+    assert!(rt; profile.counts_next(&mut tally, 2) == counts(0, 12, 10));
+    assert!(rt; profile.counts_next(&mut tally, 5) == counts(7, 5, 0));
+    Ok(())
+}
+
+#[test]
+fn a_search_ends_at_its_block_or_behind_the_last(rt: HostRuntime) -> Result<(), Fail> {
+    let mut profile = one_set(rt.alloc(), 3)?;
+    let short = [
+        (0x10, 0),
+        (0x20, 1),
+        (0x20, 1),
+        (0x22, 1),
+        (0x18, 2),
+        (0x110, 2),
+        (0x210, 3),
+        (0x12, 3),
+        (0x12, 1),
+    ];
+    expect_probes(&rt, &mut profile, &short);
+    let mut profile = one_set(rt.alloc(), 5)?;
+    let cyclic = [
+        (0x10, 0),
+        (0x20, 1),
+        (0x30, 2),
+        (0x40, 3),
+        (0x10, 4),
+        (0x20, 4),
+        (0x50, 4),
+        (0x10, 3),
+        (0x20, 3),
+        (0x30, 5),
+        (0x40, 5),
+        (0x50, 5),
+    ];
+    expect_probes(&rt, &mut profile, &cyclic);
+    Ok(())
+}
+
+#[test]
+fn a_flush_forgets_blocks_and_keeps_counts(rt: HostRuntime) -> Result<(), Fail> {
+    let mut profile = one_set(rt.alloc(), 3)?;
+    feed_all(&mut profile, &[0x10, 0x20]);
+    profile.flush();
+    assert!(rt; numbers(&profile) == (2, 0, 1));
+    feed_all(&mut profile, &[0x10]);
+    assert!(rt; numbers(&profile) == (3, 1, 1));
+    let wanted = [counts(0, 3, 1), counts(0, 3, 0), counts(0, 3, 0)];
+    expect_counts(&rt, &profile, &wanted);
+    Ok(())
+}
+
+#[test]
+fn nothing_is_found_behind_a_flush(rt: HostRuntime) -> Result<(), Fail> {
+    for second in [0x10, 0x20] {
+        let mut profile = one_set(rt.alloc(), 1)?;
+        feed_all(&mut profile, &[0x10]);
+        profile.flush();
+        feed_all(&mut profile, &[second]);
+        expect_counts(&rt, &profile, &[counts(0, 2, 0)]);
+        assert!(rt; profile.probes() == 0);
+    }
+    Ok(())
+}
+
+/// The counts of every associativity are those of a separate simulation.
+fn expect_simulations(
+    rt: &impl Abort,
+    alloc: Global,
+    geometry: Geometry,
+    addrs: &[u64],
+) -> Result<(), Fail>
+    requires { length addrs.now ≤ 2 ^ 40 }
+{
+    let mut profile = new_profile(alloc, geometry)?;
+    feed_all(&mut profile, addrs);
+    let access = Access::Read;
+    let mut refs = Vec::new(alloc);
+    for addr in addrs {
+        refs.push(Ref {
+            access,
+            addr: *addr,
+        })?;
+    }
+    for ways in 1..geometry.e() + 1 {
+        let one = Geometry::new(geometry.s(), ways, geometry.b()).ok_or("no geometry")?;
+        assert!(rt;
+            profile.counts(ways) == simulate(alloc, &one, &refs)?,
+            "{ways} ways"
+        );
+    }
+    Ok(())
+}
+
+#[test]
+fn every_associativity_is_a_simulation(rt: HostRuntime) -> Result<(), Fail> {
+    for (s, e, b) in [(0, 5, 4), (1, 3, 4), (2, 2, 3), (0, 12, 0), (3, 1, 5)] {
+        let geometry = Geometry::new(s, e, b).ok_or("no geometry")?;
+        expect_simulations(&rt, rt.alloc(), geometry, &SHORT)?;
+        expect_simulations(&rt, rt.alloc(), geometry, &CYCLIC)?;
+        expect_simulations(&rt, rt.alloc(), geometry, &[u64::MAX, 0, u64::MAX])?;
+    }
+    Ok(())
+}

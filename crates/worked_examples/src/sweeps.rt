@@ -1,0 +1,320 @@
+//! Sweeps: what they answer and write, row by row what a separate simulation counts, and what their devices see.
+ghost use Rattle.std.specs.Prelude.{◌≡◌, ◌≤◌, ◌^◌, IfOk};
+
+use cache_core::geometry::Geometry;
+use cache_core::outcome::Counts;
+use cache_core::simulate::simulate;
+use std::alloc::Global;
+use std::fmt::Write;
+use std::process::Abort;
+use std::test::Fail;
+use sweep_core::config::Config;
+use sweep_core::request::Request;
+use sweep_core::space::Space;
+use sweep_core::sweep::{SweepFault, sweep};
+use trace_core::devices::{ArraySink, TapeSource};
+use trace_core::events::{Access, Kind, Ref};
+use trace_core::fault::TraceFault;
+use trace_core::line::{Format, LineFault};
+use trace_core::reader::MAX_LINES;
+
+/// A din text of nine lines and 47 bytes.
+pub const SHORT: &[u8] = b"0 10\n0 20\n1 20\n0 22\n1 18\n0 110\n0 210\n0 12\n1 12\n";
+
+/// What a sweep of it over up to two sets of up to two lines writes: 108 bytes.
+pub const TABLE: &[u8] =
+    b"bsize,sets,assoc,size,hits,misses,evictions\n16,1,1,16,3,6,5\n16,1,2,32,4,5,3\n16,2,1,32,4,5,3\n16,2,2,64,4,5,2\n";
+
+/// The bytes of its first line.
+const HEADER: usize = 44;
+
+/// A sweep of din texts over blocks of 16 bytes, up to so many sets of these associativities and sizes.
+pub fn request(sets: u64, assoc: (u64, u64), size: (u64, u64)) -> Result<Request, Fail>
+    ensures { IfOk result (λ request. request.max_lines ≡ 2 ^ 40) }
+{
+    Ok(Request {
+        space: Space::new((16, 16), (1, sets), assoc, size, false)?,
+        kind: Kind::All,
+        format: Format::Din,
+        after: None,
+        rows: None,
+        max_lines: MAX_LINES,
+    })
+}
+
+/// What a sweep answers, where there was enough memory. Where there was not, nothing was read or written, and that ends a test.
+fn swept(
+    rt: &impl Abort,
+    alloc: Global,
+    request: &Request,
+    source: &mut TapeSource<'_>,
+    sink: &mut ArraySink,
+) -> Result<Result<u128, SweepFault>, Fail>
+    requires some { 1 ≤ request.now.max_lines }
+    requires most { request.now.max_lines ≤ MAX_LINES }
+{
+    let answer = sweep(alloc, request, source, sink);
+    if answer == Err(SweepFault::Memory) {
+        assert!(rt; (source.calls(), sink.calls()) == (0, 0));
+        return Err(SweepFault::Memory)?;
+    }
+    Ok(answer)
+}
+
+/// What a sweep answers and writes, into sinks that take different parts. It flushes once where it ends well, and else never.
+fn expect_sweep(
+    rt: &impl Abort,
+    alloc: Global,
+    request: &Request,
+    text: &[u8],
+    answer: Result<u128, SweepFault>,
+    written: &[u8],
+) -> Result<(), Fail>
+    requires some { 1 ≤ request.now.max_lines }
+    requires most { request.now.max_lines ≤ MAX_LINES }
+{
+    for most in [1, 3, 1024] {
+        let mut source = TapeSource::new(text, 7, 0);
+        let mut sink = ArraySink::new(most, 0);
+        let found = swept(rt, alloc, request, &mut source, &mut sink)?;
+        assert!(rt; found == answer);
+        assert!(rt; sink.held() == written);
+        if most == 1 {
+            let flushes = u64::from(answer.is_ok());
+            assert!(rt; sink.calls().saturating_sub(written.len() as u64) == flushes);
+        }
+    }
+    Ok(())
+}
+
+#[test]
+fn a_sweep_answers_its_comparisons(rt: HostRuntime) -> Result<(), Fail> {
+    let mut both = request(2, (1, 2), (16, 64))?;
+    expect_sweep(&rt, rt.alloc(), &both, SHORT, Ok(21), TABLE)?;
+    both.rows = Some(1);
+    expect_sweep(&rt, rt.alloc(), &both, SHORT, Ok(12), &TABLE[..HEADER + 16])?;
+    both.rows = Some(0);
+    expect_sweep(&rt, rt.alloc(), &both, SHORT, Ok(0), &TABLE[..HEADER])?;
+    both.rows = None;
+    let (bsize, sets) = (16, 1);
+    both.after = Some(Config {
+        bsize,
+        sets,
+        assoc: 2,
+    });
+    expect_sweep(&rt, rt.alloc(), &both, SHORT, Ok(9), &TABLE[HEADER + 32..])?;
+    let (bsize, sets) = (16, 2);
+    both.after = Some(Config {
+        bsize,
+        sets,
+        assoc: 2,
+    });
+    expect_sweep(&rt, rt.alloc(), &both, SHORT, Ok(0), b"")?;
+    let one_size = request(2, (1, 2), (32, 32))?;
+    let rows = b"bsize,sets,assoc,size,hits,misses,evictions\n16,1,2,32,4,5,3\n16,2,1,32,4,5,3\n";
+    expect_sweep(&rt, rt.alloc(), &one_size, SHORT, Ok(19), rows)?;
+    let one_set = request(1, (1, 4), (0, 1024))?;
+    let rows =
+        b"bsize,sets,assoc,size,hits,misses,evictions\n16,1,1,16,3,6,5\n16,1,2,32,4,5,3\n16,1,3,48,5,4,1\n16,1,4,64,5,4,0\n";
+    expect_sweep(&rt, rt.alloc(), &one_set, SHORT, Ok(14), rows)?;
+    Ok(())
+}
+
+// The whole trace is read even where no row is to be written.
+#[test]
+fn a_fault_is_told_where_no_row_is_written(rt: HostRuntime) -> Result<(), Fail> {
+    let mut text = SHORT.to_vec(rt.alloc())?;
+    text.extend_from_slice(b"0 12g")?;
+    let fault = LineFault::Address;
+    let fault = Err(SweepFault::Trace(TraceFault::Line { line: 10, fault }));
+    let mut both = request(2, (1, 2), (16, 64))?;
+    expect_sweep(&rt, rt.alloc(), &both, &text, fault, b"")?;
+    both.rows = Some(0);
+    expect_sweep(&rt, rt.alloc(), &both, &text, fault, b"")?;
+    both.rows = None;
+    let (bsize, sets) = (16, 2);
+    both.after = Some(Config {
+        bsize,
+        sets,
+        assoc: 2,
+    });
+    expect_sweep(&rt, rt.alloc(), &both, &text, fault, b"")?;
+    Ok(())
+}
+
+#[test]
+fn a_trace_may_have_just_its_lines(rt: HostRuntime) -> Result<(), Fail> {
+    let mut both = request(2, (1, 2), (16, 64))?;
+    both.max_lines = 9;
+    expect_sweep(&rt, rt.alloc(), &both, SHORT, Ok(21), TABLE)?;
+    both.max_lines = 8;
+    let fault = TraceFault::TooManyLines { limit: 8 };
+    expect_sweep(
+        &rt,
+        rt.alloc(),
+        &both,
+        SHORT,
+        Err(SweepFault::Trace(fault)),
+        b"",
+    )?;
+    Ok(())
+}
+
+#[test]
+fn a_source_fails_at_each_of_its_calls(rt: HostRuntime) -> Result<(), Fail> {
+    let both = request(2, (1, 2), (16, 64))?;
+    for before in 0..48usize {
+        let call = before as u64 + 1;
+        let mut source = TapeSource::new(SHORT, 1, call);
+        let mut sink = ArraySink::new(100, 0);
+        let whole = SHORT[..before]
+            .iter()
+            .filter(|byte| **byte == b'\n')
+            .count();
+        let line = (whole as u64).saturating_add(1);
+        let fault = SweepFault::Trace(TraceFault::Read { line });
+        assert!(rt; swept(&rt, rt.alloc(), &both, &mut source, &mut sink)? == Err(fault));
+        assert!(rt; source.calls() == call);
+        assert!(rt; sink.calls() == 0);
+    }
+    let mut source = TapeSource::new(SHORT, 1, 49);
+    let mut sink = ArraySink::new(100, 0);
+    let answer = swept(&rt, rt.alloc(), &both, &mut source, &mut sink)?;
+    assert!(rt; answer == Ok(21));
+    assert!(rt; source.calls() == 48);
+    Ok(())
+}
+
+#[test]
+fn a_sink_fails_at_each_of_its_calls(rt: HostRuntime) -> Result<(), Fail> {
+    let both = request(2, (1, 2), (16, 64))?;
+    assert!(rt; TABLE.len() == 108);
+    for before in 0..109usize {
+        let call = before as u64 + 1;
+        let mut source = TapeSource::new(SHORT, 100, 0);
+        let mut sink = ArraySink::new(1, call);
+        let answer = swept(&rt, rt.alloc(), &both, &mut source, &mut sink)?;
+        assert!(rt; answer == Err(SweepFault::Write));
+        assert!(rt; sink.held() == &TABLE[..before]);
+        assert!(rt; sink.calls() == call);
+    }
+    let mut source = TapeSource::new(SHORT, 100, 0);
+    let mut sink = ArraySink::new(1, 11);
+    let answer = swept(&rt, rt.alloc(), &both, &mut source, &mut sink)?;
+    assert!(rt; answer == Err(SweepFault::Write));
+    assert!(rt; sink.held() == b"bsize,sets".as_slice());
+    Ok(())
+}
+
+/// The table of a space by separate simulations.
+fn simulated(alloc: Global, space: Space, refs: &[Ref]) -> Result<String, Fail> {
+    let mut text = String::from_str(alloc, "bsize,sets,assoc,size,hits,misses,evictions\n")?;
+    for config in space.configs(None) {
+        let Config { bsize, sets, assoc } = config;
+        let s = u64::from(sets.trailing_zeros());
+        let b = u64::from(bsize.trailing_zeros());
+        let geometry = Geometry::new(s, assoc, b).ok_or("no geometry")?;
+        let size = geometry.size();
+        let Counts {
+            hits,
+            misses,
+            evictions,
+        } = simulate(alloc, &geometry, refs)?;
+        writeln!(
+            text,
+            "{bsize},{sets},{assoc},{size},{hits},{misses},{evictions}"
+        )?;
+    }
+    Ok(text)
+}
+
+/// A sweep writes what separate simulations count.
+fn expect_simulated(
+    rt: &impl Abort,
+    alloc: Global,
+    request: &Request,
+    text: &[u8],
+    refs: &[Ref],
+) -> Result<(), Fail>
+    requires some { 1 ≤ request.now.max_lines }
+    requires most { request.now.max_lines ≤ MAX_LINES }
+{
+    let wanted = simulated(alloc, request.space, refs)?;
+    let mut source = TapeSource::new(text, 100, 0);
+    let mut sink = ArraySink::new(1024, 0);
+    let answer = swept(rt, alloc, request, &mut source, &mut sink)?;
+    assert!(rt; answer.is_ok());
+    assert!(rt; sink.held() == wanted.as_bytes());
+    Ok(())
+}
+
+fn read(addr: u64) -> Ref {
+    let access = Access::Read;
+    Ref { access, addr }
+}
+
+fn write(addr: u64) -> Ref {
+    let access = Access::Write;
+    Ref { access, addr }
+}
+
+#[test]
+fn each_row_is_a_simulation(rt: HostRuntime) -> Result<(), Fail> {
+    let refs = [
+        read(0x10),
+        read(0x20),
+        write(0x20),
+        read(0x22),
+        write(0x18),
+        read(0x110),
+        read(0x210),
+        read(0x12),
+        write(0x12),
+    ];
+    expect_simulated(
+        &rt,
+        rt.alloc(),
+        &request(2, (1, 2), (16, 64))?,
+        SHORT,
+        &refs,
+    )?;
+    expect_simulated(
+        &rt,
+        rt.alloc(),
+        &request(1, (1, 4), (0, 1024))?,
+        SHORT,
+        &refs,
+    )?;
+    let text = b"0 10\n0 20\n0 30\n0 40\n0 10\n0 20\n0 50\n0 10\n0 20\n0 30\n0 40\n0 50\n";
+    let refs = [1, 2, 3, 4, 1, 2, 5, 1, 2, 3, 4, 5].map(|block: u64| read(block.wrapping_mul(16)));
+    expect_simulated(
+        &rt,
+        rt.alloc(),
+        &request(1, (1, 5), (0, 1024))?,
+        text,
+        &refs,
+    )
+}
+
+#[test]
+fn each_kind_is_a_simulation(rt: HostRuntime) -> Result<(), Fail> {
+    let text =
+        b"==1234== Lackey, an example Valgrind tool\nI  0023C790,2\n S BE80199C,4\n\n--1234-- note\n M 0025747C,1\n*end\n";
+    let access = Access::Fetch;
+    let fetch = Ref {
+        access,
+        addr: 0x23_C790,
+    };
+    let refs = [fetch, write(0xBE80_199C), read(0x25_747C), write(0x25_747C)];
+    let mut one = request(1, (1, 1), (16, 16))?;
+    one.format = Format::Lackey;
+    for (kind, from, to) in [
+        (Kind::All, 0, 4),
+        (Kind::DataOnly, 1, 4),
+        (Kind::FetchOnly, 0, 1),
+    ] {
+        let of_kind = Request { kind, ..one };
+        expect_simulated(&rt, rt.alloc(), &of_kind, text, &refs[from..to])?;
+    }
+    Ok(())
+}
