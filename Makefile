@@ -1,0 +1,43 @@
+#   make                       proves and builds the program, and says where it is
+#   make demo                  builds it and sweeps a real trace
+#   make test                  proves and tests everything; the last line is 'N passed, M failed'
+#   make strain                what make test leaves out: random cases, refused memory, failing devices, Cachegrind
+#   make refusals              of these, refused memory alone, for the program and for each call of the libraries
+#   make wrong-bodies          more wrong bodies than make test tries, each of which the prover must refuse
+#   make install PREFIX=/usr   builds it and copies it to PREFIX/bin (/usr/local without PREFIX)
+#
+# All of them need the kit's command rt, make test and make strain Python 3, and make strain a C compiler and Valgrind.
+
+PREFIX ?= /usr/local
+RT ?= rt
+PROGRAM := crates/cachesim/out/cachesim
+TRACE := examples/transpose.lackey
+
+.PHONY: build demo test strain refusals wrong-bodies install
+
+build:
+	@cd crates/cachesim && $(RT) run -- --help < /dev/null > /dev/null
+	@echo "built: $(CURDIR)/$(PROGRAM)"
+
+demo: build
+	$(PROGRAM) sweep --format l --kind d --bsize 16-64 --sets 1-16 --assoc 1-4 --size 512-1k -t $(TRACE)
+
+test:
+	@RT="$(RT)" python3 tests/all
+
+strain: build refusals
+	tests/fuzz --cases 100000
+	tests/pieces
+	tests/devices
+	tests/against_cachegrind
+
+refusals: build
+	tests/refusals
+	@RT="$(RT)" python3 tests/refusals-library
+
+wrong-bodies:
+	@RT="$(RT)" python3 tests/wrong-bodies
+
+install: build
+	install -d $(DESTDIR)$(PREFIX)/bin
+	install -m 755 $(PROGRAM) $(DESTDIR)$(PREFIX)/bin/cachesim
