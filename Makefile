@@ -1,12 +1,12 @@
 #   make                       proves and builds the program, and says where it is
 #   make demo                  builds it and sweeps a real trace
-#   make test                  proves and tests everything; the last line is 'N passed, M failed'
-#   make strain                what make test leaves out: random cases, refused memory, failing devices, Cachegrind
+#   make test                  proves everything and tests the program; the last line is 'N passed, M failed'
+#   make strain                what takes longer: more random cases, refused memory in the libraries too, devices, Cachegrind
 #   make refusals              of these, refused memory alone, for the program and for each call of the libraries
 #   make wrong-bodies          more wrong bodies than make test tries, each of which the prover must refuse
 #   make install PREFIX=/usr   builds it and copies it to PREFIX/bin (/usr/local without PREFIX)
 #
-# All of them need the kit's command rt, make test and make strain Python 3, and make strain a C compiler and Valgrind.
+# All of them need the kit's command rt, make test and make strain Python 3 and a C compiler, and make strain Valgrind.
 
 PREFIX ?= /usr/local
 RT ?= rt
