@@ -1,7 +1,7 @@
 #!/usr/bin/env python3
 """A literal model of the program, to compare it with.
 
-It was written from the definitions in docs/definitions.md and docs/manual.md alone, and shares nothing with the program. Where
+It follows the definitions in docs/definitions.md and docs/manual.md alone, and shares nothing with the program. Where
 the program is quick, the model is plain: a text is cut into lines first, a reference looks back over all that came before it, a
 cache is a map of stamps, a table is a filter of all triples. tests/fuzz compares the two on random input, and
 'tests/run --program tests/model.py' runs the model on the cases, but for the texts of the library that reads the words.
