@@ -30,6 +30,7 @@ strain: build refusals
 	tests/pieces
 	tests/devices
 	tests/against_cachegrind
+	tests/against_c
 
 refusals: build
 	tests/refusals
