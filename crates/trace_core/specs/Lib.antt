@@ -3,6 +3,7 @@ pub mod Fields
 pub mod Line
 pub mod Usual
 pub mod Device
+pub mod Devices
 pub mod Lines
 pub mod Reading
 pub mod Reader

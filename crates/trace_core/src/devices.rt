@@ -1,8 +1,9 @@
 //! Devices over memory, for tests.
-ghost use Rattle.std.specs.Prelude.{◌≡◌, ◌≢◌, ◌+◌, ◌<◌, ◌≤◌, [], None, Some, IsErr, ◌↔◌, length, take};
-ghost use Rattle.trace_core.specs.Device.{CountsFailure, one_more};
+ghost use Rattle.std.specs.Prelude.{◌≡◌, ◌+◌, ◌-◌, ◌<◌, ◌≤◌, [], ◌++◌, None, Some, IsOk, IsErr, IfOk, ◌↔◌, ◌⊎◌, length, take, drop, min};
+ghost use Rattle.trace_core.specs.Device.{CountsFailure, Gives, Takes, one_more};
 
 use crate::io::{DeviceFault, Sink, Source};
+use std::marker::Model;
 
 /// The calls of a device: how many were made, which one fails (0: none), and how many failed. Both
 /// counts stay at `u64::MAX`.
@@ -55,8 +56,24 @@ impl Calls {
 pub struct TapeSource<'a> {
     rest: &'a [u8],
     most: usize,
-    calls: Calls,
-    ghost gives: { 0 < most },
+    reads: Calls,
+}
+
+impl<'a> Model for TapeSource<'a> {
+    ghost use Rattle.std.specs.Prelude.{◌<◌};
+    ghost use Rattle.trace_core.specs.Devices.{Tape};
+
+    ghost Value = { Tape };
+
+    ghost view = { λ s. record {
+      rest = s.rest.now;
+      most = s.most;
+      fails_at = s.reads.fails_at;
+      calls = s.reads.made;
+      failures = s.reads.failures;
+    } };
+
+    ghost invariant = { λ s. 0 < s.most };
 }
 
 impl<'a> TapeSource<'a> {
@@ -66,31 +83,45 @@ impl<'a> TapeSource<'a> {
         requires { 0 < most }
         ensures failures { ⟦<TapeSource<'a> as Source>⟧.failures result ≡ 0 }
         ensures bytes { ⟦<TapeSource<'a> as Source>⟧.remaining result ≡ Some text.entry.now }
-        ensures calls { (result.calls.made ≡ 0) × (result.calls.fails_at ≡ fails_at) }
+        ensures calls { (result.calls ≡ 0) × (result.fails_at ≡ fails_at) }
         ensures most { result.most ≡ most }
     {
         TapeSource {
             rest: text,
             most,
-            calls: Calls::new(fails_at),
+            reads: Calls::new(fails_at),
         }
     }
 
     /// How many calls were made, up to `u64::MAX`.
     pub fn calls(&self) -> u64
-        ensures { result ≡ self.now.calls.made }
+        ensures { result ≡ self.now.calls }
     {
-        self.calls.made
+        self.reads.made
     }
 }
 
 impl<'a> Source for TapeSource<'a> {
-    ghost failures = { λ s. s.calls.failures };
+    ghost failures = { λ s. s.failures };
 
-    ghost remaining = { λ s. Some s.rest.now };
+    ghost remaining = { λ s. Some s.rest };
 
-    fn read(&mut self, into: &mut [u8]) -> Result<usize, DeviceFault> {
-        self.calls.begin()?;
+    fn read(&mut self, into: &mut [u8]) -> Result<usize, DeviceFault>
+        // The source's clauses.
+        ensures bound { IfOk result (λ n. n ≤ length into.new) }
+        ensures bytes { Gives (Some self.old.rest) (Some self.new.rest) result into.new }
+        ensures counted { CountsFailure self.old.failures self.new.failures result }
+
+        // Each is a call, and just the one with the number `fails_at` fails.
+        ensures one_call { self.new.calls ≡ one_more self.old.calls }
+        ensures fails { IsErr result ↔ (self.old.calls + 1 ≡ self.old.fails_at) }
+
+        // The others give as much as there is, up to `most` and what `into` has room for.
+        ensures given { IfOk result (λ n.
+            n ≡ min self.old.most (min (length self.old.rest) (length into.old))) }
+        ensures same { (self.new.most ≡ self.old.most) × (self.new.fails_at ≡ self.old.fails_at) }
+    {
+        self.reads.begin()?;
         let rest = self.rest;
         let count = self.most.min(rest.len()).min(into.len());
         let (given, later) = rest.split_at(count);
@@ -107,11 +138,21 @@ pub struct LoopSource<'a> {
     at: usize,
 }
 
+impl<'a> Model for LoopSource<'a> {
+    ghost use Rattle.std.specs.Prelude.{ℕ, ◌<◌, ◌≤◌, List, ◌++◌, length, take, drop};
+
+    ghost Value = { List ℕ };
+
+    ghost view = { λ s. drop s.at s.text.now ++ take s.at s.text.now };
+
+    ghost invariant = { λ s. (s.at ≤ length s.text.now) × (0 < length s.text.now) };
+}
+
 impl<'a> LoopSource<'a> {
     /// A source of a text, from its first byte on and over again.
     pub fn new(text: &'a [u8]) -> LoopSource<'a>
         requires { 0 < length text.now }
-        ensures { (result.text.now ≡ text.entry.now) × (result.at ≡ 0) }
+        ensures { result ≡ text.entry.now }
     {
         LoopSource { text, at: 0 }
     }
@@ -122,7 +163,18 @@ impl<'a> Source for LoopSource<'a> {
 
     ghost remaining = { λ _. None };
 
-    fn read(&mut self, into: &mut [u8]) -> Result<usize, DeviceFault> {
+    fn read(&mut self, into: &mut [u8]) -> Result<usize, DeviceFault>
+        // The source's clauses, which say little where nothing is told.
+        ensures bound { IfOk result (λ n. n ≤ length into.new) }
+        ensures bytes { Gives None None result into.new }
+        ensures counted { CountsFailure 0 0 result }
+
+        // It gives the first bytes of its round, and these come last in the next one.
+        ensures ok { IsOk result }
+        ensures some { IfOk result (λ n. 0 < length into.old → 0 < n) }
+        ensures given { IfOk result (λ n. take n into.new ≡ take n self.old) }
+        ensures turned { IfOk result (λ n. self.new ≡ drop n self.old ++ take n self.old) }
+    {
         if self.at >= self.text.len() {
             self.at = 0;
         }
@@ -145,8 +197,24 @@ pub struct ArraySink {
     filled: usize,
     most: usize,
     calls: Calls,
-    ghost fits: { filled ≤ 1024 },
-    ghost takes: { 0 < most },
+}
+
+impl Model for ArraySink {
+    ghost use Rattle.std.specs.Prelude.{◌<◌, ◌≤◌, take};
+    ghost use Rattle.trace_core.specs.Devices.{Store};
+    ghost use Rattle.trace_core.specs.declared.devices.TheConstants.{SINK_ROOM};
+
+    ghost Value = { Store };
+
+    ghost view = { λ s. record {
+      bytes = take s.filled s.bytes;
+      most = s.most;
+      fails_at = s.calls.fails_at;
+      calls = s.calls.made;
+      failures = s.calls.failures;
+    } };
+
+    ghost invariant = { λ s. (s.filled ≤ SINK_ROOM) × (0 < s.most) };
 }
 
 impl ArraySink {
@@ -157,7 +225,7 @@ impl ArraySink {
         requires { 0 < most }
         ensures failures { ⟦<ArraySink as Sink>⟧.failures result ≡ 0 }
         ensures bytes { ⟦<ArraySink as Sink>⟧.written result ≡ Some [] }
-        ensures calls { (result.calls.made ≡ 0) × (result.calls.fails_at ≡ fails_at) }
+        ensures calls { (result.calls ≡ 0) × (result.fails_at ≡ fails_at) }
         ensures most { result.most ≡ most }
     {
         ArraySink {
@@ -177,18 +245,34 @@ impl ArraySink {
 
     /// How many calls were made, up to `u64::MAX`.
     pub fn calls(&self) -> u64
-        ensures { result ≡ self.now.calls.made }
+        ensures { result ≡ self.now.calls }
     {
         self.calls.made
     }
 }
 
 impl Sink for ArraySink {
-    ghost failures = { λ s. s.calls.failures };
+    ghost failures = { λ s. s.failures };
 
-    ghost written = { λ s. Some (take s.filled s.bytes) };
+    ghost written = { λ s. Some s.bytes };
 
-    fn write(&mut self, from: &[u8]) -> Result<usize, DeviceFault> {
+    fn write(&mut self, from: &[u8]) -> Result<usize, DeviceFault>
+        // The sink's clauses.
+        ensures bound { IfOk result (λ n. n ≤ length from.now) }
+        ensures some { IfOk result (λ n. 0 < length from.now → 0 < n) }
+        ensures bytes { Takes (Some self.old.bytes) (Some self.new.bytes) result from.now }
+        ensures counted { CountsFailure self.old.failures self.new.failures result }
+
+        // Each is a call. It fails just where it has the number `fails_at`, or bytes and no room.
+        ensures one_call { self.new.calls ≡ one_more self.old.calls }
+        ensures fails { IsErr result ↔ ((self.old.calls + 1 ≡ self.old.fails_at)
+            ⊎ ((length self.old.bytes ≡ SINK_ROOM) × (0 < length from.now))) }
+
+        // The others take as much as there is, up to `most` and what the sink has room for.
+        ensures taken { IfOk result (λ n.
+            n ≡ min self.old.most (min (SINK_ROOM - length self.old.bytes) (length from.now))) }
+        ensures same { (self.new.most ≡ self.old.most) × (self.new.fails_at ≡ self.old.fails_at) }
+    {
         self.calls.begin()?;
         let room = SINK_ROOM - self.filled;
         if room == 0 && !from.is_empty() {
@@ -201,7 +285,16 @@ impl Sink for ArraySink {
         Ok(count)
     }
 
-    fn flush(&mut self) -> Result<(), DeviceFault> {
+    fn flush(&mut self) -> Result<(), DeviceFault>
+        // The sink's clauses: it holds nothing back.
+        ensures bytes { self.new.bytes ≡ self.old.bytes }
+        ensures counted { CountsFailure self.old.failures self.new.failures result }
+
+        // A flush is a call like a write.
+        ensures one_call { self.new.calls ≡ one_more self.old.calls }
+        ensures fails { IsErr result ↔ (self.old.calls + 1 ≡ self.old.fails_at) }
+        ensures same { (self.new.most ≡ self.old.most) × (self.new.fails_at ≡ self.old.fails_at) }
+    {
         self.calls.begin()
     }
 }
