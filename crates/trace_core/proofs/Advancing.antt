@@ -51,10 +51,6 @@ module _ (told : Option (List ℕ)) where
           ∙ ap (λ r. then_reads (n + 1) r (reading_after e f limit (n + 1) (rest ++ later))) judged ∙ then_reads-ok (n + 1) o _;
     }
 
-    -- more bytes
-    pub Advances-filled : (u more : List ℕ) → Advances told (at f limit n u state.Open) (at f limit n (u ++ more) state.Open) more []
-    Advances-filled u more = record { gives = λ e later may. ap (reading_after e f limit n) (sym (append_assoc u more later)) }
-
     -- a fault that the bytes settle
     pub Advances-fault : (p : Progress) (u : List ℕ) (x : TraceFault) → ((e : Ending) (later : List ℕ) → reading_after e f limit n (u ++ later) ≡ ends (Some x))
         → p.state ≡ state.Failed x → Advances told (at f limit n u state.Open) p [] []
@@ -77,14 +73,6 @@ module _ (told : Option (List ℕ)) where
       gives = λ e later may.
           let now = subst (λ s. MayFollow told s e later) failed may in
           rw (now.0, now.1, failed) (ap (reading_after at_failure f limit n) (append-nil u) ∙ reading-failed f limit n u none short within);
-    }
-
-    -- the end
-    pub Advances-end : (p : Progress) → p.state ≡ state.Ended → Advances told (at f limit n [] state.Open) p [] []
-    Advances-end p ended = record {
-      gives = λ e later may.
-          let now = subst (λ s. MayFollow told s e later) ended may in
-          rw (now.0, now.1, ended) refl;
     }
 
     -- a last line without LF

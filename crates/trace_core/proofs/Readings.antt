@@ -54,9 +54,6 @@ module _ (f : Format) (limit : ℕ) where
       rw (lines-line u z none, line_feeds-line u z none, add) refl
 
   -- a text that ends within a line
-  pub reading-none : (n : ℕ) → reading_after at_end f limit n [] ≡ ends None
-  reading-none n = refl
-
   pub reading-last : (n c : ℕ) (u : List ℕ) → HoldsNoFeed (c ∷ u)
       → reading_after at_end f limit n (c ∷ u) ≡ then_reads (n + 1) (judge f limit (n + 1) (c ∷ u)) (ends None)
   reading-last n c u none = rw (lines-last c u none) refl

@@ -2,7 +2,7 @@
 use Rattle.std.proofs.Common.{◌≡◌, ℕ, ◌+◌, ◌<◌, ◌≤◌, false, ltb, List, [], ◌∷◌, ◌++◌, length, take, drop, get_or, Option, None, Some, Result, Ok, Err, refl, sym, ap, ◌∙◌, subst, arith, rules, tests}
 use Rattle.std.specs.Io.KnownBytes.{IsAtEnd}
 use Rattle.std.proofs.lemmas.Bool.{eqb-true}
-use Rattle.std.proofs.lemmas.List.{drop_more, take-append-drop, get_or-take, length-take-le, nil_from_length}
+use Rattle.std.proofs.lemmas.List.{drop_more, take-append-drop, get_or-take, length-take-le}
 use Rattle.memchr.specs.Find.{IsFirstByte, is_byte}
 use Rattle.trace_core.specs.Lines.{is_line_feed, HoldsNoFeed}
 use Rattle.trace_core.specs.Line.{meaning}
@@ -17,7 +17,7 @@ use Rattle.trace_core.specs.declared.reader.ReaderState.{ReaderState}
 use Rattle.trace_core.specs.declared.reader.ReaderState.TheVariants as state
 use Rattle.trace_core.proofs.Searches.{fails-before, fails-all}
 use Rattle.trace_core.proofs.Readings.{NoFeed-from_places, reading-past, reading-long}
-use Rattle.trace_core.proofs.Advancing.{at, numbered, Advances-line, Advances-bad_line, Advances-fault, Advances-filled, Advances-failed, Advances-end, Advances-last, Advances-bad_last}
+use Rattle.trace_core.proofs.Advancing.{at, numbered, Advances-line, Advances-bad_line, Advances-fault, Advances-failed, Advances-last, Advances-bad_last}
 
 with_line-err : (n : ℕ) (r : Result (Option Entry) LineFault) (x : TraceFault) → with_line n r ≡ Err x → (y : LineFault) × (x ≡ fault.Line n y)
 with_line-err n (Ok o) x h = absurd cc
@@ -86,15 +86,8 @@ module _ (told : Option (List ℕ)) (f : Format) (limit n : ℕ) (u : List ℕ) 
   steps-long q none within long failed =
       from_open q [] [] (Advances-fault told f limit n q u (fault.TooLong (n + 1)) (λ e later. reading-long f limit e n u later none within long) failed)
 
-  pub steps-filled : (more v : List ℕ) → v ≡ u ++ more → Advances told (at f limit n u s) (at f limit n v s) more []
-  steps-filled more v is = rw (opened, is) (Advances-filled told f limit n u more)
-
   pub steps-failed : (q : Progress) → HoldsNoFeed u → length u ≤ 4096 → (0 < length u → n < limit) → q.state ≡ state.Failed (fault.Read (n + 1)) → Advances told (at f limit n u s) q [] []
   steps-failed q none short within failed = from_open q [] [] (Advances-failed told f limit n q u none short within failed)
-
-  pub steps-end : (q : Progress) → length u ≡ 0 → q.state ≡ state.Ended → Advances told (at f limit n u s) q [] []
-  steps-end q none ended =
-      from_open q [] [] (subst (λ v. Advances told (at f limit n v state.Open) q [] []) (sym (nil_from_length u none)) (Advances-end told f limit n q ended))
 
   pub steps-last : (q : Progress) (o : Option Entry) → HoldsNoFeed u → 0 < length u → judge f limit (n + 1) u ≡ Ok o → q.state ≡ state.Ended
       → Advances told (at f limit n u s) q [] (numbered (n + 1) o)

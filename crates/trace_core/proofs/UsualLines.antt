@@ -238,7 +238,3 @@ line-end f text rest item k at begun found ends place =
       ap (λ t. meaning f (take at t)) split ∙ ap (λ n. meaning f (take n (line ++ 10 ∷ after))) is
           ∙ ap (meaning f) (take-append_seam line (10 ∷ after)) ∙ begun.means (take k rest) ends,
     )
-
--- a line that ends where a field may end
-pub line-whole : (f : Format) (line rest : List ℕ) (item : Item) → BeginsLine f line rest item → ends_field rest ≡ true → meaning f line ≡ Ok (Some (entry.Item item))
-line-whole f line rest item begun ends = ap (meaning f) begun.splits ∙ begun.means rest ends

@@ -1,5 +1,5 @@
 -- What one line stands for, or its fault.
-use Rattle.std.specs.Prelude.{◌≡◌, ℕ, ◌==◌, nat_lt, ◌||◌, Bool, false, List, [], ◌∷◌, Option, None, Some, Result, Ok, Err, if◌then◌else◌}
+use Rattle.std.specs.Prelude.{ℕ, ◌==◌, nat_lt, ◌||◌, Bool, false, List, [], ◌∷◌, Option, None, Some, Result, Ok, Err, if◌then◌else◌}
 use Rattle.std.specs.List.{before_first, after_first}
 use Rattle.trace_core.specs.Fields.{trimmed, fields, number_of, without_0x}
 use Rattle.trace_core.specs.declared.events.Op.{Op}
@@ -90,11 +90,3 @@ is_message (c ∷ cs) = c == 61 || c == 45 || c == 42
 abbrev pub meaning : Format → List ℕ → Result (Option Entry) LineFault
 meaning Din line = din_meaning (fields (trimmed line))
 meaning Lackey line = if is_message line then Ok None else lackey_meaning (fields (trimmed line))
-
--- A line of a din trace, in the traditional format of Dinero IV, that means this: nothing, where it is skipped, or an entry.
-abbrev pub DinLine : List ℕ → Option Entry → Type 0
-DinLine line means = meaning Din line ≡ Ok means
-
--- A line of a trace by valgrind's lackey that means this.
-abbrev pub LackeyLine : List ℕ → Option Entry → Type 0
-LackeyLine line means = meaning Lackey line ≡ Ok means
