@@ -1,12 +1,11 @@
 //! Judging one line.
 ghost use Rattle.std.specs.Prelude.{◌≡◌, ℕ, ◌≤◌, [], ◌∷◌, false, length, Ok, Some, IfSome, MatchOption};
 ghost use Rattle.std.specs.List.{position_or_len, before_first, after_first};
-ghost use Rattle.trace_core.specs.Fields.{is_blank, is_field_byte, is_trailing, trimmed, fields, ends_field, without_0x, number_of};
+ghost use Rattle.trace_core.specs.Fields.{is_blank, is_field_byte, is_trailing, trimmed, fields, without_0x, number_of};
 ghost use Rattle.trace_core.specs.Line.{meaning, din_meaning, din_address, din_entry, lackey_meaning, lackey_access, lackey_op, item, is_comma};
 
 use crate::digits::read_number;
 use crate::events::{Entry, Item, Op};
-use crate::usual::read_usual;
 use memchr::memchr;
 use thiserror::Error;
 
@@ -34,28 +33,7 @@ pub enum LineFault {
 
 /// What a line stands for, given without its LF: nothing, where it is skipped, or an entry. The
 /// line may have any length, and a byte 10 in it is a byte like others.
-#[inline(always)]
 pub fn read_line(format: Format, line: &[u8]) -> Result<Option<Entry>, LineFault>
-    ensures { result ≡ meaning format line.now }
-{
-    match read_usual(format, line) {
-        Some((item, end)) if ends_field(end) => Ok(Some(Entry::Item(item))),
-        _ => Ok(read_any(format, line)?.map(Entry::rebuilt)),
-    }
-}
-
-/// Whether a field ends where these bytes follow it in a line.
-#[inline(always)]
-fn ends_field(rest: &[u8]) -> bool
-    ensures { result ≡ ends_field rest.now }
-{
-    matches!(rest, [] | [b' ' | b'\t', ..] | [b'\r'])
-}
-
-/// What a line of any form stands for.
-#[cold]
-#[inline(never)]
-fn read_any(format: Format, line: &[u8]) -> Result<Option<Entry>, LineFault>
     ensures { result ≡ meaning format line.now }
 {
     match format {

@@ -52,7 +52,7 @@ fn late_end(rest: &[u8]) -> Option<usize>
 /// The item of a line that begins like a text, if a field ends where the answered rest of the text
 /// begins.
 #[inline(always)]
-pub(crate) fn read_usual(format: Format, text: &[u8]) -> Option<(Item, &[u8])>
+fn read_usual(format: Format, text: &[u8]) -> Option<(Item, &[u8])>
     ensures { IfSome result (λ found. BeginsLine format text.now found.1.now found.0) }
 {
     match format {
