@@ -191,6 +191,6 @@ label-front text cut tail rest before some blank tail_is after =
     record {
       front = before.0 ++ label ∷ b ∷ after.0;
       splits = before.1 ∙ ap (λ r. before.0 ++ r) (two-front cut some ∙ ap (λ r. label ∷ b ∷ r) (sym tail_is ∙ after.1)) ∙ split rest;
-      unfed = λ byte. unfed-append before.0 (label ∷ b ∷ after.0) (unfed-blanks before.0 before.2) (byte, (unfed-blank b blank, unfed-blanks after.0 after.2));
+      no_line_feed = λ byte. unfed-append before.0 (label ∷ b ∷ after.0) (unfed-blanks before.0 before.2) (byte, (unfed-blank b blank, unfed-blanks after.0 after.2));
       first = λ more plain. ap (λ l. fields (trimmed l)) (sym (split more)) ∙ fields-label before.0 after.0 more label b before.2 after.2 blank plain;
     }

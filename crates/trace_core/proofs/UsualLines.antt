@@ -131,7 +131,7 @@ din-usual text rest digits end label addr op low high entry begun is number =
     record {
       front = begun.front ++ of.field;
       splits = begins.0;
-      unfed = unfed-append begun.front of.field (begun.unfed byte) of.unfed;
+      no_line_feed = unfed-append begun.front of.field (begun.no_line_feed byte) of.unfed;
       means = λ more ends. rw (begins.1 more ends, low_test, high_test, of.bare, number) (ap Ok entry);
     }
 
@@ -206,7 +206,7 @@ lackey-usual text rest more digits decimals end label addr size op begun is comm
     record {
       front = begun.front ++ f;
       splits = begins.0;
-      unfed = unfed-append begun.front f (begun.unfed (op-byte label op is 10 refl)) unfed;
+      no_line_feed = unfed-append begun.front f (begun.no_line_feed (op-byte label op is 10 refl)) unfed;
       means = λ later ends.
           let line-fields = begins.1 later ends in
           let usual : is_message ((begun.front ++ f) ++ later) ≡ false = no-message ((begun.front ++ f) ++ later) label op (f ∷ fields (trimmed later)) line-fields is in
@@ -234,7 +234,7 @@ line-end f text rest item k at begun found ends place =
     let split : text ≡ line ++ 10 ∷ after = begun.splits ∙ ap (λ r. begun.front ++ r) (line-split rest k found) ∙ sym (append_assoc begun.front (take k rest) (10 ∷ after)) in
     let long : length (take k rest) ≡ k = length-take-le k rest (omega (arith, found.0.high)) in
     let is : at ≡ length line = omega (arith, place, long, ap length begun.splits, length-append begun.front rest, length-append begun.front (take k rest)) in (
-      rw (is, split) (feed-place line after (unfed-append begun.front (take k rest) begun.unfed (line-before rest k found))),
+      rw (is, split) (feed-place line after (unfed-append begun.front (take k rest) begun.no_line_feed (line-before rest k found))),
       ap (λ t. meaning f (take at t)) split ∙ ap (λ n. meaning f (take n (line ++ 10 ∷ after))) is
           ∙ ap (meaning f) (take-append_seam line (10 ∷ after)) ∙ begun.means (take k rest) ends,
     )

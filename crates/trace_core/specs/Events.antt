@@ -18,13 +18,14 @@ use Rattle.trace_core.specs.declared.events.Kind.TheVariants.{All, DataOnly, Fet
 abbrev pub at : Access → ℕ → Ref
 at access addr = record { access = access; addr = addr }
 
--- a fetch gives a fetch, a load a read, a store a write, a modify a read and then a write
+-- a fetch gives a fetch, a load a read, a store a write, a modify a read and then a write (lackey; CS:APP)
 abbrev pub references_to : Op → ℕ → Ref × Option Ref
 references_to op.Fetch addr = (at Fetch addr, None)
 references_to op.Load addr = (at Read addr, None)
 references_to op.Store addr = (at Write addr, None)
 references_to op.Modify addr = (at Read addr, Some (at Write addr))
 
+-- the references of an item: one, or of a modify two
 abbrev pub references : Item → Ref × Option Ref
 references item = references_to item.op item.addr
 

@@ -11,9 +11,14 @@ use Rattle.trace_core.specs.declared.line.Format.TheVariants.{Din, Lackey}
 use Rattle.trace_core.specs.declared.line.LineFault.{LineFault}
 use Rattle.trace_core.specs.declared.line.LineFault.TheVariants.{Label, Address, Size}
 
--- an item
+-- the entry of an item, as a line gives it
 abbrev pub item : Op → ℕ → ℕ → Option Entry
 item op addr size = Some (entry.Item (record { op = op; addr = addr; size = size }))
+
+-- goes on with what is there, or stops with a fault
+abbrev pub or_fault : {T : Type 0} → LineFault → Option T → (T → Result (Option Entry) LineFault) → Result (Option Entry) LineFault
+or_fault fault None next = Err fault
+or_fault fault (Some x) next = next x
 
 -- what the labels `0` to `4` make of an address: a load, a store, a fetch, nothing, a flush (Dinero IV, traditional format)
 abbrev pub din_entry : ℕ → ℕ → Option Entry
@@ -29,17 +34,12 @@ abbrev pub din_address : List (List ℕ) → Option ℕ
 din_address [] = None
 din_address (field ∷ further) = number_of 16 16 (without_0x field)
 
--- with the address, if there is one
-abbrev pub addressed : Option ℕ → (ℕ → Option Entry) → Result (Option Entry) LineFault
-addressed None make = Err Address
-addressed (Some addr) make = Ok (make addr)
-
 -- A din line by its fields: a label of one byte, an address, and whatever follows.
 abbrev pub din_meaning : List (List ℕ) → Result (Option Entry) LineFault
 din_meaning [] = Ok None
 din_meaning ([] ∷ further) = Err Label
 din_meaning ((label ∷ []) ∷ further) =
-    if nat_lt label 48 || nat_lt 52 label then Err Label else addressed (din_address further) (din_entry label)
+    if nat_lt label 48 || nat_lt 52 label then Err Label else or_fault Address (din_address further) (λ addr. Ok (din_entry label addr))
 din_meaning ((label ∷ more ∷ bytes) ∷ further) = Err Label
 
 -- what the labels `I`, `L`, `S`, `M` stand for (valgrind's lackey, `--trace-mem=yes`)
@@ -51,34 +51,22 @@ lackey_op label =
     else if label == 77 then Some Modify
     else None
 
+-- a comma
 abbrev pub is_comma : ℕ → Bool
 is_comma c = c == 44
-
--- with the size, if there is one
-abbrev pub sized : Option ℕ → (ℕ → Option Entry) → Result (Option Entry) LineFault
-sized None make = Err Size
-sized (Some size) make = Ok (make size)
-
-abbrev pub located : Option ℕ → (ℕ → Result (Option Entry) LineFault) → Result (Option Entry) LineFault
-located None make = Err Address
-located (Some addr) make = make addr
 
 -- the second field: an address up to its first comma, and a size after it
 abbrev pub lackey_access : Op → List (List ℕ) → Result (Option Entry) LineFault
 lackey_access op [] = Err Address
 lackey_access op (field ∷ further) =
-    located (number_of 16 16 (before_first is_comma field))
-    (λ addr. sized (number_of 10 9 (after_first is_comma field)) (item op addr))
-
-abbrev pub labelled : Option Op → (Op → Result (Option Entry) LineFault) → Result (Option Entry) LineFault
-labelled None make = Err Label
-labelled (Some op) make = make op
+    or_fault Address (number_of 16 16 (before_first is_comma field))
+    (λ addr. or_fault Size (number_of 10 9 (after_first is_comma field)) (λ size. Ok (item op addr size)))
 
 -- A lackey line by its fields: an operation of one byte, an address and a size, and whatever follows.
 abbrev pub lackey_meaning : List (List ℕ) → Result (Option Entry) LineFault
 lackey_meaning [] = Ok None
 lackey_meaning ([] ∷ further) = Err Label
-lackey_meaning ((label ∷ []) ∷ further) = labelled (lackey_op label) (λ op. lackey_access op further)
+lackey_meaning ((label ∷ []) ∷ further) = or_fault Label (lackey_op label) (λ op. lackey_access op further)
 lackey_meaning ((label ∷ more ∷ bytes) ∷ further) = Err Label
 
 -- a message of valgrind's begins with `=`, `-` or `*`

@@ -1,7 +1,8 @@
--- The lines of a text.
+-- The lines of a text, by the usual rule.
 use Rattle.std.specs.Prelude.{◌≡◌, ⊤, ℕ, suc, ◌==◌, Bool, false, List, [], ◌∷◌, if◌then◌else◌}
 use Rattle.std.specs.List.{onto_first}
 
+-- an LF
 abbrev pub is_line_feed : ℕ → Bool
 is_line_feed c = c == 10
 

@@ -1,9 +1,9 @@
 -- How a reader stands, and what it has read of a source.
-use Rattle.std.specs.Prelude.{◌≡◌, ◌≢◌, ⊤, IfSome, Bool, true, false, ℕ, List, [], ◌++◌, Option, None, Some, Result, Ok, Err, if◌then◌else◌}
+use Rattle.std.specs.Prelude.{◌≡◌, ◌≢◌, ⊤, IfSome, Bool, true, false, ℕ, List, [], ◌++◌, Option, None, Some, Result, Ok, Err}
 use Rattle.std.specs.Io.KnownBytes.{Consumes, IsAtEnd}
 use Rattle.std.specs.Option.{option_to_list}
 use Rattle.trace_core.specs.Reading.{Reading, ends, Ending, reading_after, at_end, at_failure}
-use Rattle.trace_core.specs.Device.{one_more}
+use Rattle.trace_core.specs.Device.{failures_after}
 use Rattle.trace_core.specs.declared.events.Entry.{Entry}
 use Rattle.trace_core.specs.declared.line.Format.{Format}
 use Rattle.trace_core.specs.declared.fault.TraceFault.{TraceFault}
@@ -92,4 +92,4 @@ pub record Reached (format : Format) (limit : ℕ) (before told : Option (List �
   pub delivers : Delivers before told (device_failed p.state) bytes
   pub reads : Advances told (begun format limit) p bytes xs
   pub at_end : p.state ≡ state.Ended → IsAtEnd told
-  pub counted : failures ≡ (if device_failed p.state then one_more failures-before else failures-before)
+  pub counted : failures ≡ failures_after (device_failed p.state) failures-before

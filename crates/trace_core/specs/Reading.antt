@@ -1,4 +1,5 @@
--- What a text gives: its entries with their line numbers, and the fault at which they end.
+-- What a text gives: its entries with their line numbers, and the fault at which they end. What is at fault, and which fault comes
+-- first, is this project's own rule.
 use Rattle.std.specs.Prelude.{ℕ, ◌+◌, nat_lt, List, [], ◌∷◌, length, take, drop, map, filter_map, Option, None, Some, Result, Ok, Err, if◌then◌else◌, flat_map}
 use Rattle.std.specs.List.{enumerate_from}
 use Rattle.std.specs.Option.{option_map}
@@ -10,6 +11,7 @@ use Rattle.trace_core.specs.declared.events.Event.{Event}
 use Rattle.trace_core.specs.declared.events.Kind.{Kind}
 use Rattle.trace_core.specs.declared.line.Format.{Format}
 use Rattle.trace_core.specs.declared.line.LineFault.{LineFault}
+use Rattle.trace_core.specs.declared.reader.TheConstants.{MAX_LINE}
 use Rattle.trace_core.specs.declared.fault.TraceFault.{TraceFault}
 use Rattle.trace_core.specs.declared.fault.TraceFault.TheVariants as fault
 
@@ -22,7 +24,7 @@ with_line n (Err f) = Err (fault.Line n f)
 abbrev pub judge : Format → ℕ → ℕ → List ℕ → Result (Option Entry) TraceFault
 judge format limit n line =
     if nat_lt limit n then Err (fault.TooManyLines limit)
-    else if nat_lt 4096 (length line) then Err (fault.TooLong n)
+    else if nat_lt MAX_LINE (length line) then Err (fault.TooLong n)
     else with_line n (meaning format line)
 
 -- the entries of a text with the numbers of their lines, and the fault at which they end, if any
@@ -56,7 +58,7 @@ abbrev pub cut_off : ℕ → ℕ → List (List ℕ) → TraceFault
 cut_off limit n [] = fault.Read n
 cut_off limit n (piece ∷ none) =
     if nat_lt limit n then fault.TooManyLines limit
-    else if nat_lt 4096 (length piece) then fault.TooLong n
+    else if nat_lt MAX_LINE (length piece) then fault.TooLong n
     else fault.Read n
 
 -- The reading of a text, n lines before which were read: of all its lines; or, where the device then failed, of the lines

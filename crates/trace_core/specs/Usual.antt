@@ -11,12 +11,12 @@ use Rattle.trace_core.specs.declared.line.Format.{Format}
 pub record BeginsLine (format : Format) (text rest : List ℕ) (item : Item) : Type 0 where
   pub front : List ℕ
   pub splits : text ≡ front ++ rest
-  pub unfed : HoldsNoFeed front
+  pub no_line_feed : HoldsNoFeed front
   pub means : (end : List ℕ) → ends_field end ≡ true → meaning format (front ++ end) ≡ Ok (Some (entry.Item item))
 
 -- A text begins with some bytes. A line that begins with them has this label as its first field, and its others come after them.
 pub record BeginsLabel (text rest : List ℕ) (label : ℕ) : Type 0 where
   pub front : List ℕ
   pub splits : text ≡ front ++ rest
-  pub unfed : is_line_feed label ≡ false → HoldsNoFeed front
+  pub no_line_feed : is_line_feed label ≡ false → HoldsNoFeed front
   pub first : (more : List ℕ) → is_trailing label ≡ false → fields (trimmed (front ++ more)) ≡ (label ∷ []) ∷ fields (trimmed more)

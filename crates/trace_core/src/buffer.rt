@@ -2,6 +2,7 @@
 ghost use Rattle.std.specs.Prelude.{◌≡◌, ℕ, ◌+◌, ◌-◌, ◌<◌, ◌≤◌, List, [], ◌++◌, length, take, drop, slice_range, vec_len, IfOk, OnErr};
 ghost use Rattle.std.specs.Io.KnownBytes.{Consumes, IsAtEnd};
 ghost use Rattle.trace_core.specs.Device.{CountsFailure, StaysOrUntold};
+ghost use Rattle.trace_core.specs.declared.buffer.TheConstants.{CAPACITY};
 
 use crate::io::{DeviceFault, Source};
 use std::alloc::{AllocError, Global};
@@ -23,7 +24,7 @@ impl Model for Buffer {
 
     ghost view = { λ b. slice_range b.bytes.items b.start b.end };
 
-    ghost invariant = { λ b. (b.start ≤ b.end) × (b.end ≤ 65536) × (vec_len b.bytes ≡ 65536) };
+    ghost invariant = { λ b. (b.start ≤ b.end) × (b.end ≤ CAPACITY) × (vec_len b.bytes ≡ CAPACITY) };
 }
 
 impl Buffer {

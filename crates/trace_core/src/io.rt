@@ -1,5 +1,5 @@
 //! Where bytes come from and go to, and how often that failed.
-ghost use Rattle.std.specs.Prelude.{◌≡◌, ℕ, ◌<◌, ◌≤◌, ◌==◌, List, Option, None, Some, IfOk, OnOk, OnErr, MatchResult, length, drop, if◌then◌else◌};
+ghost use Rattle.std.specs.Prelude.{◌≡◌, ℕ, ◌<◌, ◌≤◌, ◌==◌, List, Option, None, IfOk, OnOk, OnErr, MatchResult, length, if◌then◌else◌};
 ghost use Rattle.std.specs.Io.KnownBytes.{Keeps, Appends};
 ghost use Rattle.trace_core.specs.Device.{CountsFailure, Gives, Takes, StaysOrUntold, WritesPrefix};
 
@@ -11,10 +11,10 @@ pub struct DeviceFault;
 
 /// Where bytes come from.
 pub trait Source {
-    // How often calls failed so far, a stored `u64` that stays at its greatest value.
+    /// How often calls failed so far, a stored `u64` that stays at its greatest value.
     ghost failures: { Self → ℕ };
 
-    // The bytes still to come, where they are told.
+    /// The bytes still to come; `None` where the device does not say.
     ghost remaining: { Self → Option (List ℕ) };
 
     /// Puts bytes into the front of `into`, and answers how many. 0 for a nonempty slice means the
@@ -27,10 +27,10 @@ pub trait Source {
 
 /// Where bytes go to.
 pub trait Sink {
-    // How often calls failed so far, a stored `u64` that stays at its greatest value.
+    /// How often calls failed so far, a stored `u64` that stays at its greatest value.
     ghost failures: { Self → ℕ };
 
-    // The bytes written, where they are told.
+    /// The bytes written; `None` where the device does not say.
     ghost written: { Self → Option (List ℕ) };
 
     /// Takes bytes from the front of `from`, and answers how many.
@@ -56,6 +56,7 @@ pub struct FromRead<R: Drop> {
 }
 
 impl<R: Read + Drop> FromRead<R> {
+    /// A source over this reader, of which no call failed yet.
     pub fn new(reader: R) -> FromRead<R>
         ensures failures { ⟦<FromRead<R> as Source>⟧.failures result ≡ 0 }
         ensures bytes { ⟦<FromRead<R> as Source>⟧.remaining result ≡ R.remaining reader }
@@ -92,6 +93,7 @@ pub struct ToWrite<W: Drop> {
 }
 
 impl<W: Write + Drop> ToWrite<W> {
+    /// A sink over this writer, of which no call failed yet.
     pub fn new(writer: W) -> ToWrite<W>
         ensures failures { ⟦<ToWrite<W> as Sink>⟧.failures result ≡ 0 }
         ensures bytes { ⟦<ToWrite<W> as Sink>⟧.written result ≡ W.contents writer }

@@ -1,5 +1,6 @@
-//! Laws over the definitions: each is the contract of a function with no code.
-ghost use Rattle.std.specs.Prelude.{◌≡◌, ℕ, List, [], ◌∷◌, ◌++◌, Option, None, Some, Err, false, ◌↔◌, All, IsOk, is_ok, slice_get, take, drop, ◌+◌, filter_map, flat_map};
+//! Laws over the definitions: each is the contract of a function with no code, so that the gate
+//! proves it. Proofs above may cite the lemma behind it.
+ghost use Rattle.std.specs.Prelude.{◌≡◌, ℕ, List, [], ◌++◌, Option, None, Some, Err, false, ◌↔◌, All, IsOk, is_ok, slice_get, take, drop, ◌+◌, filter_map, flat_map};
 ghost use Rattle.std.specs.List.{enumerate_from, prefix_len, slice_split};
 ghost use Rattle.trace_core.specs.Events.{events_of};
 ghost use Rattle.trace_core.specs.Lines.{is_line_feed, lines, line_feeds, without_empty_last};
@@ -72,39 +73,42 @@ pub fn begun_reader_has_read_nothing()
 /// of the text.
 pub fn ended_reader_has_read_all()
     ensures reading { (format : Format) (limit : ℕ) (text : List ℕ) (told : Option (List ℕ))
-        (a b : ℕ) (xs : List (ℕ × Entry)) (p : Progress) →
-        Reached format limit (Some text) told a b xs p → p.state ≡ ReaderState.Ended →
-        reading format limit text ≡ record { entries = xs; fault = None } }
-    ensures left { (format : Format) (limit : ℕ) (text : List ℕ) (told : Option (List ℕ)) (a b : ℕ)
-        (xs : List (ℕ × Entry)) (p : Progress) →
-        Reached format limit (Some text) told a b xs p → p.state ≡ ReaderState.Ended → told ≡ Some [] }
+        (failures-before failures : ℕ) (given : List (ℕ × Entry)) (reader : Progress) →
+        Reached format limit (Some text) told failures-before failures given reader →
+        reader.state ≡ ReaderState.Ended →
+        reading format limit text ≡ record { entries = given; fault = None } }
+    ensures left { (format : Format) (limit : ℕ) (text : List ℕ) (told : Option (List ℕ))
+        (failures-before failures : ℕ) (given : List (ℕ × Entry)) (reader : Progress) →
+        Reached format limit (Some text) told failures-before failures given reader →
+        reader.state ≡ ReaderState.Ended → told ≡ Some [] }
 {}
 
 /// A reader that met a fault of the trace met the first fault of the text, and gave the entries
 /// before it.
 pub fn failed_reader_met_the_first_fault()
-    ensures { (format : Format) (limit : ℕ) (text : List ℕ) (told : Option (List ℕ)) (a b : ℕ)
-        (xs : List (ℕ × Entry)) (p : Progress) (fault : TraceFault) →
-        Reached format limit (Some text) told a b xs p → p.state ≡ ReaderState.Failed fault →
-        device_failed p.state ≡ false →
-        reading format limit text ≡ record { entries = xs; fault = Some fault } }
+    ensures { (format : Format) (limit : ℕ) (text : List ℕ) (told : Option (List ℕ))
+        (failures-before failures : ℕ) (given : List (ℕ × Entry)) (reader : Progress) (fault : TraceFault) →
+        Reached format limit (Some text) told failures-before failures given reader →
+        reader.state ≡ ReaderState.Failed fault → device_failed reader.state ≡ false →
+        reading format limit text ≡ record { entries = given; fault = Some fault } }
 {}
 
 /// A reader whose source failed gave the entries of the bytes that the source delivered, and the
 /// failure is the first fault of these.
 pub fn cut_reader_has_read_what_was_delivered()
-    ensures { (format : Format) (limit : ℕ) (text rest : List ℕ) (a b : ℕ) (xs : List (ℕ × Entry))
-        (p : Progress) (line : ℕ) →
-        Reached format limit (Some text) (Some rest) a b xs p →
-        p.state ≡ ReaderState.Failed (TraceFault.Read line) →
+    ensures { (format : Format) (limit : ℕ) (text rest : List ℕ) (failures-before failures : ℕ)
+        (given : List (ℕ × Entry)) (reader : Progress) (line : ℕ) →
+        Reached format limit (Some text) (Some rest) failures-before failures given reader →
+        reader.state ≡ ReaderState.Failed (TraceFault.Read line) →
         (delivered : List ℕ) × (text ≡ delivered ++ rest)
-        × (cut_reading format limit delivered ≡ record { entries = xs; fault = Some (TraceFault.Read line) }) }
+        × (cut_reading format limit delivered ≡ record { entries = given; fault = Some (TraceFault.Read line) }) }
 {}
 
 /// A reader that reads on gave the first entries of the text.
 pub fn open_reader_has_read_the_first_entries()
-    ensures { (format : Format) (limit : ℕ) (text : List ℕ) (told : Option (List ℕ)) (a b : ℕ)
-        (xs : List (ℕ × Entry)) (p : Progress) →
-        Reached format limit (Some text) told a b xs p → p.state ≡ ReaderState.Open →
-        (later : Reading) × (reading format limit text ≡ entries_then xs later) }
+    ensures { (format : Format) (limit : ℕ) (text : List ℕ) (told : Option (List ℕ))
+        (failures-before failures : ℕ) (given : List (ℕ × Entry)) (reader : Progress) →
+        Reached format limit (Some text) told failures-before failures given reader →
+        reader.state ≡ ReaderState.Open →
+        (later : Reading) × (reading format limit text ≡ entries_then given later) }
 {}

@@ -1,6 +1,6 @@
 //! Reading a trace.
-ghost use Rattle.std.specs.Prelude.{◌≡◌, ◌≢◌, ℕ, ◌<◌, ◌≤◌, List, ◌++◌, Option, IfOk, IfSome, if◌then◌else◌};
-ghost use Rattle.trace_core.specs.Device.{one_more};
+ghost use Rattle.std.specs.Prelude.{◌≡◌, ◌≢◌, ℕ, ◌<◌, ◌≤◌, List, ◌++◌, Option, IfOk, IfSome};
+ghost use Rattle.trace_core.specs.Device.{failures_after};
 
 use crate::buffer::Buffer;
 use crate::events::Entry;
@@ -14,7 +14,7 @@ use std::marker::Model;
 /// The most bytes that a line may have before its LF.
 pub const MAX_LINE: usize = 4096;
 
-/// The most lines that a reader may be asked to take.
+/// The most lines that a reader may be asked to take, 2^40.
 pub const MAX_LINES: u64 = 1_099_511_627_776;
 
 /// How a reader stands: it reads on, or it met the end or a fault.
@@ -86,7 +86,7 @@ impl Lines {
 
         // The source failed in just the calls that go from an open reader to a failed device.
         ensures counted { self.old.state ≡ ReaderState.Open → S.failures source.new
-            ≡ (if device_failed self.new.state then one_more (S.failures source.old) else S.failures source.old) }
+            ≡ failures_after (device_failed self.new.state) (S.failures source.old) }
 
         // An entry bears the number of the last line that was read.
         ensures entry { IfOk result (λ found. IfSome found (λ x.

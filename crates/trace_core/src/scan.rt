@@ -1,9 +1,10 @@
 //! The lines of what a source delivers, judged one by one.
-ghost use Rattle.std.specs.Prelude.{◌≡◌, ◌≢◌, ℕ, ◌+◌, ◌<◌, ◌≤◌, List, [], ◌++◌, Option, None, Some, length, drop, IfSome, IfNone, OnSome, if◌then◌else◌};
+ghost use Rattle.std.specs.Prelude.{◌≡◌, ◌≢◌, ℕ, ◌+◌, ◌<◌, ◌≤◌, List, [], Option, None, Some, length, drop, IfSome, IfNone, OnSome};
 ghost use Rattle.std.specs.Option.{option_to_list};
 ghost use Rattle.std.specs.Io.KnownBytes.{IsAtEnd};
 ghost use Rattle.memchr.specs.Find.{IsFirstByte, is_byte};
-ghost use Rattle.trace_core.specs.Device.{one_more};
+ghost use Rattle.trace_core.specs.Device.{failures_after};
+ghost use Rattle.trace_core.specs.declared.reader.TheConstants.{MAX_LINES};
 
 use crate::buffer::Buffer;
 use crate::events::Entry;
@@ -14,7 +15,7 @@ use crate::reader::{MAX_LINE, ReaderState};
 use crate::usual::usual_line;
 use memchr::memchr;
 
-/// A reader that shows its fields.
+/// The fields of `Lines`, apart from its model, so that the contracts of its steps can name them.
 #[derive(Drop)]
 pub(crate) struct Scan {
     pub(crate) format: Format,
@@ -22,7 +23,7 @@ pub(crate) struct Scan {
     pub(crate) lines: u64,
     pub(crate) buffer: Buffer,
     pub(crate) state: ReaderState,
-    ghost limited: { limit ≤ 1099511627776 },
+    ghost limited: { limit ≤ MAX_LINES },
     ghost within: { lines ≤ limit },
 }
 
@@ -39,7 +40,7 @@ impl Scan {
         ensures at_end { self.old.state ≡ ReaderState.Open → self.new.state ≡ ReaderState.Ended →
             IsAtEnd (S.remaining source.new) }
         ensures counted { self.old.state ≡ ReaderState.Open → S.failures source.new
-            ≡ (if device_failed self.new.state then one_more (S.failures source.old) else S.failures source.old) }
+            ≡ failures_after (device_failed self.new.state) (S.failures source.old) }
         ensures stopped { self.old.state ≢ ReaderState.Open → (source.new ≡ source.old)
             × (self.new ≡ self.old) × (result ≡ None) }
         ensures same { (self.new.format ≡ self.old.format) × (self.new.limit ≡ self.old.limit) }
@@ -64,7 +65,7 @@ impl Scan {
             × Advances (S.remaining source.new) (progress self.old) (progress self.new) bytes (option_to_list result) }
         ensures at_end { self.new.state ≡ ReaderState.Ended → IsAtEnd (S.remaining source.new) }
         ensures counted { S.failures source.new
-            ≡ (if device_failed self.new.state then one_more (S.failures source.old) else S.failures source.old) }
+            ≡ failures_after (device_failed self.new.state) (S.failures source.old) }
         ensures same { (self.new.format ≡ self.old.format) × (self.new.limit ≡ self.old.limit) }
         ensures entry { IfSome result (λ x. (x.0 ≡ self.new.lines) × (self.old.lines < self.new.lines)) }
         ensures lines { self.old.lines ≤ self.new.lines }
@@ -94,7 +95,7 @@ impl Scan {
             × Advances (S.remaining source.new) (progress self.old) (progress self.new) bytes (option_to_list result) }
         ensures at_end { self.new.state ≡ ReaderState.Ended → IsAtEnd (S.remaining source.new) }
         ensures counted { S.failures source.new
-            ≡ (if device_failed self.new.state then one_more (S.failures source.old) else S.failures source.old) }
+            ≡ failures_after (device_failed self.new.state) (S.failures source.old) }
         ensures same { (self.new.format ≡ self.old.format) × (self.new.limit ≡ self.old.limit) }
         ensures entry { IfSome result (λ x. (x.0 ≡ self.new.lines) × (self.old.lines < self.new.lines)) }
         ensures lines { self.old.lines ≤ self.new.lines }
@@ -164,7 +165,7 @@ impl Scan {
             × Advances (S.remaining source.new) (progress self.old) (progress self.new) bytes (option_to_list result) }
         ensures at_end { self.new.state ≡ ReaderState.Ended → IsAtEnd (S.remaining source.new) }
         ensures counted { S.failures source.new
-            ≡ (if device_failed self.new.state then one_more (S.failures source.old) else S.failures source.old) }
+            ≡ failures_after (device_failed self.new.state) (S.failures source.old) }
         ensures same { (self.new.format ≡ self.old.format) × (self.new.limit ≡ self.old.limit) }
         ensures entry { IfSome result (λ x. (x.0 ≡ self.new.lines) × (self.old.lines < self.new.lines)) }
         ensures lines { self.old.lines ≤ self.new.lines }
@@ -193,7 +194,7 @@ impl Scan {
         requires open { self.old.state ≡ ReaderState.Open }
         requires no_line { IsFirstByte (is_byte 10) self.old.buffer None }
         requires below { 0 < length self.old.buffer → self.old.lines < self.old.limit }
-        requires short { length self.old.buffer ≤ 4096 }
+        requires short { length self.old.buffer ≤ MAX_LINE }
         ensures advances { (told : Option (List ℕ)) → IsAtEnd told →
             Advances told (progress self.old) (progress self.new) [] (option_to_list result) }
         ensures state { self.new.state ≢ ReaderState.Open }
