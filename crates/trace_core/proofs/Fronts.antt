@@ -2,7 +2,7 @@
 use Rattle.std.proofs.Common.{◌≡◌, ℕ, suc, ◌+◌, ◌-◌, ◌<◌, ◌≤◌, ◌⊎◌, inl, inr, Bool, true, false, cond, ◌==◌, List, [], ◌∷◌, ◌++◌, length, take, drop, get_or, refl, sym, ap, ◌∙◌, arith, eqb, take_all, append_assoc}
 use Rattle.std.specs.Prelude.{⊤}
 use Rattle.std.specs.List.{suffix_len, prefix_len, position_or_len, list_all}
-use Rattle.std.proofs.lemmas.Bool.{false≢true, eqb-true}
+use Rattle.std.proofs.lemmas.Bool.{and_parts, false≢true, eqb-true}
 use Rattle.std.proofs.lemmas.List.{reverse-append, length-reverse}
 use Rattle.std.proofs.lemmas.List.Folds.{prefix_len-append}
 use Rattle.std.proofs.lemmas.List.Sums.{suffix_len-le-length}
@@ -116,19 +116,11 @@ ends-blank : (c : ℕ) (cs : List ℕ) → is_blank c ≡ true → ends_field (c
 ends-blank c [] blank = rw blank refl
 ends-blank c (d ∷ more) blank = blank
 
--- the first of some bytes that all pass a test passes it, and so do the others
-pub list_all-both : (p : ℕ → Bool) (c : ℕ) (cs : List ℕ) → list_all p (c ∷ cs) ≡ true → (p c ≡ true) × (list_all p cs ≡ true)
-list_all-both p c cs all = by_case (p c) refl all
-  where
-    by_case : (t : Bool) → p c ≡ t → list_all p (c ∷ cs) ≡ true → (p c ≡ true) × (list_all p cs ≡ true)
-    by_case true is h = (is, rw is at h)
-    by_case false is h = absurd (false≢true (rw is at h))
-
 -- the fields of a line are those after some blanks in front
 fields-blanks : (bs rest : List ℕ) → list_all is_blank bs ≡ true → fields (trimmed (bs ++ rest)) ≡ fields (trimmed rest)
 fields-blanks [] rest all = refl
 fields-blanks (c ∷ cs) rest all =
-    let both = list_all-both is_blank c cs all in
+    let both = and_parts (is_blank c) (list_all is_blank cs) all in
     fields-skip c (cs ++ rest) both.0 ∙ fields-blanks cs rest both.1
 
 -- a label of one byte between blanks
@@ -150,7 +142,7 @@ unfed-blank c blank = by_case (c == 32) (c == 9) refl refl blank
 
 unfed-blanks : (bs : List ℕ) → list_all is_blank bs ≡ true → HoldsNoFeed bs
 unfed-blanks [] all = tt
-unfed-blanks (c ∷ cs) all = let both = list_all-both is_blank c cs all in (unfed-blank c both.0, unfed-blanks cs both.1)
+unfed-blanks (c ∷ cs) all = let both = and_parts (is_blank c) (list_all is_blank cs) all in (unfed-blank c both.0, unfed-blanks cs both.1)
 
 pub unfed-append : (xs ys : List ℕ) → HoldsNoFeed xs → HoldsNoFeed ys → HoldsNoFeed (xs ++ ys)
 unfed-append [] ys front back = back
@@ -178,7 +170,7 @@ blanks-more bytes bs rest is all some blank = (
   where
     all-push : (xs : List ℕ) → list_all is_blank xs ≡ true → list_all is_blank (xs ++ get_or rest 0 0 ∷ []) ≡ true
     all-push [] h = rw blank refl
-    all-push (x ∷ xs) h = let both = list_all-both is_blank x xs h in rw both.0 (all-push xs both.1)
+    all-push (x ∷ xs) h = let both = and_parts (is_blank x) (list_all is_blank xs) h in rw both.0 (all-push xs both.1)
 
 -- a label and blanks in front of a line
 pub label-front : (text cut tail rest : List ℕ) → (bs : List ℕ) × (text ≡ bs ++ cut) × (list_all is_blank bs ≡ true) → 2 ≤ length cut → is_blank (get_or cut 1 0) ≡ true

@@ -39,6 +39,17 @@ module _ (f : Format) (limit : ℕ) where
       by_state (state.Failed x) is = absurd (well x is)
 
 module _ (task : Task) where
+  -- At the end the text has no fault and was read, and what holds of a text with just these entries holds of it.
+  Reached-whole : (Owed : List ℕ → Type 0) (text : List ℕ) (told : Option (List ℕ)) (a b : ℕ) (xs : List (ℕ × Entry)) (p : Progress) → p.state ≡ state.Ended
+      → Reached task.format task.limit (Some text) told a b xs p → ((text : List ℕ) → entries_of xs ≡ entries task.format text → Owed text)
+      → ((reading task.format task.limit text).fault ≡ None) × (told ≡ Some []) × Owed text
+  Reached-whole Owed text told a b xs p ended run owed =
+      let whole = Reached-end task.format task.limit text told a b xs p ended run in (
+        ap (λ r. r.fault) whole,
+        Reached-told task.format task.limit text told a b xs p ended run,
+        owed text (entries-reading task.format task.limit text xs whole),
+      )
+
   -- At the end: what was written is owed where these are the entries of the text.
   pub task_completes : (before told written-before written : Option (List ℕ)) (a b : ℕ) (xs : List (ℕ × Entry)) (p : Progress) → p.state ≡ state.Ended
       → Reached task.format task.limit before told a b xs p
@@ -46,12 +57,8 @@ module _ (task : Task) where
       → IfSome before (λ text. Completes task text told written-before written)
   task_completes None told w0 w a b xs p ended run wrote = tt
   task_completes (Some text) told w0 w a b xs p ended run wrote =
-      let whole = Reached-end task.format task.limit text told a b xs p ended run in
-      record {
-        faultless = ap (λ r. r.fault) whole;
-        read = Reached-told task.format task.limit text told a b xs p ended run;
-        wrote = wrote text (entries-reading task.format task.limit text xs whole);
-      }
+      let end = Reached-whole (λ t. Appends w0 w (task.whole t)) text told a b xs p ended run wrote in
+      record { faultless = end.0; read = end.1; wrote = end.2 }
 
   -- At the end, where the sink failed.
   pub task_breaks : (before told written-before written : Option (List ℕ)) (a b : ℕ) (xs : List (ℕ × Entry)) (p : Progress) → p.state ≡ state.Ended
@@ -60,12 +67,8 @@ module _ (task : Task) where
       → IfSome before (λ text. BreaksOff task text told written-before written)
   task_breaks None told w0 w a b xs p ended run wrote = tt
   task_breaks (Some text) told w0 w a b xs p ended run wrote =
-      let whole = Reached-end task.format task.limit text told a b xs p ended run in
-      record {
-        faultless = ap (λ r. r.fault) whole;
-        read = Reached-told task.format task.limit text told a b xs p ended run;
-        wrote = wrote text (entries-reading task.format task.limit text xs whole);
-      }
+      let end = Reached-whole (λ t. WritesPrefix w0 w (task.whole t)) text told a b xs p ended run wrote in
+      record { faultless = end.0; read = end.1; wrote = end.2 }
 
   -- At a fault of the trace.
   pub task_stops : (before told written-before written : Option (List ℕ)) (a b : ℕ) (xs : List (ℕ × Entry)) (p : Progress) (x : TraceFault) → p.state ≡ state.Failed x

@@ -3,7 +3,7 @@ use Rattle.std.proofs.Common.{◌≡◌, ℕ, zero, suc, ◌<◌, ◌==◌, ◌&
 use Rattle.std.specs.Prelude.{None, Some, Ok, nat_lt, nat_le}
 use Rattle.std.specs.List.{position_or_len, before_first, after_first, list_all}
 use Rattle.std.specs.Char.{is_digit}
-use Rattle.std.proofs.lemmas.Bool.{false≢true, eqb-true}
+use Rattle.std.proofs.lemmas.Bool.{and_parts, false≢true, eqb-true}
 use Rattle.trace_core.proofs.Steps.{line-split, line-before}
 use Rattle.std.proofs.lemmas.List.{length-take-le, length-append, get_or_append_left}
 use Rattle.std.proofs.Math.Seq.{get_or-append_seam, take-append_seam, drop-append-add}
@@ -18,7 +18,7 @@ use Rattle.trace_core.specs.declared.events.Op.{Op}
 use Rattle.trace_core.specs.declared.line.Format.{Format}
 use Rattle.trace_core.specs.declared.line.Format.TheVariants.{Din, Lackey}
 use Rattle.trace_core.proofs.Splits.{fields-first}
-use Rattle.trace_core.proofs.Fronts.{list_all-both, unfed-append, Plain, Fails, position-past, plain-unblank, fields-field, trimmed-plain}
+use Rattle.trace_core.proofs.Fronts.{unfed-append, Plain, Fails, position-past, plain-unblank, fields-field, trimmed-plain}
 
 -- a byte that is no digit is none of the digits
 other-byte : (b radix : ℕ) → is_digit b radix ≡ false → (c : ℕ) → is_digit c radix ≡ true → (c == b) ≡ false
@@ -37,15 +37,15 @@ module _ (radix : ℕ) (small : nat_lt 36 radix ≡ false) where
 
   digits-plain : (ds : List ℕ) → list_all (λ c. is_digit c radix) ds ≡ true → Plain ds
   digits-plain [] all = tt
-  digits-plain (c ∷ cs) all = let both = list_all-both (λ c. is_digit c radix) c cs all in (digit-plain c both.0, digits-plain cs both.1)
+  digits-plain (c ∷ cs) all = let both = and_parts (is_digit c radix) (list_all (λ d. is_digit d radix) cs) all in (digit-plain c both.0, digits-plain cs both.1)
 
   digits-comma : (ds : List ℕ) → list_all (λ c. is_digit c radix) ds ≡ true → Fails is_comma ds
   digits-comma [] all = tt
-  digits-comma (c ∷ cs) all = let both = list_all-both (λ c. is_digit c radix) c cs all in (other-byte 44 radix small c both.0, digits-comma cs both.1)
+  digits-comma (c ∷ cs) all = let both = and_parts (is_digit c radix) (list_all (λ d. is_digit d radix) cs) all in (other-byte 44 radix small c both.0, digits-comma cs both.1)
 
   digits-unfed : (ds : List ℕ) → list_all (λ c. is_digit c radix) ds ≡ true → HoldsNoFeed ds
   digits-unfed [] all = tt
-  digits-unfed (c ∷ cs) all = let both = list_all-both (λ c. is_digit c radix) c cs all in (other-byte 10 radix small c both.0, digits-unfed cs both.1)
+  digits-unfed (c ∷ cs) all = let both = and_parts (is_digit c radix) (list_all (λ d. is_digit d radix) cs) all in (other-byte 10 radix small c both.0, digits-unfed cs both.1)
 
 -- what writes a number is one or more digits
 number-digits : (radix most : ℕ) (ds : List ℕ) (n : ℕ) → number_of radix most ds ≡ Some n
