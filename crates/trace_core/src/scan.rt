@@ -1,5 +1,5 @@
 //! The lines of what a source delivers, judged one by one.
-ghost use Rattle.std.specs.Prelude.{◌≡◌, ◌≢◌, ℕ, ◌+◌, ◌<◌, ◌≤◌, List, [], Option, None, Some, length, drop, IfSome, IfNone, OnSome};
+ghost use Rattle.std.specs.Prelude.{◌≡◌, ◌≢◌, ℕ, ◌+◌, ◌<◌, ◌≤◌, List, [], Option, None, Some, length, drop, IfNone, OnSome};
 ghost use Rattle.std.specs.Option.{option_to_list};
 ghost use Rattle.std.specs.Io.KnownBytes.{IsAtEnd};
 ghost use Rattle.memchr.specs.Find.{IsFirstByte, is_byte};
@@ -28,23 +28,22 @@ pub(crate) struct Scan {
 }
 
 impl Scan {
-    ghost use Rattle.trace_core.specs.Scan.{progress, distance};
-    ghost use Rattle.trace_core.specs.Reader.{Advances, Delivers, device_failed};
+    ghost use Rattle.trace_core.specs.Scan.{progress, distance, Reads, KeepsTask, BearsLine};
+    ghost use Rattle.trace_core.specs.Reader.{Advances, device_failed};
 
     /// Reads on to the next entry. Without one, the state says why.
     #[inline(always)]
     pub(crate) fn next<S: Source>(&mut self, source: &mut S) -> Option<(u64, Entry)>
-        ensures advances { (bytes : List ℕ)
-            × Delivers (S.remaining source.old) (S.remaining source.new) (device_failed self.new.state) bytes
-            × Advances (S.remaining source.new) (progress self.old) (progress self.new) bytes (option_to_list result) }
+        ensures advances { Reads (S.remaining source.old) (S.remaining source.new)
+            self.old self.new result }
         ensures at_end { self.old.state ≡ ReaderState.Open → self.new.state ≡ ReaderState.Ended →
             IsAtEnd (S.remaining source.new) }
         ensures counted { self.old.state ≡ ReaderState.Open → S.failures source.new
             ≡ failures_after (device_failed self.new.state) (S.failures source.old) }
         ensures stopped { self.old.state ≢ ReaderState.Open → (source.new ≡ source.old)
             × (self.new ≡ self.old) × (result ≡ None) }
-        ensures same { (self.new.format ≡ self.old.format) × (self.new.limit ≡ self.old.limit) }
-        ensures entry { IfSome result (λ x. (x.0 ≡ self.new.lines) × (self.old.lines < self.new.lines)) }
+        ensures same { KeepsTask self.old self.new }
+        ensures entry { BearsLine self.old self.new result }
         ensures goes_on { OnSome result ((f : TraceFault) → self.new.state ≢ ReaderState.Failed f) }
         ensures none { IfNone result (self.new.state ≢ ReaderState.Open) }
     {
@@ -60,14 +59,13 @@ impl Scan {
     #[inline(always)]
     fn step<S: Source>(&mut self, source: &mut S) -> Option<(u64, Entry)>
         requires { self.old.state ≡ ReaderState.Open }
-        ensures advances { (bytes : List ℕ)
-            × Delivers (S.remaining source.old) (S.remaining source.new) (device_failed self.new.state) bytes
-            × Advances (S.remaining source.new) (progress self.old) (progress self.new) bytes (option_to_list result) }
+        ensures advances { Reads (S.remaining source.old) (S.remaining source.new)
+            self.old self.new result }
         ensures at_end { self.new.state ≡ ReaderState.Ended → IsAtEnd (S.remaining source.new) }
         ensures counted { S.failures source.new
             ≡ failures_after (device_failed self.new.state) (S.failures source.old) }
-        ensures same { (self.new.format ≡ self.old.format) × (self.new.limit ≡ self.old.limit) }
-        ensures entry { IfSome result (λ x. (x.0 ≡ self.new.lines) × (self.old.lines < self.new.lines)) }
+        ensures same { KeepsTask self.old self.new }
+        ensures entry { BearsLine self.old self.new result }
         ensures lines { self.old.lines ≤ self.new.lines }
         ensures goes_on { OnSome result ((f : TraceFault) → self.new.state ≢ ReaderState.Failed f) }
         ensures nearer { self.new.state ≡ ReaderState.Open → distance self.new < distance self.old }
@@ -90,14 +88,13 @@ impl Scan {
     fn step_any<S: Source>(&mut self, source: &mut S) -> Option<(u64, Entry)>
         requires open { self.old.state ≡ ReaderState.Open }
         requires below { 0 < length self.old.buffer → self.old.lines < self.old.limit }
-        ensures advances { (bytes : List ℕ)
-            × Delivers (S.remaining source.old) (S.remaining source.new) (device_failed self.new.state) bytes
-            × Advances (S.remaining source.new) (progress self.old) (progress self.new) bytes (option_to_list result) }
+        ensures advances { Reads (S.remaining source.old) (S.remaining source.new)
+            self.old self.new result }
         ensures at_end { self.new.state ≡ ReaderState.Ended → IsAtEnd (S.remaining source.new) }
         ensures counted { S.failures source.new
             ≡ failures_after (device_failed self.new.state) (S.failures source.old) }
-        ensures same { (self.new.format ≡ self.old.format) × (self.new.limit ≡ self.old.limit) }
-        ensures entry { IfSome result (λ x. (x.0 ≡ self.new.lines) × (self.old.lines < self.new.lines)) }
+        ensures same { KeepsTask self.old self.new }
+        ensures entry { BearsLine self.old self.new result }
         ensures lines { self.old.lines ≤ self.new.lines }
         ensures goes_on { OnSome result ((f : TraceFault) → self.new.state ≢ ReaderState.Failed f) }
         ensures nearer { self.new.state ≡ ReaderState.Open → distance self.new < distance self.old }
@@ -134,8 +131,8 @@ impl Scan {
             Advances told (progress self.old) (progress self.new) [] (option_to_list result) }
         ensures state { self.new.state ≢ ReaderState.Ended }
         ensures device { device_failed self.new.state ≡ device_failed ReaderState.Open }
-        ensures same { (self.new.format ≡ self.old.format) × (self.new.limit ≡ self.old.limit) }
-        ensures entry { IfSome result (λ x. (x.0 ≡ self.new.lines) × (self.old.lines < self.new.lines)) }
+        ensures same { KeepsTask self.old self.new }
+        ensures entry { BearsLine self.old self.new result }
         ensures lines { self.old.lines ≤ self.new.lines }
         ensures goes_on { OnSome result (self.new.state ≡ ReaderState.Open) }
         ensures nearer { self.new.state ≡ ReaderState.Open → distance self.new < distance self.old }
@@ -160,14 +157,13 @@ impl Scan {
         requires open { self.old.state ≡ ReaderState.Open }
         requires no_line { IsFirstByte (is_byte 10) self.old.buffer None }
         requires below { 0 < length self.old.buffer → self.old.lines < self.old.limit }
-        ensures advances { (bytes : List ℕ)
-            × Delivers (S.remaining source.old) (S.remaining source.new) (device_failed self.new.state) bytes
-            × Advances (S.remaining source.new) (progress self.old) (progress self.new) bytes (option_to_list result) }
+        ensures advances { Reads (S.remaining source.old) (S.remaining source.new)
+            self.old self.new result }
         ensures at_end { self.new.state ≡ ReaderState.Ended → IsAtEnd (S.remaining source.new) }
         ensures counted { S.failures source.new
             ≡ failures_after (device_failed self.new.state) (S.failures source.old) }
-        ensures same { (self.new.format ≡ self.old.format) × (self.new.limit ≡ self.old.limit) }
-        ensures entry { IfSome result (λ x. (x.0 ≡ self.new.lines) × (self.old.lines < self.new.lines)) }
+        ensures same { KeepsTask self.old self.new }
+        ensures entry { BearsLine self.old self.new result }
         ensures lines { self.old.lines ≤ self.new.lines }
         ensures goes_on { OnSome result (self.new.state ≡ ReaderState.Ended) }
         ensures nearer { self.new.state ≡ ReaderState.Open → distance self.new < distance self.old }
@@ -199,8 +195,8 @@ impl Scan {
             Advances told (progress self.old) (progress self.new) [] (option_to_list result) }
         ensures state { self.new.state ≢ ReaderState.Open }
         ensures device { device_failed self.new.state ≡ device_failed ReaderState.Open }
-        ensures same { (self.new.format ≡ self.old.format) × (self.new.limit ≡ self.old.limit) }
-        ensures entry { IfSome result (λ x. (x.0 ≡ self.new.lines) × (self.old.lines < self.new.lines)) }
+        ensures same { KeepsTask self.old self.new }
+        ensures entry { BearsLine self.old self.new result }
         ensures lines { self.old.lines ≤ self.new.lines }
         ensures goes_on { OnSome result (self.new.state ≡ ReaderState.Ended) }
     {
