@@ -13,6 +13,7 @@ use Rattle.trace_core.specs.declared.fault.TraceFault.TheVariants as fault
 use Rattle.trace_core.specs.declared.reader.ReaderState.{ReaderState}
 use Rattle.trace_core.specs.declared.reader.ReaderState.TheVariants as state
 use Rattle.trace_core.proofs.Readings.{reading-line, reading-last, reading-failed}
+use Rattle.trace_core.specs.declared.reader.TheConstants.{MAX_LINE}
 
 abbrev pub at : Format → ℕ → ℕ → List ℕ → ReaderState → Progress
 at f limit n u s = record { format = f; limit = limit; lines = n; unread = u; state = s }
@@ -67,7 +68,7 @@ module _ (told : Option (List ℕ)) where
         failed
 
     -- a failure of the device
-    pub Advances-failed : (p : Progress) (u : List ℕ) → HoldsNoFeed u → length u ≤ 4096 → (0 < length u → n < limit) → p.state ≡ state.Failed (fault.Read (n + 1))
+    pub Advances-failed : (p : Progress) (u : List ℕ) → HoldsNoFeed u → length u ≤ MAX_LINE → (0 < length u → n < limit) → p.state ≡ state.Failed (fault.Read (n + 1))
         → Advances told (at f limit n u state.Open) p [] []
     Advances-failed p u none short within failed = record {
       gives = λ e later may.

@@ -9,6 +9,7 @@ use Rattle.trace_core.specs.declared.line.Format.{Format}
 use Rattle.trace_core.specs.declared.line.LineFault.{LineFault}
 use Rattle.trace_core.specs.declared.fault.TraceFault.{TraceFault}
 use Rattle.trace_core.specs.declared.fault.TraceFault.TheVariants as fault
+use Rattle.trace_core.specs.declared.reader.TheConstants.{MAX_LINE}
 
 pub judged-ok : (n : ℕ) (past long : Bool) (x y : TraceFault) (m : Result (Option Entry) LineFault) (o : Option Entry)
     → cond past (Err x) (cond long (Err y) (with_line n m)) ≡ Ok o → entry_in m ≡ o
@@ -22,7 +23,7 @@ module _ (f : Format) (limit : ℕ) where
       → map (λ x. x.1) (read_lines f limit n ls (ends None)).entries ≡ filter_map (λ line. entry_in (meaning f line)) ls
   read-entries n [] none = refl
   read-entries n (line ∷ more) none =
-      by_case (judge f limit (n + 1) line) (λ o h. judged-ok (n + 1) (ltb limit (n + 1)) (ltb 4096 (length line)) (fault.TooManyLines limit) (fault.TooLong (n + 1)) (meaning f line) o h) none (read-entries (n + 1) more)
+      by_case (judge f limit (n + 1) line) (λ o h. judged-ok (n + 1) (ltb limit (n + 1)) (ltb MAX_LINE (length line)) (fault.TooManyLines limit) (fault.TooLong (n + 1)) (meaning f line) o h) none (read-entries (n + 1) more)
     where
       by_case : (r : Result (Option Entry) TraceFault) → ((o : Option Entry) → r ≡ Ok o → entry_in (meaning f line) ≡ o)
           → (then_reads (n + 1) r (read_lines f limit (n + 1) more (ends None))).fault ≡ None

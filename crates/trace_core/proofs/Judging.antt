@@ -11,6 +11,7 @@ use Rattle.trace_core.specs.declared.line.Format.{Format}
 use Rattle.trace_core.specs.declared.fault.TraceFault.{TraceFault}
 use Rattle.trace_core.specs.declared.fault.TraceFault.TheVariants as fault
 use Rattle.trace_core.proofs.Entries.{judged-ok}
+use Rattle.trace_core.specs.declared.reader.TheConstants.{MAX_LINE}
 
 -- one byte more in front of some pieces
 pieces-cons : (feed : Bool) (c : ℕ) (pieces : List (List ℕ)) (x : List ℕ) (xs : List (List ℕ)) → pieces ≡ x ∷ xs
@@ -121,7 +122,7 @@ module _ (f : Format) (limit : ℕ) where
       ≡ filter_map (numbered_entry f) (take (prefix_len is_ok (judged (n + 1) ls)) (enumerate_from (n + 1) ls))
   entries-before n [] = refl
   entries-before n (line ∷ more) =
-      by_case (judge f limit (n + 1) line) (λ o h. judged-ok (n + 1) (ltb limit (n + 1)) (ltb 4096 (length line)) (fault.TooManyLines limit) (fault.TooLong (n + 1)) (meaning f line) o h)
+      by_case (judge f limit (n + 1) line) (λ o h. judged-ok (n + 1) (ltb limit (n + 1)) (ltb MAX_LINE (length line)) (fault.TooManyLines limit) (fault.TooLong (n + 1)) (meaning f line) o h)
       (entries-before (n + 1) more)
     where
       before : List (ℕ × List ℕ)

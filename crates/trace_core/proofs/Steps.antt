@@ -18,23 +18,24 @@ use Rattle.trace_core.specs.declared.reader.ReaderState.TheVariants as state
 use Rattle.trace_core.proofs.Searches.{fails-before, fails-all}
 use Rattle.trace_core.proofs.Readings.{NoFeed-from_places, reading-past, reading-long}
 use Rattle.trace_core.proofs.Advancing.{at, numbered, Advances-line, Advances-bad_line, Advances-fault, Advances-failed, Advances-last, Advances-bad_last}
+use Rattle.trace_core.specs.declared.reader.TheConstants.{MAX_LINE}
 
 with_line-err : (n : ℕ) (r : Result (Option Entry) LineFault) (x : TraceFault) → with_line n r ≡ Err x → (y : LineFault) × (x ≡ fault.Line n y)
 with_line-err n (Ok o) x h = absurd cc
 with_line-err n (Err y) x h = (y, cc)
 
 -- a short line within the limit has no other fault than its own
-judge-fault : (f : Format) (limit n : ℕ) (w : List ℕ) (x : TraceFault) → n ≤ limit → length w ≤ 4096 → judge f limit n w ≡ Err x → (y : LineFault) × (x ≡ fault.Line n y)
+judge-fault : (f : Format) (limit n : ℕ) (w : List ℕ) (x : TraceFault) → n ≤ limit → length w ≤ MAX_LINE → judge f limit n w ≡ Err x → (y : LineFault) × (x ≡ fault.Line n y)
 judge-fault f limit n w x within short judged =
     let in_limit : ltb limit n ≡ false = search (rules, tests) in
-    let in_length : ltb 4096 (length w) ≡ false = search (rules, tests) in
+    let in_length : ltb MAX_LINE (length w) ≡ false = search (rules, tests) in
     with_line-err n (meaning f w) x (rw (in_limit, in_length) at judged)
 
 -- a short line within the limit that means something
-pub judge-ok : (f : Format) (limit n : ℕ) (w : List ℕ) (o : Option Entry) → n ≤ limit → length w ≤ 4096 → meaning f w ≡ Ok o → judge f limit n w ≡ Ok o
+pub judge-ok : (f : Format) (limit n : ℕ) (w : List ℕ) (o : Option Entry) → n ≤ limit → length w ≤ MAX_LINE → meaning f w ≡ Ok o → judge f limit n w ≡ Ok o
 judge-ok f limit n w o within short means =
     let in_limit : ltb limit n ≡ false = search (rules, tests) in
-    let in_length : ltb 4096 (length w) ≡ false = search (rules, tests) in
+    let in_length : ltb MAX_LINE (length w) ≡ false = search (rules, tests) in
     rw (in_limit, in_length, means) refl
 
 -- the bytes before the first LF
@@ -82,11 +83,11 @@ module _ (told : Option (List ℕ)) (f : Format) (limit n : ℕ) (u : List ℕ) 
       past_all [] some e later = absurd (omega arith)
       past_all (c ∷ v) some e later = reading-past f limit e n c (v ++ later) past
 
-  pub steps-long : (q : Progress) → HoldsNoFeed u → n < limit → 4096 < length u → q.state ≡ state.Failed (fault.TooLong (n + 1)) → Advances told (at f limit n u s) q [] []
+  pub steps-long : (q : Progress) → HoldsNoFeed u → n < limit → MAX_LINE < length u → q.state ≡ state.Failed (fault.TooLong (n + 1)) → Advances told (at f limit n u s) q [] []
   steps-long q none within long failed =
       from_open q [] [] (Advances-fault told f limit n q u (fault.TooLong (n + 1)) (λ e later. reading-long f limit e n u later none within long) failed)
 
-  pub steps-failed : (q : Progress) → HoldsNoFeed u → length u ≤ 4096 → (0 < length u → n < limit) → q.state ≡ state.Failed (fault.Read (n + 1)) → Advances told (at f limit n u s) q [] []
+  pub steps-failed : (q : Progress) → HoldsNoFeed u → length u ≤ MAX_LINE → (0 < length u → n < limit) → q.state ≡ state.Failed (fault.Read (n + 1)) → Advances told (at f limit n u s) q [] []
   steps-failed q none short within failed = from_open q [] [] (Advances-failed told f limit n q u none short within failed)
 
   pub steps-last : (q : Progress) (o : Option Entry) → HoldsNoFeed u → 0 < length u → judge f limit (n + 1) u ≡ Ok o → q.state ≡ state.Ended
@@ -97,7 +98,7 @@ module _ (told : Option (List ℕ)) (f : Format) (limit n : ℕ) (u : List ℕ) 
       last_of [] none some judged = absurd (omega arith)
       last_of (c ∷ v) none some judged = Advances-last told f limit n q c v o none judged ended
 
-  pub steps-bad_last : (q : Progress) (x : TraceFault) → IsAtEnd told → HoldsNoFeed u → 0 < length u → n < limit → length u ≤ 4096 → judge f limit (n + 1) u ≡ Err x
+  pub steps-bad_last : (q : Progress) (x : TraceFault) → IsAtEnd told → HoldsNoFeed u → 0 < length u → n < limit → length u ≤ MAX_LINE → judge f limit (n + 1) u ≡ Err x
       → q.state ≡ state.Failed x → Advances told (at f limit n u s) q [] []
   steps-bad_last q x over none some within short judged failed =
       let own = judge-fault f limit (n + 1) u x (omega arith) short judged in

@@ -8,6 +8,7 @@ use Rattle.trace_core.specs.declared.events.Entry.TheVariants as entry
 use Rattle.trace_core.proofs.Deliveries.{Consumes-none, Delivers-none}
 use Rattle.trace_core.proofs.Steps.{judge-ok, steps-line, steps-past}
 use Rattle.trace_core.proofs.scan.Scan.step.Goals as goal
+use Rattle.trace_core.specs.declared.reader.TheConstants.{MAX_LINE}
 
 pub returns-then-not-is_empty-clause-advances : goal.returns-then-not-is_empty-clause-advances
 returns-then-not-is_empty-clause-advances g c =
@@ -23,7 +24,7 @@ returns-in-Some-clause-advances g c =
     let unread = c.as_slice-unread.ensures.value in
     let found : IsFirstByte (is_byte 10) s.buffer (Some at) = subst (λ u. IsFirstByte (is_byte 10) u (Some at)) unread c.in-Some.ensures.line in
     let means : meaning s.format (take at s.buffer) ≡ Ok (Some (entry.Item c.in-Some.item)) = subst (λ u. meaning s.format (take at u) ≡ Ok (Some (entry.Item c.in-Some.item))) unread c.in-Some.ensures.item in
-    let short : length (take at s.buffer) ≤ 4096 = omega (arith, length-take-le at s.buffer (omega (arith, found.0.high))) in
+    let short : length (take at s.buffer) ≤ MAX_LINE = omega (arith, length-take-le at s.buffer (omega (arith, found.0.high))) in
     let passed = c.pass_line.ensures in
     let advances : Advances told (progress s) (progress c.pass_line.new.self) [] ((s.lines + 1, entry.Item c.in-Some.item) ∷ []) =
     steps-line told s.format s.limit s.lines s.buffer s.state c.requires at (Some (entry.Item c.in-Some.item)) (progress c.pass_line.new.self)
