@@ -1,17 +1,17 @@
 -- What contracts see of the devices for tests.
 use Rattle.std.specs.Prelude.{ℕ, List}
 
--- A text that is given in pieces: the rest of it, the most bytes that a call gives, which call fails (0: none), and how many calls
--- were made and how many failed, both up to 2^64 - 1.
-pub record Tape : Type 0 where
+-- A tape: the rest of its text, the most bytes that a call gives, which call fails (0: none), and how many calls were made and how
+-- many failed, both up to 2^64 - 1.
+pub record TapeState : Type 0 where
   pub rest : List ℕ
   pub most : ℕ
   pub fails_at : ℕ
   pub calls : ℕ
   pub failures : ℕ
 
--- A sink that keeps what is written to it: these bytes, the most that a call takes, and its calls as those of a tape.
-pub record Store : Type 0 where
+-- An array that is written to: the bytes that it holds, the most that a call takes, and its calls as those of a tape.
+pub record ArrayState : Type 0 where
   pub bytes : List ℕ
   pub most : ℕ
   pub fails_at : ℕ

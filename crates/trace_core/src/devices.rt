@@ -61,9 +61,9 @@ pub struct TapeSource<'a> {
 
 impl<'a> Model for TapeSource<'a> {
     ghost use Rattle.std.specs.Prelude.{◌<◌};
-    ghost use Rattle.trace_core.specs.Devices.{Tape};
+    ghost use Rattle.trace_core.specs.Devices.{TapeState};
 
-    ghost Value = { Tape };
+    ghost Value = { TapeState };
 
     ghost view = { λ s. record {
       rest = s.rest.now;
@@ -201,10 +201,10 @@ pub struct ArraySink {
 
 impl Model for ArraySink {
     ghost use Rattle.std.specs.Prelude.{◌<◌, ◌≤◌, take};
-    ghost use Rattle.trace_core.specs.Devices.{Store};
+    ghost use Rattle.trace_core.specs.Devices.{ArrayState};
     ghost use Rattle.trace_core.specs.declared.devices.TheConstants.{SINK_ROOM};
 
-    ghost Value = { Store };
+    ghost Value = { ArrayState };
 
     ghost view = { λ s. record {
       bytes = take s.filled s.bytes;
