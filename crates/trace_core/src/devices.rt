@@ -141,6 +141,7 @@ pub struct LoopSource<'a> {
 impl<'a> Model for LoopSource<'a> {
     ghost use Rattle.std.specs.Prelude.{ℕ, ◌<◌, ◌≤◌, List, ◌++◌, length, take, drop};
 
+    /// The text from where it goes on, and round to there.
     ghost Value = { List ℕ };
 
     ghost view = { λ s. drop s.at s.text.now ++ take s.at s.text.now };
