@@ -10,10 +10,12 @@ pub record TapeState : Type 0 where
   pub calls : ℕ
   pub failures : ℕ
 
--- An array that is written to: the bytes that it holds, the most that a call takes, and its calls as those of a tape.
-pub record ArrayState : Type 0 where
+-- A sink that keeps what is written to it: these bytes, the most that a call takes, its calls as those of a tape, and how many of
+-- them were flushes, up to 2^64 - 1.
+pub record Store : Type 0 where
   pub bytes : List ℕ
   pub most : ℕ
   pub fails_at : ℕ
   pub calls : ℕ
   pub failures : ℕ
+  pub flushes : ℕ

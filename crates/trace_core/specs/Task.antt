@@ -1,7 +1,7 @@
 -- What a run over a trace reads, and what it owes its sink.
 use Rattle.std.specs.Prelude.{◌≡◌, ℕ, List, [], ◌++◌, map, Option, None, Some, Bool, true, false, Result, Ok, Err}
 use Rattle.std.specs.Io.KnownBytes.{Appends}
-use Rattle.trace_core.specs.Device.{WritesPrefix}
+use Rattle.trace_core.specs.Device.{WritesPrefix, one_more, FlushesAtMostOnce}
 use Rattle.trace_core.specs.Reading.{Reading, reading, cut_reading}
 use Rattle.trace_core.specs.Reader.{device_failed}
 use Rattle.trace_core.specs.declared.events.Entry.{Entry}
@@ -78,3 +78,11 @@ sink_failed (Ok x) = false
 sink_failed (Err Memory) = false
 sink_failed (Err (Trace f)) = false
 sink_failed (Err Write) = true
+
+-- A run flushes its sink once where it writes the output of a whole text, and not at a fault of the trace. Where the sink failed,
+-- it was the flush that failed or something before it.
+abbrev pub FlushesOnce : {T : Type 0} → ℕ → ℕ → Result T RunFault → Type 0
+FlushesOnce old new (Ok x) = new ≡ one_more old
+FlushesOnce old new (Err Memory) = new ≡ old
+FlushesOnce old new (Err (Trace f)) = new ≡ old
+FlushesOnce old new (Err Write) = FlushesAtMostOnce old new

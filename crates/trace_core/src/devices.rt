@@ -198,6 +198,7 @@ pub struct ArraySink {
     filled: usize,
     most: usize,
     calls: Calls,
+    flushes: u64,
 }
 
 impl Model for ArraySink {
@@ -213,6 +214,7 @@ impl Model for ArraySink {
       fails_at = s.calls.fails_at;
       calls = s.calls.made;
       failures = s.calls.failures;
+      flushes = s.flushes;
     } };
 
     ghost invariant = { λ s. (s.filled ≤ SINK_ROOM) × (0 < s.most) };
@@ -226,6 +228,7 @@ impl ArraySink {
         requires { 0 < most }
         ensures failures { ⟦<ArraySink as Sink>⟧.failures result ≡ 0 }
         ensures bytes { ⟦<ArraySink as Sink>⟧.written result ≡ Some [] }
+        ensures flushes { ⟦<ArraySink as Sink>⟧.flushes result ≡ 0 }
         ensures calls { (result.calls ≡ 0) × (result.fails_at ≡ fails_at) }
         ensures most { result.most ≡ most }
     {
@@ -234,6 +237,7 @@ impl ArraySink {
             filled: 0,
             most,
             calls: Calls::new(fails_at),
+            flushes: 0,
         }
     }
 
@@ -257,12 +261,15 @@ impl Sink for ArraySink {
 
     ghost written = { λ s. Some s.bytes };
 
+    ghost flushes = { λ s. s.flushes };
+
     fn write(&mut self, from: &[u8]) -> Result<usize, DeviceFault>
         // The sink's clauses.
         ensures bound { IfOk result (λ n. n ≤ length from.now) }
         ensures some { IfOk result (λ n. 0 < length from.now → 0 < n) }
         ensures bytes { Takes (Some self.old.bytes) (Some self.new.bytes) result from.now }
         ensures counted { CountsFailure self.old.failures self.new.failures result }
+        ensures unflushed { self.new.flushes ≡ self.old.flushes }
 
         // Each is a call. It fails just where it has the number `fails_at`, or bytes and no room.
         ensures one_call { self.new.calls ≡ one_more self.old.calls }
@@ -290,12 +297,14 @@ impl Sink for ArraySink {
         // The sink's clauses: it holds nothing back.
         ensures bytes { self.new.bytes ≡ self.old.bytes }
         ensures counted { CountsFailure self.old.failures self.new.failures result }
+        ensures flushed { self.new.flushes ≡ one_more self.old.flushes }
 
         // A flush is a call like a write.
         ensures one_call { self.new.calls ≡ one_more self.old.calls }
         ensures fails { IsErr result ↔ (self.old.calls + 1 ≡ self.old.fails_at) }
         ensures same { (self.new.most ≡ self.old.most) × (self.new.fails_at ≡ self.old.fails_at) }
     {
+        self.flushes = self.flushes.saturating_add(1);
         self.calls.begin()
     }
 }

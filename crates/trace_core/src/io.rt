@@ -1,7 +1,7 @@
-//! Where bytes come from and go to, and how often that failed.
+//! Where bytes come from and go to, how often that failed, and how often a sink was flushed.
 ghost use Rattle.std.specs.Prelude.{◌≡◌, ℕ, ◌<◌, ◌≤◌, ◌==◌, List, Option, None, IfOk, OnOk, OnErr, MatchResult, length, if◌then◌else◌};
 ghost use Rattle.std.specs.Io.KnownBytes.{Keeps, Appends};
-ghost use Rattle.trace_core.specs.Device.{CountsFailure, Gives, Takes, StaysOrUntold, WritesPrefix};
+ghost use Rattle.trace_core.specs.Device.{CountsFailure, Gives, Takes, StaysOrUntold, WritesPrefix, one_more};
 
 use std::io::{Read, Write};
 
@@ -33,18 +33,23 @@ pub trait Sink {
     /// The bytes written; `None` where the device does not say.
     ghost written: { Self → Option (List ℕ) };
 
+    /// How often `flush` was called so far, a stored `u64` that stays at its greatest value.
+    ghost flushes: { Self → ℕ };
+
     /// Takes bytes from the front of `from`, and answers how many.
     fn write(&mut self, from: &[u8]) -> Result<usize, DeviceFault>
         ensures bound { IfOk result (λ n. n ≤ length from.now) }
         ensures some { IfOk result (λ n. 0 < length from.now → 0 < n) }
         ensures bytes { Takes (written self.old) (written self.new) result from.now }
-        ensures counted { CountsFailure (failures self.old) (failures self.new) result };
+        ensures counted { CountsFailure (failures self.old) (failures self.new) result }
+        ensures unflushed { flushes self.new ≡ flushes self.old };
 
-    /// Passes on what a device below holds back.
+    /// Passes on what a device below holds back. A call that fails is a flush too.
     fn flush(&mut self) -> Result<(), DeviceFault>
         ensures bytes { MatchResult result (λ _. Keeps (written self.old) (written self.new))
             (λ _. StaysOrUntold (written self.old) (written self.new)) }
-        ensures counted { CountsFailure (failures self.old) (failures self.new) result };
+        ensures counted { CountsFailure (failures self.old) (failures self.new) result }
+        ensures flushed { flushes self.new ≡ one_more (flushes self.old) };
 }
 
 /// A source over a reader. Every error of the reader, `Interrupted` included, is one failure, and
@@ -90,17 +95,20 @@ impl<R: Read + Drop> Source for FromRead<R> {
 pub struct ToWrite<W: Drop> {
     writer: W,
     failures: u64,
+    flushes: u64,
 }
 
 impl<W: Write + Drop> ToWrite<W> {
-    /// A sink over this writer, of which no call failed yet.
+    /// A sink over this writer, of which no call failed yet, and which was not flushed.
     pub fn new(writer: W) -> ToWrite<W>
         ensures failures { ⟦<ToWrite<W> as Sink>⟧.failures result ≡ 0 }
         ensures bytes { ⟦<ToWrite<W> as Sink>⟧.written result ≡ W.contents writer }
+        ensures flushes { ⟦<ToWrite<W> as Sink>⟧.flushes result ≡ 0 }
     {
         ToWrite {
             writer,
             failures: 0,
+            flushes: 0,
         }
     }
 }
@@ -109,6 +117,8 @@ impl<W: Write + Drop> Sink for ToWrite<W> {
     ghost failures = { λ s. s.failures };
 
     ghost written = { λ s. if s.failures == 0 then W.contents s.writer else None };
+
+    ghost flushes = { λ s. s.flushes };
 
     fn write(&mut self, from: &[u8]) -> Result<usize, DeviceFault> {
         match self.writer.write(from) {
@@ -121,6 +131,7 @@ impl<W: Write + Drop> Sink for ToWrite<W> {
     }
 
     fn flush(&mut self) -> Result<(), DeviceFault> {
+        self.flushes = self.flushes.saturating_add(1);
         match self.writer.flush() {
             Ok(()) => Ok(()),
             Err(_) => {
@@ -137,6 +148,7 @@ pub fn write_all<S: Sink>(sink: &mut S, bytes: &[u8]) -> Result<(), DeviceFault>
     ensures ok { OnOk result (Appends (S.written sink.old) (S.written sink.new) bytes.now) }
     ensures counted { CountsFailure (S.failures sink.old) (S.failures sink.new) result }
     ensures fault { OnErr result (WritesPrefix (S.written sink.old) (S.written sink.new) bytes.now) }
+    ensures unflushed { S.flushes sink.new ≡ S.flushes sink.old }
 {
     let mut rest = bytes;
     while !rest.is_empty() {

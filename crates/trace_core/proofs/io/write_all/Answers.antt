@@ -17,4 +17,5 @@ loop-rest-preserved g c =
       c.split_at.ensures.back ∙ ap (drop count) so_far.2 ∙ drop-drop count n bytes,
       rw (take-add n count bytes) more,
       c.in_ok-count.ensures.counted ∙ so_far.4,
+      c.write.ensures.unflushed ∙ so_far.5,
     )
