@@ -29,3 +29,5 @@ pub mod MachineRows
 mod SystemRows
 pub mod SlotSums
 pub mod AnyLaw
+pub mod TouchedSets
+pub mod SlabFlush

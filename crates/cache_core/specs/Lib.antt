@@ -5,6 +5,7 @@ pub mod Words
 pub mod Machine
 pub mod Order
 pub mod Slab
+pub mod Touched
 pub mod Stands
 pub mod LruLaws
 pub mod Levels

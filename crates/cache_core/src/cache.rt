@@ -4,12 +4,15 @@ ghost use Rattle.cache_core.specs.Geometry.{block_of, address_of};
 ghost use Rattle.cache_core.specs.Outcomes.{outcome_of, on_hit, on_placing, on_passing, dirties, allocates, writes_through, fill_access};
 ghost use Rattle.cache_core.specs.Order.{Touches, TakesIn, Visits, words_after, position_of, marked, Accesses, Flushes, dirty_slots, DirtiesByWrites};
 ghost use Rattle.cache_core.specs.Slab.{Addressable, IsSlab, slab_contents, sets_of};
+ghost use Rattle.cache_core.specs.Touched.{Covers, ListsFilled, no_sets};
 
 use crate::geometry::Geometry;
 use crate::outcome::{AllocMode, Design, Outcome, Slot, WriteMode};
 use crate::replacement::Replacement;
+use crate::touched::TouchedSets;
 use std::alloc::{AllocError, Global};
 use std::marker::Model;
+use std::mem;
 use trace_core::events::{Access, Ref};
 
 /// Where a block stands.
@@ -154,16 +157,19 @@ fn visit<P: Replacement>(
     (outcome, (filled + 1).min(room.len()))
 }
 
-/// One access, in a slab of rooms.
+/// One access, in a slab of rooms. A set that gets its first block is listed.
 #[inline(always)]
 fn visit_slab<P: Replacement>(
     design: Design,
     policy: &mut P,
     slots: &mut [Slot],
     filled: &mut [u32],
+    touched: &mut TouchedSets,
     reference: Ref,
 ) -> Outcome
-    requires { IsSlab design slots.old filled.old }
+    requires slab { IsSlab design slots.old filled.old }
+    requires touched { Covers touched.old filled.old }
+    ensures touched { Covers touched.new filled.new }
     ensures slab { IsSlab design slots.new filled.new }
     ensures access { Accesses
         (slab_contents design (P.rule policy.old) (P.words policy.old) slots.old filled.old) reference result
@@ -176,8 +182,10 @@ fn visit_slab<P: Replacement>(
     let set = design.geometry.set_of(reference.addr) as usize;
     let start = set * ways;
     let room = &mut slots[start..start + ways];
-    let (outcome, count) = visit(design, policy, room, filled[set] as usize, reference);
+    let before = filled[set];
+    let (outcome, count) = visit(design, policy, room, before as usize, reference);
     filled[set] = count as u32;
+    touched.note_growth(set, before, count as u32);
     outcome
 }
 
@@ -212,6 +220,48 @@ fn clear(filled: &mut [u32])
     filled.fill(0);
 }
 
+/// Leaves no slot of the listed sets filled, which are all that have any, and answers how many were dirty. A set that is listed
+/// again has none any more.
+fn empty_listed(slots: &[Slot], filled: &mut [u32], ways: usize, listed: &[u32]) -> u64
+    requires segments { length slots.now ≡ ways * length filled.old }
+    requires within { All (λ n. n ≤ ways) filled.old }
+    requires few { length slots.now ≤ 2 ^ 22 }
+    requires listed { ListsFilled listed.now filled.old }
+    ensures counted { result ≡ dirty_slots (sets_of ways slots.now filled.old) }
+    ensures empty { filled.new ≡ replicate (length filled.old) 0 }
+{
+    let mut dirty = 0;
+    for number in listed {
+        let set = *number as usize;
+        let start = set * ways;
+        let count = mem::replace(&mut filled[set], 0) as usize;
+        dirty += count_dirty_slots(&slots[start..start + count]);
+    }
+    dirty
+}
+
+/// Leaves no slot of a slab filled, and answers how many were dirty. It goes to the listed sets alone where they are listed.
+fn empty_slab(touched: &mut TouchedSets, slots: &[Slot], filled: &mut [u32], ways: usize) -> u64
+    requires segments { length slots.now ≡ ways * length filled.old }
+    requires within { All (λ n. n ≤ ways) filled.old }
+    requires few { length slots.now ≤ 2 ^ 22 }
+    requires touched { Covers touched.old filled.old }
+    ensures counted { result ≡ dirty_slots (sets_of ways slots.now filled.old) }
+    ensures empty { filled.new ≡ replicate (length filled.old) 0 }
+    ensures touched { touched.new ≡ no_sets touched.old }
+{
+    let dirty = match touched.listed() {
+        Some(listed) => empty_listed(slots, filled, ways, listed),
+        None => {
+            let dirty = count_dirty(slots, filled, ways);
+            clear(filled);
+            dirty
+        }
+    };
+    touched.clear();
+    dirty
+}
+
 /// So many sets with no filled slot.
 fn no_slots(alloc: Global, sets: usize) -> Result<Vec<u32>, AllocError>
     ensures { IfOk result (λ filled. filled.items ≡ replicate sets 0) }
@@ -226,6 +276,7 @@ pub struct Cache<P> {
     policy: P,
     slots: Vec<Slot>,
     filled: Vec<u32>,
+    touched: TouchedSets,
 }
 
 impl<P> Model for Cache<P> {
@@ -234,6 +285,7 @@ impl<P> Model for Cache<P> {
     ghost Value = { CacheValue P };
 
     ghost use Rattle.cache_core.specs.Slab.{sets_of, IsSlab};
+    ghost use Rattle.cache_core.specs.Touched.{Covers};
 
     ghost view = { λ c. record {
       design = c.design;
@@ -241,7 +293,7 @@ impl<P> Model for Cache<P> {
       sets = sets_of c.design.geometry.e c.slots.items c.filled.items;
     } };
 
-    ghost invariant = { λ c. IsSlab c.design c.slots.items c.filled.items };
+    ghost invariant = { λ c. IsSlab c.design c.slots.items c.filled.items × Covers c.touched c.filled.items };
 }
 
 impl<P: Replacement> Cache<P> {
@@ -267,6 +319,7 @@ impl<P: Replacement> Cache<P> {
         };
         let slots = vec![in alloc; free; geometry.lines() as usize]?;
         let filled = no_slots(alloc, geometry.sets() as usize)?;
+        let touched = TouchedSets::new(alloc, geometry.sets() as usize)?;
         Ok(Cache {
             design: Design {
                 geometry,
@@ -276,6 +329,7 @@ impl<P: Replacement> Cache<P> {
             policy,
             slots,
             filled,
+            touched,
         })
     }
 
@@ -292,6 +346,7 @@ impl<P: Replacement> Cache<P> {
             &mut self.policy,
             &mut self.slots,
             &mut self.filled,
+            &mut self.touched,
             reference,
         )
     }
@@ -303,8 +358,6 @@ impl<P: Replacement> Cache<P> {
             (contents_of P.rule P.words self.new) }
     {
         let ways = self.design.geometry.e() as usize;
-        let dirty = count_dirty(&self.slots, &self.filled, ways);
-        clear(&mut self.filled);
-        dirty
+        empty_slab(&mut self.touched, &self.slots, &mut self.filled, ways)
     }
 }

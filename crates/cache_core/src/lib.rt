@@ -10,3 +10,4 @@ pub mod replacement;
 pub mod simulate;
 mod stage;
 pub mod system;
+pub mod touched;

@@ -1,21 +1,27 @@
-use Rattle.std.proofs.Common.{arith, sym, refl, [], replicate, ◌^◌, ◌∙◌, ap}
+use Rattle.std.proofs.Common.{◌≡◌, ◌++◌, ◌^◌, ◌∙◌, arith, sym, refl, ap, [], length, take, drop, replicate}
 use Rattle.cache_core.proofs.Slabs.{slab_made, sets_of-empty, length-sets_of, none_filled}
+use Rattle.cache_core.proofs.TouchedSets.{covers_none}
 use Rattle.cache_core.proofs.cache.Cache.flush.Goals as goal
+use Rattle.cache_core.proofs.cache.Cache.flush.Given.{Over}
+
+none_left : (g : Over) (c : goal.After-self-1 g) → take c.self.inside.filled.len (c.empty_slab.new.filled ++ drop (length c.empty_slab.new.filled) c.self.inside.filled.items) ≡ replicate (2 ^ c.self.inside.design.geometry.s) 0
+none_left g c =
+    let i = c.self.inside in
+    none_filled c.empty_slab.new.filled _ i.filled.len _ (2 ^ i.design.geometry.s) (omega arith) c.empty_slab.ensures.empty (omega (arith, c.self.invariant.0.sets))
 
 pub invariant_of-self : goal.invariant_of-self
 invariant_of-self g c =
-    let i = c.self.inside in
-    slab_made _ _ _ c.self.invariant.shape c.self.invariant.segments
-    (none_filled c.clear.new.filled _ i.filled.len _ (2 ^ i.design.geometry.s) (omega arith) c.clear.ensures (omega (arith, c.self.invariant.sets)))
+    let known = c.self.invariant.0 in
+    (slab_made _ _ _ known.shape known.segments (none_left g c), covers_none c.empty_slab.new.touched _ _ _ c.empty_slab.ensures.touched (none_left g c))
 
 pub returns : goal.returns
 returns g c =
     let i = c.self.inside in
     let n = i.design.geometry.e in
-    rw (none_filled c.clear.new.filled _ i.filled.len _ (2 ^ i.design.geometry.s) (omega arith) c.clear.ensures (omega (arith, c.self.invariant.sets)), ← c.self.view_is) record {
-      empty = sets_of-empty n _ i.slots.items ∙ ap (λ m. replicate m []) (sym (length-sets_of n i.filled.items i.slots.items ∙ c.self.invariant.sets));
+    rw (none_left g c, ← c.self.view_is) record {
+      empty = sets_of-empty n _ i.slots.items ∙ ap (λ m. replicate m []) (sym (length-sets_of n i.filled.items i.slots.items ∙ c.self.invariant.0.sets));
       words = refl;
-      counted = c.count_dirty-dirty.ensures ∙ rw (c.e-ways.ensures, c.deref.ensures.value, c.deref-2.ensures.value) refl;
+      counted = c.empty_slab.ensures.counted ∙ rw (c.e-ways.ensures, c.deref.ensures.value, c.deref_mut.ensures.value) refl;
       design = refl;
       rule = refl;
     }

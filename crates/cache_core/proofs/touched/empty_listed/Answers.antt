@@ -1,0 +1,10 @@
+use Rattle.std.proofs.Common.{◌∙◌, ap, arith, subst, replicate}
+use Rattle.std.proofs.lemmas.List.{drop_all}
+use Rattle.cache_core.specs.Touched.{ListsFilled}
+use Rattle.cache_core.proofs.TouchedSets.{no_count}
+use Rattle.cache_core.proofs.touched.empty_listed.Goals as goal
+
+pub returns : goal.returns
+returns c =
+    let none = drop_all c.loop-set.set-index c.args.sets.now (omega arith) in
+    no_count c.loop-set.counts (subst (λ sets. ListsFilled sets c.loop-set.counts) none c.loop-set.invariant) ∙ ap (λ n. replicate n 0) c.loop-set.auto.counts

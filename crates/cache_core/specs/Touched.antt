@@ -1,0 +1,31 @@
+-- The sets that got a block since the last flush, and the counts that they stand for.
+use Rattle.std.specs.Prelude.{ℕ, ◌≡◌, ◌<◌, ◌&&◌, not, false, List, [], ◌∷◌, ◌++◌, Option, Some, None, if◌then◌else◌, ◌==◌, nat_lt, length, All, IfSome, slice_index_or}
+use Rattle.std.specs.List.{list_any}
+
+-- the sets that are listed, or none once there were more of them than room
+pub record Touched : Type 0 where
+  pub room : ℕ
+  pub listed : Option (List ℕ)
+
+-- a list with one set more, where there is room
+abbrev pub joined : ℕ → ℕ → Option (List ℕ) → Option (List ℕ)
+joined room set None = None
+joined room set (Some sets) = if nat_lt (length sets) room then Some (sets ++ set ∷ []) else None
+
+-- a set whose count was 0 and is not any more joins the list
+abbrev pub after_count : ℕ → ℕ → ℕ → Touched → Touched
+after_count set before after touched =
+    if (before == 0) && not (after == 0) then record touched { listed = joined touched.room set touched.listed } else touched
+
+-- each listed set has a count, and a set that is not listed has the count 0
+pub record ListsFilled (sets counts : List ℕ) : Type 0 where
+  pub within : All (λ set. set < length counts) sets
+  pub others : (set : ℕ) → list_any (λ other. other == set) sets ≡ false → slice_index_or counts set 0 ≡ 0
+
+-- a list that stands for counts tells each set whose count is not 0
+abbrev pub Covers : Touched → List ℕ → Type 0
+Covers touched counts = IfSome touched.listed (λ sets. ListsFilled sets counts)
+
+-- a list of no set
+abbrev pub no_sets : Touched → Touched
+no_sets touched = record touched { listed = Some [] }

@@ -1,0 +1,106 @@
+//! The sets that got a block since the last flush, so that a flush goes to them alone.
+ghost use Rattle.std.specs.Prelude.{◌≡◌, ◌<◌, ◌/◌, ◌^◌, [], length, Some, IfOk, option_map, replicate};
+ghost use Rattle.cache_core.specs.Touched.{after_count, joined, no_sets, Covers, ListsFilled};
+
+use std::alloc::{AllocError, Global};
+use std::marker::Model;
+
+/// How many sets share one place of the list. The list takes a quarter of a byte for each set, and a flush that has to walk all
+/// sets, since more were touched than are listed, walks no more than sixteen for each block that was placed.
+const SETS_A_PLACE: usize = 16;
+
+/// The sets that got a block since the last flush, each by its number, as long as there are places for them.
+#[derive(Drop)]
+pub struct TouchedSets {
+    places: Vec<u32>,
+    used: Option<usize>,
+}
+
+impl Model for TouchedSets {
+    ghost use Rattle.std.specs.Prelude.{◌≤◌, IfSome, length, option_map, take};
+    ghost use Rattle.cache_core.specs.Touched.{Touched};
+
+    ghost Value = { Touched };
+
+    ghost view = { λ t. record {
+      room = length t.places.items;
+      listed = option_map (λ used. take used t.places.items) t.used;
+    } };
+
+    ghost invariant = { λ t. IfSome t.used (λ used. used ≤ length t.places.items) };
+}
+
+/// Sets the counts of the listed sets to 0, which are all that are not 0.
+fn empty_listed(counts: &mut [u32], sets: &[u32])
+    requires { ListsFilled sets.now counts.old }
+    ensures { counts.new ≡ replicate (length counts.old) 0 }
+{
+    for set in sets {
+        counts[*set as usize] = 0;
+    }
+}
+
+impl TouchedSets {
+    /// An empty list for a number of sets. It takes all its places, and that alone can fail.
+    pub fn new(alloc: Global, sets: usize) -> Result<TouchedSets, AllocError>
+        ensures { IfOk result (λ touched. touched ≡ record { room = sets / 16; listed = Some [] }) }
+    {
+        Ok(TouchedSets {
+            places: vec![in alloc; 0; sets / SETS_A_PLACE]?,
+            used: Some(0),
+        })
+    }
+
+    /// Lists a set that gets its first block, by how many blocks it held and how many it holds now.
+    #[inline(always)]
+    pub fn note_growth(&mut self, set: usize, before: u32, after: u32)
+        requires { set < 2 ^ 32 }
+        ensures { self.new ≡ after_count set before after self.old }
+    {
+        // The counts are compared first: they are the same at most references, and often known to be.
+        if before != after && before == 0 {
+            self.note(set as u32);
+        }
+    }
+
+    /// Lists a set. It stands apart, so that the path of the many references that find their set filled stays short.
+    #[inline(never)]
+    fn note(&mut self, set: u32)
+        ensures { self.new ≡ record self.old { listed = joined self.old.room set self.old.listed } }
+    {
+        self.used = match self.used {
+            Some(used) if used < self.places.len() => {
+                self.places[used] = set;
+                Some(used + 1)
+            }
+            _ => None,
+        };
+    }
+
+    /// The sets that are listed, or `None` where there were more than places.
+    pub fn listed(&self) -> Option<&[u32]>
+        ensures { option_map (λ sets. sets.now) result ≡ self.now.listed }
+    {
+        self.used.map(|used| &self.places[..used])
+    }
+
+    /// Forgets the sets.
+    pub fn clear(&mut self)
+        ensures { self.new ≡ no_sets self.old }
+    {
+        self.used = Some(0);
+    }
+
+    /// Sets the counts of all sets to 0, and forgets the sets. Where they are listed, it goes to them alone.
+    pub fn empty(&mut self, counts: &mut [u32])
+        requires { Covers self.old counts.old }
+        ensures counts { counts.new ≡ replicate (length counts.old) 0 }
+        ensures sets { self.new ≡ no_sets self.old }
+    {
+        match self.listed() {
+            Some(sets) => empty_listed(counts, sets),
+            None => counts.fill(0),
+        }
+        self.clear();
+    }
+}
