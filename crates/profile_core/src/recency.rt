@@ -2,8 +2,10 @@
 
 ghost use Rattle.std.specs.Prelude.{◌≡◌, ◌≢◌, ◌+◌, ◌-◌, ◌*◌, ◌^◌, ◌<◌, ◌≤◌, [], ◌∷◌, min, length, take, sum, sum_by, replicate, IfOk, slice_set, slice_get, slice_index_or};
 ghost use Rattle.std.specs.List.{remove};
+ghost use Rattle.cache_core.specs.Touched.{after_count};
 ghost use Rattle.profile_core.specs.Moves.{place_of, move_to_front, touch_of, carried_of};
 
+use cache_core::touched::TouchedSets;
 use std::alloc::{AllocError, Global};
 use std::marker::Model;
 use std::mem;
@@ -23,7 +25,8 @@ enum Carried {
 }
 
 /// The lists of all sets. A list of `len` blocks is the first `len` places of its row: its front, and then a stretch of
-/// `stride` places of the slab. `blocks` is their number in all lists, so that a flush of empty lists costs nothing.
+/// `stride` places of the slab. `blocks` is their number in all lists, and `touched` lists the sets that have any, so that a flush
+/// goes to these alone.
 #[derive(Drop)]
 pub struct RecencyLists {
     stride: usize,
@@ -31,11 +34,12 @@ pub struct RecencyLists {
     slab: Vec<u64>,
     lens: Vec<u32>,
     blocks: u64,
+    touched: TouchedSets,
 }
 
 impl Model for RecencyLists {
-    ghost use Rattle.std.specs.Prelude.{◌≡◌, ◌+◌, sum};
-    ghost use Rattle.profile_core.specs.Slab.{Lists, lists_in, IsSlab};
+    ghost use Rattle.std.specs.Prelude.{◌+◌};
+    ghost use Rattle.profile_core.specs.Slab.{Lists, lists_in, IsCounted};
 
     ghost Value = { Lists };
 
@@ -44,8 +48,7 @@ impl Model for RecencyLists {
       lists = lists_in r.stride r.fronts.items r.slab.items r.lens.items;
     } };
 
-    ghost invariant = { λ r. IsSlab r.stride r.fronts.items r.slab.items r.lens.items
-        × (r.blocks ≡ sum r.lens.items) };
+    ghost invariant = { λ r. IsCounted r.stride r.fronts.items r.slab.items r.lens.items r.blocks r.touched };
 }
 
 impl RecencyLists {
@@ -62,6 +65,7 @@ impl RecencyLists {
             slab: vec![in alloc; 0; sets * stride]?,
             lens: vec![in alloc; 0; sets]?,
             blocks: 0,
+            touched: TouchedSets::new(alloc, sets)?,
         })
     }
 
@@ -125,6 +129,8 @@ impl RecencyLists {
             &mut self.slab[start..end],
             &mut self.lens[set],
             &mut self.blocks,
+            &mut self.touched,
+            set,
             block,
             probes,
         )
@@ -134,10 +140,7 @@ impl RecencyLists {
     pub fn clear(&mut self)
         ensures { self.new ≡ record self.old { lists = replicate (length self.old.lists) [] } }
     {
-        if self.blocks == 0 {
-            return;
-        }
-        self.lens.fill(0);
+        self.touched.empty(&mut self.lens);
         self.blocks = 0;
     }
 
@@ -151,16 +154,19 @@ impl RecencyLists {
 }
 
 /// Brings a block to the front of the list in the first `len` places of a row, which are `front` and then `rest`; it is not
-/// there already. Where the list fills the row, its last block leaves it.
+/// there already. Where the list fills the row, its last block leaves it. A set whose list begins is noted.
 #[inline(always)]
 fn touch_row(
     front: &mut u64,
     rest: &mut [u64],
     len: &mut u32,
     blocks: &mut u64,
+    touched: &mut TouchedSets,
+    set: usize,
     block: u64,
     probes: &mut u64,
 ) -> Touch
+    requires some_set { set < 2 ^ 32 }
     requires within { len.old ≤ length rest.old + 1 }
     requires small { length rest.old + 1 < 2 ^ 32 }
     requires few { probes.old ≤ 2 ^ 63 }
@@ -171,6 +177,7 @@ fn touch_row(
         ≡ probes.old + (min (place_of block (take len.old (front.old ∷ rest.old)) + 1) len.old - 1) }
     ensures within { len.new ≤ length rest.old + 1 }
     ensures grown { blocks.new + len.old ≡ blocks.old + len.new }
+    ensures touched { touched.new ≡ after_count set len.old len.new touched.old }
     ensures moved { take len.new (front.new ∷ rest.new)
         ≡ take (length rest.old + 1) (move_to_front block (take len.old (front.old ∷ rest.old))) }
 {
@@ -179,6 +186,7 @@ fn touch_row(
     if held == 0 {
         *len = 1;
         *blocks += 1;
+        touched.note_growth(set, 0, 1);
         return Touch::New(0);
     }
     match carry(&mut rest[..held - 1], first, block, probes) {
