@@ -2,7 +2,7 @@
 use Rattle.std.specs.Prelude.{ℕ, ◌≡◌, ◌<◌, ◌&&◌, not, false, List, [], ◌∷◌, ◌++◌, Option, Some, None, if◌then◌else◌, ◌==◌, nat_lt, length, All, IfSome, slice_index_or}
 use Rattle.std.specs.List.{list_any}
 
--- the sets that are listed, or none once there were more of them than room
+-- the sets that are listed, or `None` once there were more of them than room
 pub record Touched : Type 0 where
   pub room : ℕ
   pub listed : Option (List ℕ)

@@ -269,7 +269,8 @@ fn no_slots(alloc: Global, sets: usize) -> Result<Vec<u32>, AllocError>
     vec![in alloc; 0; sets]
 }
 
-/// A cache under a policy. A set's slots stand in the policy's order in one array, each set in a segment of its own.
+/// A cache under a policy. A set's slots stand in the policy's order in one array, each set in a segment of its own. `touched`
+/// lists the sets with filled slots, so that a flush goes to these alone.
 #[derive(Drop)]
 pub struct Cache<P> {
     design: Design,
