@@ -26,6 +26,7 @@ use Rattle.cache_core.proofs.SetLaw.{with_mark}
 use Rattle.cache_core.proofs.StateLaw.{touch_here, touch_other, insert_here, insert_other, exchange_here, exchange_other, member_set}
 use Rattle.cache_core.proofs.FlushLaw.{none_anywhere, dirty_all}
 use Rattle.cache_core.proofs.LruSet.{blocks_of, place_none}
+use Rattle.cache_core.proofs.DownLaw.{any_clean, any_few}
 use Rattle.cache_core.proofs.Lists.{is}
 use Rattle.cache_core.proofs.SlotSums.{agree, same, same_is, one_for, one_self, by_sums, line_sum, sum_split, absent_sum, line_of, touch_sum, touch_distinct, insert_sum, insert_distinct, exchange_sum, exchange_distinct}
 
@@ -233,6 +234,7 @@ any_access m st old ref outcome new some i a =
       gone = r.gone;
       may = r.may;
       told = r.told;
+      few = any_few m st ref r.gone i.clean r.may;
       holds = record {
         design = a.design ∙ i.design;
         count = a.count ∙ i.count;
@@ -244,6 +246,7 @@ any_access m st old ref outcome new some i a =
             (λ t. subst (λ n. Distinct (lines_of_set g n next.lines)) (sym t.1) r.distinct)
             (λ f. subst Distinct (sym (r.others j f.1)) (i.distinct j))
             (eqb_tells j k);
+        clean = any_clean m st ref r.gone i.clean;
       };
     }
 
@@ -253,6 +256,7 @@ any_start m c d e = record {
   count = ap length e ∙ length-replicate (2 ^ m.design.geometry.s) [];
   sets = λ k. subst (λ s. IsPermutation s []) (sym (ap (λ s. slots_of s k) e ∙ none_anywhere (2 ^ m.design.geometry.s) k)) (IsPermutation-refl []);
   distinct = λ k. tt;
+  clean = λ w. refl;
 }
 
 pub any_flush : AnyFlushLaw
@@ -263,6 +267,7 @@ any_flush m st old dirty new i f =
         count = ap length f.empty ∙ length-replicate (length old.sets) [] ∙ i.count;
         sets = λ k. subst (λ s. IsPermutation s []) (sym (ap (λ s. slots_of s k) f.empty ∙ none_anywhere (length old.sets) k)) (IsPermutation-refl []);
         distinct = λ k. tt;
+        clean = λ w. refl;
       },
       f.counted ∙ dirty_all m.design.geometry st.lines old.sets i.count (λ k. sym (sum_by-IsPermutation (λ (slot : Slot). cond slot.dirty 1 0) (slots_of old.sets k) (map slot_of (lines_of_set m.design.geometry k st.lines)) (i.sets k))),
     )

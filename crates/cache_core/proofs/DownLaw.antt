@@ -1,7 +1,8 @@
--- Never more than two references go down: a write-through cache holds no dirty line.
-use Rattle.std.proofs.Common.{◌≡◌, ℕ, ◌+◌, ◌≤◌, ◌||◌, Bool, true, false, cond, ltb, List, [], ◌∷◌, ◌++◌, length, Option, Some, None, sym, ◌∙◌, ap, refl, arith, filter, find}
-use Rattle.std.specs.Prelude.{fold}
+-- Never more than two references go down, whatever line leaves: a write-through cache holds no dirty line.
+use Rattle.std.proofs.Common.{◌≡◌, ℕ, zero, suc, ◌+◌, ◌<◌, ◌≤◌, ◌||◌, Bool, true, false, cond, ltb, List, [], ◌∷◌, ◌++◌, length, get_or, Option, Some, None, sym, ◌∙◌, ap, refl, arith, filter, find}
+use Rattle.std.specs.Prelude.{fold, count_by}
 use Rattle.std.proofs.lemmas.List.{length-append}
+use Rattle.std.proofs.lemmas.List.Sums.{sum_by-cons}
 use Rattle.trace_core.specs.declared.events.Ref.{Ref}
 use Rattle.trace_core.specs.declared.events.Access.{Access}
 use Rattle.trace_core.specs.declared.events.Event.{Event}
@@ -11,17 +12,34 @@ use Rattle.cache_core.specs.declared.outcome.Repl.{Repl}
 use Rattle.cache_core.specs.declared.outcome.Repl.TheVariants.{Lru, Fifo, Random}
 use Rattle.cache_core.specs.declared.outcome.WriteMode.{WriteMode}
 use Rattle.cache_core.specs.declared.outcome.WriteMode.TheVariants.{Back, Through}
-use Rattle.cache_core.specs.Geometry.{Shape, block_of, set_of_block, address_of}
+use Rattle.cache_core.specs.Geometry.{Shape, block_of, set_of, address_of}
 use Rattle.cache_core.specs.Outcomes.{is_write, dirties, allocates, writes_through, writes_back, fill_access, on_placing, on_passing}
-use Rattle.cache_core.specs.Machine.{Machine, MachineState, Line, option_slot, is_block, lines_of_set, exchange, least, lesser, victim, touch, with_block, leaves, placing, start, step, step_at, answer_at, next, run}
+use Rattle.cache_core.specs.Machine.{Machine, MachineState, Line, option_slot, is_block, lines_of_set, exchange, least, lesser, victim, touch, with_block, leaves, placing, start, step, step_at, step_with, answer_at, answer_with, next, run, dirty_count}
+use Rattle.cache_core.specs.Order.{one_if}
 use Rattle.cache_core.specs.Stands.{DownLaw}
+use Rattle.cache_core.specs.AnyPolicy.{MayLeave, needs_room}
 use Rattle.cache_core.proofs.Lists.{cases}
 
 abbrev pub Clean : List Line → Type 0
 Clean [] = Unit {0}
 Clean (l ∷ ls) = (l.dirty ≡ false) × Clean ls
 
-clean_filter : (p : Line → Bool) (ls : List Line) → Clean ls → Clean (filter p ls)
+-- that is, none is counted
+pub clean_count : (ls : List Line) → Clean ls → count_by (λ (l : Line). l.dirty) ls ≡ 0
+clean_count [] h = refl
+clean_count (l ∷ ls) h = omega (arith, sum_by-cons (λ (x : Line). one_if x.dirty) l ls, clean_count ls h.1, ap one_if h.0)
+
+not_dirty : (b : Bool) → one_if b ≡ 0 → b ≡ false
+not_dirty true h = absurd (omega arith)
+not_dirty false h = refl
+
+pub count_clean : (ls : List Line) → count_by (λ (l : Line). l.dirty) ls ≡ 0 → Clean ls
+count_clean [] h = tt
+count_clean (l ∷ ls) h =
+    let e = sum_by-cons (λ (x : Line). one_if x.dirty) l ls in
+    (not_dirty l.dirty (omega (arith, e)), count_clean ls (omega (arith, e)))
+
+pub clean_filter : (p : Line → Bool) (ls : List Line) → Clean ls → Clean (filter p ls)
 clean_filter p [] h = tt
 clean_filter p (l ∷ ls) h = cases (λ b. Clean (cond b (l ∷ filter p ls) (filter p ls))) (p l) (λ _. (h.0, clean_filter p ls h.1)) (λ _. clean_filter p ls h.1)
 
@@ -39,6 +57,11 @@ clean_find p (l ∷ ls) line h e =
     cases (λ b. (cond b (Some l) (find p ls) ≡ Some line) → line.dirty ≡ false) (p l)
     (λ _ q. let same : l ≡ line = cc in ap (λ (x : Line). x.dirty) (sym same) ∙ h.0)
     (λ _ q. clean_find p ls line h.1 q) e
+
+clean_at : (ls : List Line) (k : ℕ) (d : Line) → k < length ls → Clean ls → (get_or ls k d).dirty ≡ false
+clean_at [] k d lt h = absurd (omega arith)
+clean_at (l ∷ ls) zero d lt h = h.0
+clean_at (l ∷ ls) (suc k) d lt h = clean_at ls k d (omega arith) h.1
 
 clean_lesser : (l : Line) (o : Option Line) → l.dirty ≡ false → ((line : Line) → o ≡ Some line → line.dirty ≡ false) → (lesser l o).dirty ≡ false
 clean_lesser l None e h = e
@@ -71,7 +94,7 @@ clean_place Fifo clock count new (Some gone) ls e h = (e, clean_filter _ ls h)
 through_clean : (w : WriteMode) (a : Access) → w ≡ Through → dirties w a ≡ false
 through_clean w a e = ap (λ x. dirties x a) e
 
-clean_step_at : (m : Machine) (ref : Ref) (block : ℕ) (leaving : Option Line) (st : MachineState) (o : Option Line) → m.design.write ≡ Through → find (is_block block) st.lines ≡ o → Clean st.lines → Clean (step_at m ref block leaving st o).lines
+pub clean_step_at : (m : Machine) (ref : Ref) (block : ℕ) (leaving : Option Line) (st : MachineState) (o : Option Line) → m.design.write ≡ Through → find (is_block block) st.lines ≡ o → Clean st.lines → Clean (step_at m ref block leaving st o).lines
 clean_step_at m ref block leaving st (Some line) w f h =
     let d : dirties m.design.write ref.access ≡ false = through_clean m.design.write ref.access w in
     let e : (dirties m.design.write ref.access || line.dirty) ≡ false = ap (λ b. b || line.dirty) d ∙ clean_find (is_block block) st.lines line h f in
@@ -83,7 +106,7 @@ clean_step_at m ref block leaving st None w f h =
 
 clean_fold : (m : Machine) (st : MachineState) (events : List Event) → m.design.write ≡ Through → Clean st.lines → Clean (fold (next m) st events).lines
 clean_fold m st [] w h = h
-clean_fold m st (event.Reference ref ∷ events) w h = clean_fold m (step m st ref) events w (clean_step_at m ref (block_of m.design.geometry ref.addr) (leaves m st (set_of_block m.design.geometry (block_of m.design.geometry ref.addr))) st (find (is_block (block_of m.design.geometry ref.addr)) st.lines) w refl h)
+clean_fold m st (event.Reference ref ∷ events) w h = clean_fold m (step m st ref) events w (clean_step_at m ref (block_of m.design.geometry ref.addr) (leaves m st (set_of m.design.geometry ref.addr)) st (find (is_block (block_of m.design.geometry ref.addr)) st.lines) w refl h)
 clean_fold m st (event.Flush ∷ events) w h = clean_fold m (next m st event.Flush) events w tt
 
 -- what goes down
@@ -115,13 +138,38 @@ clean_leaves m st set line h e =
     (λ _ q. absurd cc)
     (λ _ q. clean_victim m.policy m.design.geometry.e (m.words st.drawn) here line (clean_filter _ st.lines h) q) e
 
-answer_most : (m : Machine) (ref : Ref) (block : ℕ) (st : MachineState) (o : Option Line) → (m.design.write ≡ Through → Clean st.lines) → length (answer_at m ref block (leaves m st (set_of_block m.design.geometry block)) o).down ≤ 2
-answer_most m ref block st (Some line) h = omega (arith, through_most m.design.write ref)
-answer_most m ref block st None h =
-    cases (λ b. length (cond b (on_placing m.design.geometry m.design.write ref block (option_slot (leaves m st (set_of_block m.design.geometry block)))) (on_passing ref)).down ≤ 2) (allocates m.design.alloc ref.access)
-    (λ _. placing_most m.design.write m.design.geometry ref block (leaves m st (set_of_block m.design.geometry block)) (λ w line e. clean_leaves m st (set_of_block m.design.geometry block) line (h w) e))
+pub answer_most : (m : Machine) (ref : Ref) (block : ℕ) (leaving : Option Line) (o : Option Line) → (m.design.write ≡ Through → (line : Line) → leaving ≡ Some line → line.dirty ≡ false) → length (answer_at m ref block leaving o).down ≤ 2
+answer_most m ref block leaving (Some line) h = omega (arith, through_most m.design.write ref)
+answer_most m ref block leaving None h =
+    cases (λ b. length (cond b (on_placing m.design.geometry m.design.write ref block (option_slot leaving)) (on_passing ref)).down ≤ 2) (allocates m.design.alloc ref.access)
+    (λ _. placing_most m.design.write m.design.geometry ref block leaving h)
     (λ _. omega arith)
 
 pub down_law : DownLaw
 down_law m events ref =
-    answer_most m ref (block_of m.design.geometry ref.addr) (run m events) (find (is_block (block_of m.design.geometry ref.addr)) (run m events).lines) (λ w. clean_fold m start events w tt)
+    let st = run m events in
+    let set = set_of m.design.geometry ref.addr in
+    answer_most m ref (block_of m.design.geometry ref.addr) (leaves m st set) (find (is_block (block_of m.design.geometry ref.addr)) st.lines) (λ w line e. clean_leaves m st set line (clean_fold m start events w tt) e)
+
+-- a line that may leave a clean cache
+may_clean : (needed : Bool) (here : List Line) (gone : Option Line) (line : Line) → Clean here → MayLeave needed here gone → gone ≡ Some line → line.dirty ≡ false
+may_clean needed here None line h may e = absurd cc
+may_clean needed here (Some x) line h may e =
+    let same : x ≡ line = cc in
+    let (k, lt, at) = may.1 in
+    ap (λ (l : Line). l.dirty) (sym same ∙ sym at) ∙ clean_at here k x lt h
+
+-- under any lawful policy
+pub any_clean : (m : Machine) (st : MachineState) (ref : Ref) (gone : Option Line) → (m.design.write ≡ Through → dirty_count st ≡ 0) → m.design.write ≡ Through → dirty_count (step_with m ref gone st) ≡ 0
+any_clean m st ref gone h w =
+    let block = block_of m.design.geometry ref.addr in
+    let o = find (is_block block) st.lines in
+    clean_count (step_at m ref block gone st o).lines (clean_step_at m ref block gone st o w refl (count_clean st.lines (h w)))
+
+pub any_few : (m : Machine) (st : MachineState) (ref : Ref) (gone : Option Line) → (m.design.write ≡ Through → dirty_count st ≡ 0) →
+    MayLeave (needs_room m st ref) (lines_of_set m.design.geometry (set_of m.design.geometry ref.addr) st.lines) gone → length (answer_with m ref gone st).down ≤ 2
+any_few m st ref gone h may =
+    let block = block_of m.design.geometry ref.addr in
+    let here = lines_of_set m.design.geometry (set_of m.design.geometry ref.addr) st.lines in
+    answer_most m ref block gone (find (is_block block) st.lines)
+    (λ w line e. may_clean (needs_room m st ref) here gone line (clean_filter _ st.lines (count_clean st.lines (h w))) may e)

@@ -3,18 +3,21 @@ use Rattle.std.specs.Prelude.{◌≡◌, ℕ, ◌≤◌, ◌^◌, Bool, true, fa
 use Rattle.trace_core.specs.declared.events.Ref.{Ref}
 use Rattle.trace_core.specs.declared.events.Event.TheVariants as event
 use Rattle.cache_core.specs.declared.outcome.Outcome.{Outcome}
+use Rattle.cache_core.specs.declared.outcome.WriteMode.TheVariants.{Through}
 use Rattle.cache_core.specs.Geometry.{block_of, set_of}
 use Rattle.cache_core.specs.Machine.{Machine, MachineState, Line, start, slot_of, is_block, lines_of_set, is_full, step_with, answer_with, next, dirty_count}
 use Rattle.cache_core.specs.Order.{Contents, Accesses, Flushes, slots_of}
 use Rattle.cache_core.specs.Outcomes.{allocates, outcome_of}
 use Rattle.cache_core.specs.Stands.{Distinct}
 
--- Each set holds the slots of the machine's lines of it, in some order; a block has one line at most.
+-- Each set holds the slots of the machine's lines of it, in some order; a block has one line at most; a write-through cache
+-- holds no dirty line.
 pub record HoldsSame (m : Machine) (st : MachineState) (c : Contents) : Type 0 where
   pub design : c.design ≡ m.design
   pub count : length c.sets ≡ 2 ^ m.design.geometry.s
   pub sets : (k : ℕ) → IsPermutation (slots_of c.sets k) (map slot_of (lines_of_set m.design.geometry k st.lines))
   pub distinct : (k : ℕ) → Distinct (lines_of_set m.design.geometry k st.lines)
+  pub clean : m.design.write ≡ Through → dirty_count st ≡ 0
 
 -- whether a reference places its block in a full set
 abbrev pub needs_room : Machine → MachineState → Ref → Bool
@@ -26,11 +29,12 @@ abbrev pub MayLeave : Bool → List Line → Option Line → Type 0
 MayLeave needed here None = needed ≡ false
 MayLeave needed here (Some line) = (needed ≡ true) × Contains here line
 
--- what one access is to the machine: its step and its answer, where some line leaves that may
+-- what one access is to the machine: its step and its answer, where some line leaves that may; at most two references go down
 pub record AnyStep (m : Machine) (st : MachineState) (ref : Ref) (outcome : Outcome) (new : Contents) : Type 0 where
   pub gone : Option Line
   pub may : MayLeave (needs_room m st ref) (lines_of_set m.design.geometry (set_of m.design.geometry ref.addr) st.lines) gone
   pub told : outcome ≡ outcome_of (answer_with m ref gone st)
+  pub few : length (answer_with m ref gone st).down ≤ 2
   pub holds : HoldsSame m (step_with m ref gone st) new
 
 -- a new cache holds what the machine holds at its start
