@@ -1,6 +1,7 @@
--- The shape of a cache: 2^s sets of e lines, each of a block of 2^b bytes.
+-- The shape of a cache: 2^s sets of e lines, each of a block of 2^b bytes (CS:APP).
 use Rattle.std.specs.Prelude.{ℕ, ◌≤◌, ◌+◌, ◌*◌, ◌/◌, ◌%◌, ◌^◌, Bool, ◌&&◌, nat_le, Option, None, Some, if◌then◌else◌}
 
+-- its numbers: the set index bits, the lines of a set and the block bits
 pub record Shape : Type 0 where
   pub s : ℕ
   pub e : ℕ

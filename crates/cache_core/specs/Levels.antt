@@ -25,7 +25,7 @@ pub record Levels : Type 0 where
   pub u : Option Level
   pub second : Option Level
 
--- the power of two, up to 2^20, by which a unit gives a number
+-- the least k up to 20 for which unit * 2^k is the number
 unfoldable pub exponent_of : ℕ → ℕ → Option ℕ
 exponent_of unit number = find (λ k. unit * 2 ^ k == number) (range_with_len 0 21)
 
@@ -42,14 +42,15 @@ pub record IsShapeOf (spec : CacheSpec) (g : Shape) : Type 0 where
   pub size : spec.size ≡ spec.assoc * spec.bsize * 2 ^ g.s
   pub limits : IsGeometry g
 
--- a cache that is asked for, with its shape
+-- a cache that is asked for, with its shape; none if it has no shape
 abbrev pub level_of : CacheSpec → Option Level
 level_of spec = option_map (λ g. record { design = record { geometry = g; write = spec.wback; alloc = spec.walloc }; repl = spec.repl }) (shape_of spec)
 
--- no cache is asked for, or a unified one beside others
+-- no first-level cache is asked for
 abbrev pub has_none : FirstLevel → Bool
 has_none first = is_none first.i && is_none first.d && is_none first.u
 
+-- a unified first-level cache is asked for beside another
 abbrev pub is_mixed : FirstLevel → Bool
 is_mixed first = is_some first.u && (is_some first.i || is_some first.d)
 
@@ -58,11 +59,12 @@ abbrev pub lacks_shape : Option CacheSpec → Bool
 lacks_shape None = false
 lacks_shape (Some spec) = is_none (shape_of spec)
 
--- a first-level cache has larger blocks than the second level
+-- a first-level cache, if it is asked for, has larger blocks than the second-level one
 abbrev pub has_larger_block : CacheSpec → Option CacheSpec → Bool
 has_larger_block second None = false
 has_larger_block second (Some spec) = nat_lt second.bsize spec.bsize
 
+-- the second-level cache, if it is asked for, has smaller blocks than some first-level one
 abbrev pub has_small_block : FirstLevel → Option CacheSpec → Bool
 has_small_block first None = false
 has_small_block first (Some second) = has_larger_block second first.i || has_larger_block second first.d || has_larger_block second first.u
@@ -79,6 +81,7 @@ fault_of first second =
     else if has_small_block first second then Some SmallBlock
     else None
 
+-- the caches that are asked for and have a shape
 abbrev pub levels_of : FirstLevel → Option CacheSpec → Levels
 levels_of first second = record {
   i = option_and_then level_of first.i;
@@ -87,11 +90,12 @@ levels_of first second = record {
   second = option_and_then level_of second;
 }
 
--- a plan, or its first fault
+-- the fault, if there is one, and otherwise the levels
 abbrev pub or_fault : Option PlanFault → Levels → Result Levels PlanFault
 or_fault None levels = Ok levels
 or_fault (Some fault) levels = Err fault
 
+-- the plan that is asked for, or its first fault
 abbrev pub plan_of : FirstLevel → Option CacheSpec → Result Levels PlanFault
 plan_of first second = or_fault (fault_of first second) (levels_of first second)
 

@@ -58,11 +58,12 @@ without block lines = filter (λ line. not (is_block block line)) lines
 abbrev pub exchange : ℕ → Line → List Line → List Line
 exchange block new lines = map (λ line. if is_block block line then new else line) lines
 
--- the line with the least key; no two lines of a set have the same one
+-- of two lines the one with the lesser key
 abbrev pub lesser : Line → Option Line → Line
 lesser line None = line
 lesser line (Some other) = if nat_lt line.key other.key then line else other
 
+-- the line with the least key; no two lines of a set have the same one
 abbrev pub least : List Line → Option Line
 least [] = None
 least (line ∷ lines) = Some (lesser line (least lines))
@@ -111,7 +112,7 @@ placing m ref block leaving st =
       drawn = (if is_full m st set && draws m.policy then st.drawn + 1 else st.drawn);
     }
 
--- one reference to a block, where this line leaves if the block is placed; the line of the block, if it is held, comes last
+-- one reference to a block, where this line leaves if the block is placed (the last argument is the block's line, if it is held)
 abbrev pub step_at : Machine → Ref → ℕ → Option Line → MachineState → Option Line → MachineState
 step_at m ref block leaving st (Some line) = record st {
   clock = st.clock + 1;
@@ -120,6 +121,7 @@ step_at m ref block leaving st (Some line) = record st {
 step_at m ref block leaving st None =
     if allocates m.design.alloc ref.access then placing m ref block leaving st else record st { clock = st.clock + 1 }
 
+-- the answer to it, over the same arguments but the state
 abbrev pub answer_at : Machine → Ref → ℕ → Option Line → Option Line → Answer
 answer_at m ref block leaving (Some line) = on_hit m.design.write ref
 answer_at m ref block leaving None =

@@ -17,7 +17,7 @@ is_write Fetch = false
 is_write Read = false
 is_write Write = true
 
--- the line is dirty after it: a write, in a write-back cache
+-- whether a reference marks its line dirty: a write, in a write-back cache
 abbrev pub dirties : WriteMode → Access → Bool
 dirties Back a = is_write a
 dirties Through a = false
@@ -51,6 +51,7 @@ pub record Answer : Type 0 where
   pub placed : Bool
   pub down : List Ref
 
+-- a hit: nothing leaves, and only a write that goes through goes down
 abbrev pub on_hit : WriteMode → Ref → Answer
 on_hit write ref = record { hit = true; evicted = None; placed = false; down = writes_through write ref }
 

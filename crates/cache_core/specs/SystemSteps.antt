@@ -139,10 +139,12 @@ pub record IsNewStage (seed : ℕ) (level : Level) (stage : Stage) : Type 0 wher
   pub empty : stage.cache.sets ≡ empty_sets level.design.geometry
   pub counts : stage.stats ≡ no_counts
 
+-- a new cache of a system exactly where the plan has one
 abbrev pub IsNewLevel : ℕ → Option Level → Option Stage → Type 0
 IsNewLevel seed None stage = stage ≡ None
 IsNewLevel seed (Some level) stage = (new : Stage) × (stage ≡ Some new) × IsNewStage seed level new
 
+-- a new system: new caches, and nothing counted
 pub record IsNewSystem (plan : Levels) (seed : ℕ) (v : SystemValue) : Type 0 where
   pub i : IsNewLevel seed plan.i v.i
   pub d : IsNewLevel seed plan.d v.d

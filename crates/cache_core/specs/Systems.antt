@@ -46,11 +46,12 @@ takes L1D ref = not (is_fetch ref.access)
 takes L1U ref = true
 takes L2U ref = false
 
--- its events: those references, and each flush
+-- which events it takes: those references, and each flush
 abbrev pub takes_event : CacheName → Event → Bool
 takes_event name (event.Reference ref) = takes name ref
 takes_event name event.Flush = true
 
+-- the events of a list that come to a cache of the first level
 abbrev pub events_for : CacheName → List Event → List Event
 events_for name events = filter (takes_event name) events
 
@@ -65,22 +66,24 @@ abbrev pub sent : Levels → ℕ → List Event → Ref → List Ref
 sent plan seed earlier ref =
     sends seed L1I plan.i earlier ref ++ sends seed L1D plan.d earlier ref ++ sends seed L1U plan.u earlier ref
 
--- what goes down from the first level, in order, with each flush at its place
+-- what goes down from the first level for events that come after earlier ones, in order, with each flush at its place
 abbrev pub below_from : Levels → ℕ → List Event → List Event → List Event
 below_from plan seed earlier [] = []
 below_from plan seed earlier (event.Reference ref ∷ events) =
     map event.Reference (sent plan seed earlier ref) ++ below_from plan seed (earlier ++ event.Reference ref ∷ []) events
 below_from plan seed earlier (event.Flush ∷ events) = event.Flush ∷ below_from plan seed (earlier ++ event.Flush ∷ []) events
 
+-- the events of the second level: what goes down from the first for a whole list
 abbrev pub below : Levels → ℕ → List Event → List Event
 below plan seed events = below_from plan seed [] events
 
--- how many dirty blocks its flushes find
+-- how many dirty blocks the flushes of a list find, from a state
 abbrev pub flushed_from : Machine → MachineState → List Event → ℕ
 flushed_from m st [] = 0
 flushed_from m st (event.Reference ref ∷ events) = flushed_from m (step m st ref) events
 flushed_from m st (event.Flush ∷ events) = dirty_count st + flushed_from m (next m st event.Flush) events
 
+-- the same from the start
 abbrev pub flushed : Machine → List Event → ℕ
 flushed m events = flushed_from m start events
 
@@ -99,10 +102,12 @@ cache_stats m events =
       copybacks = count_by (λ p. is_dirty p.1.evicted) all + flushed m events;
     }
 
+-- what a cache counts over its events, if the plan has it
 abbrev pub level_counts : ℕ → Option Level → List Event → Option CacheStats
 level_counts seed None events = None
 level_counts seed (Some level) events = Some (cache_stats (machine_of seed level) events)
 
+-- how many dirty blocks its flushes find, none if the plan doesn't have it
 abbrev pub level_flushed : ℕ → Option Level → List Event → ℕ
 level_flushed seed None events = 0
 level_flushed seed (Some level) events = flushed (machine_of seed level) events

@@ -47,7 +47,7 @@ distinct_of_set g k w = filter (λ block. set_of_block g block == k) (distinct w
 abbrev pub has_last : Place → Bool
 has_last p = list_any (λ block. block == p.block) p.window
 
--- how many different blocks of its set were referenced since the last reference to the block
+-- the stack distance: how many different blocks of its set were referenced since the last reference to the block
 abbrev pub distance : Shape → Place → ℕ
 distance g p = length (distinct_of_set g (set_of_block g p.block) (before_first (λ block. block == p.block) p.window))
 

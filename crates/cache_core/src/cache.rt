@@ -23,7 +23,7 @@ fn find_block(slots: &[Slot], block: u64) -> Option<usize>
     slots.iter().position(|slot| slot.block == block)
 }
 
-/// Whether the line is dirty after a reference.
+/// Whether a reference marks its line dirty: a write, in a write-back cache.
 #[inline(always)]
 fn dirties_line(write: WriteMode, access: Access) -> bool
     ensures { result ≡ dirties write access }

@@ -9,10 +9,10 @@ pub const MAX_BITS: u64 = 20;
 /// The most lines in a set.
 pub const MAX_WAYS: u64 = 65_536;
 
-/// The most lines in a cache.
+/// The most lines in a cache: 2^22.
 pub const MAX_CACHE_LINES: u64 = 4_194_304;
 
-/// A cache of `2^s` sets of `e` lines, each of a block of `2^b` bytes.
+/// The geometry of a cache: `2^s` sets of `e` lines of `2^b` bytes (CS:APP's s, E, b).
 #[derive(Clone, Copy, Debug)]
 pub struct Geometry {
     s: u64,
@@ -37,7 +37,7 @@ impl Model for Geometry {
 impl Geometry {
     ghost use Rattle.cache_core.specs.Geometry.{IsGeometry, geometry_of, size_of, block_of, set_of, set_of_block, address_of};
 
-    /// A geometry, exactly within the limits.
+    /// None unless `s` and `b` are at most `MAX_BITS`, `e` is 1 to `MAX_WAYS` and `e * 2^s` at most `MAX_CACHE_LINES`.
     pub fn new(s: u64, e: u64, b: u64) -> Option<Geometry>
         ensures { result ≡ geometry_of s e b }
     {
@@ -70,7 +70,7 @@ impl Geometry {
         self.b
     }
 
-    /// The limits, for a caller that computes with the numbers.
+    /// States the limits for a caller's proof. It runs no code.
     pub fn limits(&self)
         ensures { IsGeometry self.now }
     {

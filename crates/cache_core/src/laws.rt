@@ -1,4 +1,5 @@
-//! Laws over the definitions: each is the contract of a function with no code, which a caller cites by calling it.
+//! Laws over the definitions: each is the contract of a function with no code, so that the gate proves it. Proofs above may cite
+//! the lemma behind it.
 ghost use Rattle.std.specs.Prelude.{◌≡◌, ◌↔◌, true, List, [], ◌∷◌, ◌++◌};
 ghost use Rattle.trace_core.specs.declared.events.Ref.{Ref};
 ghost use Rattle.trace_core.specs.declared.events.Event.{Event};
@@ -56,8 +57,8 @@ pub fn two_go_down_at_most()
     ensures { DownLaw }
 {}
 
-/// Under any lawful policy an access is a step of the machine in which any line of the full set may leave; the slots of a set
-/// are known up to their order then.
+/// Under any lawful policy an access is a step of the machine in which any line of the full set may leave, and at most two
+/// references go down; the slots of a set are known up to their order then.
 pub fn any_policy()
     ensures start { AnyStartLaw }
     ensures access { AnyAccessLaw }

@@ -2,7 +2,8 @@
 use crate::geometry::Geometry;
 use trace_core::events::Ref;
 
-/// A block that a cache holds.
+/// A filled line: the number (not the address) of its block, and whether it is dirty: in a write-back cache, written since its
+/// block was placed or by the write that placed it.
 #[derive(Clone, Copy, Debug, PartialEq, Eq)]
 pub struct Slot {
     pub block: u64,

@@ -8,7 +8,7 @@ use std::fmt::{self, Display, Formatter, Write};
 use std::marker::Model;
 use thiserror::Error;
 
-/// A cache as it is asked for: its size and block size in bytes, and its lines in a set.
+/// A cache as it is asked for: its size and block size in bytes, and its lines in a set; named as the options of Dinero IV.
 #[derive(Clone, Copy, Debug, PartialEq, Eq)]
 pub struct CacheSpec {
     pub size: u64,
@@ -22,8 +22,11 @@ pub struct CacheSpec {
 /// The first level as it is asked for: one cache for all references, or one for fetches, one for reads and writes, or both.
 #[derive(Clone, Copy, Debug, PartialEq, Eq)]
 pub struct FirstLevel {
+    /// The cache for fetches.
     pub i: Option<CacheSpec>,
+    /// The cache for reads and writes.
     pub d: Option<CacheSpec>,
+    /// The cache for all references.
     pub u: Option<CacheSpec>,
 }
 
@@ -120,7 +123,7 @@ impl Model for Plan {
     ghost inverse = { λ v. record { i = v.i; d = v.d; u = v.u; second = v.second } };
 }
 
-/// The power of two, up to 2^20, by which a unit gives a number.
+/// The least k up to 20 for which unit * 2^k is the number.
 fn exponent_of(unit: u128, number: u64) -> Option<u64>
     requires { unit < 2 ^ 100 }
     ensures value { result ≡ exponent_of unit number }
@@ -169,7 +172,7 @@ fn level_for(cache: CacheName, spec: Option<CacheSpec>) -> Result<Option<Level>,
 }
 
 impl CacheSpec {
-    /// Whether this cache is there and has larger blocks.
+    /// Whether the first-level cache is there and has larger blocks than this one.
     fn is_below(&self, first: Option<CacheSpec>) -> bool
         ensures { result ≡ has_larger_block self.now first }
     {
@@ -236,7 +239,8 @@ impl Plan {
         })
     }
 
-    /// What each plan keeps: some first level, none beside a unified one, and each cache within the limits.
+    /// States the invariant for a caller's proof: some first level, none beside a unified one, and each cache within the limits.
+    /// It runs no code.
     pub fn keeps(&self)
         ensures { IsPlan self.now }
     {

@@ -65,7 +65,7 @@ fn descend(second: &mut Option<Stage>, memory: &mut Memory, reference: Ref)
     }
 }
 
-/// A reference at a cache of the first level.
+/// What a first-level cache sends down for a reference; None where there is no such cache.
 fn answer(stage: &mut Option<Stage>, reference: Ref) -> Option<[Option<Ref>; 2]>
     requires { LevelWithin (2 ^ 62) stage.old }
     ensures value { Answers stage.old reference result stage.new }
@@ -127,7 +127,7 @@ fn first_level(
     answer(d, reference)
 }
 
-/// Empties a cache of a system, if it is there.
+/// Empties a cache of a system, if it is there, and answers how many dirty lines it held.
 fn empty(stage: &mut Option<Stage>) -> u64
     requires { LevelWithin (2 ^ 62) stage.old }
     ensures value { EmptiesLevel stage.old result stage.new }
@@ -190,7 +190,8 @@ impl System {
     ghost use Rattle.cache_core.specs.Systems.{system_run};
     ghost use Rattle.cache_core.specs.SystemStands.{SystemStands};
 
-    /// A system of the caches of a plan. It takes all their lines.
+    /// A system of the caches of a plan, all empty; each with random replacement has a generator of its own, of this seed. Takes the
+    /// memory of all its caches; only want of memory fails.
     pub fn new(alloc: Global, plan: Plan, seed: u64) -> Result<Self, AllocError>
         ensures { IfOk result (IsNewSystem plan seed) }
     {
@@ -213,7 +214,7 @@ impl System {
         })
     }
 
-    /// How many steps it has made.
+    /// How many steps it has made, flushes among them.
     pub fn steps(&self) -> u64
         ensures value { result ≡ self.now.steps }
         ensures trace { (plan : Levels) (seed : ℕ) (events : List Event) →
@@ -222,7 +223,8 @@ impl System {
         self.steps
     }
 
-    /// One reference.
+    /// One reference, at the first-level cache that takes it; what that sends down goes to the second level or to memory. Where no
+    /// cache takes it, it is bypassed. At most 2^41 steps and flushes.
     pub fn step(&mut self, reference: Ref)
         requires { self.old.steps < 2 ^ 41 }
         ensures { Steps self.old reference self.new }
@@ -235,7 +237,8 @@ impl System {
         }
     }
 
-    /// Empties every cache.
+    /// Empties every cache. Each dirty line is a copyback and a write to memory; nothing enters the second level, and nothing is an
+    /// eviction. A flush is a step, too.
     pub fn flush(&mut self)
         requires { self.old.steps < 2 ^ 41 }
         ensures { FlushStep self.old self.new }
