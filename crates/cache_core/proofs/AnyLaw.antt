@@ -1,6 +1,6 @@
 -- One access under any lawful policy, as the cache sees it and as the machine sees it.
-use Rattle.std.proofs.Common.{◌≡◌, ◌≢◌, ℕ, ◌+◌, ◌<◌, ◌≤◌, ◌^◌, ◌==◌, ◌&&◌, Bool, true, false, not, cond, eqb, ltb, List, [], ◌∷◌, ◌++◌, length, get_or, Option, Some, None, sym, ◌∙◌, ap, refl, subst, arith, ⊎_elim, map, find, length-set}
-use Rattle.std.specs.Prelude.{MatchOption, MatchBool, sum_by, count_by, is_none, IsPermutation, Contains}
+use Rattle.std.proofs.Common.{◌≡◌, ◌≢◌, ℕ, ◌+◌, ◌<◌, ◌≤◌, ◌^◌, ◌==◌, ◌&&◌, Bool, true, false, not, cond, eqb, ltb, List, [], ◌∷◌, ◌++◌, length, get_or, Option, Some, None, sym, ◌∙◌, ap, refl, subst, arith, ⊎_elim, map, find}
+use Rattle.std.specs.Prelude.{MatchOption, MatchBool, sum_by, is_none, IsPermutation, Contains}
 use Rattle.std.specs.List.{list_any}
 use Rattle.std.proofs.lemmas.Bool.{eqb-true, or_parts, le-ltb, lt-ltb}
 use Rattle.std.proofs.lemmas.Bool.Decides.{eqb_tells}
@@ -20,7 +20,7 @@ use Rattle.cache_core.specs.Machine.{Machine, MachineState, Line, slot_of, optio
 use Rattle.cache_core.specs.Order.{Visits, Fills, Passes, Hits, TakesIn, slots_of, position_of, marked}
 use Rattle.cache_core.specs.Stands.{Absent, Distinct}
 use Rattle.cache_core.specs.AnyPolicy.{MayLeave, AnyStartLaw, AnyAccessLaw, AnyFlushLaw}
-use Rattle.cache_core.proofs.Lawful.{lawful_touch, lawful_place}
+use Rattle.cache_core.proofs.Lawful.{marked_length, lawful_touch, lawful_place}
 use Rattle.cache_core.proofs.Lines.{found, not_found, find_in_set, absent_append, distinct_front, distinct_back}
 use Rattle.cache_core.proofs.SetLaw.{with_mark}
 use Rattle.cache_core.proofs.StateLaw.{touch_here, touch_other, insert_here, insert_other, exchange_here, exchange_other, member_set}
@@ -62,10 +62,6 @@ marked_sum true slots at line f h e =
     let old : f (slot_of line) ≡ f (get_or slots at empty_slot) = ap f e in
     let new : f (slot_of (with_mark true line)) ≡ f (record (get_or slots at empty_slot) { dirty = true }) = ap (λ (s : Slot). f (record s { dirty = true })) e in
     omega (arith, moved, old, new)
-
-marked_length : (d : Bool) (slots : List Slot) (at : ℕ) → length (marked d slots at) ≡ length slots
-marked_length true slots at = length-set slots at _
-marked_length false slots at = refl
 
 -- a hit
 hit_agrees : (m : Machine) (st : MachineState) (ref : Ref) (line : Line) (rule : Option Repl) (words : ℕ → ℕ) (outcome : Outcome) (slots new : List Slot) (rest : ℕ → ℕ) →
@@ -260,14 +256,13 @@ any_start m c d e = record {
 }
 
 pub any_flush : AnyFlushLaw
-any_flush m st old dirty new i f =
-    let dirty_of : List Slot → ℕ = count_by (λ (slot : Slot). slot.dirty) in (
-      record {
-        design = f.design ∙ i.design;
-        count = ap length f.empty ∙ length-replicate (length old.sets) [] ∙ i.count;
-        sets = λ k. subst (λ s. IsPermutation s []) (sym (ap (λ s. slots_of s k) f.empty ∙ none_anywhere (length old.sets) k)) (IsPermutation-refl []);
-        distinct = λ k. tt;
-        clean = λ w. refl;
-      },
-      f.counted ∙ dirty_all m.design.geometry st.lines old.sets i.count (λ k. sym (sum_by-IsPermutation (λ (slot : Slot). cond slot.dirty 1 0) (slots_of old.sets k) (map slot_of (lines_of_set m.design.geometry k st.lines)) (i.sets k))),
-    )
+any_flush m st old dirty new i f = (
+  record {
+    design = f.design ∙ i.design;
+    count = ap length f.empty ∙ length-replicate (length old.sets) [] ∙ i.count;
+    sets = λ k. subst (λ s. IsPermutation s []) (sym (ap (λ s. slots_of s k) f.empty ∙ none_anywhere (length old.sets) k)) (IsPermutation-refl []);
+    distinct = λ k. tt;
+    clean = λ w. refl;
+  },
+  f.counted ∙ dirty_all m.design.geometry st.lines old.sets i.count (λ k. sym (sum_by-IsPermutation (λ (slot : Slot). cond slot.dirty 1 0) (slots_of old.sets k) (map slot_of (lines_of_set m.design.geometry k st.lines)) (i.sets k))),
+)

@@ -4,11 +4,6 @@ use Rattle.std.proofs.Math.Pow.{pow_mono}
 use Rattle.std.proofs.Math.Nat.{mul-le-mul, mul_assoc}
 use Rattle.cache_core.specs.Geometry.{IsGeometry, shape}
 
-pub shift_fits : (s : ℕ) → s ≤ 20 → 1 * 2 ^ s % 18446744073709551616 ≡ 2 ^ s
-shift_fits s h =
-    let p : 2 ^ s ≤ 2 ^ 20 = pow_mono h in
-    omega arith
-
 pub size_fits : (s e b : ℕ) → IsGeometry (shape s e b) → e * 2 ^ (s + b) % 18446744073709551616 ≡ e * 2 ^ (s + b)
 size_fits s e b g =
     let p : 2 ^ b ≤ 2 ^ 20 = pow_mono g.blocks in

@@ -49,7 +49,3 @@ pub all_copied : (refs : List Ref) (second : Option Stage) (memory : Memory) (ne
 all_copied [] second memory next after d = rw d.0 (omega arith)
 all_copied (ref ∷ refs) second memory next after (mid, half, d, r) =
     omega (arith, descends_copied ref second memory mid half d, all_copied refs mid half next after r)
-
-pub copied_le : (n : ℕ) (o : Option Stage) → LevelWithin n o → copied o ≤ n
-copied_le n None w = omega arith
-copied_le n (Some stage) w = omega (arith, w.copybacks, w.writes)

@@ -1,7 +1,7 @@
 -- Each dirty slot comes of a write.
-use Rattle.std.proofs.Common.{◌≡◌, ℕ, ◌+◌, ◌*◌, ◌^◌, ◌<◌, ◌≤◌, Bool, true, false, cond, ltb, List, [], ◌∷◌, length, get_or, set, Option, Some, None, sym, ap, refl, subst, arith, length-set, take, drop, ◌-◌}
-use Rattle.std.specs.Prelude.{count_by, MatchOption, MatchBool}
-use Rattle.std.proofs.lemmas.Bool.{ltb-true}
+use Rattle.std.proofs.Common.{◌≡◌, ℕ, ◌+◌, ◌*◌, ◌^◌, ◌<◌, ◌≤◌, Bool, true, false, cond, List, [], ◌∷◌, length, get_or, set, Option, Some, None, sym, ap, refl, subst, arith, take, drop, ◌-◌}
+use Rattle.std.specs.Prelude.{MatchOption, MatchBool}
+use Rattle.std.proofs.lemmas.List.Quantifiers.{position-Some}
 use Rattle.std.proofs.lemmas.List.Sums.{sum_by-set, sum_by-cons}
 use Rattle.std.proofs.lemmas.List.Sorted.{sum_by-IsPermutation}
 use Rattle.trace_core.specs.declared.events.Ref.{Ref}
@@ -14,14 +14,11 @@ use Rattle.cache_core.specs.declared.outcome.WriteMode.TheVariants.{Back, Throug
 use Rattle.cache_core.specs.declared.outcome.Repl.{Repl}
 use Rattle.cache_core.specs.Geometry.{block_of}
 use Rattle.cache_core.specs.Outcomes.{is_write, dirties, allocates}
-use Rattle.cache_core.specs.Order.{Visits, Hits, Fills, Passes, TakesIn, marked, position_of, is_dirty, one_if, dirty_slots, DirtiesByWrites}
+use Rattle.cache_core.specs.Order.{Visits, Hits, Fills, Passes, TakesIn, marked, position_of, dirty_in, is_dirty, one_if, dirty_slots, DirtiesByWrites}
 use Rattle.cache_core.specs.Slab.{IsSlab, sets_of}
 use Rattle.cache_core.proofs.Slabs.{slab_read, slab_written, length-sets_of}
 use borrow.Rule.Slice.PartMut.{put_mid}
-use Rattle.cache_core.proofs.Lawful.{lawful_touch, lawful_insert, lawful_exchange}
-
-abbrev pub dirty_in : List Slot → ℕ
-dirty_in slots = count_by (λ (slot : Slot). slot.dirty) slots
+use Rattle.cache_core.proofs.Lawful.{marked_length, lawful_touch, lawful_insert, lawful_exchange}
 
 by_write : (w : WriteMode) (a : Access) → one_if (dirties w a) ≤ one_if (is_write a)
 by_write Back a = omega arith
@@ -30,23 +27,12 @@ by_write Through a = omega arith
 dirty_cons : (x : Slot) (xs : List Slot) → dirty_in (x ∷ xs) ≡ one_if x.dirty + dirty_in xs
 dirty_cons x xs = sum_by-cons (λ (slot : Slot). cond slot.dirty 1 0) x xs
 
-one_le : (b : Bool) → one_if b ≤ 1
-one_le true = omega arith
-one_le false = omega arith
-
 dirty_marked : (d : Bool) (slots : List Slot) (at : ℕ) → at < length slots → dirty_in (marked d slots at) ≤ dirty_in slots + one_if d
 dirty_marked false slots at h = omega arith
 dirty_marked true slots at h =
     let none : Slot = record { block = 0; dirty = false } in
     let m = sum_by-set (λ (slot : Slot). cond slot.dirty 1 0) slots at (record (get_or slots at none) { dirty = true }) none h in
     omega (arith, m)
-
-pub place_lt : (n len at : ℕ) → cond (ltb n len) (Some n) None ≡ Some at → at < len
-place_lt n len at e = by_test (ltb n len) refl e
-  where
-    by_test : (b : Bool) → ltb n len ≡ b → cond b (Some n) None ≡ Some at → at < len
-    by_test true t q = let s : n ≡ at = cc in omega (arith, ltb-true n len t)
-    by_test false t q = absurd cc
 
 fills_dirty : (rule : Option Repl) (word room : ℕ) (old : List Slot) (slot : Slot) (evicted : Option Slot) (new : List Slot) → 0 < room → TakesIn rule word room old slot evicted new → dirty_in new + one_if (is_dirty evicted) ≡ dirty_in old + one_if slot.dirty
 fills_dirty rule word room old slot None new r p =
@@ -69,25 +55,21 @@ hit_dirty : (d : Design) (rule : Option Repl) (words rest : ℕ → ℕ) (ref : 
 hit_dirty d rule words rest ref old outcome new at h v =
     let none : outcome.evicted ≡ None = ap (λ (o : Outcome). o.evicted) v.answers in
     let m = dirty_marked (dirties d.write ref.access) old at h in
-    let l : at < length (marked (dirties d.write ref.access) old at) = marked_length (dirties d.write ref.access) in
+    let l : at < length (marked (dirties d.write ref.access) old at) = omega (arith, h, marked_length (dirties d.write ref.access) old at) in
     let q = sum_by-IsPermutation (λ (s : Slot). cond s.dirty 1 0) (marked (dirties d.write ref.access) old at) new (lawful_touch rule _ at new l v.order) in
     rw none (omega (arith, m, q, by_write d.write ref.access))
-  where
-    marked_length : (b : Bool) → at < length (marked b old at)
-    marked_length true = omega (arith, length-set old at (record (get_or old at (record { block = 0; dirty = false })) { dirty = true }))
-    marked_length false = h
 
 pub visit_dirty : (d : Design) (rule : Option Repl) (words rest : ℕ → ℕ) (ref : Ref) (old : List Slot) (outcome : Outcome) (new : List Slot) → 0 < d.geometry.e → Visits d rule words ref old outcome new rest → dirty_in new + one_if (is_dirty outcome.evicted) ≤ dirty_in old + one_if (is_write ref.access)
 visit_dirty d rule words rest ref old outcome new e v = by_place (position_of (block_of d.geometry ref.addr) old) refl v
   where
     by_place : (o : Option ℕ) → position_of (block_of d.geometry ref.addr) old ≡ o → MatchOption o (MatchBool (allocates d.alloc ref.access) (Fills d rule words ref old outcome new rest) (Passes words ref old outcome new rest)) (λ at. Hits d rule words ref at old outcome new rest) → dirty_in new + one_if (is_dirty outcome.evicted) ≤ dirty_in old + one_if (is_write ref.access)
     by_place None q u = miss_dirty d rule words rest ref old outcome new (allocates d.alloc ref.access) e u
-    by_place (Some at) q u = hit_dirty d rule words rest ref old outcome new at (place_lt _ _ at q) u
+    by_place (Some at) q u = hit_dirty d rule words rest ref old outcome new at (position-Some _ old at (record { block = 0; dirty = false }) q).0 u
 
 -- over all sets, where one is written
 pub sets_dirty : (sets : List (List Slot)) (k : ℕ) (new : List Slot) (more less : ℕ) → k < length sets → dirty_in new + less ≤ dirty_in (get_or sets k []) + more → dirty_slots (set sets k new) + less ≤ dirty_slots sets + more
 sets_dirty sets k new more less h v =
-    omega (arith, v, sum_by-set (count_by (λ (slot : Slot). slot.dirty)) sets k new [] h)
+    omega (arith, v, sum_by-set dirty_in sets k new [] h)
 
 -- one access to a slab
 pub slab_dirty : (d : Design) (rule : Option Repl) (words words' : ℕ → ℕ) (filled : List ℕ) (k n ways : ℕ) (slots room : List Slot) (ref : Ref) (outcome : Outcome) → IsSlab d slots filled → k < 2 ^ d.geometry.s → ways ≡ d.geometry.e → length room ≡ d.geometry.e → n ≤ d.geometry.e → Visits d rule words ref (take (get_or filled k 0) (take (k * ways + ways - k * ways) (drop (k * ways) slots))) outcome (take n room) words' → DirtiesByWrites (sets_of d.geometry.e slots filled) ref outcome (sets_of d.geometry.e (put_mid (k * ways) (k * ways + ways - k * ways) slots room) (set filled k n))

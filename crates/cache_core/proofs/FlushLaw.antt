@@ -12,7 +12,7 @@ use Rattle.cache_core.specs.declared.outcome.Repl.{Repl}
 use Rattle.cache_core.specs.declared.outcome.Repl.TheVariants.{Lru, Fifo, Random}
 use Rattle.cache_core.specs.Geometry.{Shape, set_of_block}
 use Rattle.cache_core.specs.Machine.{Machine, MachineState, Line, slot_of, lines_of_set, start, dirty_count}
-use Rattle.cache_core.specs.Order.{Contents, Flushes, slots_of, dirty_slots}
+use Rattle.cache_core.specs.Order.{Contents, Flushes, slots_of, dirty_in, dirty_slots}
 use Rattle.cache_core.specs.Stands.{IsState, IsGood, IsSound}
 use Rattle.cache_core.proofs.Lines.{ne-eqb}
 
@@ -24,34 +24,30 @@ none_anywhere (suc n) zero = refl
 none_anywhere (suc n) (suc k) = none_anywhere n k
 
 -- the dirty slots of all sets are the dirty lines
-abbrev dirty_of : List Slot → ℕ
-dirty_of slots = count_by (λ slot. slot.dirty) slots
-
-none_dirty : (sets : List (List Slot)) → ((k : ℕ) → dirty_of (slots_of sets k) ≡ 0) → dirty_slots sets ≡ 0
+none_dirty : (sets : List (List Slot)) → ((k : ℕ) → dirty_in (slots_of sets k) ≡ 0) → dirty_slots sets ≡ 0
 none_dirty [] h = refl
 none_dirty (x ∷ xs) h =
-    let here : dirty_of x ≡ 0 = h zero in
+    let here : dirty_in x ≡ 0 = h zero in
     let rest = none_dirty xs (λ k. h (suc k)) in
-    omega (arith, sum_by-cons (count_by (λ (s : Slot). s.dirty)) x xs, here, rest)
+    omega (arith, sum_by-cons dirty_in x xs, here, rest)
 
-pub dirty_all : (g : Shape) (lines : List Line) (sets : List (List Slot)) → length sets ≡ 2 ^ g.s → ((k : ℕ) → count_by (λ (slot : Slot). slot.dirty) (slots_of sets k) ≡ count_by (λ (slot : Slot). slot.dirty) (map slot_of (lines_of_set g k lines))) → dirty_slots sets ≡ count_by (λ (line : Line). line.dirty) lines
+pub dirty_all : (g : Shape) (lines : List Line) (sets : List (List Slot)) → length sets ≡ 2 ^ g.s → ((k : ℕ) → dirty_in (slots_of sets k) ≡ dirty_in (map slot_of (lines_of_set g k lines))) → dirty_slots sets ≡ count_by (λ (line : Line). line.dirty) lines
 dirty_all g [] sets l h = none_dirty sets h
 dirty_all g (x ∷ lines) sets l h =
     let k = set_of_block g x.block in
-    let count : List Slot → ℕ = count_by (λ (s : Slot). s.dirty) in
     let one : ℕ = cond x.dirty 1 0 in
     let old : List Slot = map slot_of (lines_of_set g k lines) in
     let pos : 0 < 2 ^ g.s = one-le-pow g.s 2 (omega arith) in
     let in_sets : k < length sets = omega (arith, l, mod_below x.block (2 ^ g.s) pos) in
-    let here : count (slots_of sets k) ≡ count (slot_of x ∷ old) = h k ∙ rw (eq-eqb k k refl) refl in
+    let here : dirty_in (slots_of sets k) ≡ dirty_in (slot_of x ∷ old) = h k ∙ rw (eq-eqb k k refl) refl in
     let less : List (List Slot) = set sets k old in
-    let less_sets : (j : ℕ) → count (slots_of less j) ≡ count (map slot_of (lines_of_set g j lines)) = λ j. ⊎_elim
-    (λ t. rw t.1 (ap count (get_or-set_same sets k old [] in_sets)))
-    (λ f. ap count (get_or-set_other sets k j old [] f.1) ∙ h j ∙ rw (ne-eqb k j (λ q. f.1 (sym q))) refl)
+    let less_sets : (j : ℕ) → dirty_in (slots_of less j) ≡ dirty_in (map slot_of (lines_of_set g j lines)) = λ j. ⊎_elim
+    (λ t. rw t.1 (ap dirty_in (get_or-set_same sets k old [] in_sets)))
+    (λ f. ap dirty_in (get_or-set_other sets k j old [] f.1) ∙ h j ∙ rw (ne-eqb k j (λ q. f.1 (sym q))) refl)
     (eqb_tells j k) in
     let i = dirty_all g lines less (length-set sets k old ∙ l) less_sets in
-    let moved = sum_by-set count sets k old [] in_sets in
-    let counted : count (slots_of sets k) ≡ one + count old = here ∙ sum_by-cons (λ (s : Slot). cond s.dirty 1 0) (slot_of x) old in
+    let moved = sum_by-set dirty_in sets k old [] in_sets in
+    let counted : dirty_in (slots_of sets k) ≡ one + dirty_in old = here ∙ sum_by-cons (λ (s : Slot). cond s.dirty 1 0) (slot_of x) old in
     omega (arith, i, moved, counted, sum_by-cons (λ (line : Line). cond line.dirty 1 0) x lines)
 
 pub empty_good : (m : Machine) (c : ℕ) → IsGood m.policy c []

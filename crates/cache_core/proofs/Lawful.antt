@@ -1,14 +1,14 @@
 -- The three rules keep the law of a policy: slots are neither made nor lost, and one leaves a full set.
-use Rattle.std.proofs.Common.{◌≡◌, ℕ, ◌+◌, ◌-◌, ◌%◌, ◌<◌, List, [], ◌∷◌, ◌++◌, length, get_or, take, drop, Option, Some, None, sym, ◌∙◌, ap, refl, arith, length-take, add-one, suc, length-set, get_or-set_same}
+use Rattle.std.proofs.Common.{◌≡◌, ℕ, ◌+◌, ◌-◌, ◌%◌, ◌<◌, Bool, true, false, List, [], ◌∷◌, ◌++◌, length, get_or, take, drop, Option, Some, None, sym, ◌∙◌, ap, refl, arith, length-take, add-one, suc, length-set, get_or-set_same}
 use Rattle.std.specs.Prelude.{IsPermutation, slice_get, slice_set}
 use Rattle.std.specs.List.{remove}
-use Rattle.std.proofs.lemmas.List.{get_or-take, take_more, take_more_set, take_all, drop_at, take_at, set_split}
+use Rattle.std.proofs.lemmas.List.{get_or-take, take_more, take_all, drop_at, take_at, set_split}
 use Rattle.std.proofs.lemmas.List.Sorted.{IsPermutation-refl, IsPermutation-sym, IsPermutation-remove, IsPermutation-to_front, IsPermutation-middle}
 use Rattle.std.proofs.lemmas.Option.{get_or_from_slice_get, slice_get-get_or}
 use Rattle.cache_core.specs.declared.outcome.Slot.{Slot}
 use Rattle.cache_core.specs.declared.outcome.Repl.{Repl}
 use Rattle.cache_core.specs.declared.outcome.Repl.TheVariants.{Lru, Fifo, Random}
-use Rattle.cache_core.specs.Order.{Touches, TakesIn, Inserts, Exchanges}
+use Rattle.cache_core.specs.Order.{Touches, TakesIn, Inserts, Exchanges, marked}
 
 -- a prefix that ends at a place, turned right by one, brings the slot there to the front
 pub to_front : (s : List Slot) (at : ℕ) (r : List Slot) (d : Slot) → at < length s → r ≡ drop (length (take (at + 1) s) - 1) (take (at + 1) s) ++ take (length (take (at + 1) s) - 1) (take (at + 1) s) → r ++ drop (at + 1) s ≡ get_or s at d ∷ remove s at
@@ -20,6 +20,11 @@ to_front s at r d h e =
     let a = drop_at (take at s) (get_or s at d ∷ []) at l in
     let b = take_at (take at s) (get_or s at d ∷ []) at l in
     rw (e', a, b, add-one) refl
+
+-- a mark leaves as many slots
+pub marked_length : (b : Bool) (slots : List Slot) (at : ℕ) → length (marked b slots at) ≡ length slots
+marked_length true slots at = length-set slots at _
+marked_length false slots at = refl
 
 pub lawful_touch : (rule : Option Repl) (old : List Slot) (at : ℕ) (new : List Slot) → at < length old → Touches rule old at new → IsPermutation old new
 lawful_touch None old at new h t = t
@@ -57,10 +62,6 @@ pub lawful_place : (rule : Option Repl) (word v room : ℕ) (old : List Slot) (s
 lawful_place rule word v room old slot None new h t = (t.0, lawful_insert rule old slot new t.1)
 lawful_place rule word v room old slot (Some gone) new h t =
     (t.0, lawful_exchange rule word v old slot gone new (omega (arith, t.0)) t.1)
-
--- a slot written behind the filled places of a set
-pub insert_behind : (s : List Slot) (n : ℕ) (slot : Slot) → n < length s → take (n + 1) (slice_set s n slot) ≡ take n s ++ slot ∷ []
-insert_behind s n slot h = take_more_set s n slot h
 
 -- a slot written over one of a full set
 pub exchange_full : (s : List Slot) (n word w : ℕ) (slot d : Slot) → n ≡ length s → 0 < length s → word ≡ w → TakesIn (Some Random) w (length s) (take n s) slot (Some (get_or s (word % length s) d)) (take (n + 1) (slice_set s (word % length s) slot))

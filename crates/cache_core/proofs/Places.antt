@@ -8,6 +8,7 @@ use Rattle.trace_core.specs.declared.events.Ref.{Ref}
 use Rattle.trace_core.specs.declared.events.Event.{Event}
 use Rattle.trace_core.specs.declared.events.Event.TheVariants as event
 use Rattle.cache_core.specs.Geometry.{Shape, block_of}
+use Rattle.cache_core.specs.LruLaws.{place_after}
 use Rattle.cache_core.specs.Windows.{window, window_after, places, places_after, Place, block_in, is_flush}
 
 pub window-push : (g : Shape) (es : List Event) (e : Event) → window g (es ++ e ∷ []) ≡ window_after g (window g es) e
@@ -50,11 +51,7 @@ places_after-append g before (event.Flush ∷ es) more =
     places_after-append g (before ++ event.Flush ∷ []) es more
     ∙ ap (λ b. places_after g (before ++ event.Flush ∷ []) es ++ places_after g b more) (append_assoc before (event.Flush ∷ []) es)
 
--- the place of one more reference
-abbrev pub place_at : Shape → List Event → Ref → Place
-place_at g es r = record { block = block_of g r.addr; window = window g es }
-
-pub places-reference : (g : Shape) (es : List Event) (r : Ref) → places g (es ++ event.Reference r ∷ []) ≡ places g es ++ place_at g es r ∷ []
+pub places-reference : (g : Shape) (es : List Event) (r : Ref) → places g (es ++ event.Reference r ∷ []) ≡ places g es ++ place_after g es r ∷ []
 unfolding places_after
 places-reference g es r = places_after-append g [] es (event.Reference r ∷ [])
 
@@ -63,5 +60,5 @@ unfolding places_after
 places-flush g es = places_after-append g [] es (event.Flush ∷ []) ∙ append-nil (places g es)
 
 -- a sum over the places, with one more reference
-pub sum_by-reference : (f : Place → ℕ) (g : Shape) (es : List Event) (r : Ref) → sum_by f (places g (es ++ event.Reference r ∷ [])) ≡ sum_by f (places g es) + f (place_at g es r)
-sum_by-reference f g es r = ap (λ ps. sum_by f ps) (places-reference g es r) ∙ sum_by_push f (places g es) (place_at g es r)
+pub sum_by-reference : (f : Place → ℕ) (g : Shape) (es : List Event) (r : Ref) → sum_by f (places g (es ++ event.Reference r ∷ [])) ≡ sum_by f (places g es) + f (place_after g es r)
+sum_by-reference f g es r = ap (λ ps. sum_by f ps) (places-reference g es r) ∙ sum_by_push f (places g es) (place_after g es r)

@@ -3,6 +3,7 @@ use Rattle.std.proofs.Common.{◌≡◌, ℕ, ◌+◌, ◌%◌, ◌<◌, ◌≤�
 use Rattle.std.specs.Prelude.{MatchOption, MatchBool, slice_set, remove, fold}
 use Rattle.std.proofs.lemmas.List.{length-map}
 use Rattle.std.proofs.lemmas.List.Edits.{length-remove}
+use Rattle.std.proofs.lemmas.List.Quantifiers.{position-Some}
 use Rattle.std.proofs.lemmas.Option.{slice_get-get_or}
 use Rattle.std.proofs.lemmas.Bool.{cases_lt}
 use Rattle.std.proofs.lemmas.Bool.Decides.{eqb_tells}
@@ -21,7 +22,7 @@ use Rattle.cache_core.specs.Order.{Visits, Hits, Fills, Passes, Touches, TakesIn
 use Rattle.cache_core.specs.Stands.{IsSound}
 use Rattle.cache_core.proofs.StateLaw.{step_agrees, sound_step}
 use Rattle.cache_core.proofs.FlushLaw.{start_sound, empty_good}
-use Rattle.cache_core.proofs.DirtyLaw.{place_lt}
+use Rattle.cache_core.proofs.Lawful.{marked_length}
 
 touch_exists : (p : Repl) (slots : List Slot) (at : ℕ) → at < length slots → (new : List Slot) × Touches (Some p) slots at new × (length new ≡ length slots)
 touch_exists Lru slots at h =
@@ -82,10 +83,6 @@ pub record Visited (d : Design) (p : Repl) (words : ℕ → ℕ) (ref : Ref) (sl
   pub visit : Visits d (Some p) words ref slots outcome new rest
   pub few : length new ≤ d.geometry.e
 
-marked_length : (b : Bool) (slots : List Slot) (at : ℕ) → length (marked b slots at) ≡ length slots
-marked_length true slots at = length-set slots at _
-marked_length false slots at = refl
-
 pub visit_exists : (d : Design) (p : Repl) (words : ℕ → ℕ) (ref : Ref) (slots : List Slot) → 0 < d.geometry.e → length slots ≤ d.geometry.e → Visited d p words ref slots
 visit_exists d p words ref slots r l = by_place (position_of (block_of d.geometry ref.addr) slots) refl
   where
@@ -107,7 +104,7 @@ visit_exists d p words ref slots r l = by_place (position_of (block_of d.geometr
         }
     by_place (Some at) e =
         let s = marked (dirties d.write ref.access) slots at in
-        let h : at < length s = omega (arith, place_lt _ _ at e, marked_length (dirties d.write ref.access) slots at) in
+        let h : at < length s = omega (arith, (position-Some _ slots at (record { block = 0; dirty = false }) e).0, marked_length (dirties d.write ref.access) slots at) in
         let x = touch_exists p s at h in
         let out = outcome_of (on_hit d.write ref) in
         record {

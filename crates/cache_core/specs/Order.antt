@@ -100,9 +100,12 @@ pub record Accesses (old : Contents) (ref : Ref) (outcome : Outcome) (new : Cont
   pub design : new.design ≡ old.design
   pub rule : new.rule ≡ old.rule
 
--- how many slots are dirty
+-- how many slots of a set are dirty, and of all sets
+abbrev pub dirty_in : List Slot → ℕ
+dirty_in slots = count_by (λ slot. slot.dirty) slots
+
 abbrev pub dirty_slots : List (List Slot) → ℕ
-dirty_slots sets = sum_by (count_by (λ slot. slot.dirty)) sets
+dirty_slots sets = sum_by dirty_in sets
 
 -- a flush empties each set and keeps the words; it answers how many slots were dirty
 pub record Flushes (old : Contents) (dirty : ℕ) (new : Contents) : Type 0 where

@@ -4,11 +4,11 @@ ghost use Rattle.std.specs.Prelude.{◌≡◌, ◌↔◌, true, List, [], ◌∷
 ghost use Rattle.trace_core.specs.declared.events.Ref.{Ref};
 ghost use Rattle.trace_core.specs.declared.events.Event.{Event};
 ghost use Rattle.trace_core.specs.declared.events.Event.TheVariants as event;
-ghost use Rattle.cache_core.specs.Geometry.{Shape, IsGeometry, is_geometry, block_of};
+ghost use Rattle.cache_core.specs.Geometry.{Shape, IsGeometry, is_geometry};
 ghost use Rattle.cache_core.specs.Windows.{window, window_after, places};
 ghost use Rattle.cache_core.specs.Stands.{StartLaw, AccessLaw, FlushLaw, RunLaw, OrderLaw, DownLaw};
 ghost use Rattle.cache_core.specs.AnyPolicy.{AnyStartLaw, AnyAccessLaw, AnyFlushLaw};
-ghost use Rattle.cache_core.specs.LruLaws.{HitLaw, VictimLaw, CountLaw, NextLaw, HitInclusion, HeldInclusion};
+ghost use Rattle.cache_core.specs.LruLaws.{place_after, HitLaw, VictimLaw, CountLaw, NextLaw, HitInclusion, HeldInclusion};
 ghost use Rattle.cache_core.specs.Levels.{ShapeLaw};
 ghost use Rattle.cache_core.specs.SystemStands.{NewSystemLaw, StepLaw, SystemFlushLaw, SystemRunLaw};
 
@@ -22,7 +22,7 @@ pub fn window_grows()
 /// One more reference is one more place, with the window of the list before it; a flush is none.
 pub fn places_grow()
     ensures reference { (g : Shape) (events : List Event) (ref : Ref) →
-        places g (events ++ event.Reference ref ∷ []) ≡ places g events ++ record { block = block_of g ref.addr; window = window g events } ∷ [] }
+        places g (events ++ event.Reference ref ∷ []) ≡ places g events ++ place_after g events ref ∷ [] }
     ensures flush { (g : Shape) (events : List Event) →
         places g (events ++ event.Flush ∷ []) ≡ places g events }
 {}

@@ -5,11 +5,12 @@ use Rattle.std.specs.List.{count_by, sum_by}
 use Rattle.std.proofs.lemmas.Bool.{ne_eqb, cases_eq, ltb-true}
 use Rattle.std.proofs.lemmas.Nat.{mod_below, pow_pos}
 use Rattle.cache_core.proofs.Distances.{take-distinct_of_set-same, distinct_of_set-other, distinct_of_set-nil}
-use Rattle.cache_core.proofs.Places.{place_at, places-flush, window-nil, window-push, sum_by-reference}
+use Rattle.cache_core.proofs.Places.{places-flush, window-nil, window-push, sum_by-reference}
 use Rattle.trace_core.specs.declared.events.Ref.{Ref}
 use Rattle.trace_core.specs.declared.events.Event.{Event}
 use Rattle.trace_core.specs.declared.events.Event.TheVariants as event
 use Rattle.cache_core.specs.Geometry.{Shape, IsGeometry, block_of, set_of_block}
+use Rattle.cache_core.specs.LruLaws.{place_after}
 use Rattle.cache_core.specs.Windows.{Place, distinct_of_set, has_last, distance, seen, is_hit, window, places, places_after, probes}
 use Rattle.profile_core.specs.Moves.{place_of, is_in, move_to_front}
 use Rattle.profile_core.specs.State.{ProfileState, empty, list_of, raise, referenced, after_reference, after_flush}
@@ -54,7 +55,7 @@ referenced_stands : (es : List Event) (v : ProfileState) (r : Ref) (xs : List â„
 unfolding probes
 referenced_stands es v r xs h e =
     let g = v.geometry in
-    let p : Place = place_at g es r in
+    let p : Place = place_after g es r in
     let f : Finds g g.e p xs = finds g g.e p xs e in
     let x : â„• = p.block in
     record {

@@ -2,14 +2,15 @@ use Rattle.rand_pcg.specs.Lcg.{Lcg}
 use Rattle.rand_pcg.specs.Pcg.{pcg32}
 use Rattle.cache_core.specs.Words.{word_of}
 use Rattle.std.proofs.Common.{ℕ, ◌+◌, Some, None, ◌<◌, ◌≡◌, ◌%◌, length, arith, refl, ap, ◌∙◌, sym, length-take}
+use Rattle.std.proofs.lemmas.List.{take_more_set}
 use Rattle.cache_core.specs.declared.outcome.Repl.TheVariants.{Random}
-use Rattle.cache_core.proofs.Lawful.{lawful_place, insert_behind, exchange_full, written}
+use Rattle.cache_core.proofs.Lawful.{lawful_place, exchange_full, written}
 use Rattle.cache_core.proofs.WordLemmas.{word_of-first, word_of-rest}
 use Rattle.cache_core.proofs.replacement.RandomReplacement.place.Goals as goal
 
 pub returns-then-filled-set-clause-order : goal.returns-then-filled-set-clause-order
 returns-then-filled-set-clause-order c =
-    (omega (arith, length-take c.args.filled c.args.set.now), insert_behind _ _ _ c.if-filled-set.true)
+    (omega (arith, length-take c.args.filled c.args.set.now), take_more_set c.args.set.now c.args.filled _ c.if-filled-set.true)
 
 pub returns-then-filled-set-clause-lawful : goal.returns-then-filled-set-clause-lawful
 returns-then-filled-set-clause-lawful c =
