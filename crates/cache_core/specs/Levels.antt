@@ -59,15 +59,15 @@ abbrev pub lacks_shape : Option CacheSpec → Bool
 lacks_shape None = false
 lacks_shape (Some spec) = is_none (shape_of spec)
 
--- a first-level cache, if it is asked for, has larger blocks than the second-level one
-abbrev pub has_larger_block : CacheSpec → Option CacheSpec → Bool
-has_larger_block second None = false
-has_larger_block second (Some spec) = nat_lt second.bsize spec.bsize
+-- the second-level cache has smaller blocks than a first-level one, if that is asked for
+abbrev pub has_smaller_blocks_than : CacheSpec → Option CacheSpec → Bool
+has_smaller_blocks_than second None = false
+has_smaller_blocks_than second (Some spec) = nat_lt second.bsize spec.bsize
 
--- the second-level cache, if it is asked for, has smaller blocks than some first-level one
-abbrev pub has_small_block : FirstLevel → Option CacheSpec → Bool
-has_small_block first None = false
-has_small_block first (Some second) = has_larger_block second first.i || has_larger_block second first.d || has_larger_block second first.u
+-- some first-level cache has larger blocks than the second-level one, if that is asked for
+abbrev pub has_larger_blocks_than : FirstLevel → Option CacheSpec → Bool
+has_larger_blocks_than first None = false
+has_larger_blocks_than first (Some second) = has_smaller_blocks_than second first.i || has_smaller_blocks_than second first.d || has_smaller_blocks_than second first.u
 
 -- the first fault of a plan
 abbrev pub fault_of : FirstLevel → Option CacheSpec → Option PlanFault
@@ -78,7 +78,7 @@ fault_of first second =
     else if lacks_shape first.d then Some (BadGeometry L1D)
     else if lacks_shape first.u then Some (BadGeometry L1U)
     else if lacks_shape second then Some (BadGeometry L2U)
-    else if has_small_block first second then Some SmallBlock
+    else if has_larger_blocks_than first second then Some SmallBlock
     else None
 
 -- the caches that are asked for and have a shape

@@ -1,6 +1,6 @@
 //! Plans of a system of caches, and its statistics.
 ghost use Rattle.std.specs.Prelude.{◌≡◌, ◌≤◌, ◌<◌, ◌*◌, ◌^◌, true, false, IfSome, MatchResult, option_and_then};
-ghost use Rattle.cache_core.specs.Levels.{exponent_of, shape_of, level_of, lacks_shape, has_none, is_mixed, has_larger_block, has_small_block};
+ghost use Rattle.cache_core.specs.Levels.{exponent_of, shape_of, level_of, lacks_shape, has_none, is_mixed, has_smaller_blocks_than, has_larger_blocks_than};
 
 use crate::geometry::Geometry;
 use crate::outcome::{AllocMode, Design, Repl, WriteMode};
@@ -138,7 +138,7 @@ fn exponent_of(unit: u128, number: u64) -> Option<u64>
 }
 
 /// The geometry of a cache, if it has one.
-fn geometry_of(spec: CacheSpec) -> Option<Geometry>
+fn shape_of(spec: CacheSpec) -> Option<Geometry>
     ensures { result ≡ shape_of spec }
 {
     let b = exponent_of(1, spec.bsize)?;
@@ -155,7 +155,7 @@ fn level_for(cache: CacheName, spec: Option<CacheSpec>) -> Result<Option<Level>,
     let Some(spec) = spec else {
         return Ok(None);
     };
-    match geometry_of(spec) {
+    match shape_of(spec) {
         Some(geometry) => {
             let design = Design {
                 geometry,
@@ -172,9 +172,9 @@ fn level_for(cache: CacheName, spec: Option<CacheSpec>) -> Result<Option<Level>,
 }
 
 impl CacheSpec {
-    /// Whether the first-level cache is there and has larger blocks than this one.
-    fn is_below(&self, first: Option<CacheSpec>) -> bool
-        ensures { result ≡ has_larger_block self.now first }
+    /// Whether the first-level cache is there and this one has smaller blocks.
+    fn has_smaller_blocks_than(&self, first: Option<CacheSpec>) -> bool
+        ensures { result ≡ has_smaller_blocks_than self.now first }
     {
         match first {
             Some(first) => self.bsize < first.bsize,
@@ -198,13 +198,15 @@ impl FirstLevel {
         self.u.is_some() && (self.i.is_some() || self.d.is_some())
     }
 
-    /// Whether a cache has larger blocks than the second level.
-    fn has_small_block(&self, second: Option<CacheSpec>) -> bool
-        ensures { result ≡ has_small_block self.now second }
+    /// Whether a cache of it has larger blocks than the second-level one, if there is one.
+    fn has_larger_blocks_than(&self, second: Option<CacheSpec>) -> bool
+        ensures { result ≡ has_larger_blocks_than self.now second }
     {
         match second {
             Some(second) => {
-                second.is_below(self.i) || second.is_below(self.d) || second.is_below(self.u)
+                second.has_smaller_blocks_than(self.i)
+                    || second.has_smaller_blocks_than(self.d)
+                    || second.has_smaller_blocks_than(self.u)
             }
             None => false,
         }
@@ -228,7 +230,7 @@ impl Plan {
         let d = level_for(CacheName::L1D, first.d)?;
         let u = level_for(CacheName::L1U, first.u)?;
         let lower = level_for(CacheName::L2U, second)?;
-        if first.has_small_block(second) {
+        if first.has_larger_blocks_than(second) {
             return Err(PlanFault::SmallBlock);
         }
         Ok(Plan {
@@ -241,7 +243,7 @@ impl Plan {
 
     /// States the invariant for a caller's proof: some first level, none beside a unified one, and each cache within the limits.
     /// It runs no code.
-    pub fn keeps(&self)
+    pub fn limits(&self)
         ensures { IsPlan self.now }
     {
         let _ = &self.i;

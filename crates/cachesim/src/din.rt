@@ -79,7 +79,7 @@ pub fn din<S: Source, K: Sink>(
     ensures writes { K.failures sink.new
         ≡ (if sink_failed result then one_more (K.failures sink.old) else K.failures sink.old) }
 {
-    plan.keeps();
+    plan.limits();
     let mut lines = Lines::new(alloc, format, max_lines)?;
     let mut system = System::new(alloc, plan, seed)?;
     while let Some((_, entry)) = lines.next(source)? {

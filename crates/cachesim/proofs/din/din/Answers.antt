@@ -19,7 +19,7 @@ loop-system-preserved g c =
     stepped_more c.args.plan c.args.seed c.args.format c.args.max_lines _ _ _ _ _ _ c.loop-system.lines c.next.new.self c.loop-system.system c.step.new.system inv
     (c.in-Some.field-0-0, c.in-Some.entry)
     (rw found at (c.next.ensures.reached _ _ _ _ inv.read inv.reached))
-    (c.step.ensures.stands c.args.plan c.args.seed (all_of (entries_of inv.read)) c.keeps.ensures inv.stands) c.step.ensures.few
+    (c.step.ensures.stands c.args.plan c.args.seed (all_of (entries_of inv.read)) c.limits.ensures inv.stands) c.step.ensures.few
     (rw c.in-Some.is at c.in_ok-entry.ensures.entry).1 c.next.ensures.same.1
 
 pub returns-in_err-entry-clause-fault : goal.returns-in_err-entry-clause-fault
