@@ -57,3 +57,25 @@ pub struct Counts {
     pub misses: u64,
     pub evictions: u64,
 }
+
+impl Counts {
+    ghost use Rattle.std.specs.Prelude.{◌≡◌, ◌<◌, ◌^◌, ◌+◌};
+    ghost use Rattle.cache_core.specs.LruLaws.{counted};
+
+    /// Counts one access: a hit or a miss, and an eviction where a block left. No count may be at its type's limit.
+    pub fn count(&mut self, outcome: &Outcome)
+        requires hits { self.old.hits + 1 < 2 ^ 64 }
+        requires misses { self.old.misses + 1 < 2 ^ 64 }
+        requires evictions { self.old.evictions + 1 < 2 ^ 64 }
+        ensures { self.new ≡ counted self.old outcome.now }
+    {
+        if outcome.hit {
+            self.hits += 1;
+        } else {
+            self.misses += 1;
+        }
+        if outcome.evicted.is_some() {
+            self.evictions += 1;
+        }
+    }
+}

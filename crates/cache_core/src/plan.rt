@@ -3,10 +3,11 @@ ghost use Rattle.std.specs.Prelude.{◌≡◌, ◌≤◌, ◌<◌, ◌*◌, ◌^
 ghost use Rattle.cache_core.specs.Levels.{exponent_of, shape_of, level_of, lacks_shape, has_none, is_mixed, has_smaller_blocks_than, has_larger_blocks_than};
 
 use crate::geometry::Geometry;
-use crate::outcome::{AllocMode, Design, Repl, WriteMode};
+use crate::outcome::{AllocMode, Design, Outcome, Repl, WriteMode};
 use std::fmt::{self, Display, Formatter, Write};
 use std::marker::Model;
 use thiserror::Error;
+use trace_core::events::{Access, Ref};
 
 /// A cache as it is asked for: its size and block size in bytes, and its lines in a set; named as the options of Dinero IV.
 #[derive(Clone, Copy, Debug, PartialEq, Eq)]
@@ -74,6 +75,36 @@ pub struct CacheStats {
     pub write_misses: u64,
     pub evictions: u64,
     pub copybacks: u64,
+}
+
+impl CacheStats {
+    ghost use Rattle.cache_core.specs.Stages.{tally, IsBelow};
+
+    /// Counts one access by its kind.
+    pub(crate) fn count(&mut self, reference: Ref, outcome: &Outcome)
+        requires { IsBelow self.old (2 ^ 63) }
+        ensures { self.new ≡ tally self.old reference outcome.now }
+    {
+        let missed = !outcome.hit;
+        match reference.access {
+            Access::Fetch => {
+                self.fetches += 1;
+                self.fetch_misses += u64::from(missed);
+            }
+            Access::Read => {
+                self.reads += 1;
+                self.read_misses += u64::from(missed);
+            }
+            Access::Write => {
+                self.writes += 1;
+                self.write_misses += u64::from(missed);
+            }
+        }
+        if let Some(victim) = outcome.evicted {
+            self.evictions += 1;
+            self.copybacks += u64::from(victim.dirty);
+        }
+    }
 }
 
 /// What a system counted: for each of its caches, what came to memory, and the references that no first-level cache takes.

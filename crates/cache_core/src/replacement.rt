@@ -1,5 +1,5 @@
 //! Replacement: which slot leaves a full set.
-ghost use Rattle.std.specs.Prelude.{◌≡◌, ◌≤◌, ◌<◌, ◌+◌, ℕ, List, length, take, slice_get, Option, Some, None, IsPermutation};
+ghost use Rattle.std.specs.Prelude.{◌≡◌, ◌≤◌, ◌<◌, ◌+◌, ℕ, length, take, slice_get, Option, Some, None, IsPermutation};
 ghost use Rattle.cache_core.specs.Order.{Touches, TakesIn, words_after};
 
 use crate::outcome::{Repl, Slot};

@@ -1,35 +1,16 @@
 //! The separate simulation of one configuration.
-ghost use Rattle.std.specs.Prelude.{◌≡◌, ◌<◌, ◌^◌, ◌+◌, IfOk, map};
+ghost use Rattle.std.specs.Prelude.{◌≡◌, IfOk, map};
 ghost use Rattle.trace_core.specs.declared.events.Event.TheVariants as event;
 ghost use Rattle.cache_core.specs.Windows.{counts};
 ghost use Rattle.cache_core.specs.Machine.{answers, counts_in};
-ghost use Rattle.cache_core.specs.LruLaws.{lru_machine, counted};
+ghost use Rattle.cache_core.specs.LruLaws.{lru_machine};
 
 use crate::cache::Cache;
 use crate::geometry::Geometry;
-use crate::outcome::{AllocMode, Counts, Outcome, WriteMode};
+use crate::outcome::{AllocMode, Counts, WriteMode};
 use crate::replacement::Lru;
 use std::alloc::{AllocError, Global};
 use trace_core::events::Ref;
-
-impl Counts {
-    /// Counts one access.
-    fn count(&mut self, outcome: &Outcome)
-        requires hits { self.old.hits + 1 < 2 ^ 64 }
-        requires misses { self.old.misses + 1 < 2 ^ 64 }
-        requires evictions { self.old.evictions + 1 < 2 ^ 64 }
-        ensures { self.new ≡ counted self.old outcome.now }
-    {
-        if outcome.hit {
-            self.hits += 1;
-        } else {
-            self.misses += 1;
-        }
-        if outcome.evicted.is_some() {
-            self.evictions += 1;
-        }
-    }
-}
 
 /// The counts of an LRU write-back cache that allocates on writes, empty at first, after these references. It takes the cache's
 /// memory, and that alone can fail.

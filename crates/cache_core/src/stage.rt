@@ -1,8 +1,6 @@
 //! A cache of a system: under a policy that is known when it runs, and with what it counted.
-ghost use Rattle.std.specs.Prelude.{◌≡◌, ◌≤◌, ◌<◌, ◌+◌, ◌^◌, ℕ, Option, Some, Bool, IfSome, IfOk};
-ghost use Rattle.cache_core.specs.Order.{dirty_slots, one_if};
-ghost use Rattle.cache_core.specs.Slab.{contents_of};
-ghost use Rattle.cache_core.specs.Stages.{tally, IsBelow, rule_of, words_of};
+ghost use Rattle.std.specs.Prelude.{◌≡◌, ◌+◌, ◌^◌, ℕ, Some, IfOk};
+ghost use Rattle.cache_core.specs.Stages.{rule_of, words_of};
 ghost use Rattle.cache_core.specs.Systems.{words_for};
 
 use crate::cache::Cache;
@@ -10,7 +8,7 @@ use crate::outcome::{Outcome, Repl, Slot};
 use crate::plan::{CacheStats, Level};
 use crate::replacement::{Fifo, Lru, Random, Replacement};
 use std::alloc::{AllocError, Global};
-use trace_core::events::{Access, Ref};
+use trace_core::events::Ref;
 
 /// A policy that is chosen when the system is made.
 #[derive(Drop)]
@@ -44,42 +42,6 @@ impl Replacement for Policy {
     }
 }
 
-/// One more if it holds.
-fn one_if(counted: bool) -> u64
-    ensures value { result ≡ one_if counted }
-    ensures small { result ≤ 1 }
-{
-    if counted { 1 } else { 0 }
-}
-
-impl CacheStats {
-    /// Counts one access.
-    fn count(&mut self, reference: Ref, outcome: &Outcome)
-        requires { IsBelow self.old (2 ^ 63) }
-        ensures { self.new ≡ tally self.old reference outcome.now }
-    {
-        let missed = !outcome.hit;
-        match reference.access {
-            Access::Fetch => {
-                self.fetches += 1;
-                self.fetch_misses += one_if(missed);
-            }
-            Access::Read => {
-                self.reads += 1;
-                self.read_misses += one_if(missed);
-            }
-            Access::Write => {
-                self.writes += 1;
-                self.write_misses += one_if(missed);
-            }
-        }
-        if let Some(victim) = outcome.evicted {
-            self.evictions += 1;
-            self.copybacks += one_if(victim.dirty);
-        }
-    }
-}
-
 /// A cache of a system, with what it counted.
 #[derive(Drop)]
 pub(crate) struct Stage {
@@ -100,6 +62,9 @@ fn policy_of(repl: Repl, seed: u64) -> Policy
 }
 
 impl Stage {
+    ghost use Rattle.cache_core.specs.Stages.{Enters, Empties, CountsWithin};
+    ghost use Rattle.cache_core.specs.SystemSteps.{IsNewStage};
+
     /// A new cache of a system.
     pub(crate) fn new(alloc: Global, level: Level, seed: u64) -> Result<Self, AllocError>
         ensures { IfOk result (IsNewStage seed level) }
@@ -119,10 +84,6 @@ impl Stage {
         };
         Ok(Stage { cache, stats })
     }
-
-    ghost use Rattle.cache_core.specs.Stages.{Enters, Empties};
-    ghost use Rattle.cache_core.specs.Stages.{CountsWithin};
-    ghost use Rattle.cache_core.specs.SystemSteps.{IsNewStage};
 
     /// One reference enters.
     pub(crate) fn access(&mut self, reference: Ref) -> Outcome

@@ -1,7 +1,7 @@
 //! A system of caches.
-ghost use Rattle.std.specs.Prelude.{◌≡◌, ◌≤◌, ◌<◌, ◌+◌, ◌*◌, ◌^◌, ℕ, Option, Some, None, MatchOption, List, length, ◌∷◌, [], IfOk};
+ghost use Rattle.std.specs.Prelude.{◌≡◌, ◌≤◌, ◌<◌, ◌+◌, ◌^◌, ℕ, List, length, ◌∷◌, [], IfOk};
 ghost use Rattle.cache_core.specs.SystemSteps.{listed, reaches, all_reach, Descends, AllDescend, Answers, FirstAnswers, EmptiesLevel, copied, stats_held, IsNewLevel};
-ghost use Rattle.cache_core.specs.Stages.{CountsWithin, LevelWithin};
+ghost use Rattle.cache_core.specs.Stages.{LevelWithin};
 
 use crate::outcome::Outcome;
 use crate::plan::{CacheStats, Level, Plan, Stats};
