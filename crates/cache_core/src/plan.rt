@@ -2,7 +2,7 @@
 ghost use Rattle.std.specs.Prelude.{◌≡◌, ◌≤◌, ◌<◌, ◌*◌, ◌^◌, true, false, IfSome, MatchResult, option_and_then};
 ghost use Rattle.cache_core.specs.Levels.{exponent_of, shape_of, level_of, lacks_shape, has_none, is_mixed, has_smaller_blocks_than, has_larger_blocks_than};
 
-use crate::geometry::Geometry;
+use crate::geometry::{Geometry, MAX_BITS};
 use crate::outcome::{AllocMode, Design, Outcome, Repl, WriteMode};
 use std::fmt::{self, Display, Formatter, Write};
 use std::marker::Model;
@@ -154,13 +154,13 @@ impl Model for Plan {
     ghost inverse = { λ v. record { i = v.i; d = v.d; u = v.u; second = v.second } };
 }
 
-/// The least k up to 20 for which unit * 2^k is the number.
+/// The least k up to `MAX_BITS` for which unit * 2^k is the number.
 fn exponent_of(unit: u128, number: u64) -> Option<u64>
     requires { unit < 2 ^ 100 }
     ensures value { result ≡ exponent_of unit number }
     ensures found { IfSome result (λ k. (k ≤ 20) × (unit * 2 ^ k ≡ number)) }
 {
-    for k in 0..21 {
+    for k in 0..=MAX_BITS {
         if unit << k == u128::from(number) {
             return Some(k);
         }

@@ -10,6 +10,9 @@ use std::alloc::{AllocError, Global};
 use std::marker::Model;
 use trace_core::events::{Access, Ref};
 
+/// The most steps of a system, flushes among them: 2^41. So no count overflows.
+pub const MAX_STEPS: u64 = 1 << 41;
+
 /// What reached memory.
 #[derive(Clone, Copy, Debug, PartialEq, Eq)]
 pub(crate) struct Memory {
@@ -224,9 +227,9 @@ impl System {
     }
 
     /// One reference, at the first-level cache that takes it; what that sends down goes to the second level or to memory. Where no
-    /// cache takes it, it is bypassed. At most 2^41 steps and flushes.
+    /// cache takes it, it is bypassed. At most `MAX_STEPS` steps and flushes.
     pub fn step(&mut self, reference: Ref)
-        requires { self.old.steps < 2 ^ 41 }
+        requires { self.old.steps < MAX_STEPS }
         ensures { Steps self.old reference self.new }
     {
         self.steps += 1;
@@ -240,7 +243,7 @@ impl System {
     /// Empties every cache. Each dirty line is a copyback and a write to memory; nothing enters the second level, and nothing is an
     /// eviction. A flush is a step, too.
     pub fn flush(&mut self)
-        requires { self.old.steps < 2 ^ 41 }
+        requires { self.old.steps < MAX_STEPS }
         ensures { FlushStep self.old self.new }
     {
         self.steps += 1;
