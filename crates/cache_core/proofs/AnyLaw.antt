@@ -79,7 +79,7 @@ hit_agrees m st ref line rule words outcome slots new rest d perm e v = by_place
     k : ℕ
     k = set_of_block g b
 
-    by_place : (o : Option ℕ) → position_of b slots ≡ o → MatchOption o (MatchBool (allocates m.design.alloc ref.access) (Fills m.design rule words ref slots outcome new rest) (Passes words ref slots outcome new rest)) (λ at. Hits m.design rule words ref at slots outcome new rest) →
+    by_place : (o : Option ℕ) → position_of b slots ≡ o → MatchOption o (MatchBool (allocates m.design.allocate ref.access) (Fills m.design rule words ref slots outcome new rest) (Passes words ref slots outcome new rest)) (λ at. Hits m.design rule words ref at slots outcome new rest) →
         Agrees m st k false (λ gone. step_at m ref b gone st (Some line)) (λ gone. answer_at m ref b gone (Some line)) new outcome
     by_place None q u =
         let here = lines_of_set g k st.lines in
@@ -186,7 +186,7 @@ fills_agree m st ref rule words outcome slots new rest false some d perm a v = r
 miss_agrees : (m : Machine) (st : MachineState) (ref : Ref) (rule : Option Repl) (words : ℕ → ℕ) (outcome : Outcome) (slots new : List Slot) (rest : ℕ → ℕ) →
     let g = m.design.geometry in let b = block_of g ref.addr in let k = set_of_block g b in
     1 ≤ g.e → Distinct (lines_of_set g k st.lines) → IsPermutation slots (map slot_of (lines_of_set g k st.lines)) → find (is_block b) st.lines ≡ None → Visits m.design rule words ref slots outcome new rest →
-    Agrees m st k (allocates m.design.alloc ref.access && is_full m st k) (λ gone. step_at m ref b gone st None) (λ gone. answer_at m ref b gone None) new outcome
+    Agrees m st k (allocates m.design.allocate ref.access && is_full m st k) (λ gone. step_at m ref b gone st None) (λ gone. answer_at m ref b gone None) new outcome
 miss_agrees m st ref rule words outcome slots new rest some d perm e v = by_place (position_of (block_of m.design.geometry ref.addr) slots) refl v
   where
     g : Shape
@@ -198,9 +198,9 @@ miss_agrees m st ref rule words outcome slots new rest some d perm e v = by_plac
     k : ℕ
     k = set_of_block g b
 
-    by_place : (o : Option ℕ) → position_of b slots ≡ o → MatchOption o (MatchBool (allocates m.design.alloc ref.access) (Fills m.design rule words ref slots outcome new rest) (Passes words ref slots outcome new rest)) (λ at. Hits m.design rule words ref at slots outcome new rest) →
-        Agrees m st k (allocates m.design.alloc ref.access && is_full m st k) (λ gone. step_at m ref b gone st None) (λ gone. answer_at m ref b gone None) new outcome
-    by_place None q u = fills_agree m st ref rule words outcome slots new rest (allocates m.design.alloc ref.access) some d perm (not_found b (lines_of_set g k st.lines) (find_in_set g b st.lines ∙ e)) u
+    by_place : (o : Option ℕ) → position_of b slots ≡ o → MatchOption o (MatchBool (allocates m.design.allocate ref.access) (Fills m.design rule words ref slots outcome new rest) (Passes words ref slots outcome new rest)) (λ at. Hits m.design rule words ref at slots outcome new rest) →
+        Agrees m st k (allocates m.design.allocate ref.access && is_full m st k) (λ gone. step_at m ref b gone st None) (λ gone. answer_at m ref b gone None) new outcome
+    by_place None q u = fills_agree m st ref rule words outcome slots new rest (allocates m.design.allocate ref.access) some d perm (not_found b (lines_of_set g k st.lines) (find_in_set g b st.lines ∙ e)) u
     by_place (Some at) q u =
         let here = lines_of_set g k st.lines in
         let x : Slot = get_or slots at empty_slot in
@@ -211,7 +211,7 @@ miss_agrees m st ref rule words outcome slots new rest some d perm e v = by_plac
 step_agrees : (m : Machine) (st : MachineState) (ref : Ref) (rule : Option Repl) (words : ℕ → ℕ) (outcome : Outcome) (slots new : List Slot) (rest : ℕ → ℕ) (o : Option Line) →
     let g = m.design.geometry in let b = block_of g ref.addr in let k = set_of_block g b in
     1 ≤ g.e → Distinct (lines_of_set g k st.lines) → IsPermutation slots (map slot_of (lines_of_set g k st.lines)) → find (is_block b) st.lines ≡ o → Visits m.design rule words ref slots outcome new rest →
-    Agrees m st k (is_none o && allocates m.design.alloc ref.access && is_full m st k) (λ gone. step_at m ref b gone st o) (λ gone. answer_at m ref b gone o) new outcome
+    Agrees m st k (is_none o && allocates m.design.allocate ref.access && is_full m st k) (λ gone. step_at m ref b gone st o) (λ gone. answer_at m ref b gone o) new outcome
 step_agrees m st ref rule words outcome slots new rest (Some line) some d perm e v = hit_agrees m st ref line rule words outcome slots new rest d perm e v
 step_agrees m st ref rule words outcome slots new rest None some d perm e v = miss_agrees m st ref rule words outcome slots new rest some d perm e v
 

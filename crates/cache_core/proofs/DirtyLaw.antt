@@ -62,8 +62,8 @@ hit_dirty d rule words rest ref old outcome new at h v =
 pub visit_dirty : (d : Design) (rule : Option Repl) (words rest : ℕ → ℕ) (ref : Ref) (old : List Slot) (outcome : Outcome) (new : List Slot) → 0 < d.geometry.e → Visits d rule words ref old outcome new rest → dirty_in new + one_if (is_dirty outcome.evicted) ≤ dirty_in old + one_if (is_write ref.access)
 visit_dirty d rule words rest ref old outcome new e v = by_place (position_of (block_of d.geometry ref.addr) old) refl v
   where
-    by_place : (o : Option ℕ) → position_of (block_of d.geometry ref.addr) old ≡ o → MatchOption o (MatchBool (allocates d.alloc ref.access) (Fills d rule words ref old outcome new rest) (Passes words ref old outcome new rest)) (λ at. Hits d rule words ref at old outcome new rest) → dirty_in new + one_if (is_dirty outcome.evicted) ≤ dirty_in old + one_if (is_write ref.access)
-    by_place None q u = miss_dirty d rule words rest ref old outcome new (allocates d.alloc ref.access) e u
+    by_place : (o : Option ℕ) → position_of (block_of d.geometry ref.addr) old ≡ o → MatchOption o (MatchBool (allocates d.allocate ref.access) (Fills d rule words ref old outcome new rest) (Passes words ref old outcome new rest)) (λ at. Hits d rule words ref at old outcome new rest) → dirty_in new + one_if (is_dirty outcome.evicted) ≤ dirty_in old + one_if (is_write ref.access)
+    by_place None q u = miss_dirty d rule words rest ref old outcome new (allocates d.allocate ref.access) e u
     by_place (Some at) q u = hit_dirty d rule words rest ref old outcome new at (position-Some _ old at (record { block = 0; dirty = false }) q).0 u
 
 -- over all sets, where one is written

@@ -100,7 +100,7 @@ clean_step_at m ref block leaving st (Some line) w f h =
     let e : (dirties m.design.write ref.access || line.dirty) ≡ false = ap (λ b. b || line.dirty) d ∙ clean_find (is_block block) st.lines line h f in
     clean_touch m.policy (st.clock + 1) (record line { dirty = dirties m.design.write ref.access || line.dirty }) st.lines e h
 clean_step_at m ref block leaving st None w f h =
-    cases (λ b. Clean (cond b (placing m ref block leaving st) (record st { clock = st.clock + 1 })).lines) (allocates m.design.alloc ref.access)
+    cases (λ b. Clean (cond b (placing m ref block leaving st) (record st { clock = st.clock + 1 })).lines) (allocates m.design.allocate ref.access)
     (λ _. clean_place m.policy (st.clock + 1) _ (record { block = block; dirty = dirties m.design.write ref.access }) leaving st.lines (through_clean m.design.write ref.access w) h)
     (λ _. h)
 
@@ -141,7 +141,7 @@ clean_leaves m st set line h e =
 pub answer_most : (m : Machine) (ref : Ref) (block : ℕ) (leaving : Option Line) (o : Option Line) → (m.design.write ≡ Through → (line : Line) → leaving ≡ Some line → line.dirty ≡ false) → length (answer_at m ref block leaving o).down ≤ 2
 answer_most m ref block leaving (Some line) h = omega (arith, through_most m.design.write ref)
 answer_most m ref block leaving None h =
-    cases (λ b. length (cond b (on_placing m.design.geometry m.design.write ref block (option_slot leaving)) (on_passing ref)).down ≤ 2) (allocates m.design.alloc ref.access)
+    cases (λ b. length (cond b (on_placing m.design.geometry m.design.write ref block (option_slot leaving)) (on_passing ref)).down ≤ 2) (allocates m.design.allocate ref.access)
     (λ _. placing_most m.design.write m.design.geometry ref block leaving h)
     (λ _. omega arith)
 

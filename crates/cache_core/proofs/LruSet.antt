@@ -178,12 +178,12 @@ fill_moves g word p d old new outcome (Some gone) some h none places hit left =
 -- a visit of a set that holds the front of its stack
 pub visit_moves : (g : Shape) (write : WriteMode) (words : ℕ → ℕ) (ref : Ref) (w : List ℕ) (old : List Slot) (outcome : Outcome) (new : List Slot) (rest : ℕ → ℕ) → 1 ≤ g.e →
     blocks_of old ≡ take g.e (distinct_of_set g (set_of_block g (block_of g ref.addr)) w) →
-    Visits (record { geometry = g; write = write; alloc = Always }) (Some Lru) words ref old outcome new rest →
+    Visits (record { geometry = g; write = write; allocate = Always }) (Some Lru) words ref old outcome new rest →
     Moves g (record { block = block_of g ref.addr; window = w }) outcome new
 visit_moves g write words ref w old outcome new rest some h v = by_place (position_of (block_of g ref.addr) old) refl v
   where
     by_place : (o : Option ℕ) → position_of (block_of g ref.addr) old ≡ o →
-        MatchOption o (Fills (record { geometry = g; write = write; alloc = Always }) (Some Lru) words ref old outcome new rest) (λ at. Hits (record { geometry = g; write = write; alloc = Always }) (Some Lru) words ref at old outcome new rest) →
+        MatchOption o (Fills (record { geometry = g; write = write; allocate = Always }) (Some Lru) words ref old outcome new rest) (λ at. Hits (record { geometry = g; write = write; allocate = Always }) (Some Lru) words ref at old outcome new rest) →
         Moves g (record { block = block_of g ref.addr; window = w }) outcome new
     by_place None e x =
         fill_moves g (words 0) (record { block = block_of g ref.addr; window = w }) (dirties write ref.access) old new outcome outcome.evicted some h (place_none (block_of g ref.addr) old e) x.order (ap (λ (o : Outcome). o.hit) x.answers) refl

@@ -20,7 +20,7 @@ use Rattle.cache_core.proofs.WindowRows.{twelve}
 -- one set of so many lines of 16 bytes, with the random words of seed 42
 abbrev machine : Repl → ℕ → WriteMode → AllocMode → Machine
 machine policy ways write alloc = record {
-  design = record { geometry = record { s = 0; e = ways; b = 4 }; write = write; alloc = alloc };
+  design = record { geometry = record { s = 0; e = ways; b = 4 }; write = write; allocate = alloc };
   policy = policy;
   words = word_of (seeded 42);
 }

@@ -17,7 +17,7 @@ abbrev spec : ℕ → ℕ → ℕ → CacheSpec
 spec size bsize assoc = record { size = size; bsize = bsize; assoc = assoc; repl = Lru; wback = Back; walloc = Always }
 
 abbrev level : ℕ → ℕ → ℕ → Level
-level s e b = record { design = record { geometry = shape s e b; write = Back; alloc = Always }; repl = Lru }
+level s e b = record { design = record { geometry = shape s e b; write = Back; allocate = Always }; repl = Lru }
 
 abbrev unified : CacheSpec → FirstLevel
 unified u = record { i = None; d = None; u = Some u }

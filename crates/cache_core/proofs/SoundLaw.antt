@@ -94,12 +94,12 @@ visit_exists d p words ref slots r l = by_place (position_of (block_of d.geometr
 
     by_place : (o : Option ℕ) → position_of (block_of d.geometry ref.addr) slots ≡ o → Visited d p words ref slots
     by_place None e =
-        let x = by_alloc (allocates d.alloc ref.access) in
+        let x = by_alloc (allocates d.allocate ref.access) in
         record {
           outcome = x.0;
           new = x.1;
           rest = x.2;
-          visit = subst (λ o. MatchOption o (MatchBool (allocates d.alloc ref.access) (Fills d (Some p) words ref slots x.0 x.1 x.2) (Passes words ref slots x.0 x.1 x.2)) (λ at. Hits d (Some p) words ref at slots x.0 x.1 x.2)) (sym e) x.3;
+          visit = subst (λ o. MatchOption o (MatchBool (allocates d.allocate ref.access) (Fills d (Some p) words ref slots x.0 x.1 x.2) (Passes words ref slots x.0 x.1 x.2)) (λ at. Hits d (Some p) words ref at slots x.0 x.1 x.2)) (sym e) x.3;
           few = x.4;
         }
     by_place (Some at) e =
@@ -111,7 +111,7 @@ visit_exists d p words ref slots r l = by_place (position_of (block_of d.geometr
           outcome = out;
           new = x.0;
           rest = words;
-          visit = subst (λ o. MatchOption o (MatchBool (allocates d.alloc ref.access) (Fills d (Some p) words ref slots out x.0 words) (Passes words ref slots out x.0 words)) (λ n. Hits d (Some p) words ref n slots out x.0 words)) (sym e) (record { order = x.1; undrawn = refl; answers = refl });
+          visit = subst (λ o. MatchOption o (MatchBool (allocates d.allocate ref.access) (Fills d (Some p) words ref slots out x.0 words) (Passes words ref slots out x.0 words)) (λ n. Hits d (Some p) words ref n slots out x.0 words)) (sym e) (record { order = x.1; undrawn = refl; answers = refl });
           few = omega (arith, x.2, marked_length (dirties d.write ref.access) slots at);
         }
 

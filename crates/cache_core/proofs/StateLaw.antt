@@ -90,7 +90,7 @@ hit_agrees m st ref line words outcome slots rest s w h v =
     let f : find (is_block b) here ≡ Some line = find_in_set g b st.lines ∙ h in
     let t = touched m.policy st.clock b line d here (s k) f in
     let hits : Hits m.design (Some m.policy) words ref t.at (map slot_of here) outcome slots rest =
-    subst (λ o. MatchOption o (MatchBool (allocates m.design.alloc ref.access) (Fills m.design (Some m.policy) words ref (map slot_of here) outcome slots rest) (Passes words ref (map slot_of here) outcome slots rest)) (λ at. Hits m.design (Some m.policy) words ref at (map slot_of here) outcome slots rest)) t.place v in
+    subst (λ o. MatchOption o (MatchBool (allocates m.design.allocate ref.access) (Fills m.design (Some m.policy) words ref (map slot_of here) outcome slots rest) (Passes words ref (map slot_of here) outcome slots rest)) (λ at. Hits m.design (Some m.policy) words ref at (map slot_of here) outcome slots rest)) t.place v in
     let in_set : set_of_block g line.block ≡ k = ap (set_of_block g) (found b here line f).here in
     let e = touch_here m.policy (st.clock + 1) g k (with_mark d line) st.lines in_set in
     record {
@@ -199,8 +199,8 @@ step_agrees m st ref words outcome slots rest None s w e v =
     let k = set_of_block g b in
     let here = lines_of_set g k st.lines in
     let a : Absent b here = not_found b here (find_in_set g b st.lines ∙ e) in
-    miss_agrees m st ref words outcome slots rest (allocates m.design.alloc ref.access) s w a
-    (subst (λ o. MatchOption o (MatchBool (allocates m.design.alloc ref.access) (Fills m.design (Some m.policy) words ref (map slot_of here) outcome slots rest) (Passes words ref (map slot_of here) outcome slots rest)) (λ at. Hits m.design (Some m.policy) words ref at (map slot_of here) outcome slots rest)) (place_absent b here a) v)
+    miss_agrees m st ref words outcome slots rest (allocates m.design.allocate ref.access) s w a
+    (subst (λ o. MatchOption o (MatchBool (allocates m.design.allocate ref.access) (Fills m.design (Some m.policy) words ref (map slot_of here) outcome slots rest) (Passes words ref (map slot_of here) outcome slots rest)) (λ at. Hits m.design (Some m.policy) words ref at (map slot_of here) outcome slots rest)) (place_absent b here a) v)
 
 -- the machine stays sound
 pub sound_step : (m : Machine) (st next : MachineState) (k : ℕ) (slots : List Slot) (rest : ℕ → ℕ) (outcome : Outcome) (a : Answer) → IsSound m st → Agrees m st next k slots rest outcome a → IsSound m next

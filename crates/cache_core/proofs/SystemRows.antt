@@ -17,7 +17,7 @@ use Rattle.cache_core.proofs.MachineRows.{read, write, fetch, six}
 
 -- one set of so many lines of 16 bytes
 abbrev level : ℕ → Repl → WriteMode → AllocMode → Level
-level ways repl w a = record { design = record { geometry = record { s = 0; e = ways; b = 4 }; write = w; alloc = a }; repl = repl }
+level ways repl w a = record { design = record { geometry = record { s = 0; e = ways; b = 4 }; write = w; allocate = a }; repl = repl }
 
 abbrev one : Level
 one = level 1 Lru Back Always

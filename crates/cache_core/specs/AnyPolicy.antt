@@ -22,7 +22,7 @@ pub record HoldsSame (m : Machine) (st : MachineState) (c : Contents) : Type 0 w
 -- whether a reference places its block in a full set
 abbrev pub needs_room : Machine → MachineState → Ref → Bool
 needs_room m st ref =
-    is_none (find (is_block (block_of m.design.geometry ref.addr)) st.lines) && allocates m.design.alloc ref.access && is_full m st (set_of m.design.geometry ref.addr)
+    is_none (find (is_block (block_of m.design.geometry ref.addr)) st.lines) && allocates m.design.allocate ref.access && is_full m st (set_of m.design.geometry ref.addr)
 
 -- A line leaves exactly where a block needs room, and then it is any line of the set.
 abbrev pub MayLeave : Bool → List Line → Option Line → Type 0

@@ -44,7 +44,7 @@ pub record IsShapeOf (spec : CacheSpec) (g : Shape) : Type 0 where
 
 -- a cache that is asked for, with its shape; none if it has no shape
 abbrev pub level_of : CacheSpec → Option Level
-level_of spec = option_map (λ g. record { design = record { geometry = g; write = spec.wback; alloc = spec.walloc }; repl = spec.repl }) (shape_of spec)
+level_of spec = option_map (λ g. record { design = record { geometry = g; write = spec.wback; allocate = spec.walloc }; repl = spec.repl }) (shape_of spec)
 
 -- no first-level cache is asked for
 abbrev pub has_none : FirstLevel → Bool

@@ -18,7 +18,7 @@ use Rattle.cache_core.specs.Windows.{Place, window, places, is_hit, is_evict, co
 -- the machine of an LRU cache with write-allocate
 abbrev pub lru_machine : Shape → WriteMode → Machine
 lru_machine g write = record {
-  design = record { geometry = g; write = write; alloc = Always };
+  design = record { geometry = g; write = write; allocate = Always };
   policy = Lru;
   words = λ n. 0;
 }

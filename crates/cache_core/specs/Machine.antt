@@ -119,13 +119,13 @@ step_at m ref block leaving st (Some line) = record st {
   lines = touch m.policy (st.clock + 1) (record line { dirty = dirties m.design.write ref.access || line.dirty }) st.lines;
 }
 step_at m ref block leaving st None =
-    if allocates m.design.alloc ref.access then placing m ref block leaving st else record st { clock = st.clock + 1 }
+    if allocates m.design.allocate ref.access then placing m ref block leaving st else record st { clock = st.clock + 1 }
 
 -- the answer to it, over the same arguments but the state
 abbrev pub answer_at : Machine → Ref → ℕ → Option Line → Option Line → Answer
 answer_at m ref block leaving (Some line) = on_hit m.design.write ref
 answer_at m ref block leaving None =
-    if allocates m.design.alloc ref.access then on_placing m.design.geometry m.design.write ref block (option_slot leaving) else on_passing ref
+    if allocates m.design.allocate ref.access then on_placing m.design.geometry m.design.write ref block (option_slot leaving) else on_passing ref
 
 -- the state after one reference, and the answer to it, where this line leaves if the block is placed
 abbrev pub step_with : Machine → Ref → Option Line → MachineState → MachineState

@@ -79,7 +79,7 @@ pub record Passes (words : ℕ → ℕ) (ref : Ref) (old : List Slot) (outcome :
 abbrev pub Visits : Design → Option Repl → (ℕ → ℕ) → Ref → List Slot → Outcome → List Slot → (ℕ → ℕ) → Type 0
 Visits d rule words ref old outcome new rest =
     MatchOption (position_of (block_of d.geometry ref.addr) old)
-    (MatchBool (allocates d.alloc ref.access) (Fills d rule words ref old outcome new rest) (Passes words ref old outcome new rest))
+    (MatchBool (allocates d.allocate ref.access) (Fills d rule words ref old outcome new rest) (Passes words ref old outcome new rest))
     (λ at. Hits d rule words ref at old outcome new rest)
 
 -- what a cache holds: its sets, each in its policy's order, and the random words still to come

@@ -33,10 +33,10 @@ fn dirties_line(write: WriteMode, access: Access) -> bool
 
 /// Whether a miss places its block.
 #[inline(always)]
-fn allocates_line(alloc: AllocMode, access: Access) -> bool
-    ensures { result ≡ allocates alloc access }
+fn allocates_line(allocate: AllocMode, access: Access) -> bool
+    ensures { result ≡ allocates allocate access }
 {
-    alloc == AllocMode::Always || access != Access::Write
+    allocate == AllocMode::Always || access != Access::Write
 }
 
 /// What goes down for the reference itself: a write, from a write-through cache.
@@ -149,7 +149,7 @@ fn visit<P: Replacement>(
         use_slot(policy, &mut room[..filled], at, dirty);
         return (hit_outcome(design.write, reference), filled);
     }
-    if !allocates_line(design.alloc, reference.access) {
+    if !allocates_line(design.allocate, reference.access) {
         return (passing_outcome(reference), filled);
     }
     let (_, evicted) = policy.place(room, filled, Slot { block, dirty });
@@ -309,7 +309,7 @@ impl<P: Replacement> Cache<P> {
         allocate: AllocMode,
     ) -> Result<Self, AllocError>
         ensures design { IfOk result (λ cache.
-            cache.design ≡ record { geometry = geometry; write = write; alloc = allocate }) }
+            cache.design ≡ record { geometry = geometry; write = write; allocate = allocate }) }
         ensures policy { IfOk result (λ cache. cache.policy ≡ policy) }
         ensures empty { IfOk result (λ cache. cache.sets ≡ empty_sets geometry) }
     {
@@ -325,7 +325,7 @@ impl<P: Replacement> Cache<P> {
             design: Design {
                 geometry,
                 write,
-                alloc: allocate,
+                allocate,
             },
             policy,
             slots,

@@ -37,7 +37,7 @@ pub enum Repl {
 pub struct Design {
     pub geometry: Geometry,
     pub write: WriteMode,
-    pub alloc: AllocMode,
+    pub allocate: AllocMode,
 }
 
 /// What one access did: whether its block was held, the slot that left for it, whether it was placed, and what goes down to the

@@ -191,7 +191,7 @@ fn level_for(cache: CacheName, spec: Option<CacheSpec>) -> Result<Option<Level>,
             let design = Design {
                 geometry,
                 write: spec.wback,
-                alloc: spec.walloc,
+                allocate: spec.walloc,
             };
             Ok(Some(Level {
                 design,

@@ -175,7 +175,7 @@ a_din : command_of (din_words (unified (codes "1k") (codes "16") [])) ≡ Some (
   job = Din (record {
     i = None;
     d = None;
-    u = Some (record { design = record { geometry = record { s = 6; e = 1; b = 4 }; write = Back; alloc = Always }; repl = Lru });
+    u = Some (record { design = record { geometry = record { s = 6; e = 1; b = 4 }; write = Back; allocate = Always }; repl = Lru });
     second = None;
   }) 42 Din-format (2 ^ 40);
   trace = None;
@@ -188,10 +188,10 @@ two_levels : command_of (din_words (codes "-l1-isize" ∷ codes "32" ∷ codes "
     ∷ codes "-l2-usize" ∷ codes "64" ∷ codes "-l2-ubsize" ∷ codes "16" ∷ codes "-l2-urepl" ∷ codes "r" ∷ codes "-informat" ∷ codes "l" ∷ codes "--seed" ∷ codes "7" ∷ codes "-t" ∷ codes "f" ∷ []))
     ≡ Some (Ok (record {
       job = Din (record {
-        i = Some (record { design = record { geometry = record { s = 0; e = 2; b = 4 }; write = Back; alloc = Always }; repl = Fifo });
-        d = Some (record { design = record { geometry = record { s = 1; e = 1; b = 3 }; write = Through; alloc = Never }; repl = Lru });
+        i = Some (record { design = record { geometry = record { s = 0; e = 2; b = 4 }; write = Back; allocate = Always }; repl = Fifo });
+        d = Some (record { design = record { geometry = record { s = 1; e = 1; b = 3 }; write = Through; allocate = Never }; repl = Lru });
         u = None;
-        second = Some (record { design = record { geometry = record { s = 2; e = 1; b = 4 }; write = Back; alloc = Always }; repl = Random });
+        second = Some (record { design = record { geometry = record { s = 2; e = 1; b = 4 }; write = Back; allocate = Always }; repl = Random });
       }) 7 Lackey (2 ^ 40);
       trace = Some (codes "f");
     }))

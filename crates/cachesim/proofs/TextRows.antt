@@ -64,7 +64,7 @@ lackey_log = refl
 
 -- one set of so many lines of 16 bytes
 abbrev level : ℕ → Repl → WriteMode → AllocMode → Level
-level ways repl w a = record { design = record { geometry = shape 0 ways 4; write = w; alloc = a }; repl = repl }
+level ways repl w a = record { design = record { geometry = shape 0 ways 4; write = w; allocate = a }; repl = repl }
 
 abbrev unified : Level → Option Level → Levels
 unified u second = record { i = None; d = None; u = Some u; second = second }
