@@ -71,7 +71,13 @@ impl Stage {
     {
         let Level { design, repl } = level;
         let policy = policy_of(repl, seed);
-        let cache = Cache::new(alloc, design.geometry, policy, design.write, design.allocate)?;
+        let cache = Cache::new(
+            alloc,
+            design.geometry,
+            policy,
+            design.write,
+            design.allocate,
+        )?;
         let stats = CacheStats {
             fetches: 0,
             fetch_misses: 0,
