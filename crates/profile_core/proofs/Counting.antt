@@ -11,7 +11,7 @@ use Rattle.cache_core.specs.Geometry.{Shape, block_of}
 use Rattle.cache_core.specs.Windows.{Place, distinct_of_set, has_last, distance, seen, is_hit, window, places, probes, held, counts}
 use Rattle.cache_core.proofs.Places.{places_from, places-from}
 use Rattle.cache_core.specs.declared.outcome.Counts.{Counts}
-use Rattle.profile_core.specs.State.{ProfileState, fed_of, held_of, counts_held}
+use Rattle.profile_core.specs.State.{ProfileState, fed_of, held_of, counts_at}
 use Rattle.profile_core.specs.StandsFor.{StandsFor}
 use Rattle.profile_core.proofs.Sums.{sum-counts}
 use Rattle.profile_core.proofs.Steps.{Finds, finds}
@@ -57,8 +57,8 @@ always true n m = refl
 always false n m = grind (arith, nat_tests)
 
 -- the first e numbers of the two histograms
-pub near_sum : (es : List Event) (v : ProfileState) (e : ℕ) → StandsFor es v → e ≤ v.geometry.e → sum (take e v.distances) ≡ count_by (hit_at v.geometry e) (places v.geometry es)
-near_sum es v e h le =
+pub distances_sum : (es : List Event) (v : ProfileState) (e : ℕ) → StandsFor es v → e ≤ v.geometry.e → sum (take e v.distances) ≡ count_by (hit_at v.geometry e) (places v.geometry es)
+distances_sum es v e h le =
     let g = v.geometry in
     let f : ℕ → ℕ = λ d. count_by (λ p. has_last p && eqb (distance g p) d) (places g es) in
     ap (λ ns. sum (take e ns)) (fill_by_all f v.distances g.e 0 h.distance_count h.distances)
@@ -81,12 +81,12 @@ pub fed_is : (es : List Event) (v : ProfileState) → StandsFor es v → fed_of 
 fed_is es v h =
     let g = v.geometry in
     let ps : List Place = places g es in
-    let near : sum v.distances ≡ count_by (is_hit g) ps =
-    ap sum (sym (take_all g.e v.distances (omega (arith, h.distance_count)))) ∙ near_sum es v g.e h (omega arith) in
-    let far : sum v.fills ≡ count_by (λ p. not (is_hit g p)) ps =
+    let found : sum v.distances ≡ count_by (is_hit g) ps =
+    ap sum (sym (take_all g.e v.distances (omega (arith, h.distance_count)))) ∙ distances_sum es v g.e h (omega arith) in
+    let not_found : sum v.fills ≡ count_by (λ p. not (is_hit g p)) ps =
     ap sum (sym (take_all (g.e + 1) v.fills (omega (arith, h.fill_count)))) ∙ fills_sum es v (g.e + 1) h (omega arith)
     ∙ sum_by_same (λ p. cond (not (is_hit g p) && ltb (min (seen g p) g.e) (g.e + 1)) 1 0) (λ p. cond (not (is_hit g p)) 1 0) ps (λ p. always (is_hit g p) (seen g p) g.e) in
-    omega (arith, near, far, all_of g g.e ps)
+    omega (arith, found, not_found, all_of g g.e ps)
 
 evicted : (g : Shape) (m e : ℕ) (p : Place) → e ≤ m →
     cond (evict_at g e p) 1 0 + cond (not (hit_at g m p) && ltb (min (seen g p) m) e) 1 0 ≡ cond (not (hit_at g e p)) 1 0
@@ -117,12 +117,12 @@ counts_same : (g : Shape) (e : ℕ) (es : List Event) → counts (record g { e =
 unfolding counts distinct_of_set counts_by
 counts_same g e es = ap (counts_by g e) (places_same g e es)
 
-pub counts_are : (es : List Event) (v : ProfileState) (e : ℕ) → StandsFor es v → e ≤ v.geometry.e → counts_held v e ≡ counts (record v.geometry { e = e }) es
+pub counts_are : (es : List Event) (v : ProfileState) (e : ℕ) → StandsFor es v → e ≤ v.geometry.e → counts_at v e ≡ counts (record v.geometry { e = e }) es
 unfolding counts_by
 counts_are es v e h le =
     let g = v.geometry in
     let ps : List Place = places g es in
-    let hits = near_sum es v e h le in
+    let hits = distances_sum es v e h le in
     let fed = fed_is es v h in
     let split = sum_by-take-drop (λ n. n) v.distances e in
     let fills_split = sum_by-take-drop (λ n. n) v.fills e in
@@ -132,7 +132,7 @@ counts_are es v e h le =
     let old : count_by (evict_at g e) ps + count_by (λ p. not (is_hit g p) && ltb (min (seen g p) g.e) e) ps ≡ count_by (λ p. not (hit_at g e p)) ps =
     sum_by_parts (λ p. cond (evict_at g e p) 1 0) (λ p. cond (not (is_hit g p) && ltb (min (seen g p) g.e) e) 1 0) (λ p. cond (not (hit_at g e p)) 1 0) ps (λ p. evicted g g.e e p le) in
     let evictions : sum (drop e v.distances) + sum (drop e v.fills) ≡ count_by (evict_at g e) ps = omega (arith, misses, young, old, fills_split) in
-    let same : counts_held v e ≡ counts_by g e ps = cc (hits, misses, evictions) in
+    let same : counts_at v e ≡ counts_by g e ps = cc (hits, misses, evictions) in
     same ∙ sym (counts_same g e es)
 
 pub held_is : (es : List Event) (v : ProfileState) → StandsFor es v → held_of v ≡ held v.geometry es

@@ -39,11 +39,11 @@ at_most p p' m n d h e k = omega arith
 pub fed_once : (g : Shape) (p p' m : ℕ) (was now : Lists) (ds fs ds' fs' : List ℕ) → IsSound g was ds fs p → now.depth ≡ was.depth → length now.lists ≡ length was.lists
     → length ds' ≡ length ds → length fs' ≡ length fs → sum ds' + sum fs' ≡ suc (sum ds + sum fs) → sum ds + sum fs < 2 ^ 41 → p' ≡ p + m → m ≤ g.e
     → IsSound g now ds' fs' p'
-fed_once g p p' m was now ds fs ds' fs' h depth sets near far more fed counted few = record {
+fed_once g p p' m was now ds fs ds' fs' h depth set_count distance_count fill_count more fed counted few = record {
   depth = depth ∙ h.depth;
-  sets = sets ∙ h.sets;
-  near = near ∙ h.near;
-  far = far ∙ h.far;
+  set_count = set_count ∙ h.set_count;
+  distance_count = distance_count ∙ h.distance_count;
+  fill_count = fill_count ∙ h.fill_count;
   fed = omega (arith, more, fed);
   compared =
       let grown : (sum ds' + sum fs') * g.e ≡ (sum ds + sum fs) * g.e + g.e =

@@ -1,8 +1,9 @@
 -- A profile that stands for a list of events, and the list with one more event.
-use Rattle.std.proofs.Common.{◌≡◌, ◌≢◌, ℕ, zero, suc, ◌+◌, ◌<◌, ◌^◌, Bool, true, false, not, ◌&&◌, cond, eqb, ltb, min, List, [], ◌∷◌, ◌++◌, length, take, refl, sym, ◌∙◌, ap, subst, arith, get_or, set, ⊎_elim, get_or-set_same, get_or-set_other, length-set}
+use Rattle.std.proofs.Common.{◌≡◌, ◌≢◌, ℕ, ◌+◌, ◌<◌, ◌^◌, Bool, true, false, not, ◌&&◌, cond, eqb, ltb, min, List, [], ◌∷◌, ◌++◌, length, take, refl, sym, ◌∙◌, ap, subst, arith, get_or, set, ⊎_elim, get_or-set_same, get_or-set_other, length-set}
 use Rattle.std.proofs.lemmas.List.{length-replicate, get_or-replicate}
 use Rattle.std.specs.List.{count_by, sum_by}
 use Rattle.std.proofs.lemmas.Bool.{ne_eqb, cases_eq, ltb-true}
+use Rattle.std.proofs.Math.Seq.{take-nil}
 use Rattle.std.proofs.lemmas.Nat.{mod_below, pow_pos}
 use Rattle.cache_core.proofs.Distances.{take-distinct_of_set-same, distinct_of_set-other, distinct_of_set-nil}
 use Rattle.cache_core.proofs.Places.{places-flush, window-nil, window-push, sum_by-reference}
@@ -13,7 +14,7 @@ use Rattle.cache_core.specs.Geometry.{Shape, IsGeometry, block_of, set_of_block}
 use Rattle.cache_core.specs.LruLaws.{place_after}
 use Rattle.cache_core.specs.Windows.{Place, distinct_of_set, has_last, distance, seen, is_hit, window, places, places_after, probes}
 use Rattle.profile_core.specs.Moves.{place_of, is_in, move_to_front}
-use Rattle.profile_core.specs.State.{ProfileState, empty, list_of, raise, referenced, after_reference, after_flush}
+use Rattle.profile_core.specs.State.{ProfileState, empty, list_of, raise, referenced_in, after_reference, after_flush}
 use Rattle.profile_core.specs.StandsFor.{StandsFor}
 use Rattle.profile_core.proofs.Steps.{raise_if, raise_unless, Finds, finds, distance_within, probes_within}
 
@@ -21,7 +22,7 @@ use Rattle.profile_core.proofs.Steps.{raise_if, raise_unless, Finds, finds, dist
 lists_step : (es : List Event) (v : ProfileState) (r : Ref) (xs : List ℕ) → StandsFor es v
     → xs ≡ take v.geometry.e (distinct_of_set v.geometry (set_of_block v.geometry (block_of v.geometry r.addr)) (window v.geometry es))
     → (k : ℕ) → k < 2 ^ v.geometry.s
-    → list_of (referenced v (block_of v.geometry r.addr) xs) k ≡ take v.geometry.e (distinct_of_set v.geometry k (window v.geometry (es ++ event.Reference r ∷ [])))
+    → list_of (referenced_in v (block_of v.geometry r.addr) xs) k ≡ take v.geometry.e (distinct_of_set v.geometry k (window v.geometry (es ++ event.Reference r ∷ [])))
 lists_step es v r xs h e k lt =
     let g = v.geometry in
     let x : ℕ = block_of v.geometry r.addr in
@@ -49,11 +50,11 @@ length-either : (b : Bool) (xs ys : List ℕ) {n : ℕ} → length xs ≡ n → 
 length-either true xs ys p q = p
 length-either false xs ys p q = q
 
-referenced_stands : (es : List Event) (v : ProfileState) (r : Ref) (xs : List ℕ) → StandsFor es v
+referenced_in_stands : (es : List Event) (v : ProfileState) (r : Ref) (xs : List ℕ) → StandsFor es v
     → xs ≡ take v.geometry.e (distinct_of_set v.geometry (set_of_block v.geometry (block_of v.geometry r.addr)) (window v.geometry es))
-    → StandsFor (es ++ event.Reference r ∷ []) (referenced v (block_of v.geometry r.addr) xs)
+    → StandsFor (es ++ event.Reference r ∷ []) (referenced_in v (block_of v.geometry r.addr) xs)
 unfolding probes
-referenced_stands es v r xs h e =
+referenced_in_stands es v r xs h e =
     let g = v.geometry in
     let p : Place = place_after g es r in
     let f : Finds g g.e p xs = finds g g.e p xs e in
@@ -87,13 +88,9 @@ referenced_stands es v r xs h e =
           ∙ sym (sum_by-reference (λ q. cond (is_hit g q) (distance g q + 1) (min (seen g q) v.geometry.e)) g es r);
     }
 
-take-nil : (n : ℕ) → take {A = ℕ} n [] ≡ []
-take-nil zero = refl
-take-nil (suc n) = refl
-
 pub reference_stands : (es : List Event) (v : ProfileState) (r : Ref) → StandsFor es v → StandsFor (es ++ event.Reference r ∷ []) (after_reference v (block_of v.geometry r.addr))
 reference_stands es v r h =
-    referenced_stands es v r (list_of v (set_of_block v.geometry (block_of v.geometry r.addr))) h (h.lists (set_of_block v.geometry (block_of v.geometry r.addr)) (mod_below _ _ (pow_pos v.geometry.s)))
+    referenced_in_stands es v r (list_of v (set_of_block v.geometry (block_of v.geometry r.addr))) h (h.lists (set_of_block v.geometry (block_of v.geometry r.addr)) (mod_below _ _ (pow_pos v.geometry.s)))
 
 pub flush_stands : (es : List Event) (v : ProfileState) → StandsFor es v → StandsFor (es ++ event.Flush ∷ []) (after_flush v)
 unfolding probes

@@ -29,8 +29,8 @@ abbrev pub raise : List ℕ → ℕ → List ℕ
 raise ns i = slice_set ns i (slice_index ns i + 1)
 
 -- after a reference to block x, whose set has the list xs
-abbrev pub referenced : ProfileState → ℕ → List ℕ → ProfileState
-referenced v x xs = record v {
+abbrev pub referenced_in : ProfileState → ℕ → List ℕ → ProfileState
+referenced_in v x xs = record v {
   lists = slice_set v.lists (set_of_block v.geometry x) (take v.geometry.e (move_to_front x xs));
   distances = if is_in x xs then raise v.distances (place_of x xs) else v.distances;
   fills = if is_in x xs then v.fills else raise v.fills (length xs);
@@ -39,7 +39,7 @@ referenced v x xs = record v {
 
 -- after a reference to a block
 abbrev pub after_reference : ProfileState → ℕ → ProfileState
-after_reference v x = referenced v x (list_of v (set_of_block v.geometry x))
+after_reference v x = referenced_in v x (list_of v (set_of_block v.geometry x))
 
 -- after a flush
 abbrev pub after_flush : ProfileState → ProfileState
@@ -58,30 +58,31 @@ fed_of v = sum v.distances + sum v.fills
 abbrev pub held_of : ProfileState → ℕ
 held_of v = sum_by length v.lists
 
--- the counts of an LRU cache of e lines a set
-abbrev pub counts_held : ProfileState → ℕ → Counts
-counts_held v e = record {
+-- the counts of an LRU cache of e lines a set: a reference found at a place below e hits a cache of e lines,
+-- and any other misses (Mattson 1970); a miss evicts where e blocks or more had been seen
+abbrev pub counts_at : ProfileState → ℕ → Counts
+counts_at v e = record {
   hits = sum (take e v.distances);
   misses = sum (drop e v.distances) + sum v.fills;
   evictions = sum (drop e v.distances) + sum (drop e v.fills);
 }
 
--- what a tally holds: an associativity, and the sums up to it
+-- what a tally holds: an associativity, the sums of both histograms up to it, and the references fed
 pub record TallyState : Type 0 where
   pub ways : ℕ
   pub hits : ℕ
-  pub early : ℕ
+  pub fills : ℕ
   pub fed : ℕ
 
 -- the tally of a profile at an associativity
 abbrev pub tally_at : ProfileState → ℕ → TallyState
-tally_at v e = record { ways = e; hits = sum (take e v.distances); early = sum (take e v.fills); fed = fed_of v }
+tally_at v e = record { ways = e; hits = sum (take e v.distances); fills = sum (take e v.fills); fed = fed_of v }
 
 -- what is true of the fields of every profile
 pub record IsSound (g : Shape) (lists : Lists) (distances fills : List ℕ) (probes : ℕ) : Type 0 where
   pub depth : lists.depth ≡ g.e
-  pub sets : length lists.lists ≡ 2 ^ g.s
-  pub near : length distances ≡ g.e
-  pub far : length fills ≡ g.e + 1
+  pub set_count : length lists.lists ≡ 2 ^ g.s
+  pub distance_count : length distances ≡ g.e
+  pub fill_count : length fills ≡ g.e + 1
   pub fed : sum distances + sum fills ≤ 2 ^ 41
   pub compared : probes ≤ (sum distances + sum fills) * g.e

@@ -1,12 +1,13 @@
-//! Laws over what a profile holds: each is the contract of a function with no code, which a caller cites by calling it.
+//! Laws over the definitions: each is the contract of a function with no code, so that the gate proves it. Proofs above may cite
+//! the lemma behind it.
 
-ghost use Rattle.std.specs.Prelude.{◌≡◌, ◌≤◌, ◌+◌, ◌*◌, List, ◌++◌, ◌∷◌, [], length, fold};
+ghost use Rattle.std.specs.Prelude.{◌≡◌, ◌≤◌, ◌*◌, List, ◌++◌, ◌∷◌, [], length, fold};
 ghost use Rattle.trace_core.specs.declared.events.Ref.{Ref};
 ghost use Rattle.trace_core.specs.declared.events.Event.{Event};
 ghost use Rattle.trace_core.specs.declared.events.Event.TheVariants as event;
 ghost use Rattle.cache_core.specs.Geometry.{Shape, IsGeometry, block_of};
 ghost use Rattle.cache_core.specs.Windows.{places, probes};
-ghost use Rattle.profile_core.specs.State.{ProfileState, empty, after_reference, after_flush, after_event, fed_of};
+ghost use Rattle.profile_core.specs.State.{ProfileState, empty, after_reference, after_flush, after_event};
 ghost use Rattle.profile_core.specs.StandsFor.{StandsFor};
 
 /// A new profile stands for no events; a reference fed is a reference added, and a flush a flush added.
@@ -21,13 +22,6 @@ pub fn each_step_stands()
 /// A profile that was fed a list of events stands for it.
 pub fn stands_after()
     ensures { (g : Shape) (es : List Event) → IsGeometry g → StandsFor es (fold after_event (empty g) es) }
-{}
-
-/// Nothing is fed to an empty profile; events keep the geometry, and each is at most one reference more.
-pub fn after_events()
-    ensures none { (g : Shape) → fed_of (empty g) ≡ 0 }
-    ensures geometry { (es : List Event) (v : ProfileState) → (fold after_event v es).geometry ≡ v.geometry }
-    ensures fed { (es : List Event) (v : ProfileState) → fed_of (fold after_event v es) ≤ fed_of v + length es }
 {}
 
 /// At most `g.e` comparisons are made for each reference.

@@ -3,7 +3,7 @@ ghost use Rattle.std.specs.Prelude.{◌≡◌, ◌+◌, ◌-◌, ◌*◌, ◌%�
 ghost use Rattle.trace_core.specs.declared.events.Event.{Event};
 ghost use Rattle.cache_core.specs.Geometry.{IsGeometry, shape, block_of};
 ghost use Rattle.cache_core.specs.Windows.{places, counts, probes, held};
-ghost use Rattle.profile_core.specs.State.{empty, after_reference, after_flush, fed_of, held_of, counts_held, tally_at};
+ghost use Rattle.profile_core.specs.State.{empty, after_reference, after_flush, fed_of, held_of, counts_at, tally_at};
 ghost use Rattle.profile_core.specs.StandsFor.{StandsFor};
 
 use crate::recency::{RecencyLists, Touch};
@@ -12,7 +12,8 @@ use cache_core::outcome::Counts;
 use std::alloc::{AllocError, Global};
 use std::marker::Model;
 
-/// The recency lists of all sets, and how many references found their block at each place of its list, or not in a list of each length.
+/// The recency lists of all sets (LRU stacks, Mattson 1970) and two histograms: references found, by their stack distance,
+/// which is the block's place in its list; references not found, by the number of blocks in the list.
 #[derive(Drop)]
 pub struct Profile {
     geometry: Geometry,
@@ -38,13 +39,13 @@ impl Model for Profile {
     ghost invariant = { λ p. IsSound p.geometry p.lists p.distances.items p.fills.items p.probes };
 }
 
-/// Sums over a profile's numbers up to an associativity, so that the counts of a larger one need not begin anew: how many references
-/// found their block below it, how many found neither their block nor that many others, and how many were fed.
+/// A walk over a profile's histograms towards larger associativities: of `fed` references so many hit at `ways` lines a set,
+/// and so many missed while their set had a free line.
 #[derive(Clone, Copy, Debug)]
 pub struct Tally {
     ways: usize,
     hits: u64,
-    early: u64,
+    fills: u64,
     fed: u64,
 }
 
@@ -53,9 +54,9 @@ impl Model for Tally {
 
     ghost Value = { TallyState };
 
-    ghost view = { λ t. record { ways = t.ways; hits = t.hits; early = t.early; fed = t.fed } };
+    ghost view = { λ t. record { ways = t.ways; hits = t.hits; fills = t.fills; fed = t.fed } };
 
-    ghost inverse = { λ t. record { ways = t.ways; hits = t.hits; early = t.early; fed = t.fed } };
+    ghost inverse = { λ t. record { ways = t.ways; hits = t.hits; fills = t.fills; fed = t.fed } };
 }
 
 impl Profile {
@@ -78,7 +79,8 @@ impl Profile {
         })
     }
 
-    /// Feeds one reference. It takes no memory, and has no refusal.
+    /// Feeds one reference by its address; whether it reads or writes plays no part. Takes no memory and cannot fail.
+    /// At most 2^41 may be fed: two for each of 2^40 lines.
     #[inline(always)]
     pub fn feed(&mut self, addr: u64)
         requires { fed_of self.old < 2 ^ 41 }
@@ -134,7 +136,7 @@ impl Profile {
     pub fn counts(&self, e: u64) -> Counts
         requires some { 1 ≤ e }
         requires within { e ≤ self.now.geometry.e }
-        ensures value { result ≡ counts_held self.now e }
+        ensures value { result ≡ counts_at self.now e }
         ensures trace { (es : List Event) → StandsFor es self.now
             → result ≡ counts (record self.now.geometry { e = e }) es }
     {
@@ -149,7 +151,7 @@ impl Profile {
         Tally {
             ways: 0,
             hits: 0,
-            early: 0,
+            fills: 0,
             fed: self.fed(),
         }
     }
@@ -162,7 +164,7 @@ impl Profile {
         requires within { e ≤ self.now.geometry.e }
         requires of_this { tally.old ≡ tally_at self.now tally.old.ways }
         requires rising { tally.old.ways ≤ e }
-        ensures value { result ≡ counts_held self.now e }
+        ensures value { result ≡ counts_at self.now e }
         ensures trace { (es : List Event) → StandsFor es self.now
             → result ≡ counts (record self.now.geometry { e = e }) es }
         ensures tally { tally.new ≡ tally_at self.now e }
@@ -170,15 +172,15 @@ impl Profile {
         let from = tally.ways;
         let to = e as usize;
         let hits = total(&self.distances[from..to]);
-        let early = total(&self.fills[from..to]);
+        let fills = total(&self.fills[from..to]);
         tally.ways = to;
         tally.hits += hits;
-        tally.early += early;
+        tally.fills += fills;
         let misses = tally.fed - tally.hits;
         Counts {
             hits: tally.hits,
             misses,
-            evictions: misses - tally.early,
+            evictions: misses - tally.fills,
         }
     }
 }

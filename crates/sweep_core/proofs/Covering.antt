@@ -1,6 +1,7 @@
 -- The profiles that a sweep made serve its rows in order.
 use Rattle.std.proofs.Common.{◌≡◌, ℕ, ◌*◌, ◌^◌, ◌<◌, ◌≤◌, true, List, [], ◌∷◌, map, refl, sym, ap, ◌∙◌, None, Some, inl, inr, arith, subst}
 use Rattle.std.specs.List.{AllByRecursion as Each, slice_get}
+use Rattle.std.proofs.lemmas.Simd.{map-map}
 use Rattle.std.proofs.lemmas.Bool.{cases_Bool, and_from, eq-eqb}
 use Rattle.trace_core.specs.declared.events.Event.{Event}
 use Rattle.cache_core.specs.Geometry.{Shape, shape}
@@ -12,15 +13,15 @@ use Rattle.sweep_core.specs.Space.{fault_of, bytes_of}
 use Rattle.sweep_core.specs.Table.{is_less, IsRising}
 use Rattle.sweep_core.specs.SweepText.{log2, all_of, rows_of}
 use Rattle.sweep_core.specs.Work.{pairs, depth}
-use Rattle.sweep_core.specs.Pass.{Swept, after_events, begun_for, HasGeometry}
-use Rattle.sweep_core.specs.Walk.{is_same_pair, left_pairs, Serves, Covers, IsProfileOf, IsTally, Walks}
+use Rattle.sweep_core.specs.Pass.{Swept, pair_after_events, begun_for, HasGeometry}
+use Rattle.sweep_core.specs.Walk.{is_same_pair, Serves, Covers, IsProfileOf, IsTally, Walks}
 use Rattle.sweep_core.proofs.Validity.{IsLimited, limits_of, valid_of, products}
 use Rattle.sweep_core.proofs.Orders.{Less, less_of}
-use Rattle.sweep_core.proofs.Tables.{Member}
+use Rattle.sweep_core.proofs.Tables.{Member, Each-both}
 use Rattle.sweep_core.proofs.Depths.{depth-above}
-use Rattle.sweep_core.proofs.Pairs.{pair, same-pair, left-same, left-new}
+use Rattle.sweep_core.proofs.Pairs.{pair, left_pairs, same-pair, left-same, left-new}
 use Rattle.sweep_core.proofs.Making.{Belongs, rows-rise, rows-belong, first-each}
-use Rattle.sweep_core.proofs.Standing.{stands, geometry-kept, map-map}
+use Rattle.sweep_core.proofs.Standing.{stands, geometry-kept}
 
 -- a row whose numbers fit, and which is not deeper than its pair
 pub record Sized (r : Request) (c : Config) : Type 0 where
@@ -31,10 +32,6 @@ pub record Sized (r : Request) (c : Config) : Type 0 where
 Each-self : {A : Type 0} (P : A → Type 0) (xs : List A) → ((a : A) → Member a xs → P a) → Each P xs
 Each-self P [] h = tt
 Each-self P (x ∷ xs) h = (h x (inl refl), Each-self P xs (λ a m. h a (inr m)))
-
-Each-both : {A : Type 0} (P Q R : A → Type 0) → ((a : A) → P a → Q a → R a) → (xs : List A) → Each P xs → Each Q xs → Each R xs
-Each-both P Q R f [] p q = tt
-Each-both P Q R f (x ∷ xs) p q = (f x p.0 q.0, Each-both P Q R f xs p.1 q.1)
 
 sized : (r : Request) (c : Config) → IsLimited r.space → Belongs r c → c.assoc ≤ depth (all_of r) (pair c) → Sized r c
 sized r c l b d =
@@ -59,7 +56,7 @@ more-ways c d same less = by_less (less_of c d less)
 module _ (r : Request) (es : List Event) where
   -- the profile of a pair after the trace
   abbrev own : ℕ × ℕ → PairProfile
-  own p = after_events es (begun_for (all_of r) p)
+  own p = pair_after_events es (begun_for (all_of r) p)
 
   serves : (c : Config) (ways : ℕ) → Sized r c → ways ≤ c.assoc → Serves (own (pair c)) ways c
   serves c ways s low = record {
@@ -101,7 +98,7 @@ module _ (r : Request) (es : List Event) where
 
   pub walks-start : (xs : List PairProfile) (tally : TallyState) → Swept r es xs → IsTally xs tally → tally.ways ≡ 0 → Walks es xs tally (rows_of r)
   walks-start xs tally swept of_first none =
-      let is : xs ≡ map own (pairs (rows_of r)) = swept.fed ∙ map-map (begun_for (all_of r)) (after_events es) (pairs (rows_of r)) in
+      let is : xs ≡ map own (pairs (rows_of r)) = swept.fed ∙ map-map (pair_after_events es) (begun_for (all_of r)) (pairs (rows_of r)) in
       record {
         fed = subst (Each (IsProfileOf es)) (sym is) (profiles-are (pairs (rows_of r)) swept.sound);
         tallied = of_first;
@@ -111,7 +108,7 @@ module _ (r : Request) (es : List Event) where
   -- without profiles there are no rows
   pub no-rows : (xs : List PairProfile) → Swept r es xs → xs ≡ [] → rows_of r ≡ []
   unfolding pairs
-  no-rows xs swept none = empty (rows_of r) (sym (map-map (begun_for (all_of r)) (after_events es) (pairs (rows_of r))) ∙ sym swept.fed ∙ none)
+  no-rows xs swept none = empty (rows_of r) (sym (map-map (pair_after_events es) (begun_for (all_of r)) (pairs (rows_of r))) ∙ sym swept.fed ∙ none)
     where
       empty : (cs : List Config) → map own (pairs cs) ≡ [] → cs ≡ []
       empty [] h = refl

@@ -11,14 +11,13 @@ use Rattle.std.proofs.Math.Nat.{mul_comm}
 use Rattle.sweep_core.proofs.Powers.{power_of}
 use Rattle.cache_core.specs.Geometry.{IsGeometry, size_of}
 use Rattle.sweep_core.specs.declared.config.Config.{Config}
-use Rattle.sweep_core.specs.Space.{Ranges, is_power, is_valid, bytes_of}
+use Rattle.sweep_core.specs.Space.{Ranges, is_power, is_valid, bytes_of, config}
 use Rattle.sweep_core.specs.Table.{is_less, is_after, table, all_configs}
 use Rattle.sweep_core.specs.SweepText.{log2, shape_of_config}
 use Rattle.sweep_core.specs.Work.{depth, has_pair}
-use Rattle.sweep_core.specs.Least.{config}
 use Rattle.sweep_core.proofs.Validity.{IsLimited, valid_of, exponent_of}
 use Rattle.sweep_core.proofs.Orders.{is_less-from, is_less-trans}
-use Rattle.sweep_core.proofs.Tables.{Member, Each-weaker}
+use Rattle.sweep_core.proofs.Tables.{Member, Member-map, Each-weaker, Each-both}
 use Rattle.sweep_core.proofs.Next.{valid-member}
 use Rattle.sweep_core.proofs.Members.{kept-of, passes-all, Each-filter}
 
@@ -64,15 +63,6 @@ Each-map : {A B : Type 0} (P : B → Type 0) (f : A → B) (xs : List A) → Eac
 Each-map P f [] h = tt
 Each-map P f (x ∷ xs) h = (h.0, Each-map P f xs h.1)
 
-Member-map : {A B : Type 0} (f : A → B) (a : A) (xs : List A) → Member a xs → Member (f a) (map f xs)
-Member-map f a [] m = absurd m
-Member-map f a (x ∷ xs) (inl e) = inl (ap f e)
-Member-map f a (x ∷ xs) (inr m) = inr (Member-map f a xs m)
-
-Each-both : {A : Type 0} (P Q : A → Type 0) (xs : List A) → Each P xs → Each Q xs → Each (λ x. P x × Q x) xs
-Each-both P Q [] p q = tt
-Each-both P Q (x ∷ xs) p q = ((p.0, q.0), Each-both P Q xs p.1 q.1)
-
 wider-after : (after : Option Config) (c : Config) (n : ℕ) → is_after after c ≡ true → c.assoc ≤ n → is_after after (config c.bsize c.sets n) ≡ true
 wider-after None c n h w = refl
 wider-after (Some a) c n h w =
@@ -92,7 +82,7 @@ depth-is space after c n l valid later top greatest =
     Each-weaker (λ d. (p d ≡ true) × (q d ≡ true)) (λ d. d.assoc ≤ n)
     (λ d h. let w = and_parts _ _ h.1 in greatest d.assoc (subst (λ (x : Config). is_valid space x ≡ true)
     (ap (λ x. config x d.sets d.assoc) (eqb-true _ _ w.0) ∙ ap (λ y. config c.bsize y d.assoc) (eqb-true _ _ w.1)) (and_parts _ _ h.0).0))
-    (filter q rows) (Each-both (λ d. p d ≡ true) (λ d. q d ≡ true) (filter q rows) (Each-filter (λ d. p d ≡ true) q rows (passes-all p (all_configs space.assoc))) (passes-all q rows)) in
+    (filter q rows) (Each-both (λ d. p d ≡ true) (λ d. q d ≡ true) (λ d. (p d ≡ true) × (q d ≡ true)) (λ d h k. (h, k)) (filter q rows) (Each-filter (λ d. p d ≡ true) q rows (passes-all p (all_configs space.assoc))) (passes-all q rows)) in
     let member : Member (config c.bsize c.sets n) (filter q rows) =
     kept-of q (config c.bsize c.sets n) rows (and_from _ _ (eq-eqb c.bsize c.bsize refl) (eq-eqb c.sets c.sets refl))
     (kept-of p (config c.bsize c.sets n) (all_configs space.assoc) (and_from _ _ top (wider-after after c n later (greatest c.assoc valid))) (valid-member space (config c.bsize c.sets n) l top)) in

@@ -13,12 +13,11 @@ use Rattle.sweep_core.specs.declared.space.Which.{Which}
 use Rattle.sweep_core.specs.declared.space.Which.TheVariants.{Bsize, Sets, Assoc, Size}
 use Rattle.sweep_core.specs.declared.space.Cause.{Cause}
 use Rattle.sweep_core.specs.declared.space.Cause.TheVariants.{NotPower, Limit, Reversed}
-use Rattle.sweep_core.specs.Space.{Ranges, ranges, space_of, is_power}
+use Rattle.sweep_core.specs.Space.{Ranges, ranges, space_of, is_power, config}
 use Rattle.sweep_core.specs.Table.{table, all_configs}
 use Rattle.sweep_core.specs.SweepText.{sweep_text, rows_text, all_of, rows_of}
 use Rattle.sweep_core.specs.Work.{sweep_work, work, pairs, depth}
 use Rattle.sweep_core.specs.Pass.{made_for}
-use Rattle.sweep_core.specs.Least.{config}
 
 -- a sweep of a din text from the first configuration on
 abbrev sweep : Ranges → Request

@@ -10,17 +10,16 @@ use Rattle.sweep_core.specs.Table.{is_less, is_after, first_rows, IsRising}
 use Rattle.sweep_core.specs.SweepText.{all_of, rows_of}
 use Rattle.sweep_core.specs.Work.{pairs}
 use Rattle.sweep_core.specs.Pass.{Swept, begun_for, made_for, HasGeometry}
-use Rattle.sweep_core.specs.Walk.{is_same_pair, left_pairs, RisesFrom}
+use Rattle.sweep_core.specs.Walk.{is_same_pair}
 use Rattle.sweep_core.proofs.Tables.{Each-append}
 use Rattle.sweep_core.proofs.Members.{table-rises, table-each}
-use Rattle.sweep_core.proofs.Pairs.{pair, left-same, left-new, rises-on}
+use Rattle.sweep_core.proofs.Pairs.{pair, left_pairs, RisesFrom, left-same, left-new, rises-on}
 use Rattle.sweep_core.proofs.Passes.{all_after-nil}
 
 -- a configuration that a request may write
 abbrev pub Belongs : Request → Config → Type 0
 Belongs r c = (is_valid r.space c ≡ true) × (is_after r.after c ≡ true)
 
--- rows of a request that rise, the last of which may be followed by any
 Each-take : {A : Type 0} (P : A → Type 0) (n : ℕ) (xs : List A) → Each P xs → Each P (take n xs)
 Each-take P zero xs h = tt
 Each-take P (suc n) [] h = tt

@@ -2,9 +2,9 @@
 use Rattle.std.proofs.Common.{◌≡◌, ◌-◌, ◌^◌, ◌<◌, true, false, not, ◌&&◌, [], ◌∷◌, refl, sym, ap, ◌∙◌, arith, Option, None, Some, MatchOption, subst}
 use Rattle.std.proofs.lemmas.Bool.{and_parts, and_from, and_right, false≢true, not-true, not-false, not_from_false, not_from_true, false_from_ne_true}
 use Rattle.sweep_core.specs.declared.config.Config.{Config}
-use Rattle.sweep_core.specs.Space.{Ranges, is_valid}
+use Rattle.sweep_core.specs.Space.{Ranges, is_valid, config}
 use Rattle.sweep_core.specs.Table.{is_less, is_after, table, all_configs}
-use Rattle.sweep_core.specs.Least.{IsLeast, config, is_from}
+use Rattle.sweep_core.specs.Least.{IsLeast, is_from}
 use Rattle.sweep_core.proofs.Validity.{IsLimited, valid_of, exponent_of}
 use Rattle.sweep_core.proofs.Orders.{is_less-trans}
 use Rattle.sweep_core.proofs.Tables.{Member, filter-none, filter-peel, all_configs-rise, all_configs-member}
@@ -41,7 +41,8 @@ unfolding table
 table-none space from after l b none =
     filter-none _ (λ c. false_from_ne_true _ (λ h. false≢true (sym (none c) ∙ from_on space from after l b c h))) (all_configs space.assoc)
 
-later_after : (after : Option Config) (c d : Config) → is_after after c ≡ true → is_less c d ≡ true → is_after after d ≡ true
+-- above one that is greater than a triple all are
+pub later_after : (after : Option Config) (c d : Config) → is_after after c ≡ true → is_less c d ≡ true → is_after after d ≡ true
 later_after None c d p q = refl
 later_after (Some a) c d p q = is_less-trans a c d p q
 

@@ -7,10 +7,6 @@ use Rattle.sweep_core.specs.declared.config.Config.{Config}
 use Rattle.sweep_core.specs.Table.{is_less}
 
 -- the order, as a fact
-pub record Same (c d : Config) : Type 0 where
-  pub bsize : c.bsize ≡ d.bsize
-  pub sets : c.sets ≡ d.sets
-
 abbrev pub Less : Config → Config → Type 0
 Less c d = (c.bsize < d.bsize) ⊎ ((c.bsize ≡ d.bsize) × ((c.sets < d.sets) ⊎ ((c.sets ≡ d.sets) × (c.assoc < d.assoc))))
 

@@ -1,5 +1,5 @@
 -- What follows a member of the table is the table after it.
-use Rattle.std.proofs.Common.{◌≡◌, ℕ, ◌+◌, Bool, true, false, ◌&&◌, List, [], ◌∷◌, ◌++◌, take, drop, take-append-drop, refl, sym, ap, ◌∙◌, Option, None, Some, inl, inr, append_assoc, append-nil}
+use Rattle.std.proofs.Common.{◌≡◌, ℕ, Bool, true, false, ◌&&◌, List, [], ◌∷◌, ◌++◌, take, drop, take-append-drop, sym, ap, ◌∙◌, Option, None, Some, inl, inr, append_assoc, append-nil}
 use Rattle.std.specs.Prelude.{filter}
 use Rattle.std.proofs.lemmas.Bool.{cases_Bool, cond-true, cond-false, and_right, and_parts}
 use Rattle.sweep_core.specs.declared.config.Config.{Config}
@@ -9,10 +9,11 @@ use Rattle.std.specs.List.{flat_map}
 use Rattle.std.proofs.lemmas.List.Concat.{flat_map-append}
 use Rattle.std.proofs.Math.Seq.{take-add}
 use Rattle.trace_core.specs.declared.events.Event.{Event}
-use Rattle.sweep_core.specs.SweepText.{rows_text, row_of, row_counts, all_of, heading, sweep_text, ArePages}
+use Rattle.sweep_core.specs.SweepText.{rows_text, row_of, row_counts, all_of, header_of, sweep_text, ArePages}
 use Rattle.sweep_core.specs.declared.request.Request.{Request}
 use Rattle.trace_core.specs.Reading.{events}
-use Rattle.sweep_core.proofs.Orders.{is_less-asym, is_less-same, is_less-trans}
+use Rattle.sweep_core.proofs.Orders.{is_less-asym, is_less-same}
+use Rattle.sweep_core.proofs.Next.{later_after}
 use Rattle.sweep_core.proofs.Tables.{Member, Each-member, Each-weaker, filter-agree, all_configs-rise}
 
 -- a member of what was kept is a member
@@ -70,19 +71,12 @@ unfolding table
 table-rest space after c xs ys e =
     let here = (and_parts _ _ (kept-passes (λ d. is_valid space d && is_after after d) c (all_configs space.assoc) xs ys e)).1 in
     rest-after (λ d. is_valid space d && is_after after d) (λ d. is_valid space d && is_less c d) c
-    (λ d less. ap (λ x. is_valid space d && x) (later_after after d here less ∙ sym less)) (λ d less. and_right _ _ less)
+    (λ d less. ap (λ x. is_valid space d && x) (later_after after c d here less ∙ sym less)) (λ d less. and_right _ _ less)
     (all_configs space.assoc) xs ys (all_configs-rise space.assoc) e
-  where
-    later_after : (a : Option Config) (d : Config) → is_after a c ≡ true → is_less c d ≡ true → is_after a d ≡ true
-    later_after None d p q = refl
-    later_after (Some a) d p q = is_less-trans a c d p q
-
-take-more : {A : Type 0} (n m : ℕ) (xs : List A) → take n xs ++ take m (drop n xs) ≡ take (n + m) xs
-take-more n m xs = sym (take-add n m xs)
 
 pub first_rows-join : {A : Type 0} (n : ℕ) (m : Option ℕ) (xs : List A) → take n xs ++ first_rows m (drop n xs) ≡ first_rows (more_rows n m) xs
 first_rows-join n None xs = take-append-drop n xs
-first_rows-join n (Some m) xs = take-more n m xs
+first_rows-join n (Some m) xs = sym (take-add n m xs)
 
 pub rows-join : (space : Ranges) (after : Option Config) (n : ℕ) (m : Option ℕ) (c : Config) (front : List Config) (es : List Event) → take n (table space after) ≡ front ++ c ∷ []
     → rows_text es (take n (table space after)) ++ rows_text es (first_rows m (table space (Some c))) ≡ rows_text es (first_rows (more_rows n m) (table space after))
@@ -99,13 +93,13 @@ pub texts-join : (r : Request) (text : List ℕ) (n : ℕ) (m : Option ℕ) (fro
 unfolding sweep_text
 texts-join r text n m front c last =
     let es = events r.format r.kind text in
-    append_assoc (heading r.after) (rows_text es (take n (all_of r))) (rows_text es (first_rows m (table r.space (Some c))))
-    ∙ ap (λ l. heading r.after ++ l) (rows-join r.space r.after n m c front es last)
+    append_assoc (header_of r.after) (rows_text es (take n (all_of r))) (rows_text es (first_rows m (table r.space (Some c))))
+    ∙ ap (λ l. header_of r.after ++ l) (rows-join r.space r.after n m c front es last)
 
 last-page : (n : ℕ) (r : Request) (text : List ℕ) → drop n (all_of r) ≡ [] → sweep_text (record r { rows = Some n }) text ≡ sweep_text (record r { rows = None }) text
 unfolding sweep_text
 last-page n r text none =
-    ap (λ rows. heading r.after ++ rows_text (events r.format r.kind text) rows) (sym (append-nil (take n (all_of r))) ∙ ap (λ l. take n (all_of r) ++ l) (sym none) ∙ take-append-drop n (all_of r))
+    ap (λ rows. header_of r.after ++ rows_text (events r.format r.kind text) rows) (sym (append-nil (take n (all_of r))) ∙ ap (λ l. take n (all_of r) ++ l) (sym none) ∙ take-append-drop n (all_of r))
 
 pub pages-join : (n : ℕ) (r : Request) (pages : List Request) (text : List ℕ) → ArePages n r pages
     → flat_map (λ page. sweep_text page text) pages ≡ sweep_text (record r { rows = None }) text

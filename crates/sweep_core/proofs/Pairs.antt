@@ -4,13 +4,24 @@ use Rattle.std.specs.Prelude.{filter, ◌==◌, ◌&&◌}
 use Rattle.std.specs.List.{AllByRecursion as Each}
 use Rattle.std.proofs.lemmas.Bool.{cond-true, cond-false, not_from_true, not_from_false, false≢true, false_from_ne_true, and_parts, and_from, eqb-true, eq-eqb}
 use Rattle.sweep_core.specs.declared.config.Config.{Config}
-use Rattle.sweep_core.specs.Table.{is_less}
+use Rattle.sweep_core.specs.Table.{is_less, IsRising}
 use Rattle.sweep_core.specs.Work.{pairs, has_pair}
-use Rattle.sweep_core.specs.Walk.{is_same_pair, left_pairs, RisesFrom}
+use Rattle.sweep_core.specs.Walk.{is_same_pair}
 use Rattle.sweep_core.proofs.Orders.{Less, less_of}
 use Rattle.sweep_core.proofs.Tables.{Each-weaker}
 use Rattle.sweep_core.proofs.Members.{Each-filter, passes-all}
 
+-- the pairs that some configurations have besides that of the one before them
+abbrev pub left_pairs : Option Config → List Config → List (ℕ × ℕ)
+left_pairs None cs = pairs cs
+left_pairs (Some before) cs = filter (λ p. not (has_pair p before)) (pairs cs)
+
+-- they rise from the one before them
+abbrev pub RisesFrom : Option Config → List Config → Type 0
+RisesFrom None cs = IsRising cs
+RisesFrom (Some before) cs = IsRising (before ∷ cs)
+
+-- the pair of a configuration
 abbrev pub pair : Config → ℕ × ℕ
 pair c = (c.bsize, c.sets)
 

@@ -11,53 +11,50 @@ use Rattle.trace_core.specs.declared.events.Ref.{Ref}
 use Rattle.trace_core.specs.declared.events.Kind.{Kind}
 use Rattle.trace_core.specs.declared.events.Event.{Event}
 use Rattle.cache_core.specs.declared.outcome.Counts.{Counts}
-use Rattle.profile_core.specs.State.{ProfileState, fed_of, after_event}
+use Rattle.profile_core.specs.State.{fed_of, after_event}
 use Rattle.std.proofs.lemmas.Bool.{cases_eq}
+use Rattle.std.proofs.lemmas.List.Sums.{fold-append}
 use Rattle.std.proofs.Math.ListN.{get_or, set}
 use Rattle.std.proofs.lemmas.List.{length-set, get_or-set_same, get_or-set_other}
 use Rattle.sweep_core.specs.declared.config.Config.{Config}
 use Rattle.sweep_core.specs.declared.profiles.PairProfile.{PairProfile}
 use Rattle.sweep_core.specs.Space.{bytes_of}
 use Rattle.sweep_core.specs.SweepText.{row_of}
-use Rattle.sweep_core.specs.Pass.{all_after}
+use Rattle.sweep_core.specs.Pass.{all_after, kept_events}
 
 pub all_after-nil : (xs : List PairProfile) → all_after [] xs ≡ xs
 all_after-nil [] = refl
 all_after-nil (x ∷ xs) = ap (λ l. x ∷ l) (all_after-nil xs)
 
-fold-append : (v : ProfileState) (es fs : List Event) → fold after_event v (es ++ fs) ≡ fold after_event (fold after_event v es) fs
-fold-append v [] fs = refl
-fold-append v (e ∷ es) fs = fold-append (after_event v e) es fs
-
 pub all_after-append : (es fs : List Event) (xs : List PairProfile) → all_after (es ++ fs) xs ≡ all_after fs (all_after es xs)
 all_after-append es fs [] = refl
 all_after-append es fs (x ∷ xs) =
-    ap (λ v. record x { profile = v } ∷ all_after (es ++ fs) xs) (fold-append x.profile es fs)
+    ap (λ v. record x { profile = v } ∷ all_after (es ++ fs) xs) (fold-append after_event x.profile es fs)
     ∙ ap (λ l. record x { profile = fold after_event (fold after_event x.profile es) fs } ∷ l) (all_after-append es fs xs)
 
--- the bytes of a line, as they are put together
-pub row_line : (c : Config) (size : ℕ) (n : Counts) (l₀ l₁ l₂ l₃ l₄ l₅ l₆ l₇ : List ℕ) → size ≡ bytes_of c → l₀ ≡ []
+-- the bytes of a row, as they are put together
+pub row-pieces : (c : Config) (size : ℕ) (n : Counts) (l₀ l₁ l₂ l₃ l₄ l₅ l₆ l₇ : List ℕ) → size ≡ bytes_of c → l₀ ≡ []
     → l₁ ≡ l₀ ++ decimal c.bsize ++ 44 ∷ [] → l₂ ≡ l₁ ++ decimal c.sets ++ 44 ∷ [] → l₃ ≡ l₂ ++ decimal c.assoc ++ 44 ∷ [] → l₄ ≡ l₃ ++ decimal size ++ 44 ∷ []
     → l₅ ≡ l₄ ++ decimal n.hits ++ 44 ∷ [] → l₆ ≡ l₅ ++ decimal n.misses ++ 44 ∷ [] → l₇ ≡ l₆ ++ decimal n.evictions ++ 10 ∷ [] → l₇ ≡ row_of c n
-row_line c size n l₀ l₁ l₂ l₃ l₄ l₅ l₆ l₇ z y a b d e f g h = rw (h, g, f, e, d, b, a, y, z) (simp append_assoc)
+row-pieces c size n l₀ l₁ l₂ l₃ l₄ l₅ l₆ l₇ z y a b d e f g h = rw (h, g, f, e, d, b, a, y, z) (simp append_assoc)
 
 -- an item of two references
 pub entry-two : (kind : Kind) (e : Entry) (item : Item) (both : Ref × Option Ref) (second : Ref) (xs ys zs : List PairProfile)
     → e ≡ entry.Item item → both ≡ references item → both.1 ≡ Some second
-    → ys ≡ all_after (map (λ x. event.Reference x) (filter (λ x. keeps kind x.access) (both.0 ∷ []))) xs
-    → zs ≡ all_after (map (λ x. event.Reference x) (filter (λ x. keeps kind x.access) (second ∷ []))) ys
+    → ys ≡ all_after (kept_events kind (both.0 ∷ [])) xs
+    → zs ≡ all_after (kept_events kind (second ∷ [])) ys
     → zs ≡ all_after (events_of kind e) xs
 entry-two kind e item both second xs ys zs is refs two first later =
-    later ∙ ap (all_after (map (λ x. event.Reference x) (filter (λ x. keeps kind x.access) (second ∷ [])))) first
-    ∙ sym (all_after-append (map (λ x. event.Reference x) (filter (λ x. keeps kind x.access) (both.0 ∷ []))) (map (λ x. event.Reference x) (filter (λ x. keeps kind x.access) (second ∷ []))) xs)
-    ∙ ap (λ es. all_after es xs) (joined (both.0) ∙ sym (ap (λ b. map (λ x. event.Reference x) (filter (λ x. keeps kind x.access) (b.0 ∷ option_to_list b.1))) whole) ∙ sym (ap (events_of kind) is))
+    later ∙ ap (all_after (kept_events kind (second ∷ []))) first
+    ∙ sym (all_after-append (kept_events kind (both.0 ∷ [])) (kept_events kind (second ∷ [])) xs)
+    ∙ ap (λ es. all_after es xs) (joined (both.0) ∙ sym (ap (λ b. kept_events kind (b.0 ∷ option_to_list b.1)) whole) ∙ sym (ap (events_of kind) is))
   where
     whole : references item ≡ (both.0, Some second)
     whole = sym refs ∙ ap (λ o. (both.0, o)) two
 
-    joined : (r : Ref) → map (λ x. event.Reference x) (filter (λ x. keeps kind x.access) (r ∷ [])) ++ map (λ x. event.Reference x) (filter (λ x. keeps kind x.access) (second ∷ []))
-        ≡ map (λ x. event.Reference x) (filter (λ x. keeps kind x.access) (r ∷ second ∷ []))
-    joined r = elim (keeps kind r.access) as (λ b. map (λ x. event.Reference x) (cond b (r ∷ []) []) ++ map (λ x. event.Reference x) (filter (λ x. keeps kind x.access) (second ∷ []))
+    joined : (r : Ref) → kept_events kind (r ∷ []) ++ kept_events kind (second ∷ [])
+        ≡ kept_events kind (r ∷ second ∷ [])
+    joined r = elim (keeps kind r.access) as (λ b. map (λ x. event.Reference x) (cond b (r ∷ []) []) ++ kept_events kind (second ∷ [])
         ≡ map (λ x. event.Reference x) (cond b (r ∷ filter (λ x. keeps kind x.access) (second ∷ [])) (filter (λ x. keeps kind x.access) (second ∷ [])))) [ true ↦ refl | false ↦ refl ]
 
 -- how much was fed, when the profiles before place i have had one reference more

@@ -4,9 +4,9 @@ use Rattle.std.proofs.lemmas.Bool.{and_parts, and_from, false≢true, not-true, 
 use Rattle.std.proofs.Math.Pow.{pow_mono}
 use Rattle.std.proofs.lemmas.Nat.{pow_pos}
 use Rattle.sweep_core.specs.declared.config.Config.{Config}
-use Rattle.sweep_core.specs.Space.{Ranges, is_power, is_in_range, is_valid}
+use Rattle.sweep_core.specs.Space.{Ranges, is_power, is_in_range, is_valid, config}
 use Rattle.sweep_core.specs.Table.{is_less}
-use Rattle.sweep_core.specs.Least.{IsLeast, config, is_from, is_from_with, is_from_pair}
+use Rattle.sweep_core.specs.Least.{IsLeast, is_from, is_from_of_bsize, is_from_pair}
 use Rattle.sweep_core.proofs.Validity.{IsLimited, valid_of, is_in_range-from, exponent_of}
 use Rattle.sweep_core.proofs.Orders.{Less, less_of, is_less-from}
 
@@ -96,13 +96,13 @@ module _ (passes : Config → Bool) (number : Config → ℕ) (power : (d : Conf
       )
 
 -- the two loops
-pub with-power : (space : Ranges) (from : Config) (b : ℕ) → IsLimited space → (d : Config) → is_from_with space from b d ≡ true → (is_power d.sets ≡ true) × (d.sets ≤ 1048576)
-with-power space from b l d h =
+pub of_bsize-power : (space : Ranges) (from : Config) (b : ℕ) → IsLimited space → (d : Config) → is_from_of_bsize space from b d ≡ true → (is_power d.sets ≡ true) × (d.sets ≤ 1048576)
+of_bsize-power space from b l d h =
     let w = and_parts _ _ h in let v = valid_of space d (and_parts _ _ w.0).0 in
     (v.set_power, omega (arith, v.sets.1, l.sets.1))
 
-pub with-apart : (space : Ranges) (from : Config) (b : ℕ) (c d : Config) → is_from_with space from b c ≡ true → is_from_with space from b d ≡ true → c.sets < d.sets → is_less d c ≡ false
-with-apart space from b c d p q less =
+pub of_bsize-apart : (space : Ranges) (from : Config) (b : ℕ) (c d : Config) → is_from_of_bsize space from b c ≡ true → is_from_of_bsize space from b d ≡ true → c.sets < d.sets → is_less d c ≡ false
+of_bsize-apart space from b c d p q less =
     let x : c.bsize ≡ b = eqb-true _ _ (and_parts _ _ p).1 in let y : d.bsize ≡ b = eqb-true _ _ (and_parts _ _ q).1 in
     false_from_ne_true _ (λ k. not_less (x ∙ sym y) (less_of d c k))
   where
@@ -124,14 +124,14 @@ from-apart space from c d p q less = false_from_ne_true _ (λ k. not_less (less_
     not_less (inr (u, inr (v, w))) = omega arith
 
 -- none is of a block size outside the range, or below that of the configuration to begin from
-pub with-none_bsize : (space : Ranges) (from : Config) (b : ℕ) → is_in_range space.bsize b ≡ false → (d : Config) → is_from_with space from b d ≡ false
-with-none_bsize space from b out d =
+pub of_bsize-none_bsize : (space : Ranges) (from : Config) (b : ℕ) → is_in_range space.bsize b ≡ false → (d : Config) → is_from_of_bsize space from b d ≡ false
+of_bsize-none_bsize space from b out d =
     false_from_ne_true _ (λ h.
     let w = and_parts _ _ h in let e : d.bsize ≡ b = eqb-true _ _ w.1 in
     false≢true (sym out ∙ ap (is_in_range space.bsize) (sym e) ∙ is_in_range-from _ _ (valid_of space d (and_parts _ _ w.0).0).bsize))
 
-pub with-none_less : (space : Ranges) (from : Config) (b : ℕ) → b < from.bsize → (d : Config) → is_from_with space from b d ≡ false
-with-none_less space from b low d =
+pub of_bsize-none_less : (space : Ranges) (from : Config) (b : ℕ) → b < from.bsize → (d : Config) → is_from_of_bsize space from b d ≡ false
+of_bsize-none_less space from b low d =
     false_from_ne_true _ (λ h.
     let w = and_parts _ _ h in let e : d.bsize ≡ b = eqb-true _ _ w.1 in
     false≢true (sym (not-true _ (and_parts _ _ w.0).1) ∙ is_less-from d from (inl (omega arith))))

@@ -1,5 +1,5 @@
 -- What a sweep has read, fed and written when it ends.
-use Rattle.std.proofs.Common.{◌≡◌, ℕ, ◌+◌, ◌≤◌, List, [], ◌++◌, false, true, Option, None, Some, sym, ap, ◌∙◌, subst, arith, get_or}
+use Rattle.std.proofs.Common.{◌≡◌, ℕ, ◌+◌, ◌≤◌, List, [], false, true, Option, None, Some, sym, ap, ◌∙◌, subst, arith, get_or}
 use Rattle.std.specs.Prelude.{All, flat_map, sum_by}
 use Rattle.std.specs.Option.{IfSome}
 use Rattle.std.specs.Io.KnownBytes.{Appends}
@@ -20,7 +20,7 @@ use Rattle.cache_core.specs.Geometry.{Shape}
 use Rattle.profile_core.specs.State.{empty, fed_of}
 use Rattle.sweep_core.specs.declared.request.Request.{Request}
 use Rattle.sweep_core.specs.declared.profiles.PairProfile.{PairProfile}
-use Rattle.sweep_core.specs.SweepText.{heading, rows_text, all_of, rows_of, sweep_text, sweep_task}
+use Rattle.sweep_core.specs.SweepText.{table_text, all_of, rows_of, sweep_text, sweep_task}
 use Rattle.sweep_core.specs.Work.{pairs, shape_of_pair, work, sweep_work}
 use Rattle.sweep_core.specs.Pass.{Swept, Feeds, begun_for, made_for, all_after}
 use Rattle.sweep_core.proofs.Passes.{all_after-nil}
@@ -64,20 +64,20 @@ module _ (r : Request) (before told : Option (List ℕ)) (a b : ℕ) (p : Progre
   sweep-cut x w failed own = task_cut (sweep_task r) before told w w a b run.read p x failed own run.reached (Appends-nil w)
 
   pub sweep-breaks : (w0 w : Option (List ℕ)) → p.state ≡ state.Ended → Swept r [] xs
-      → ((es : List Event) → Swept r es ys → WritesPrefix w0 w (heading r.after ++ rows_text es (rows_of r)))
+      → ((es : List Event) → Swept r es ys → WritesPrefix w0 w (table_text r es))
       → IfSome before (λ text. BreaksOff (sweep_task r) text told w0 w)
   unfolding sweep_task sweep_text
   sweep-breaks w0 w ended start wrote =
       task_breaks (sweep_task r) before told w0 w a b run.read p ended run.reached
-      (λ text same. subst (λ es. WritesPrefix w0 w (heading r.after ++ rows_text (flat_map (events_of r.kind) es) (rows_of r))) same (wrote (fed_events r before told a b p xs ys run) (swept-on start)))
+      (λ text same. subst (λ es. WritesPrefix w0 w (table_text r (flat_map (events_of r.kind) es))) same (wrote (fed_events r before told a b p xs ys run) (swept-on start)))
 
   pub sweep-completes : (w0 w : Option (List ℕ)) → p.state ≡ state.Ended → Swept r [] xs
-      → ((es : List Event) → Swept r es ys → Appends w0 w (heading r.after ++ rows_text es (rows_of r)))
+      → ((es : List Event) → Swept r es ys → Appends w0 w (table_text r es))
       → IfSome before (λ text. Completes (sweep_task r) text told w0 w)
   unfolding sweep_task sweep_text
   sweep-completes w0 w ended start wrote =
       task_completes (sweep_task r) before told w0 w a b run.read p ended run.reached
-      (λ text same. subst (λ es. Appends w0 w (heading r.after ++ rows_text (flat_map (events_of r.kind) es) (rows_of r))) same (wrote (fed_events r before told a b p xs ys run) (swept-on start)))
+      (λ text same. subst (λ es. Appends w0 w (table_text r (flat_map (events_of r.kind) es))) same (wrote (fed_events r before told a b p xs ys run) (swept-on start)))
 
   -- the comparisons are those of the events that were read
   compared-read : (n : ℕ) → Swept r [] xs → n ≡ sum_by (λ x. x.profile.probes) ys → n ≡ work (fed_events r before told a b p xs ys run) (all_of r) (rows_of r)

@@ -7,7 +7,7 @@ use Rattle.std.proofs.lemmas.Bool.{cases_Bool, false≢true, cond-true, cond-fal
 use Rattle.std.proofs.Math.Pow.{pow-lt}
 use Rattle.sweep_core.specs.declared.config.Config.{Config}
 use Rattle.sweep_core.specs.Table.{IsRising, is_less, powers_of_two, numbers, all_configs}
-use Rattle.sweep_core.specs.Least.{config}
+use Rattle.sweep_core.specs.Space.{config}
 use Rattle.sweep_core.proofs.Orders.{is_less-asym, is_less-same, is_less-from}
 
 abbrev pub Member : {A : Type 0} → A → List A → Type 0
@@ -22,6 +22,10 @@ Each-member P a (x ∷ xs) all (inr m) = Each-member P a xs all.1 m
 pub Each-weaker : {A : Type 0} (P Q : A → Type 0) → ((a : A) → P a → Q a) → (xs : List A) → Each P xs → Each Q xs
 Each-weaker P Q w [] all = tt
 Each-weaker P Q w (x ∷ xs) all = (w x all.0, Each-weaker P Q w xs all.1)
+
+pub Each-both : {A : Type 0} (P Q R : A → Type 0) → ((a : A) → P a → Q a → R a) → (xs : List A) → Each P xs → Each Q xs → Each R xs
+Each-both P Q R f [] p q = tt
+Each-both P Q R f (x ∷ xs) p q = (f x p.0 q.0, Each-both P Q R f xs p.1 q.1)
 
 pub Each-append : {A : Type 0} (P : A → Type 0) (xs ys : List A) → Each P xs → Each P ys → Each P (xs ++ ys)
 Each-append P [] ys p q = q
@@ -130,7 +134,7 @@ Member-flat_map f a b [] m k = absurd m
 Member-flat_map f a b (x ∷ xs) (inl e) k = Member-append_left b (f x) (flat_map f xs) (subst (λ y. Member b (f y)) (sym e) k)
 Member-flat_map f a b (x ∷ xs) (inr m) k = Member-append_right b (f x) (flat_map f xs) (Member-flat_map f a b xs m k)
 
-Member-map : {A B : Type 0} (f : A → B) (a : A) (xs : List A) → Member a xs → Member (f a) (map f xs)
+pub Member-map : {A B : Type 0} (f : A → B) (a : A) (xs : List A) → Member a xs → Member (f a) (map f xs)
 Member-map f a [] m = absurd m
 Member-map f a (x ∷ xs) (inl e) = inl (ap f e)
 Member-map f a (x ∷ xs) (inr m) = inr (Member-map f a xs m)

@@ -9,8 +9,7 @@ use Rattle.std.specs.Int.{div_ceil}
 use Rattle.sweep_core.specs.declared.config.Config.{Config}
 use Rattle.sweep_core.specs.declared.space.Which.{Which}
 use Rattle.sweep_core.specs.declared.space.Cause.{Cause}
-use Rattle.sweep_core.specs.Space.{Ranges, is_power, is_in_range, bytes_of, is_valid, limit_cause, power_cause, first_cause, fault_of}
-use Rattle.sweep_core.specs.Least.{config}
+use Rattle.sweep_core.specs.Space.{Ranges, is_power, is_in_range, bytes_of, is_valid, limit_cause, power_cause, first_cause, fault_of, config}
 use Rattle.sweep_core.proofs.Powers.{power_of}
 
 abbrev pub Within : ℕ × ℕ → ℕ → Type 0

@@ -16,17 +16,14 @@ IsLeastFrom least passes found =
     MatchOption found ((e : ℕ) → least ≤ e → passes e ≡ false)
     (λ n. (least ≤ n) × (passes n ≡ true) × ((e : ℕ) → least ≤ e → passes e ≡ true → n ≤ e))
 
-abbrev pub config : ℕ → ℕ → ℕ → Config
-config bsize sets assoc = record { bsize = bsize; sets = sets; assoc = assoc }
-
 -- whether a space has a configuration, and it isn't less than another
 abbrev pub is_from : Ranges → Config → Config → Bool
 is_from space from c = is_valid space c && not (is_less c from)
 
--- of a block size
-abbrev pub is_from_with : Ranges → Config → ℕ → Config → Bool
-is_from_with space from bsize c = is_from space from c && c.bsize == bsize
+-- whether a space has a configuration of a block size, and it isn't less than another
+abbrev pub is_from_of_bsize : Ranges → Config → ℕ → Config → Bool
+is_from_of_bsize space from bsize c = is_from space from c && c.bsize == bsize
 
--- of a block size and a set count
+-- whether a space has a configuration of a block size and a set count, and it isn't less than another
 abbrev pub is_from_pair : Ranges → Config → ℕ → ℕ → Config → Bool
-is_from_pair space from bsize sets c = is_from_with space from bsize c && c.sets == sets
+is_from_pair space from bsize sets c = is_from_of_bsize space from bsize c && c.sets == sets

@@ -1,8 +1,10 @@
 -- What the profiles of a sweep hold.
-use Rattle.std.specs.Prelude.{◌≡◌, ℕ, Option, None, List, map, flat_map, fold, Result, Ok, Err}
+use Rattle.std.specs.Prelude.{◌≡◌, ℕ, Option, None, List, map, filter, flat_map, fold, Result, Ok, Err}
 use Rattle.std.specs.List.{AllByRecursion}
+use Rattle.trace_core.specs.declared.events.Ref.{Ref}
 use Rattle.trace_core.specs.declared.events.Event.{Event}
-use Rattle.trace_core.specs.Events.{events_of}
+use Rattle.trace_core.specs.declared.events.Event.TheVariants as event
+use Rattle.trace_core.specs.Events.{events_of, keeps}
 use Rattle.trace_core.specs.Reader.{Progress, Reached}
 use Rattle.trace_core.specs.Task.{entries_of}
 use Rattle.trace_core.specs.declared.events.Entry.{Entry}
@@ -21,20 +23,24 @@ use Rattle.sweep_core.specs.SweepText.{all_of, rows_of}
 use Rattle.sweep_core.specs.Work.{pairs, shape_of_pair}
 
 -- the profile of a pair after a reference to an address
-abbrev pub referenced : ℕ → PairProfile → PairProfile
-referenced addr x = record x { profile = after_reference x.profile (block_of x.profile.geometry addr) }
+abbrev pub pair_after_reference : ℕ → PairProfile → PairProfile
+pair_after_reference addr x = record x { profile = after_reference x.profile (block_of x.profile.geometry addr) }
 
--- after a flush
-abbrev pub flushed : PairProfile → PairProfile
-flushed x = record x { profile = after_flush x.profile }
+-- the profile of a pair after a flush
+abbrev pub pair_after_flush : PairProfile → PairProfile
+pair_after_flush x = record x { profile = after_flush x.profile }
 
--- after some events
-abbrev pub after_events : List Event → PairProfile → PairProfile
-after_events es x = record x { profile = fold after_event x.profile es }
+-- the profile of a pair after some events
+abbrev pub pair_after_events : List Event → PairProfile → PairProfile
+pair_after_events es x = record x { profile = fold after_event x.profile es }
+
+-- of some references those that a kind keeps, as events
+abbrev pub kept_events : Kind → List Ref → List Event
+kept_events kind refs = map event.Reference (filter (λ r. keeps kind r.access) refs)
 
 -- some profiles after some events
 abbrev pub all_after : List Event → List PairProfile → List PairProfile
-all_after es xs = map (after_events es) xs
+all_after es xs = map (pair_after_events es) xs
 
 -- the profile of a pair before any event, as deep as the greatest associativity of the pair in all
 abbrev pub begun_for : List Config → ℕ × ℕ → PairProfile
@@ -60,7 +66,8 @@ state_after (Ok done) = state.Ended
 state_after (Err fault) = state.Failed fault
 
 -- These entries were read of a source, and what they give a cache was fed to each profile.
-pub record Feeds (kind : Kind) (format : Format) (limit : ℕ) (before told : Option (List ℕ)) (failures-before failures : ℕ) (p : Progress) (old new : List PairProfile) : Type 0 where
+pub record Feeds (kind : Kind) (format : Format) (limit : ℕ) (before told : Option (List ℕ))
+    (failures-before failures : ℕ) (p : Progress) (old new : List PairProfile) : Type 0 where
   pub read : List (ℕ × Entry)
   pub reached : Reached format limit before told failures-before failures read p
   pub fed : new ≡ all_after (flat_map (events_of kind) (entries_of read)) old

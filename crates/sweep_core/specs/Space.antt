@@ -27,11 +27,17 @@ pub record Ranges : Type 0 where
   pub size : ℕ × ℕ
   pub powers : Bool
 
+-- the ranges with these ends
 abbrev pub ranges : ℕ × ℕ → ℕ × ℕ → ℕ × ℕ → ℕ × ℕ → Bool → Ranges
 ranges bsize sets assoc size powers = record { bsize = bsize; sets = sets; assoc = assoc; size = size; powers = powers }
 
+-- whether a number is none below the lowest and none above the greatest of a range
 abbrev pub is_in_range : ℕ × ℕ → ℕ → Bool
 is_in_range range n = nat_le range.0 n && nat_le n range.1
+
+-- the configuration of these numbers
+abbrev pub config : ℕ → ℕ → ℕ → Config
+config bsize sets assoc = record { bsize = bsize; sets = sets; assoc = assoc }
 
 -- the bytes of all lines
 abbrev pub bytes_of : Config → ℕ
@@ -49,12 +55,12 @@ is_valid space c =
 abbrev pub order_cause : ℕ × ℕ → Option Cause
 order_cause range = if nat_lt range.1 range.0 then Some Reversed else None
 
--- or, before that, one with an end outside 1 to the most
+-- the same, but before that a range with an end outside 1 to the most
 abbrev pub limit_cause : ℕ → ℕ × ℕ → Option Cause
 limit_cause most range =
     if is_in_range (1, most) range.0 && is_in_range (1, most) range.1 then order_cause range else Some Limit
 
--- or, before that, one with an end that is no power of two
+-- the same, but before that a range with an end that is no power of two
 abbrev pub power_cause : ℕ → ℕ × ℕ → Option Cause
 power_cause most range =
     if is_power range.0 && is_power range.1 then limit_cause most range else Some NotPower
@@ -80,4 +86,5 @@ ranges_or space (Some fault) = Err fault
 
 -- the space of some ranges
 abbrev pub space_of : ℕ × ℕ → ℕ × ℕ → ℕ × ℕ → ℕ × ℕ → Bool → Result Ranges SpaceFault
-space_of bsize sets assoc size powers = let space = ranges bsize sets assoc size powers in ranges_or space (fault_of space)
+space_of bsize sets assoc size powers =
+    let space = ranges bsize sets assoc size powers in ranges_or space (fault_of space)

@@ -31,16 +31,16 @@ row_counts es c = counts (shape_of_config c) es
 abbrev pub line_of : List ℕ → List ℕ
 line_of numbers = join_with_byte 44 (map decimal numbers) ++ 10 ∷ []
 
--- the line of a configuration
+-- the row of a configuration
 abbrev pub row_of : Config → Counts → List ℕ
 row_of c n = line_of (c.bsize ∷ c.sets ∷ c.assoc ∷ bytes_of c ∷ n.hits ∷ n.misses ∷ n.evictions ∷ [])
 
 -- the header, which stands only where a sweep begins at the first configuration
-abbrev pub heading : Option Config → List ℕ
-heading None = codes "bsize,sets,assoc,size,hits,misses,evictions\n"
-heading (Some after) = []
+abbrev pub header_of : Option Config → List ℕ
+header_of None = codes "bsize,sets,assoc,size,hits,misses,evictions\n"
+header_of (Some after) = []
 
--- the lines of some configurations over a trace
+-- the rows of some configurations over a trace
 unfoldable pub rows_text : List Event → List Config → List ℕ
 rows_text es rows = flat_map (λ c. row_of c (row_counts es c)) rows
 
@@ -52,9 +52,13 @@ all_of r = table r.space r.after
 abbrev pub rows_of : Request → List Config
 rows_of r = first_rows r.rows (all_of r)
 
--- what a sweep of a text writes: the heading, and a line for each configuration
+-- the table that a request asks for over a trace: the header, and a row for each configuration
+abbrev pub table_text : Request → List Event → List ℕ
+table_text r es = header_of r.after ++ rows_text es (rows_of r)
+
+-- what a sweep of a text writes
 unfoldable pub sweep_text : Request → List ℕ → List ℕ
-sweep_text r text = heading r.after ++ rows_text (events r.format r.kind text) (rows_of r)
+sweep_text r text = table_text r (events r.format r.kind text)
 
 -- a sweep writes nothing before it has read a whole text
 unfoldable pub sweep_task : Request → Task

@@ -2,11 +2,13 @@
 use Rattle.std.specs.Prelude.{◌≡◌, ⊤, [], ◌∷◌, ℕ, ◌+◌, ◌-◌, ◌^◌, ◌==◌, ◌&&◌, ◌||◌, nat_lt, Bool, true, Option, None, Some, List, take, map, filter, flat_map}
 use Rattle.std.specs.List.{range_with_len, AllByRecursion}
 use Rattle.sweep_core.specs.declared.config.Config.{Config}
-use Rattle.sweep_core.specs.Space.{Ranges, is_valid}
+use Rattle.sweep_core.specs.Space.{Ranges, config, is_valid}
 
 -- the order: by block size, then by set count, then by associativity
 abbrev pub is_less : Config → Config → Bool
-is_less c d = nat_lt c.bsize d.bsize || c.bsize == d.bsize && (nat_lt c.sets d.sets || c.sets == d.sets && nat_lt c.assoc d.assoc)
+is_less c d =
+    nat_lt c.bsize d.bsize
+    || c.bsize == d.bsize && (nat_lt c.sets d.sets || c.sets == d.sets && nat_lt c.assoc d.assoc)
 
 -- whether a configuration is greater than a triple; without one, all are
 abbrev pub is_after : Option Config → Config → Bool
@@ -24,7 +26,7 @@ numbers range = range_with_len range.0 (range.1 + 1 - range.0)
 -- all configurations whose associativity lies in a range, in order
 unfoldable pub all_configs : ℕ × ℕ → List Config
 all_configs range =
-    flat_map (λ bsize. flat_map (λ sets. map (λ assoc. record { bsize = bsize; sets = sets; assoc = assoc }) (numbers range)) powers_of_two) powers_of_two
+    flat_map (λ bsize. flat_map (λ sets. map (config bsize sets) (numbers range)) powers_of_two) powers_of_two
 
 -- The table: the configurations of a space that are greater than a triple, in order.
 unfoldable pub table : Ranges → Option Config → List Config

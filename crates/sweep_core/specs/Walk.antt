@@ -1,5 +1,5 @@
 -- Rows and their profiles, one beside the other.
-use Rattle.std.specs.Prelude.{◌≡◌, ⊤, ◌⊎◌, ℕ, ◌<◌, ◌≤◌, ◌*◌, ◌^◌, ◌==◌, ◌&&◌, not, filter, Bool, true, false, Option, None, Some, List, [], ◌∷◌}
+use Rattle.std.specs.Prelude.{◌≡◌, ⊤, ◌⊎◌, ℕ, ◌<◌, ◌≤◌, ◌*◌, ◌^◌, ◌==◌, ◌&&◌, Bool, true, false, Option, None, Some, List, [], ◌∷◌}
 use Rattle.std.specs.List.{AllByRecursion}
 use Rattle.trace_core.specs.declared.events.Event.{Event}
 use Rattle.cache_core.specs.Geometry.{shape}
@@ -8,24 +8,13 @@ use Rattle.profile_core.specs.StandsFor.{StandsFor}
 use Rattle.sweep_core.specs.declared.config.Config.{Config}
 use Rattle.sweep_core.specs.declared.profiles.PairProfile.{PairProfile}
 use Rattle.sweep_core.specs.Space.{bytes_of}
-use Rattle.sweep_core.specs.Table.{IsRising}
 use Rattle.sweep_core.specs.SweepText.{log2}
-use Rattle.sweep_core.specs.Work.{pairs, has_pair}
+use Rattle.sweep_core.specs.Work.{has_pair}
 
 -- whether the configuration before has the same pair
 abbrev pub is_same_pair : Option Config → Config → Bool
 is_same_pair None c = false
 is_same_pair (Some other) c = has_pair (c.bsize, c.sets) other
-
--- the pairs that some configurations have besides that of the one before them
-abbrev pub left_pairs : Option Config → List Config → List (ℕ × ℕ)
-left_pairs None cs = pairs cs
-left_pairs (Some before) cs = filter (λ p. not (has_pair p before)) (pairs cs)
-
--- they rise from the one before them
-abbrev pub RisesFrom : Option Config → List Config → Type 0
-RisesFrom None cs = IsRising cs
-RisesFrom (Some before) cs = IsRising (before ∷ cs)
 
 -- whether a profile is that of a configuration's pair
 abbrev pub is_of : Config → PairProfile → Bool
@@ -48,7 +37,9 @@ Leads (x ∷ xs) c = Serves x 0 c
 abbrev pub Covers : List PairProfile → ℕ → List Config → Type 0
 Covers xs ways [] = ⊤
 Covers [] ways (c ∷ cs) = ⊥
-Covers (x ∷ xs) ways (c ∷ cs) = (Serves x ways c × Covers (x ∷ xs) c.assoc cs) ⊎ ((is_of c x ≡ false) × Leads xs c × Covers xs c.assoc cs)
+Covers (x ∷ xs) ways (c ∷ cs) =
+    (Serves x ways c × Covers (x ∷ xs) c.assoc cs)
+    ⊎ ((is_of c x ≡ false) × Leads xs c × Covers xs c.assoc cs)
 
 -- a profile stands for a trace, and has the shape of its pair
 pub record IsProfileOf (es : List Event) (x : PairProfile) : Type 0 where
@@ -61,13 +52,15 @@ IsTally [] tally = ⊥
 IsTally (x ∷ xs) tally = tally ≡ tally_at x.profile tally.ways
 
 -- profiles that were fed a trace, a tally of the first one, and configurations that they serve
-pub record Walks (es : List Event) (profiles : List PairProfile) (tally : TallyState) (cs : List Config) : Type 0 where
+pub record Walks (es : List Event) (profiles : List PairProfile) (tally : TallyState)
+    (cs : List Config) : Type 0 where
   pub fed : AllByRecursion (IsProfileOf es) profiles
   pub tallied : IsTally profiles tally
   pub covers : Covers profiles tally.ways cs
 
 -- The first profile serves the next configuration, and then they serve the others.
-pub record Ready (es : List Event) (profiles : List PairProfile) (tally : TallyState) (c : Config) (cs : List Config) : Type 0 where
+pub record Ready (es : List Event) (profiles : List PairProfile) (tally : TallyState)
+    (c : Config) (cs : List Config) : Type 0 where
   pub fed : AllByRecursion (IsProfileOf es) profiles
   pub tallied : IsTally profiles tally
   pub first : (x : PairProfile) × (xs : List PairProfile) × (profiles ≡ x ∷ xs) × Serves x tally.ways c

@@ -40,11 +40,11 @@ impl Gathered {
     }
 
     /// Adds a piece. Where there is no room for it, what waits is written first.
-    pub(crate) fn put<S: Sink>(&mut self, sink: &mut S, piece: &[u8]) -> Result<(), DeviceFault>
+    pub(crate) fn put<K: Sink>(&mut self, sink: &mut K, piece: &[u8]) -> Result<(), DeviceFault>
         requires { length piece.now ≤ ROOM }
-        ensures ok { OnOk result (Passes (S.written sink.old) (S.written sink.new) self.old self.new piece.now) }
-        ensures fault { OnErr result (WritesPrefix (S.written sink.old) (S.written sink.new) self.old) }
-        ensures counted { CountsFailure (S.failures sink.old) (S.failures sink.new) result }
+        ensures ok { OnOk result (Passes (K.written sink.old) (K.written sink.new) self.old self.new piece.now) }
+        ensures fault { OnErr result (WritesPrefix (K.written sink.old) (K.written sink.new) self.old) }
+        ensures counted { CountsFailure (K.failures sink.old) (K.failures sink.new) result }
     {
         self.make_room(sink, piece.len())?;
         self.push(piece);
@@ -52,11 +52,11 @@ impl Gathered {
     }
 
     /// Writes what waits.
-    pub(crate) fn write_out<S: Sink>(&mut self, sink: &mut S) -> Result<(), DeviceFault>
-        ensures ok { OnOk result (Appends (S.written sink.old) (S.written sink.new) self.old) }
+    pub(crate) fn write_out<K: Sink>(&mut self, sink: &mut K) -> Result<(), DeviceFault>
+        ensures ok { OnOk result (Appends (K.written sink.old) (K.written sink.new) self.old) }
         ensures none { OnOk result (self.new ≡ []) }
-        ensures fault { OnErr result (WritesPrefix (S.written sink.old) (S.written sink.new) self.old) }
-        ensures counted { CountsFailure (S.failures sink.old) (S.failures sink.new) result }
+        ensures fault { OnErr result (WritesPrefix (K.written sink.old) (K.written sink.new) self.old) }
+        ensures counted { CountsFailure (K.failures sink.old) (K.failures sink.new) result }
     {
         write_all(sink, &self.bytes[..self.len])?;
         self.len = 0;
@@ -64,12 +64,12 @@ impl Gathered {
     }
 
     /// Sees to it that so many bytes more have room.
-    fn make_room<S: Sink>(&mut self, sink: &mut S, count: usize) -> Result<(), DeviceFault>
+    fn make_room<K: Sink>(&mut self, sink: &mut K, count: usize) -> Result<(), DeviceFault>
         requires { count ≤ ROOM }
-        ensures ok { OnOk result (Passes (S.written sink.old) (S.written sink.new) self.old self.new []) }
+        ensures ok { OnOk result (Passes (K.written sink.old) (K.written sink.new) self.old self.new []) }
         ensures room { OnOk result (length self.new + count ≤ ROOM) }
-        ensures fault { OnErr result (WritesPrefix (S.written sink.old) (S.written sink.new) self.old) }
-        ensures counted { CountsFailure (S.failures sink.old) (S.failures sink.new) result }
+        ensures fault { OnErr result (WritesPrefix (K.written sink.old) (K.written sink.new) self.old) }
+        ensures counted { CountsFailure (K.failures sink.old) (K.failures sink.new) result }
     {
         if self.len + count <= ROOM {
             return Ok(());
@@ -77,6 +77,7 @@ impl Gathered {
         self.write_out(sink)
     }
 
+    /// Adds a piece that has room behind what waits.
     fn push(&mut self, piece: &[u8])
         requires { length self.old + length piece.now ≤ ROOM }
         ensures { self.new ≡ self.old ++ piece.now }

@@ -1,4 +1,5 @@
-//! Laws over the definitions: each is the contract of a function with no code, which a caller cites by calling it.
+//! Laws over the definitions: each is the contract of a function with no code, so that the gate proves it. Proofs above may cite
+//! the lemma behind it.
 ghost use Rattle.std.specs.Prelude.{◌≡◌, ◌^◌, ℕ, List, [], ◌∷◌, ◌++◌, flat_map, true, Option, None, Some, ◌↔◌, IsTrue, Contains};
 ghost use Rattle.cache_core.specs.Geometry.{IsGeometry, size_of};
 ghost use Rattle.sweep_core.specs.declared.config.Config.{Config};
@@ -7,12 +8,14 @@ ghost use Rattle.sweep_core.specs.Space.{Ranges, is_power, is_valid, fault_of, b
 ghost use Rattle.sweep_core.specs.Table.{table, first_rows, more_rows, is_after, IsRising};
 ghost use Rattle.sweep_core.specs.SweepText.{log2, shape_of_config, sweep_text, ArePages};
 
-/// The table rises, its members are exactly the configurations of the space that are greater than `after`, and no other list does both.
+/// The table rises, its members are exactly the configurations of the space that are greater than `after`, and no other list
+/// does both.
 pub fn table_is()
     ensures rises { (space : Ranges) (after : Option Config) → IsRising (table space after) }
     ensures members { (space : Ranges) (after : Option Config) (c : Config) → fault_of space ≡ None →
         Contains (table space after) c ↔ (IsTrue (is_valid space c) × IsTrue (is_after after c)) }
-    ensures unique { (cs ds : List Config) → IsRising cs → IsRising ds → ((c : Config) → Contains cs c ↔ Contains ds c) → cs ≡ ds }
+    ensures unique { (cs ds : List Config) → IsRising cs → IsRising ds
+        → ((c : Config) → Contains cs c ↔ Contains ds c) → cs ≡ ds }
 {}
 
 /// The exponent of a power of two is its logarithm.
@@ -22,8 +25,10 @@ pub fn log2_is()
 
 /// Each configuration of a space is a cache within the limits, and its shape has as many bytes.
 pub fn configs_are_geometries()
-    ensures limits { (space : Ranges) (c : Config) → fault_of space ≡ None → is_valid space c ≡ true → IsGeometry (shape_of_config c) }
-    ensures bytes { (space : Ranges) (c : Config) → fault_of space ≡ None → is_valid space c ≡ true → size_of (shape_of_config c) ≡ bytes_of c }
+    ensures limits { (space : Ranges) (c : Config) → fault_of space ≡ None → is_valid space c ≡ true
+        → IsGeometry (shape_of_config c) }
+    ensures bytes { (space : Ranges) (c : Config) → fault_of space ≡ None → is_valid space c ≡ true
+        → size_of (shape_of_config c) ≡ bytes_of c }
 {}
 
 /// Pages: a sweep of `n` rows, the last of which is `c`, and then a sweep of `m` rows after `c`, write what a sweep of both writes.

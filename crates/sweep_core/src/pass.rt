@@ -1,10 +1,9 @@
 //! One pass over a trace: what is read is fed to each profile as it comes.
-ghost use Rattle.std.specs.Prelude.{◌≡◌, ◌∷◌, [], ℕ, ◌+◌, ◌^◌, ◌<◌, ◌≤◌, All, map, filter};
-ghost use Rattle.trace_core.specs.Events.{events_of, keeps};
+ghost use Rattle.std.specs.Prelude.{◌≡◌, ◌∷◌, [], ℕ, ◌+◌, ◌^◌, ◌<◌, ◌≤◌, All, map};
+ghost use Rattle.trace_core.specs.Events.{events_of};
 ghost use Rattle.trace_core.specs.Reader.{begun};
-ghost use Rattle.trace_core.specs.declared.events.Event.TheVariants as event;
 ghost use Rattle.profile_core.specs.State.{fed_of};
-ghost use Rattle.sweep_core.specs.Pass.{referenced, flushed, all_after, state_after, Feeds};
+ghost use Rattle.sweep_core.specs.Pass.{pair_after_reference, pair_after_flush, kept_events, all_after, state_after, Feeds};
 
 use crate::profiles::PairProfile;
 use trace_core::events::{Entry, Kind, Ref, refs_of};
@@ -12,30 +11,35 @@ use trace_core::fault::TraceFault;
 use trace_core::io::Source;
 use trace_core::reader::Lines;
 
+/// Feeds a reference to an address to each profile.
 #[inline(always)]
 fn feed_reference(profiles: &mut [PairProfile], addr: u64)
     requires { All (λ x. fed_of x.profile < 2 ^ 41) profiles.old }
-    ensures fed { profiles.new ≡ map (referenced addr) profiles.old }
-    ensures few { (n : ℕ) → All (λ x. fed_of x.profile ≤ n) profiles.old → All (λ x. fed_of x.profile ≤ n + 1) profiles.new }
+    ensures fed { profiles.new ≡ map (pair_after_reference addr) profiles.old }
+    ensures few { (n : ℕ) → All (λ x. fed_of x.profile ≤ n) profiles.old
+        → All (λ x. fed_of x.profile ≤ n + 1) profiles.new }
 {
     for pair in profiles.iter_mut() {
         pair.profile.feed(addr);
     }
 }
 
+/// Flushes each profile.
 fn flush(profiles: &mut [PairProfile])
-    ensures { profiles.new ≡ map flushed profiles.old }
+    ensures { profiles.new ≡ map pair_after_flush profiles.old }
 {
     for pair in profiles.iter_mut() {
         pair.profile.flush();
     }
 }
 
+/// Feeds a reference to each profile, where it is of a kind.
 #[inline(always)]
 fn feed_kept(profiles: &mut [PairProfile], kind: Kind, reference: Ref)
     requires { All (λ x. fed_of x.profile < 2 ^ 41) profiles.old }
-    ensures fed { profiles.new ≡ all_after (map event.Reference (filter (λ r. keeps kind r.access) (reference ∷ []))) profiles.old }
-    ensures few { (n : ℕ) → All (λ x. fed_of x.profile ≤ n) profiles.old → All (λ x. fed_of x.profile ≤ n + 1) profiles.new }
+    ensures fed { profiles.new ≡ all_after (kept_events kind (reference ∷ [])) profiles.old }
+    ensures few { (n : ℕ) → All (λ x. fed_of x.profile ≤ n) profiles.old
+        → All (λ x. fed_of x.profile ≤ n + 1) profiles.new }
 {
     if kind.keeps(reference.access) {
         feed_reference(profiles, reference.addr);
@@ -47,7 +51,8 @@ fn feed_kept(profiles: &mut [PairProfile], kind: Kind, reference: Ref)
 fn feed_entry(profiles: &mut [PairProfile], kind: Kind, entry: Entry)
     requires { All (λ x. fed_of x.profile + 1 < 2 ^ 41) profiles.old }
     ensures fed { profiles.new ≡ all_after (events_of kind entry) profiles.old }
-    ensures few { (n : ℕ) → All (λ x. fed_of x.profile ≤ n) profiles.old → All (λ x. fed_of x.profile ≤ n + 2) profiles.new }
+    ensures few { (n : ℕ) → All (λ x. fed_of x.profile ≤ n) profiles.old
+        → All (λ x. fed_of x.profile ≤ n + 2) profiles.new }
 {
     match entry {
         Entry::Item(item) => {

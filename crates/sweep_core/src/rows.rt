@@ -8,38 +8,40 @@ use cache_core::outcome::Counts;
 use itoa::Buffer;
 use std::marker::Model;
 
-/// The most bytes that a line has: seven numbers of up to twenty digits, and what stands after each.
+/// The most bytes that a row has: seven numbers of up to twenty digits, and what stands after each.
 const CAPACITY: usize = 147;
 
-/// A line under way.
+/// The text of a row, as far as it is put together.
 #[derive(Drop)]
-pub(crate) struct Line {
+pub(crate) struct RowText {
     bytes: [u8; CAPACITY],
     len: usize,
 }
 
-impl Model for Line {
+impl Model for RowText {
     ghost use Rattle.std.specs.Prelude.{◌≤◌, List, ℕ, take};
 
     ghost Value = { List ℕ };
 
-    ghost view = { λ l. take l.len l.bytes };
+    ghost view = { λ r. take r.len r.bytes };
 
-    ghost invariant = { λ l. l.len ≤ 147 };
+    ghost invariant = { λ r. r.len ≤ 147 };
 }
 
-impl Line {
+impl RowText {
     ghost use Rattle.std.specs.Prelude.{◌≡◌, ◌+◌, ◌≤◌, ◌∷◌, ◌++◌, [], length, decimal};
 
-    fn new() -> Line
+    /// No bytes yet.
+    fn new() -> RowText
         ensures { result ≡ [] }
     {
-        Line {
+        RowText {
             bytes: [0; CAPACITY],
             len: 0,
         }
     }
 
+    /// Its bytes.
     pub(crate) fn as_slice(&self) -> &[u8]
         ensures { result.now ≡ self.now }
     {
@@ -49,7 +51,7 @@ impl Line {
     /// Adds a number and what stands after it.
     fn push(&mut self, number: u64, after: u8)
         requires { length self.old + 21 ≤ CAPACITY }
-        ensures line { self.new ≡ self.old ++ decimal number ++ after ∷ [] }
+        ensures row { self.new ≡ self.old ++ decimal number ++ after ∷ [] }
         ensures short { length self.new ≤ length self.old + 21 }
     {
         let mut buffer = Buffer::new();
@@ -61,19 +63,19 @@ impl Line {
     }
 }
 
-/// The line of a configuration, whose size is `bytes`.
-pub(crate) fn row_line(config: &Config, bytes: u64, counts: Counts) -> Line
+/// The row of a configuration, whose size is `bytes`.
+pub(crate) fn row_text(config: &Config, bytes: u64, counts: Counts) -> RowText
     requires { bytes ≡ bytes_of config.now }
-    ensures line { result ≡ row_of config.now counts }
+    ensures row { result ≡ row_of config.now counts }
     ensures short { length result ≤ CAPACITY }
 {
-    let mut line = Line::new();
-    line.push(config.bsize, b',');
-    line.push(config.sets, b',');
-    line.push(config.assoc, b',');
-    line.push(bytes, b',');
-    line.push(counts.hits, b',');
-    line.push(counts.misses, b',');
-    line.push(counts.evictions, b'\n');
-    line
+    let mut row = RowText::new();
+    row.push(config.bsize, b',');
+    row.push(config.sets, b',');
+    row.push(config.assoc, b',');
+    row.push(bytes, b',');
+    row.push(counts.hits, b',');
+    row.push(counts.misses, b',');
+    row.push(counts.evictions, b'\n');
+    row
 }

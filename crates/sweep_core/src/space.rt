@@ -67,6 +67,7 @@ pub struct Space {
     sets: (u64, u64),
     assoc: (u64, u64),
     size: (u64, u64),
+    /// Only associativities that are powers of two.
     powers: bool,
 }
 
@@ -87,8 +88,9 @@ impl Space {
     ghost use Rattle.std.specs.Prelude.{◌≡◌, None};
     ghost use Rattle.sweep_core.specs.Space.{is_valid, space_of, fault_of};
 
-    /// The space of these ranges, each a lowest and a greatest value, or the first of them that is refused. With `powers`
-    /// only associativities that are powers of two count.
+    /// The space of these ranges, each a lowest and a greatest value, or the first of them that is refused. Block sizes and
+    /// sizes are in bytes. Block sizes and set counts are powers of two up to 2^20, associativities 1 to 65,536, and sizes any
+    /// numbers. With `powers` only associativities that are powers of two count.
     pub fn new(
         bsize: (u64, u64),
         sets: (u64, u64),
@@ -111,7 +113,7 @@ impl Space {
         })
     }
 
-    /// Its ranges make a space, which the laws ask for.
+    /// States that the ranges are accepted ones, for a caller whose proof needs it. It computes nothing.
     pub fn limits(&self)
         ensures { fault_of self.now ≡ None }
     {
@@ -147,12 +149,14 @@ fn judge(which: Which, cause: Option<Cause>) -> Result<(), SpaceFault>
     }
 }
 
+/// Why a range is refused that may have any ends: it is reversed.
 fn order_cause(range: (u64, u64)) -> Option<Cause>
     ensures { result ≡ order_cause range }
 {
     (range.1 < range.0).then_some(Cause::Reversed)
 }
 
+/// Why a range is refused whose ends are 1 to `most`.
 fn limit_cause(most: u64, range: (u64, u64)) -> Option<Cause>
     ensures { result ≡ limit_cause most range }
 {
@@ -163,6 +167,7 @@ fn limit_cause(most: u64, range: (u64, u64)) -> Option<Cause>
     }
 }
 
+/// Why a range is refused whose ends are powers of two up to `most`.
 fn power_cause(most: u64, range: (u64, u64)) -> Option<Cause>
     ensures { result ≡ power_cause most range }
 {
@@ -173,6 +178,7 @@ fn power_cause(most: u64, range: (u64, u64)) -> Option<Cause>
     }
 }
 
+/// Whether a number lies in a range, its ends included.
 #[inline]
 fn is_in_range(range: (u64, u64), n: u64) -> bool
     ensures { result ≡ is_in_range range n }
@@ -180,8 +186,9 @@ fn is_in_range(range: (u64, u64), n: u64) -> bool
     range.0 <= n && n <= range.1
 }
 
+/// Whether a number is a power of two.
 #[inline]
-fn is_power(n: u64) -> bool
+pub fn is_power(n: u64) -> bool
     ensures { result ≡ is_power n }
 {
     n.is_power_of_two()

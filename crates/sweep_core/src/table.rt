@@ -3,7 +3,7 @@ ghost use Rattle.std.specs.Prelude.{◌≡◌, ◌∷◌, ◌++◌, [], List, On
 ghost use Rattle.std.specs.Io.KnownBytes.{Appends};
 ghost use Rattle.trace_core.specs.Device.{CountsFailure, WritesPrefix};
 ghost use Rattle.trace_core.specs.declared.events.Event.{Event};
-ghost use Rattle.sweep_core.specs.SweepText.{heading, rows_text, rows_of, row_counts};
+ghost use Rattle.sweep_core.specs.SweepText.{header_of, table_text, rows_text, rows_of, row_counts};
 ghost use Rattle.sweep_core.specs.Gathering.{Passes};
 ghost use Rattle.sweep_core.specs.Pass.{Swept};
 ghost use Rattle.sweep_core.specs.Walk.{is_of, Walks, Ready};
@@ -13,7 +13,7 @@ use crate::config::Config;
 use crate::gathered::Gathered;
 use crate::profiles::PairProfile;
 use crate::request::Request;
-use crate::rows::row_line;
+use crate::rows::row_text;
 use cache_core::outcome::Counts;
 use profile_core::profile::Tally;
 use trace_core::io::{DeviceFault, Sink};
@@ -21,9 +21,9 @@ use trace_core::io::{DeviceFault, Sink};
 /// The first line of a sweep that begins at the first configuration.
 const HEADER: &[u8] = b"bsize,sets,assoc,size,hits,misses,evictions\n";
 
-/// Writes the heading and the rows, and flushes. They are gathered first, and so written in large pieces.
-pub(crate) fn write_table<S: Sink>(
-    sink: &mut S,
+/// Writes the header and the rows, and flushes. They are gathered first, and so written in large pieces.
+pub(crate) fn write_table<K: Sink>(
+    sink: &mut K,
     request: &Request,
     profiles: &[PairProfile],
     gathered: Gathered,
@@ -31,27 +31,28 @@ pub(crate) fn write_table<S: Sink>(
     requires swept { (es : List Event) × Swept request.now es profiles.now }
     requires none { gathered ≡ [] }
     ensures ok { (es : List Event) → Swept request.now es profiles.now →
-        OnOk result (Appends (S.written sink.old) (S.written sink.new) (heading request.now.after ++ rows_text es (rows_of request.now))) }
+        OnOk result (Appends (K.written sink.old) (K.written sink.new) (table_text request.now es)) }
     ensures fault { (es : List Event) → Swept request.now es profiles.now →
-        OnErr result (WritesPrefix (S.written sink.old) (S.written sink.new) (heading request.now.after ++ rows_text es (rows_of request.now))) }
-    ensures counted { CountsFailure (S.failures sink.old) (S.failures sink.new) result }
+        OnErr result (WritesPrefix (K.written sink.old) (K.written sink.new) (table_text request.now es)) }
+    ensures counted { CountsFailure (K.failures sink.old) (K.failures sink.new) result }
 {
     let mut gathered = gathered;
-    write_heading(sink, request.after, &mut gathered)?;
+    write_header(sink, request.after, &mut gathered)?;
     write_rows(sink, request, profiles, &mut gathered)?;
     gathered.write_out(sink)?;
     sink.flush()
 }
 
 /// Writes the header, where a sweep begins at the first configuration.
-fn write_heading<S: Sink>(
-    sink: &mut S,
+fn write_header<K: Sink>(
+    sink: &mut K,
     after: Option<Config>,
     gathered: &mut Gathered,
 ) -> Result<(), DeviceFault>
-    ensures ok { OnOk result (Passes (S.written sink.old) (S.written sink.new) gathered.old gathered.new (heading after)) }
-    ensures fault { OnErr result (WritesPrefix (S.written sink.old) (S.written sink.new) gathered.old) }
-    ensures counted { CountsFailure (S.failures sink.old) (S.failures sink.new) result }
+    ensures ok { OnOk result (Passes (K.written sink.old) (K.written sink.new)
+        gathered.old gathered.new (header_of after)) }
+    ensures fault { OnErr result (WritesPrefix (K.written sink.old) (K.written sink.new) gathered.old) }
+    ensures counted { CountsFailure (K.failures sink.old) (K.failures sink.new) result }
 {
     match after {
         None => gathered.put(sink, HEADER),
@@ -60,18 +61,20 @@ fn write_heading<S: Sink>(
 }
 
 /// Writes the rows, which come pair by pair, as the profiles do.
-fn write_rows<S: Sink>(
-    sink: &mut S,
+fn write_rows<K: Sink>(
+    sink: &mut K,
     request: &Request,
     profiles: &[PairProfile],
     gathered: &mut Gathered,
 ) -> Result<(), DeviceFault>
     requires { (es : List Event) × Swept request.now es profiles.now }
     ensures ok { (es : List Event) → Swept request.now es profiles.now →
-        OnOk result (Passes (S.written sink.old) (S.written sink.new) gathered.old gathered.new (rows_text es (rows_of request.now))) }
+        OnOk result (Passes (K.written sink.old) (K.written sink.new)
+        gathered.old gathered.new (rows_text es (rows_of request.now))) }
     ensures fault { (es : List Event) → Swept request.now es profiles.now →
-        OnErr result (WritesPrefix (S.written sink.old) (S.written sink.new) (gathered.old ++ rows_text es (rows_of request.now))) }
-    ensures counted { CountsFailure (S.failures sink.old) (S.failures sink.new) result }
+        OnErr result (WritesPrefix (K.written sink.old) (K.written sink.new)
+        (gathered.old ++ rows_text es (rows_of request.now))) }
+    ensures counted { CountsFailure (K.failures sink.old) (K.failures sink.new) result }
 {
     let mut left = profiles;
     let Some(first) = left.first() else {
@@ -81,8 +84,8 @@ fn write_rows<S: Sink>(
     for config in request.rows() {
         left = from_pair(left, &mut tally, &config);
         let counts = next_counts(left, &mut tally, &config);
-        let line = row_line(&config, config.bytes(), counts);
-        gathered.put(sink, line.as_slice())?;
+        let row = row_text(&config, config.bytes(), counts);
+        gathered.put(sink, row.as_slice())?;
     }
     Ok(())
 }

@@ -1,22 +1,21 @@
 //! The search for the configuration that comes next, and for the greatest associativity of a pair.
 ghost use Rattle.std.specs.Prelude.{◌≡◌, ◌<◌, ◌≤◌, ◌-◌, ◌^◌, ℕ, not, true, nat_lt, MatchOption};
 ghost use Rattle.sweep_core.specs.Table.{is_less, is_after};
-ghost use Rattle.sweep_core.specs.Least.{config};
 ghost use Rattle.sweep_core.specs.declared.config.Config.{Config};
-ghost use Rattle.sweep_core.specs.Space.{is_power};
+ghost use Rattle.sweep_core.specs.Space.{is_power, config};
 
 use super::{Space, is_in_range};
 use crate::config::Config;
 use cache_core::geometry::{MAX_BITS, MAX_CACHE_LINES};
 
-/// How many powers of two there are up to the greatest block size.
+/// How many powers of two there are up to the greatest block size and set count.
 const POWERS: u32 = MAX_BITS as u32 + 1;
 
 impl Space {
     ghost use Rattle.std.specs.Prelude.{◌≡◌, ◌≤◌, ◌∷◌, [], ℕ, true, MatchOption, None, Some};
-    ghost use Rattle.sweep_core.specs.Space.{is_valid, is_in_range};
+    ghost use Rattle.sweep_core.specs.Space.{is_valid, is_in_range, config};
     ghost use Rattle.sweep_core.specs.Table.{table};
-    ghost use Rattle.sweep_core.specs.Least.{config, IsLeast, IsLeastFrom, is_from, is_from_with, is_from_pair};
+    ghost use Rattle.sweep_core.specs.Least.{IsLeast, IsLeastFrom, is_from, is_from_of_bsize, is_from_pair};
 
     /// The least associativity from `least` on with which it has a configuration of a pair.
     fn first_assoc(&self, bsize: u64, sets: u64, least: u64) -> Option<u64>
@@ -30,7 +29,7 @@ impl Space {
         if lowest > self.assoc.1 {
             return None;
         }
-        let assoc = first_way(lowest, self.powers);
+        let assoc = least_assoc(lowest, self.powers);
         let config = Config { bsize, sets, assoc };
         if self.has(&config) { Some(assoc) } else { None }
     }
@@ -48,8 +47,8 @@ impl Space {
     }
 
     /// The least configuration of a block size that it has, from another on.
-    fn first_with(&self, bsize: u64, from: &Config) -> Option<Config>
-        ensures { IsLeast (is_from_with self.now from.now bsize) result }
+    fn first_of_bsize(&self, bsize: u64, from: &Config) -> Option<Config>
+        ensures { IsLeast (is_from_of_bsize self.now from.now bsize) result }
     {
         self.limits();
         if !is_in_range(self.bsize, bsize) || bsize < from.bsize {
@@ -69,7 +68,7 @@ impl Space {
     {
         self.limits();
         for bits in 0..POWERS {
-            if let Some(found) = self.first_with(power(bits), from) {
+            if let Some(found) = self.first_of_bsize(power(bits), from) {
                 return Some(found);
             }
         }
@@ -78,7 +77,8 @@ impl Space {
 
     /// The least configuration that it has and that is greater than another.
     pub(crate) fn next_after(&self, after: Option<Config>) -> Option<Config>
-        ensures { MatchOption result (table self.now after ≡ []) (λ c. table self.now after ≡ c ∷ table self.now (Some c)) }
+        ensures { MatchOption result (table self.now after ≡ [])
+            (λ c. table self.now after ≡ c ∷ table self.now (Some c)) }
     {
         self.limits();
         self.first_from(&from_after(after))
@@ -104,8 +104,8 @@ impl Space {
     }
 }
 
-/// The least number from `lowest` on, or the least power of two.
-fn first_way(lowest: u64, powers: bool) -> u64
+/// The least associativity from `lowest` on; with `powers`, the least that is a power of two.
+fn least_assoc(lowest: u64, powers: bool) -> u64
     requires { lowest ≤ 2 ^ 63 }
     ensures from { lowest ≤ result }
     ensures power { powers ≡ true → is_power result ≡ true }
@@ -118,7 +118,8 @@ fn first_way(lowest: u64, powers: bool) -> u64
     }
 }
 
-/// The triple from which on those with a smaller associativity than `u64::MAX` are greater than `after`.
+/// The least triple greater than `after`; without it, the least of all. At `u64::MAX` ways it stays, which loses nothing:
+/// no configuration has so many.
 fn from_after(after: Option<Config>) -> Config
     ensures { (c : Config) → c.assoc < 2 ^ 64 - 1 → is_less c result ≡ not (is_after after c) }
 {

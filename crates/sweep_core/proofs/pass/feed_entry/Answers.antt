@@ -2,7 +2,7 @@ use Rattle.std.proofs.Common.{arith, ◌≤◌, ◌+◌, ◌^◌, ◌-◌}
 use Rattle.sweep_core.proofs.Passes.{entry-two}
 use Rattle.std.proofs.lemmas.List.Elements.{All-map}
 use Rattle.profile_core.specs.State.{fed_of}
-use Rattle.sweep_core.specs.Pass.{flushed}
+use Rattle.sweep_core.specs.Pass.{pair_after_flush}
 use Rattle.sweep_core.proofs.pass.feed_entry.Goals as goal
 
 pub feed_kept-requires-in-Some : goal.feed_kept-requires-in-Some
@@ -21,4 +21,4 @@ returns-in_default-clause-few c n few k d h = omega (arith, c.feed_kept.ensures.
 
 pub returns-in-Flush-clause-few : goal.returns-in-Flush-clause-few
 returns-in-Flush-clause-few c n few =
-    rw c.flush.ensures (All-map (λ x. fed_of x.profile ≤ n + 2) flushed c.args.profiles.now (λ k d h. omega (arith, few k d h)))
+    rw c.flush.ensures (All-map (λ x. fed_of x.profile ≤ n + 2) pair_after_flush c.args.profiles.now (λ k d h. omega (arith, few k d h)))

@@ -2,7 +2,7 @@ use Rattle.std.proofs.Common.{ℕ, sym, ap, ◌∙◌, subst}
 use Rattle.cache_core.specs.Geometry.{IsGeometry, shape}
 use Rattle.profile_core.specs.State.{ProfileState, empty}
 use Rattle.sweep_core.specs.declared.profiles.PairProfile.{PairProfile}
-use Rattle.sweep_core.specs.Least.{config}
+use Rattle.sweep_core.specs.Space.{config}
 use Rattle.sweep_core.specs.SweepText.{log2}
 use Rattle.sweep_core.proofs.Validity.{limits_of}
 use Rattle.sweep_core.proofs.Depths.{geometry-of, depth-is}

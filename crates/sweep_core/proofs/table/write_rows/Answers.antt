@@ -10,7 +10,7 @@ use Rattle.sweep_core.proofs.table.write_rows.Goals as goal
 
 pub returns-in_default-clause-ok : goal.returns-in_default-clause-ok
 returns-in_default-clause-ok g c es swept =
-    let told = g.S.Sink.written c.args.sink.now in
+    let told = g.K.Sink.written c.args.sink.now in
     let rows = rows_of c.args.request.now in
     let before = c.args.gathered.now in
     written-end rows es told told before before
@@ -24,7 +24,7 @@ loop-config-init g c = (
     walks-start c.args.request.now es c.args.profiles.now c.begin_tally-tally.result swept
         (tally-of c.args.profiles.now c.in-Some.first.now c.begin_tally-tally.result (sym c.first.ensures.value ∙ ap option_copied c.in-Some.is) c.begin_tally-tally.ensures)
         (ap (λ t. t.ways) c.begin_tally-tally.ensures),
-    written-start (rows_of c.args.request.now) es (g.S.Sink.written c.args.sink.now) c.args.gathered.now,
+    written-start (rows_of c.args.request.now) es (g.K.Sink.written c.args.sink.now) c.args.gathered.now,
   ),
   refl,
 )
@@ -49,11 +49,11 @@ loop-config-preserved g c = (
   λ es swept.
       let now = rw c.in-Some-config.ensures.steps at (c.loop-config.invariant.0 es swept) in
       let next = c.next_counts-counts.ensures es c.next.new.self (c.from_pair-left.ensures es c.next.new.self now.0) in
-      let b = g.S.Sink.written c.loop-config.sink in let d = g.S.Sink.written c.put.new.sink in
-      let line = c.as_slice.ensures ∙ c.row_line-line.ensures.line ∙ ap (row_of c.in-Some-config.config) next.0 in (
+      let b = g.K.Sink.written c.loop-config.sink in let d = g.K.Sink.written c.put.new.sink in
+      let row = c.as_slice.ensures ∙ c.row_text-row.ensures.row ∙ ap (row_of c.in-Some-config.config) next.0 in (
         next.1,
-        written-more (rows_of c.args.request.now) es (g.S.Sink.written c.args.sink.now) b d c.args.gathered.now c.loop-config.gathered c.put.new.self c.in-Some-config.config c.next.new.self now.1
-            (subst (Passes b d c.loop-config.gathered c.put.new.self) line c.in_ok-put.ensures.ok),
+        written-more (rows_of c.args.request.now) es (g.K.Sink.written c.args.sink.now) b d c.args.gathered.now c.loop-config.gathered c.put.new.self c.in-Some-config.config c.next.new.self now.1
+            (subst (Passes b d c.loop-config.gathered c.put.new.self) row c.in_ok-put.ensures.ok),
       ),
   c.in_ok-put.ensures.counted ∙ c.loop-config.invariant.1,
 )
@@ -63,5 +63,5 @@ returns-in_err-put-clause-fault g c es swept =
     let now = rw c.in-Some-config.ensures.steps at (c.loop-config.invariant.0 es swept) in
     let p = err_from_is_err_and c.from_residual.result c.from_residual.ensures.1 in
     rw p.1
-    (written-broken (rows_of c.args.request.now) es (g.S.Sink.written c.args.sink.now) (g.S.Sink.written c.loop-config.sink) (g.S.Sink.written c.put.new.sink) c.args.gathered.now c.loop-config.gathered
+    (written-broken (rows_of c.args.request.now) es (g.K.Sink.written c.args.sink.now) (g.K.Sink.written c.loop-config.sink) (g.K.Sink.written c.put.new.sink) c.args.gathered.now c.loop-config.gathered
     (c.in-Some-config.config ∷ c.next.new.self) now.1 c.in_err-put.ensures.fault)

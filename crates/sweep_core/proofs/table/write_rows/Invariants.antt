@@ -10,5 +10,5 @@ use Rattle.sweep_core.proofs.table.write_rows.Given as goal
 abbrev pub invariant-loop-config : goal.invariant-loop-config
 invariant-loop-config g l =
     ((es : List Event) → Swept l.request es l.profiles → Walks es l.left l.tally l.config-iterator
-    × Written (rows_of l.request) es (g.S.Sink.written l.initial.sink) (g.S.Sink.written l.sink) l.initial.gathered l.gathered l.config-iterator)
-    × (g.S.Sink.failures l.sink ≡ g.S.Sink.failures l.initial.sink)
+    × Written (rows_of l.request) es (g.K.Sink.written l.initial.sink) (g.K.Sink.written l.sink) l.initial.gathered l.gathered l.config-iterator)
+    × (g.K.Sink.failures l.sink ≡ g.K.Sink.failures l.initial.sink)

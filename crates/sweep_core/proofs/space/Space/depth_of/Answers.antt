@@ -1,7 +1,6 @@
 use Rattle.std.proofs.Common.{◌≡◌, ℕ, ◌≤◌, true, sym, ap, ◌∙◌, arith, subst}
 use Rattle.std.proofs.lemmas.Bool.{false≢true}
-use Rattle.sweep_core.specs.Space.{Ranges, ranges, is_valid, is_power}
-use Rattle.sweep_core.specs.Least.{config}
+use Rattle.sweep_core.specs.Space.{Ranges, ranges, is_valid, is_power, config}
 use Rattle.sweep_core.proofs.Powers.{power-floor, is_power-pow}
 use Rattle.sweep_core.proofs.Validity.{IsValid, OwnFacts, own-facts, valid_of, is_valid-from, valid-up, valid-most}
 use Rattle.sweep_core.proofs.space.Space.depth_of.Goals as goal

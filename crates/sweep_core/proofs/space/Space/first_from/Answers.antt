@@ -1,6 +1,6 @@
 use Rattle.std.proofs.Common.{◌≡◌, ℕ, ◌^◌, ◌≤◌, Some, true, false, subst, arith}
 use Rattle.sweep_core.specs.declared.config.Config.{Config}
-use Rattle.sweep_core.specs.Least.{IsLeast, is_from, is_from_with}
+use Rattle.sweep_core.specs.Least.{IsLeast, is_from, is_from_of_bsize}
 use Rattle.sweep_core.proofs.Validity.{limits_of}
 use Rattle.sweep_core.proofs.Search.{reached-first, reached-next, reached-found, reached-end, from-power, from-apart}
 use Rattle.sweep_core.proofs.space.Space.first_from.Goals as goal
@@ -13,12 +13,12 @@ loop-bits-init c =
 pub returns-in-Some : goal.returns-in-Some
 returns-in-Some c =
     let r = c.args.self.now in let f = c.args.from.now in
-    reached-found (is_from r f) (λ d. d.bsize) (from-power r f (limits_of r c.limits.ensures)) (from-apart r f) c.loop-bits.bits c.in-Some.found c.loop-bits.invariant (subst (λ (k : ℕ). IsLeast (is_from_with r f k) (Some c.in-Some.found)) c.power.ensures c.in-Some.ensures)
+    reached-found (is_from r f) (λ d. d.bsize) (from-power r f (limits_of r c.limits.ensures)) (from-apart r f) c.loop-bits.bits c.in-Some.found c.loop-bits.invariant (subst (λ (k : ℕ). IsLeast (is_from_of_bsize r f k) (Some c.in-Some.found)) c.power.ensures c.in-Some.ensures)
 
 pub loop-bits-preserved : goal.loop-bits-preserved
 loop-bits-preserved c =
     let r = c.args.self.now in let f = c.args.from.now in
-    reached-next (is_from r f) (λ d. d.bsize) (from-power r f (limits_of r c.limits.ensures)) c.loop-bits.bits c.loop-bits.invariant (subst (λ (k : ℕ). (d : Config) → is_from_with r f k d ≡ false) c.power.ensures c.in_default.ensures)
+    reached-next (is_from r f) (λ d. d.bsize) (from-power r f (limits_of r c.limits.ensures)) c.loop-bits.bits c.loop-bits.invariant (subst (λ (k : ℕ). (d : Config) → is_from_of_bsize r f k d ≡ false) c.power.ensures c.in_default.ensures)
 
 pub returns : goal.returns
 returns c =

@@ -1,7 +1,0 @@
-use Rattle.std.proofs.Common.{◌≡◌, ◌≤◌, ◌^◌, true}
-use Rattle.sweep_core.specs.declared.config.Config.{Config}
-use Rattle.sweep_core.specs.Least.{is_from_with}
-use Rattle.sweep_core.proofs.space.Space.first_with.Given as goal
-
-abbrev pub invariant-loop-bits : goal.invariant-loop-bits
-invariant-loop-bits l = (d : Config) → is_from_with l.self l.from l.bsize d ≡ true → 2 ^ l.bits ≤ d.sets
