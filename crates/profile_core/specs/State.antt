@@ -7,8 +7,8 @@ use Rattle.cache_core.specs.Geometry.{Shape, block_of, set_of_block}
 use Rattle.profile_core.specs.Slab.{Lists}
 use Rattle.profile_core.specs.Moves.{place_of, is_in, move_to_front}
 
--- for each set a list of at most geometry.e blocks, the most recent first; how many references found their block at each place of its list;
--- how many did not find it in a list of each length; and the comparisons made
+-- for each set a list of at most geometry.e blocks, the most recent first; how many references found their block at
+-- each place of its list; how many did not find it in a list of each length; and the comparisons made
 pub record ProfileState : Type 0 where
   pub geometry : Shape
   pub lists : List (List ℕ)
@@ -18,7 +18,13 @@ pub record ProfileState : Type 0 where
 
 -- a profile to which nothing was fed
 abbrev pub empty : Shape → ProfileState
-empty g = record { geometry = g; lists = replicate (2 ^ g.s) []; distances = replicate g.e 0; fills = replicate (g.e + 1) 0; probes = 0 }
+empty g = record {
+  geometry = g;
+  lists = replicate (2 ^ g.s) [];
+  distances = replicate g.e 0;
+  fills = replicate (g.e + 1) 0;
+  probes = 0;
+}
 
 -- the list of a set
 abbrev pub list_of : ProfileState → ℕ → List ℕ

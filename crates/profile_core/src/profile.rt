@@ -12,8 +12,8 @@ use cache_core::outcome::Counts;
 use std::alloc::{AllocError, Global};
 use std::marker::Model;
 
-/// The recency lists of all sets (LRU stacks, Mattson 1970) and two histograms: references found, by their stack distance,
-/// which is the block's place in its list; references not found, by the number of blocks in the list.
+/// The recency lists of all sets (LRU stacks, Mattson 1970) and two histograms: references found, by their stack
+/// distance, which is the block's place in its list; references not found, by the number of blocks in the list.
 #[derive(Drop)]
 pub struct Profile {
     geometry: Geometry,
@@ -39,8 +39,8 @@ impl Model for Profile {
     ghost invariant = { λ p. IsSound p.geometry p.lists p.distances.items p.fills.items p.probes };
 }
 
-/// A walk over a profile's histograms towards larger associativities: of `fed` references so many hit at `ways` lines a set,
-/// and so many missed while their set had a free line.
+/// A walk over a profile's histograms towards larger associativities: of `fed` references so many hit at `ways` lines a
+/// set, and so many missed while their set had a free line.
 #[derive(Clone, Copy, Debug)]
 pub struct Tally {
     ways: usize,
@@ -60,8 +60,9 @@ impl Model for Tally {
 }
 
 impl Profile {
-    /// A profile of caches of `2^s` sets of 1 to `depth` lines of `2^b` bytes. It takes all its memory here: 8 bytes for each of
-    /// `depth * 2^s` blocks, 4 for each set, and 16 for each associativity. Where memory is refused, nothing is kept.
+    /// A profile of caches of `2^s` sets of 1 to `depth` lines of `2^b` bytes. It takes all its memory here: 8 bytes
+    /// for each of `depth * 2^s` blocks, 4 for each set, and 16 for each associativity. Where memory is refused,
+    /// nothing is kept.
     pub fn new(alloc: Global, b: u64, s: u64, depth: u64) -> Result<Profile, AllocError>
         requires { IsGeometry (shape s depth b) }
         ensures { IfOk result (λ profile. profile ≡ empty (shape s depth b)) }
@@ -156,8 +157,8 @@ impl Profile {
         }
     }
 
-    /// The same counts as `counts`, by a tally that this profile began, at an associativity not below the tally's, which becomes `e`.
-    /// Nothing is fed between the two. It adds up only the numbers between the two associativities,
+    /// The same counts as `counts`, by a tally that this profile began, at an associativity not below the tally's,
+    /// which becomes `e`. Nothing is fed between the two. It adds up only the numbers between the two associativities,
     /// so all rows of a profile together cost `2 * depth` additions, whichever of them are asked for.
     pub fn counts_next(&self, tally: &mut Tally, e: u64) -> Counts
         requires some { 1 ≤ e }

@@ -1,5 +1,5 @@
-//! Laws over the definitions: each is the contract of a function with no code, so that the gate proves it. Proofs above may cite
-//! the lemma behind it.
+//! Laws over the definitions: each is the contract of a function with no code, so that the gate proves it. Proofs above
+//! may cite the lemma behind it.
 ghost use Rattle.std.specs.Prelude.{◌≡◌, ◌^◌, ℕ, List, [], ◌∷◌, ◌++◌, flat_map, true, Option, None, Some, ◌↔◌, IsTrue, Contains};
 ghost use Rattle.cache_core.specs.Geometry.{IsGeometry, size_of};
 ghost use Rattle.sweep_core.specs.declared.config.Config.{Config};
@@ -8,8 +8,8 @@ ghost use Rattle.sweep_core.specs.Space.{Ranges, is_power, is_valid, fault_of, b
 ghost use Rattle.sweep_core.specs.Table.{table, first_rows, more_rows, is_after, IsRising};
 ghost use Rattle.sweep_core.specs.SweepText.{log2, shape_of_config, sweep_text, ArePages};
 
-/// The table rises, its members are exactly the configurations of the space that are greater than `after`, and no other list
-/// does both.
+/// The table rises, its members are exactly the configurations of the space that are greater than `after`, and no other
+/// list does both.
 pub fn table_is()
     ensures rises { (space : Ranges) (after : Option Config) → IsRising (table space after) }
     ensures members { (space : Ranges) (after : Option Config) (c : Config) → fault_of space ≡ None →
@@ -31,7 +31,8 @@ pub fn configs_are_geometries()
         → size_of (shape_of_config c) ≡ bytes_of c }
 {}
 
-/// Pages: a sweep of `n` rows, the last of which is `c`, and then a sweep of `m` rows after `c`, write what a sweep of both writes.
+/// Pages: a sweep of `n` rows, the last of which is `c`, and then a sweep of `m` rows after `c`, write what a sweep of
+/// both writes.
 pub fn pages()
     ensures { (r : Request) (text : List ℕ) (n : ℕ) (m : Option ℕ) (front : List Config) (c : Config) →
         first_rows (Some n) (table r.space r.after) ≡ front ++ c ∷ [] →
@@ -39,7 +40,8 @@ pub fn pages()
         ≡ sweep_text (record r { rows = more_rows n m }) text }
 {}
 
-/// A sweep in pages, each after the last row of the one before it until no configuration follows, writes what the whole sweep writes.
+/// A sweep in pages, each after the last row of the one before it until no configuration follows, writes what the whole
+/// sweep writes.
 pub fn all_pages()
     ensures { (n : ℕ) (r : Request) (pages : List Request) (text : List ℕ) → ArePages n r pages →
         flat_map (λ page. sweep_text page text) pages ≡ sweep_text (record r { rows = None }) text }

@@ -22,7 +22,8 @@ pub(crate) struct PairProfile {
     pub(crate) profile: Profile,
 }
 
-/// Makes the profiles of a request, each as deep as the greatest associativity of its pair, whether that has a row or not.
+/// Makes the profiles of a request, each as deep as the greatest associativity of its pair, whether that has a row or
+/// not.
 pub(crate) fn make_profiles(
     alloc: Global,
     request: &Request,

@@ -81,16 +81,22 @@ impl Model for Space {
 
     ghost invariant = { λ s. fault_of (ranges s.bsize s.sets s.assoc s.size s.powers) ≡ None };
 
-    ghost inverse = { λ r. record { bsize = r.bsize; sets = r.sets; assoc = r.assoc; size = r.size; powers = r.powers } };
+    ghost inverse = { λ r. record {
+      bsize = r.bsize;
+      sets = r.sets;
+      assoc = r.assoc;
+      size = r.size;
+      powers = r.powers;
+    } };
 }
 
 impl Space {
     ghost use Rattle.std.specs.Prelude.{◌≡◌, None};
     ghost use Rattle.sweep_core.specs.Space.{is_valid, space_of, fault_of};
 
-    /// The space of these ranges, each a lowest and a greatest value, or the first of them that is refused. Block sizes and
-    /// sizes are in bytes. Block sizes and set counts are powers of two up to 2^20, associativities 1 to 65,536, and sizes any
-    /// numbers. With `powers` only associativities that are powers of two count.
+    /// The space of these ranges, each a lowest and a greatest value, or the first of them that is refused. Block sizes
+    /// and sizes are in bytes. Block sizes and set counts are powers of two up to 2^20, associativities 1 to 65,536,
+    /// and sizes any numbers. With `powers` only associativities that are powers of two count.
     pub fn new(
         bsize: (u64, u64),
         sets: (u64, u64),

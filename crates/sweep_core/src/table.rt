@@ -90,7 +90,8 @@ fn write_rows<K: Sink>(
     Ok(())
 }
 
-/// The profiles from that of a configuration's pair on: it is the first of them, or the next. Where it is the next, its tally begins.
+/// The profiles from that of a configuration's pair on: it is the first of them, or the next. Where it is the next, its
+/// tally begins.
 fn from_pair<'a>(left: &'a [PairProfile], tally: &mut Tally, config: &Config) -> &'a [PairProfile]
     requires { (es : List Event) × (later : List Config) × Walks es left.now tally.old (config.now ∷ later) }
     ensures { (es : List Event) (later : List Config) → Walks es left.now tally.old (config.now ∷ later) →

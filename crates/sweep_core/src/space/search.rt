@@ -118,8 +118,8 @@ fn least_assoc(lowest: u64, powers: bool) -> u64
     }
 }
 
-/// The least triple greater than `after`; without it, the least of all. At `u64::MAX` ways it stays, which loses nothing:
-/// no configuration has so many.
+/// The least triple greater than `after`; without it, the least of all. At `u64::MAX` ways it stays, which loses
+/// nothing: no configuration has so many.
 fn from_after(after: Option<Config>) -> Config
     ensures { (c : Config) → c.assoc < 2 ^ 64 - 1 → is_less c result ≡ not (is_after after c) }
 {
