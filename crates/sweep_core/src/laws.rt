@@ -5,8 +5,10 @@ ghost use Rattle.cache_core.specs.Geometry.{IsGeometry, size_of};
 ghost use Rattle.sweep_core.specs.declared.config.Config.{Config};
 ghost use Rattle.sweep_core.specs.declared.request.Request.{Request};
 ghost use Rattle.sweep_core.specs.Space.{Ranges, is_power, is_valid, fault_of, bytes_of};
-ghost use Rattle.sweep_core.specs.Table.{table, first_rows, more_rows, is_after, IsRising};
+ghost use Rattle.sweep_core.specs.Table.{table, first_rows, more_rows, is_less, is_after, IsRising};
 ghost use Rattle.sweep_core.specs.SweepText.{log2, shape_of_config, sweep_text, ArePages};
+
+use crate::config::Config;
 
 /// The table rises, its members are exactly the configurations of the space that are greater than `after`, and no other
 /// list does both.
@@ -17,6 +19,13 @@ pub fn table_is()
     ensures unique { (cs ds : List Config) → IsRising cs → IsRising ds
         → ((c : Config) → Contains cs c ↔ Contains ds c) → cs ≡ ds }
 {}
+
+/// The derived order of configurations is that of the table. It has code, since `<` is what it speaks of.
+pub fn order_is(c: &Config, d: &Config) -> bool
+    ensures { result ≡ is_less c.now d.now }
+{
+    c < d
+}
 
 /// The exponent of a power of two is its logarithm.
 pub fn log2_is()
