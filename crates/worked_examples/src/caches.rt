@@ -1,27 +1,14 @@
 //! One cache: what each kind of reference does under each mode, and the separate simulation of a configuration.
+use crate::samples::{fetch, nine_references, read, write};
 use cache_core::cache::Cache;
 use cache_core::geometry::Geometry;
 use cache_core::outcome::{AllocMode, Counts, Outcome, Slot, WriteMode};
 use cache_core::replacement::Lru;
 use cache_core::simulate::simulate;
 use std::alloc::Global;
+use std::process::Abort;
 use std::test::Fail;
-use trace_core::events::{Access, Ref};
-
-fn fetch(addr: u64) -> Ref {
-    let access = Access::Fetch;
-    Ref { access, addr }
-}
-
-fn read(addr: u64) -> Ref {
-    let access = Access::Read;
-    Ref { access, addr }
-}
-
-fn write(addr: u64) -> Ref {
-    let access = Access::Write;
-    Ref { access, addr }
-}
+use trace_core::events::Ref;
 
 /// A cache of one line of 16 bytes.
 fn one_line(alloc: Global, mode: WriteMode, allocate: AllocMode) -> Result<Cache<Lru>, Fail> {
@@ -74,67 +61,75 @@ fn passed(reference: Ref) -> Outcome {
     }
 }
 
-#[test]
-fn a_reference_does_what_the_modes_say(rt: HostRuntime) -> Result<(), Fail> {
-    let slot = |dirty| Some(Slot { block: 0, dirty });
-    let only = |reference| [Some(reference), None];
-    let both = |first, second| [Some(first), Some(second)];
-    let (back, through) = (WriteMode::Back, WriteMode::Through);
-    let (always, never) = (AllocMode::Always, AllocMode::Never);
-    let (read_0, write_0) = (Some(read(0)), Some(write(0)));
-    let (read_10, write_10) = (Some(read(0x10)), Some(write(0x10)));
-    let (fill, last) = (read(0x10), write(0x1F));
-    let rows = [
-        (
-            back,
-            always,
-            write_0,
-            read(0x1F),
-            placed(slot(true), both(write(0), fill)),
-        ),
-        (back, always, read_0, last, placed(slot(false), only(fill))),
-        (through, always, None, last, placed(None, both(fill, last))),
-        (through, always, read_10, last, hit(only(last))),
-        (back, never, read_0, last, passed(last)),
-        (back, never, read_10, last, hit([None, None])),
-        (
-            back,
-            always,
-            None,
-            fetch(0x1F),
-            placed(None, only(fetch(0x10))),
-        ),
-        (through, never, read_10, last, hit(only(last))),
-        (
-            through,
-            always,
-            read_0,
-            last,
-            placed(slot(false), both(fill, last)),
-        ),
-        (through, never, read_0, last, passed(last)),
-        (back, always, read_10, last, hit([None, None])),
-        (back, always, write_10, fetch(0x1F), hit([None, None])),
-        (
-            back,
-            always,
-            write_0,
-            fetch(0x1F),
-            placed(slot(true), both(write(0), fetch(0x10))),
-        ),
-        (
-            through,
-            always,
-            write_0,
-            fetch(0x1F),
-            placed(slot(false), only(fetch(0x10))),
-        ),
-    ];
-    for (i, (mode, allocate, first, second, wanted)) in rows.into_iter().enumerate() {
-        let outcome = outcome_of(rt.alloc(), mode, allocate, first, second)?;
-        assert!(rt; outcome == wanted, "at row {i}");
+/// A cache that allocates or not, a reference before, a reference, and what this one does.
+type Row = (AllocMode, Option<Ref>, Ref, Outcome);
+
+/// What each reference does in a cache of a mode.
+fn expect_rows(rt: &impl Abort, alloc: Global, mode: WriteMode, rows: &[Row]) -> Result<(), Fail> {
+    for (i, (allocate, first, second, wanted)) in rows.iter().enumerate() {
+        let outcome = outcome_of(alloc, mode, *allocate, *first, *second)?;
+        assert!(rt; outcome == *wanted, "at row {i}");
     }
     Ok(())
+}
+
+/// The only line, as it leaves.
+fn line(dirty: bool) -> Option<Slot> {
+    Some(Slot { block: 0, dirty })
+}
+
+const NONE: [Option<Ref>; 2] = [None, None];
+
+fn one(reference: Ref) -> [Option<Ref>; 2] {
+    [Some(reference), None]
+}
+
+fn both(first: Ref, second: Ref) -> [Option<Ref>; 2] {
+    [Some(first), Some(second)]
+}
+
+#[test]
+fn a_cache_writes_back_what_is_dirty(rt: HostRuntime) -> Result<(), Fail> {
+    let always = AllocMode::Always;
+    let (fill, get) = (read(0x10), fetch(0x1F));
+    let dirty = placed(line(true), both(write(0), fill));
+    let dirty_fetch = placed(line(true), both(write(0), fetch(0x10)));
+    let clean = placed(line(false), one(fill));
+    let rows = [
+        (always, Some(write(0)), read(0x1F), dirty),
+        (always, Some(read(0)), write(0x1F), clean),
+        (always, None, get, placed(None, one(fetch(0x10)))),
+        (always, Some(read(0x10)), write(0x1F), hit(NONE)),
+        (always, Some(write(0x10)), get, hit(NONE)),
+        (always, Some(write(0)), get, dirty_fetch),
+    ];
+    expect_rows(&rt, rt.alloc(), WriteMode::Back, &rows)
+}
+
+#[test]
+fn a_cache_writes_each_write_through(rt: HostRuntime) -> Result<(), Fail> {
+    let always = AllocMode::Always;
+    let (fill, last) = (read(0x10), write(0x1F));
+    let fetched = placed(line(false), one(fetch(0x10)));
+    let written = placed(line(false), both(fill, last));
+    let rows = [
+        (always, None, last, placed(None, both(fill, last))),
+        (always, Some(read(0x10)), last, hit(one(last))),
+        (always, Some(read(0)), last, written),
+        (always, Some(write(0)), fetch(0x1F), fetched),
+    ];
+    expect_rows(&rt, rt.alloc(), WriteMode::Through, &rows)
+}
+
+#[test]
+fn a_write_that_misses_is_not_placed(rt: HostRuntime) -> Result<(), Fail> {
+    let never = AllocMode::Never;
+    let last = write(0x1F);
+    let miss = (never, Some(read(0)), last, passed(last));
+    let back = [miss, (never, Some(read(0x10)), last, hit(NONE))];
+    expect_rows(&rt, rt.alloc(), WriteMode::Back, &back)?;
+    let through = [miss, (never, Some(read(0x10)), last, hit(one(last)))];
+    expect_rows(&rt, rt.alloc(), WriteMode::Through, &through)
 }
 
 #[test]
@@ -153,17 +148,7 @@ fn a_flush_answers_the_dirty_lines(rt: HostRuntime) -> Result<(), Fail> {
 
 #[test]
 fn a_configuration_by_itself(rt: HostRuntime) -> Result<(), Fail> {
-    let refs = [
-        read(0x10),
-        read(0x20),
-        write(0x20),
-        read(0x22),
-        write(0x18),
-        read(0x110),
-        read(0x210),
-        read(0x12),
-        write(0x12),
-    ];
+    let refs = nine_references();
     let counts = |hits, misses, evictions| Counts {
         hits,
         misses,

@@ -14,6 +14,10 @@ mod profiles;
 #[cfg(test)]
 mod reader;
 #[cfg(test)]
+mod samples;
+#[cfg(test)]
 mod sweeps;
 #[cfg(test)]
 mod systems;
+#[cfg(test)]
+mod texts;

@@ -1,7 +1,8 @@
 //! How often a sweep takes memory: as often for a long trace as for a short one, and whatever the limit on lines.
 ghost use Rattle.std.specs.Prelude.{◌≡◌, ◌≤◌, ◌<◌, None, length};
 
-use crate::sweeps::{SHORT, TABLE, request};
+use crate::samples::NINE;
+use crate::sweeps::{TABLE, request};
 use std::alloc::Global;
 use std::process::Abort;
 use std::test::Fail;
@@ -45,7 +46,7 @@ impl<'a> Source for Repeated<'a> {
     }
 }
 
-/// What a sweep of a text so many times writes. Where memory is wanted, nothing was read or written, and that ends the test.
+/// What a sweep of a text so many times writes. Where memory is refused, nothing was read or written, and that ends the test.
 fn expect_table(
     rt: &impl Abort,
     alloc: Global,
@@ -56,7 +57,7 @@ fn expect_table(
     requires some { 1 ≤ request.now.max_lines }
     requires most { request.now.max_lines ≤ MAX_LINES }
 {
-    let mut source = Repeated::new(SHORT, times);
+    let mut source = Repeated::new(NINE, times);
     let mut sink = ArraySink::new(1024, 0);
     let answer = sweep(alloc, request, &mut source, &mut sink);
     if answer == Err(SweepFault::Memory) {

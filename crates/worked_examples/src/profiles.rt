@@ -12,7 +12,7 @@ use std::test::Fail;
 use trace_core::events::{Access, Ref};
 
 /// More references than these are not fed.
-const MOST: u64 = 2_199_023_255_552;
+const MOST: u64 = 1 << 41;
 
 const SHORT: [u64; 9] = [0x10, 0x20, 0x20, 0x22, 0x18, 0x110, 0x210, 0x12, 0x12];
 

@@ -1,6 +1,7 @@
 //! What a reader answers, however its text is cut and wherever its source fails.
 ghost use Rattle.std.specs.Prelude.{◌≤◌, ◌<◌, length};
 
+use crate::samples::LACKEY;
 use std::alloc::Global;
 use std::process::Abort;
 use std::test::Fail;
@@ -234,8 +235,6 @@ fn escape_lines_are_skipped_or_flush(rt: HostRuntime) -> Result<(), Fail> {
 
 #[test]
 fn messages_of_valgrind_are_numbered_and_skipped(rt: HostRuntime) -> Result<(), Fail> {
-    let text =
-        b"==1234== Lackey, an example Valgrind tool\nI  0023C790,2\n S BE80199C,4\n\n--1234-- note\n M 0025747C,1\n*end\n";
     let item = |op, addr, size| Entry::Item(Item { op, addr, size });
     let entries = [
         (2, item(Op::Fetch, 0x23_C790, 2)),
@@ -245,7 +244,7 @@ fn messages_of_valgrind_are_numbered_and_skipped(rt: HostRuntime) -> Result<(), 
     let example = Example {
         format: Format::Lackey,
         limit: 7,
-        text,
+        text: LACKEY,
         entries: &entries,
         end: Ok(None),
         told_by: UNTOLD,

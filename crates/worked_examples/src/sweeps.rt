@@ -1,6 +1,7 @@
 //! Sweeps: what they answer and write, row by row what a separate simulation counts, and what their devices see.
 ghost use Rattle.std.specs.Prelude.{◌≡◌, ◌≤◌, ◌^◌, IfOk};
 
+use crate::samples::{LACKEY, NINE, fetch, nine_references, read, write};
 use cache_core::geometry::Geometry;
 use cache_core::outcome::Counts;
 use cache_core::simulate::simulate;
@@ -13,20 +14,17 @@ use sweep_core::request::Request;
 use sweep_core::space::Space;
 use sweep_core::sweep::{SweepFault, sweep};
 use trace_core::devices::{ArraySink, TapeSource};
-use trace_core::events::{Access, Kind, Ref};
+use trace_core::events::{Kind, Ref};
 use trace_core::fault::TraceFault;
 use trace_core::line::{Format, LineFault};
 use trace_core::reader::MAX_LINES;
 
-/// A din text of nine lines and 47 bytes.
-pub const SHORT: &[u8] = b"0 10\n0 20\n1 20\n0 22\n1 18\n0 110\n0 210\n0 12\n1 12\n";
-
-/// What a sweep of it over up to two sets of up to two lines writes: 108 bytes.
+/// What a sweep of the nine lines over up to two sets of up to two lines writes: 108 bytes.
 pub const TABLE: &[u8] =
     b"bsize,sets,assoc,size,hits,misses,evictions\n16,1,1,16,3,6,5\n16,1,2,32,4,5,3\n16,2,1,32,4,5,3\n16,2,2,64,4,5,2\n";
 
 /// The bytes of its first line.
-const HEADER: usize = 44;
+const HEADER_LEN: usize = 44;
 
 /// A sweep of din texts over blocks of 16 bytes, up to so many sets of these associativities and sizes.
 pub fn request(sets: u64, assoc: (u64, u64), size: (u64, u64)) -> Result<Request, Fail>
@@ -56,7 +54,7 @@ fn swept(
     let answer = sweep(alloc, request, source, sink);
     if answer == Err(SweepFault::Memory) {
         assert!(rt; (source.calls(), sink.calls()) == (0, 0));
-        return Err(SweepFault::Memory)?;
+        return Err(SweepFault::Memory.into());
     }
     Ok(answer)
 }
@@ -90,11 +88,18 @@ fn expect_sweep(
 #[test]
 fn a_sweep_answers_its_comparisons(rt: HostRuntime) -> Result<(), Fail> {
     let mut both = request(2, (1, 2), (16, 64))?;
-    expect_sweep(&rt, rt.alloc(), &both, SHORT, Ok(21), TABLE)?;
+    expect_sweep(&rt, rt.alloc(), &both, NINE, Ok(21), TABLE)?;
     both.rows = Some(1);
-    expect_sweep(&rt, rt.alloc(), &both, SHORT, Ok(12), &TABLE[..HEADER + 16])?;
+    expect_sweep(
+        &rt,
+        rt.alloc(),
+        &both,
+        NINE,
+        Ok(12),
+        &TABLE[..HEADER_LEN + 16],
+    )?;
     both.rows = Some(0);
-    expect_sweep(&rt, rt.alloc(), &both, SHORT, Ok(0), &TABLE[..HEADER])?;
+    expect_sweep(&rt, rt.alloc(), &both, NINE, Ok(0), &TABLE[..HEADER_LEN])?;
     both.rows = None;
     let (bsize, sets) = (16, 1);
     both.after = Some(Config {
@@ -102,28 +107,35 @@ fn a_sweep_answers_its_comparisons(rt: HostRuntime) -> Result<(), Fail> {
         sets,
         assoc: 2,
     });
-    expect_sweep(&rt, rt.alloc(), &both, SHORT, Ok(9), &TABLE[HEADER + 32..])?;
+    expect_sweep(
+        &rt,
+        rt.alloc(),
+        &both,
+        NINE,
+        Ok(9),
+        &TABLE[HEADER_LEN + 32..],
+    )?;
     let (bsize, sets) = (16, 2);
     both.after = Some(Config {
         bsize,
         sets,
         assoc: 2,
     });
-    expect_sweep(&rt, rt.alloc(), &both, SHORT, Ok(0), b"")?;
+    expect_sweep(&rt, rt.alloc(), &both, NINE, Ok(0), b"")?;
     let one_size = request(2, (1, 2), (32, 32))?;
     let rows = b"bsize,sets,assoc,size,hits,misses,evictions\n16,1,2,32,4,5,3\n16,2,1,32,4,5,3\n";
-    expect_sweep(&rt, rt.alloc(), &one_size, SHORT, Ok(19), rows)?;
+    expect_sweep(&rt, rt.alloc(), &one_size, NINE, Ok(19), rows)?;
     let one_set = request(1, (1, 4), (0, 1024))?;
     let rows =
         b"bsize,sets,assoc,size,hits,misses,evictions\n16,1,1,16,3,6,5\n16,1,2,32,4,5,3\n16,1,3,48,5,4,1\n16,1,4,64,5,4,0\n";
-    expect_sweep(&rt, rt.alloc(), &one_set, SHORT, Ok(14), rows)?;
+    expect_sweep(&rt, rt.alloc(), &one_set, NINE, Ok(14), rows)?;
     Ok(())
 }
 
 // The whole trace is read even where no row is to be written.
 #[test]
 fn a_fault_is_told_where_no_row_is_written(rt: HostRuntime) -> Result<(), Fail> {
-    let mut text = SHORT.to_vec(rt.alloc())?;
+    let mut text = NINE.to_vec(rt.alloc())?;
     text.extend_from_slice(b"0 12g")?;
     let fault = LineFault::Address;
     let fault = Err(SweepFault::Trace(TraceFault::Line { line: 10, fault }));
@@ -146,14 +158,14 @@ fn a_fault_is_told_where_no_row_is_written(rt: HostRuntime) -> Result<(), Fail> 
 fn a_trace_may_have_just_its_lines(rt: HostRuntime) -> Result<(), Fail> {
     let mut both = request(2, (1, 2), (16, 64))?;
     both.max_lines = 9;
-    expect_sweep(&rt, rt.alloc(), &both, SHORT, Ok(21), TABLE)?;
+    expect_sweep(&rt, rt.alloc(), &both, NINE, Ok(21), TABLE)?;
     both.max_lines = 8;
     let fault = TraceFault::TooManyLines { limit: 8 };
     expect_sweep(
         &rt,
         rt.alloc(),
         &both,
-        SHORT,
+        NINE,
         Err(SweepFault::Trace(fault)),
         b"",
     )?;
@@ -165,19 +177,16 @@ fn a_source_fails_at_each_of_its_calls(rt: HostRuntime) -> Result<(), Fail> {
     let both = request(2, (1, 2), (16, 64))?;
     for before in 0..48usize {
         let call = before as u64 + 1;
-        let mut source = TapeSource::new(SHORT, 1, call);
+        let mut source = TapeSource::new(NINE, 1, call);
         let mut sink = ArraySink::new(100, 0);
-        let whole = SHORT[..before]
-            .iter()
-            .filter(|byte| **byte == b'\n')
-            .count();
+        let whole = NINE[..before].iter().filter(|byte| **byte == b'\n').count();
         let line = (whole as u64).saturating_add(1);
         let fault = SweepFault::Trace(TraceFault::Read { line });
         assert!(rt; swept(&rt, rt.alloc(), &both, &mut source, &mut sink)? == Err(fault));
         assert!(rt; source.calls() == call);
         assert!(rt; sink.calls() == 0);
     }
-    let mut source = TapeSource::new(SHORT, 1, 49);
+    let mut source = TapeSource::new(NINE, 1, 49);
     let mut sink = ArraySink::new(100, 0);
     let answer = swept(&rt, rt.alloc(), &both, &mut source, &mut sink)?;
     assert!(rt; answer == Ok(21));
@@ -191,14 +200,14 @@ fn a_sink_fails_at_each_of_its_calls(rt: HostRuntime) -> Result<(), Fail> {
     assert!(rt; TABLE.len() == 108);
     for before in 0..109usize {
         let call = before as u64 + 1;
-        let mut source = TapeSource::new(SHORT, 100, 0);
+        let mut source = TapeSource::new(NINE, 100, 0);
         let mut sink = ArraySink::new(1, call);
         let answer = swept(&rt, rt.alloc(), &both, &mut source, &mut sink)?;
         assert!(rt; answer == Err(SweepFault::Write));
         assert!(rt; sink.held() == &TABLE[..before]);
         assert!(rt; sink.calls() == call);
     }
-    let mut source = TapeSource::new(SHORT, 100, 0);
+    let mut source = TapeSource::new(NINE, 100, 0);
     let mut sink = ArraySink::new(1, 11);
     let answer = swept(&rt, rt.alloc(), &both, &mut source, &mut sink)?;
     assert!(rt; answer == Err(SweepFault::Write));
@@ -248,41 +257,15 @@ fn expect_simulated(
     Ok(())
 }
 
-fn read(addr: u64) -> Ref {
-    let access = Access::Read;
-    Ref { access, addr }
-}
-
-fn write(addr: u64) -> Ref {
-    let access = Access::Write;
-    Ref { access, addr }
-}
-
 #[test]
 fn each_row_is_a_simulation(rt: HostRuntime) -> Result<(), Fail> {
-    let refs = [
-        read(0x10),
-        read(0x20),
-        write(0x20),
-        read(0x22),
-        write(0x18),
-        read(0x110),
-        read(0x210),
-        read(0x12),
-        write(0x12),
-    ];
-    expect_simulated(
-        &rt,
-        rt.alloc(),
-        &request(2, (1, 2), (16, 64))?,
-        SHORT,
-        &refs,
-    )?;
+    let refs = nine_references();
+    expect_simulated(&rt, rt.alloc(), &request(2, (1, 2), (16, 64))?, NINE, &refs)?;
     expect_simulated(
         &rt,
         rt.alloc(),
         &request(1, (1, 4), (0, 1024))?,
-        SHORT,
+        NINE,
         &refs,
     )?;
     let text = b"0 10\n0 20\n0 30\n0 40\n0 10\n0 20\n0 50\n0 10\n0 20\n0 30\n0 40\n0 50\n";
@@ -298,14 +281,8 @@ fn each_row_is_a_simulation(rt: HostRuntime) -> Result<(), Fail> {
 
 #[test]
 fn each_kind_is_a_simulation(rt: HostRuntime) -> Result<(), Fail> {
-    let text =
-        b"==1234== Lackey, an example Valgrind tool\nI  0023C790,2\n S BE80199C,4\n\n--1234-- note\n M 0025747C,1\n*end\n";
-    let access = Access::Fetch;
-    let fetch = Ref {
-        access,
-        addr: 0x23_C790,
-    };
-    let refs = [fetch, write(0xBE80_199C), read(0x25_747C), write(0x25_747C)];
+    let (load, store) = (read(0x25_747C), write(0x25_747C));
+    let refs = [fetch(0x23_C790), write(0xBE80_199C), load, store];
     let mut one = request(1, (1, 1), (16, 16))?;
     one.format = Format::Lackey;
     for (kind, from, to) in [
@@ -314,7 +291,7 @@ fn each_kind_is_a_simulation(rt: HostRuntime) -> Result<(), Fail> {
         (Kind::FetchOnly, 0, 1),
     ] {
         let of_kind = Request { kind, ..one };
-        expect_simulated(&rt, rt.alloc(), &of_kind, text, &refs[from..to])?;
+        expect_simulated(&rt, rt.alloc(), &of_kind, LACKEY, &refs[from..to])?;
     }
     Ok(())
 }

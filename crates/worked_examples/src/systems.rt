@@ -8,7 +8,7 @@ use std::test::Fail;
 use trace_core::events::{Access, Event, Ref};
 
 /// More steps than these are not made.
-const MOST: u64 = 2_199_023_255_552;
+const MOST: u64 = 1 << 41;
 
 fn fetch(addr: u64) -> Event {
     let access = Access::Fetch;
