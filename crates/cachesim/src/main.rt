@@ -17,6 +17,8 @@ mod report;
 mod respell;
 mod simulation;
 mod sweep_job;
+#[cfg(test)]
+mod tests;
 mod text;
 mod verbose;
 
