@@ -51,9 +51,9 @@ pub const CSIM_ABOUT: &str = "Runs the data references of a lackey trace through
 
 /// What stands behind the options of `csim`.
 pub const CSIM: &str = "\
-It writes one line, 'hits:H misses:M evictions:E'. With -v a line for each data reference comes
-before it: its letter (L load, S store, M modify), address and size, and how it went: hit, miss or
-miss eviction. A modify is a read and a write, so it has two words. Fetches have no line.
+It writes one line, 'hits:H misses:M evictions:E'. With -v a line for each load, store and modify
+comes before it: its letter (L load, S store, M modify), address and size, and how it went: hit,
+miss or miss eviction. A modify is a read and a write, and says how each went. Fetches have none.
 
 A trace of a program, and a cache of 64 sets of 8 lines of 64 bytes:
   valgrind --tool=lackey --trace-mem=yes --log-file=trace.txt PROGRAM
@@ -67,13 +67,13 @@ pub const DIN_ABOUT: &str =
 
 /// What stands behind the options of `din`.
 pub const DIN: &str = "\
-Each option may be written with one dash, as Dinero IV has it, or with two. A cache is there if
-one of its options is, and then needs its size and bsize. The first level is a unified cache, or
-an instruction cache, a data cache or both. BYTES is a decimal number, with k, m or g behind it
-for 2^10, 2^20 or 2^30 times as much. N is a decimal number.
+The options of a cache and -informat may be written with one dash, as Dinero IV has them, or with
+two. A cache is there if one of its options is, and then needs its size and bsize. The first level
+is a unified cache, or an instruction cache, a data cache or both. BYTES is a decimal number, with
+k, m or g behind it for 2^10, 2^20 or 2^30 times as much. N is a decimal number.
 
 The report has a line for each cache: its fetches, reads and writes, the misses of each, the
-blocks that left (evictions), and the changed blocks among those that left or were flushed
+blocks that left (evictions), and the dirty blocks among those that left or were flushed
 (copybacks). Then what came to memory, and the references that no first-level cache takes.
 
 A split first level of 32 KiB each above a second level of 1 MiB:
