@@ -9,7 +9,7 @@ use Rattle.clap.specs.declared.builder.command.Command.{Command}
 use Rattle.clap.specs.declared.builder.command.Command.TheViews.{out-Command}
 use Rattle.clap.specs.declared.parser.matches.ArgMatches.{ArgMatches}
 use Rattle.clap.specs.declared.parser.matches.ArgMatches.TheViews.{out-ArgMatches}
-use Rattle.cachesim.specs.CommandLine.{job_named, ordered, with_file}
+use Rattle.cachesim.specs.CommandLine.{job_named, chosen_command, with_trace}
 use Rattle.cachesim.specs.Options.{cachesim_app}
 
 pub app_is_simple : is_simple cachesim_app ≡ true
@@ -33,31 +33,31 @@ is_some-map : {X Y : Type 0} (f : X → Y) (o : Option X) → is_some (option_ma
 is_some-map f (Some x) = refl
 is_some-map f None = refl
 
-ordered_where : (name : Text) (rows : List Row) → is_some (job_named name rows) ≡ true → is_some (ordered (name, rows)) ≡ true
-ordered_where name rows h = is_some-map (with_file rows) (job_named name rows) ∙ h
+ordered_where : (name : Text) (rows : List Row) → is_some (job_named name rows) ≡ true → is_some (chosen_command (name, rows)) ≡ true
+ordered_where name rows h = is_some-map (with_trace rows) (job_named name rows) ∙ h
 
 found_ordered : (p : Shape → Bool) (subs : List Shape) (words : List Text) → AllNamed subs
     → is_some (option_map (λ s. rows_at s words) (find p subs)) ≡ true
-    → is_some (option_and_then ordered (option_map (λ s. rows_at s words) (find p subs))) ≡ true
+    → is_some (option_and_then chosen_command (option_map (λ s. rows_at s words) (find p subs))) ≡ true
 found_ordered p [] words named h = h
 found_ordered p (s ∷ rest) words named h = go (p s) refl (found_ordered p rest words named.1) h
   where
     go : (b : Bool) → p s ≡ b
         → (is_some (option_map (λ s. rows_at s words) (find p rest)) ≡ true
-        → is_some (option_and_then ordered (option_map (λ s. rows_at s words) (find p rest))) ≡ true)
+        → is_some (option_and_then chosen_command (option_map (λ s. rows_at s words) (find p rest))) ≡ true)
         → is_some (option_map (λ s. rows_at s words) (find p (s ∷ rest))) ≡ true
-        → is_some (option_and_then ordered (option_map (λ s. rows_at s words) (find p (s ∷ rest)))) ≡ true
+        → is_some (option_and_then chosen_command (option_map (λ s. rows_at s words) (find p (s ∷ rest)))) ≡ true
     go true e rec h = rw e (ordered_where s.name (rows_at s words).1 (named.0 (rows_at s words).1))
     go false e rec h = rw e (rec (rw e at h))
 
 entered_ordered : (stop : Option (Text × List Text)) → is_some (entered (built cachesim_app) stop) ≡ true
-    → is_some (option_and_then ordered (entered (built cachesim_app) stop)) ≡ true
+    → is_some (option_and_then chosen_command (entered (built cachesim_app) stop)) ≡ true
 entered_ordered None h = h
 entered_ordered (Some p) h = found_ordered (λ s. answers_to p.0 (label_of s)) (built cachesim_app).subs p.1 ((λ _. refl), ((λ _. refl), ((λ _. refl), tt))) h
 
 -- a subcommand that the words name has a job
 pub subcommand_ordered : (words : List Text) → is_some (subcommand_of cachesim_app words) ≡ true
-    → is_some (option_and_then ordered (subcommand_of cachesim_app words)) ≡ true
+    → is_some (option_and_then chosen_command (subcommand_of cachesim_app words)) ≡ true
 subcommand_ordered words h = entered_ordered (stop_after (built cachesim_app).top.rules (names_of (built cachesim_app)) (argument_words cachesim_app words)) h
 
 -- a parse of the command has met a subcommand
@@ -69,6 +69,6 @@ subcommand_met c m app local parsed =
 -- so it has read one that has a job
 pub parse_ordered : (c : Command) (m : ArgMatches) (words : List Text) → app_of c ≡ cachesim_app → (out-Command c).has_globals ≡ false
     → IsParsedFrom c m → subcommand_rows_of m ≡ subcommand_of cachesim_app words
-    → is_some (option_and_then ordered (subcommand_rows_of m)) ≡ true
+    → is_some (option_and_then chosen_command (subcommand_rows_of m)) ≡ true
 parse_ordered c m words app local parsed rows =
     rw rows (subcommand_ordered words (rw rows at (subcommand_met c m app local parsed)))

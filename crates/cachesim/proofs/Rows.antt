@@ -21,7 +21,7 @@ use Rattle.cachesim.specs.Faults.{bad_shape, incomplete, plan, space, value}
 use Rattle.cachesim.specs.Numbers.{number_of, range_of, scaled_of, triple_of}
 use Rattle.cachesim.specs.Options.{cachesim_app}
 use Rattle.cachesim.specs.Respell.{respelled}
-use Rattle.cachesim.specs.declared.execute.Job.TheVariants.{Csim, Din, Sweep}
+use Rattle.cachesim.specs.declared.job.Job.TheVariants.{Csim, Din, Sweep}
 
 -- ---- numbers
 

@@ -25,7 +25,7 @@ use Rattle.cachesim.specs.declared.simulation.Lookup.{Lookup}
 use Rattle.cachesim.specs.declared.simulation.Lookup.TheVariants.{Hit, Miss, MissEviction}
 use Rattle.cachesim.specs.declared.simulation.Simulation.{Simulation}
 use Rattle.cachesim.specs.CsimText.{lookup_at}
-use Rattle.cachesim.specs.Simulation.{lookup_in, counted, Simulates, data_events}
+use Rattle.cachesim.specs.Simulation.{lookup_of, counted, Simulates, data_events}
 
 abbrev numbers : ℕ → ℕ → ℕ → Counts
 numbers h m e = record { hits = h; misses = m; evictions = e }
@@ -54,15 +54,15 @@ counts-flush g events = rw (places-flush g events) refl
 
 -- one more reference
 pub simulates_more : (g : Shape) (events : List Event) (old new : Simulation) (r : Ref) (o : Outcome) → Accesses (lru_contents old.cache) r o (lru_contents new.cache)
-    → new.counts ≡ counted old.counts (lookup_in o) → Simulates g events old
-    → Simulates g (events ++ event.Reference r ∷ []) new × (lookup_in o ≡ lookup_at g (place_after g events r))
+    → new.counts ≡ counted old.counts (lookup_of o) → Simulates g events old
+    → Simulates g (events ++ event.Reference r ∷ []) new × (lookup_of o ≡ lookup_at g (place_after g events r))
 simulates_more g events old new r o step count h =
     let law = access_run (lru_machine g Back) events (lru_contents old.cache) r o (lru_contents new.cache) h.some h.cache step in
     let tells = next_law g Back events r h.some in
     let p : Place = place_after g events r in
     let hit : o.hit ≡ is_hit g p = ap (λ x. x.hit) law.1 ∙ tells.0 in
     let evict : is_some o.evicted ≡ is_evict g p = ap (λ x. is_some x.evicted) law.1 ∙ tells.1 in
-    let lookup : lookup_in o ≡ lookup_at g p = ap₂ (λ a b. cond a Hit (cond b MissEviction Miss)) hit evict in
+    let lookup : lookup_of o ≡ lookup_at g p = ap₂ (λ a b. cond a Hit (cond b MissEviction Miss)) hit evict in
     (record { some = h.some; cache = law.0; counts = count ∙ ap₂ counted h.counts lookup ∙ sym (counts-reference g events r) }, lookup)
 
 -- one more flush

@@ -5,25 +5,25 @@ use Rattle.std.specs.Str.{bytes_eq}
 use Rattle.clap.specs.Words.{Row, Text, first_of, subcommand_of}
 use Rattle.clap.specs.declared.error.kind.ErrorKind.{ErrorKind}
 use Rattle.clap.specs.declared.error.kind.ErrorKind.TheVariants as kind
-use Rattle.cachesim.specs.Csim.{csim_of}
-use Rattle.cachesim.specs.Din.{din_of}
+use Rattle.cachesim.specs.CsimJob.{csim_of}
+use Rattle.cachesim.specs.DinJob.{din_of}
 use Rattle.cachesim.specs.Faults.{Judgement, judgement_of}
 use Rattle.cachesim.specs.Options.{cachesim_app}
 use Rattle.cachesim.specs.Readings.{and_then}
 use Rattle.cachesim.specs.Respell.{respelled}
-use Rattle.cachesim.specs.Sweep.{sweep_of}
+use Rattle.cachesim.specs.SweepJob.{sweep_of}
 use Rattle.cachesim.specs.declared.faults.WordsFault.{WordsFault}
 use Rattle.cachesim.specs.declared.faults.WordsFault.TheVariants as fault
 use Rattle.cachesim.specs.declared.parse.Command.{Command}
-use Rattle.cachesim.specs.declared.execute.Job.{Job}
+use Rattle.cachesim.specs.declared.job.Job.{Job}
 
 -- a job, and the name of the trace's file
-pub record Order : Type 0 where
+pub record CommandValue : Type 0 where
   pub job : Job
   pub trace : Option Text
 
-abbrev pub order_of : Command → Order
-order_of c = record { job = c.job; trace = option_map string_bytes c.trace }
+abbrev pub command_value : Command → CommandValue
+command_value c = record { job = c.job; trace = option_map string_bytes c.trace }
 
 -- what the entries of a subcommand say
 abbrev pub job_named : Text → List Row → Option (Result Job Judgement)
@@ -31,19 +31,19 @@ job_named name rows = if bytes_eq name (codes "csim") then Some (csim_of rows)
     else (if bytes_eq name (codes "din") then Some (din_of rows)
     else (if bytes_eq name (codes "sweep") then Some (sweep_of rows) else None))
 
-abbrev pub with_file : List Row → Result Job Judgement → Result Order Judgement
-with_file rows read = and_then read (λ j. Ok (record { job = j; trace = first_of (codes "-t") rows }))
+abbrev pub with_trace : List Row → Result Job Judgement → Result CommandValue Judgement
+with_trace rows read = and_then read (λ j. Ok (record { job = j; trace = first_of (codes "-t") rows }))
 
-abbrev pub ordered : Text × List Row → Option (Result Order Judgement)
-ordered s = option_map (with_file s.1) (job_named s.0 s.1)
+abbrev pub chosen_command : Text × List Row → Option (Result CommandValue Judgement)
+chosen_command s = option_map (with_trace s.1) (job_named s.0 s.1)
 
 -- the subcommand and the entries that clap gives for the respelled words, read
-abbrev pub command_of : List Text → Option (Result Order Judgement)
-command_of words = option_and_then ordered (subcommand_of cachesim_app (respelled words))
+abbrev pub command_of : List Text → Option (Result CommandValue Judgement)
+command_of words = option_and_then chosen_command (subcommand_of cachesim_app (respelled words))
 
 -- what `parse` answers, but for want of memory and what clap refuses
-abbrev pub answer_of : Result Command WordsFault → Option (Result Order Judgement)
-answer_of (Ok c) = Some (Ok (order_of c))
+abbrev pub answer_of : Result Command WordsFault → Option (Result CommandValue Judgement)
+answer_of (Ok c) = Some (Ok (command_value c))
 answer_of (Err e) = option_map Err (judgement_of e)
 
 -- where clap refused the words, whether it says that help was asked for

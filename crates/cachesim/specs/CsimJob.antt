@@ -5,8 +5,8 @@ use Rattle.cache_core.specs.Geometry.{geometry_of}
 use Rattle.cachesim.specs.Faults.{Judgement, bad_shape}
 use Rattle.cachesim.specs.Numbers.{number_of}
 use Rattle.cachesim.specs.Readings.{and_then, is_flagged, required_value}
-use Rattle.cachesim.specs.declared.execute.Job.{Job}
-use Rattle.cachesim.specs.declared.execute.Job.TheVariants.{Csim}
+use Rattle.cachesim.specs.declared.job.Job.{Job}
+use Rattle.cachesim.specs.declared.job.Job.TheVariants.{Csim}
 
 abbrev pub csim_of : List Row → Result Job Judgement
 csim_of rows =

@@ -21,8 +21,8 @@ use Rattle.cachesim.specs.Numbers.{number_of, scaled_of}
 use Rattle.cachesim.specs.Options.{option_of}
 use Rattle.cachesim.specs.Readings.{and_then, format_named, optional_value, value_or}
 use Rattle.cachesim.specs.declared.din_job.CacheReading.{CacheReading}
-use Rattle.cachesim.specs.declared.execute.Job.{Job}
-use Rattle.cachesim.specs.declared.execute.Job.TheVariants.{Din}
+use Rattle.cachesim.specs.declared.job.Job.{Job}
+use Rattle.cachesim.specs.declared.job.Job.TheVariants.{Din}
 
 -- a value of kind P: a scaled number that is a power of two
 abbrev pub power_of : Text → Option ℕ

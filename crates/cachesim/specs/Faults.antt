@@ -27,9 +27,9 @@ judgement_of (fault.Plan p) = Some (plan p)
 judgement_of (fault.Space s) = Some (space s)
 
 -- what an answer tells: a value or a judgement, and nothing where it is want of memory or clap's
-abbrev pub told : {A : Type 0} → Result A WordsFault → Option (Result A Judgement)
-told (Ok x) = Some (Ok x)
-told (Err e) = option_map Err (judgement_of e)
+abbrev pub answer_in : {A : Type 0} → Result A WordsFault → Option (Result A Judgement)
+answer_in (Ok x) = Some (Ok x)
+answer_in (Err e) = option_map Err (judgement_of e)
 
 -- the status of the program: 0 where help was asked for, 1 for want of memory, and else 2
 abbrev pub status_of : WordsFault → ℕ

@@ -2,8 +2,8 @@
 use Rattle.std.specs.Prelude.{ℕ, Bool, true, false}
 use Rattle.trace_core.specs.Task.{Task}
 use Rattle.sweep_core.specs.SweepText.{sweep_task}
-use Rattle.cachesim.specs.declared.execute.Job.{Job}
-use Rattle.cachesim.specs.declared.execute.Job.TheVariants.{Csim, Din, Sweep}
+use Rattle.cachesim.specs.declared.job.Job.{Job}
+use Rattle.cachesim.specs.declared.job.Job.TheVariants.{Csim, Din, Sweep}
 use Rattle.cachesim.specs.CsimText.{csim_task}
 use Rattle.cachesim.specs.DinText.{din_task}
 

@@ -1,7 +1,7 @@
 pub mod CommandLine
-pub mod Csim
+pub mod CsimJob
 pub mod CsimText
-pub mod Din
+pub mod DinJob
 pub mod DinText
 pub mod Faults
 pub mod Job
@@ -10,5 +10,5 @@ pub mod Options
 pub mod Readings
 pub mod Respell
 pub mod Simulation
-pub mod Sweep
+pub mod SweepJob
 pub mod Text

@@ -11,8 +11,8 @@ use Rattle.cachesim.specs.declared.cache_options.CacheOptions.{CacheOptions}
 use Rattle.cachesim.specs.declared.options.CommandOption.{CommandOption}
 use Rattle.cachesim.specs.declared.options.Spelling.{Spelling}
 use Rattle.cachesim.specs.declared.options.Spelling.TheVariants.{Long, Short}
-use Rattle.cachesim.specs.declared.options.Use.{Use}
-use Rattle.cachesim.specs.declared.options.Use.TheVariants.{Required, Optional, Flag}
+use Rattle.cachesim.specs.declared.options.Presence.{Presence}
+use Rattle.cachesim.specs.declared.options.Presence.TheVariants.{Required, Optional, Flag}
 
 -- an option with a value, which may be left out: its name in a fault, and its spelling behind two dashes
 abbrev pub optional : Text → Text → Rule
@@ -109,18 +109,18 @@ pub record IsLeaf (name : Text) (rules : List Rule) (c : Command) : Type 0 where
 abbrev pub with_rules : App → List Rule → App
 with_rules a rules = record a { top = record a.top { rules = a.top.rules ++ rules } }
 
-abbrev pub spelled : Spelling → Rule → Rule
-spelled (Long name) r = record r { long = Some name.now }
-spelled (Short letter) r = record r { short = Some letter }
+abbrev pub with_spelling : Spelling → Rule → Rule
+with_spelling (Long name) r = record r { long = Some name.now }
+with_spelling (Short letter) r = record r { short = Some letter }
 
-abbrev pub used_as : Use → Rule → Rule
-used_as (Required value) r = record r { action = Some Set; value_names = 1; required = true }
-used_as (Optional value) r = record r { action = Some Set; value_names = 1 }
-used_as Flag r = record r { action = Some SetTrue }
+abbrev pub with_presence : Presence → Rule → Rule
+with_presence (Required value) r = record r { action = Some Set; value_names = 1; required = true }
+with_presence (Optional value) r = record r { action = Some Set; value_names = 1 }
+with_presence Flag r = record r { action = Some SetTrue }
 
 -- an entry of the tables, as clap sees it
 abbrev pub rule_of_option : CommandOption → Rule
-rule_of_option o = used_as o.usage (spelled o.spelling (new_rule o.name.now))
+rule_of_option o = with_presence o.presence (with_spelling o.spelling (new_rule o.name.now))
 
 -- the six entries of a cache are its options, by name and by rule
 pub record IsOptionsOf (cache : CacheName) (o : CacheOptions) : Type 0 where

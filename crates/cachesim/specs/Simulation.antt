@@ -18,8 +18,8 @@ use Rattle.cachesim.specs.declared.simulation.Lookup.TheVariants.{Hit, Miss, Mis
 use Rattle.cachesim.specs.declared.simulation.Simulation.{Simulation}
 
 -- how the reference of an outcome went
-abbrev pub lookup_in : Outcome → Lookup
-lookup_in o = if o.hit then Hit else if is_some o.evicted then MissEviction else Miss
+abbrev pub lookup_of : Outcome → Lookup
+lookup_of o = if o.hit then Hit else if is_some o.evicted then MissEviction else Miss
 
 -- one more lookup
 abbrev pub counted : Counts → Lookup → Counts
@@ -44,5 +44,5 @@ abbrev pub data_events : Option Ref → List Event
 data_events r = map event.Reference (filter (λ x. keeps DataOnly x.access) (option_to_list r))
 
 -- the lookups of an item
-abbrev pub lookups_in : Option Lookup × Option Lookup → List Lookup
-lookups_in p = option_to_list p.0 ++ option_to_list p.1
+abbrev pub lookups_of_pair : Option Lookup × Option Lookup → List Lookup
+lookups_of_pair p = option_to_list p.0 ++ option_to_list p.1

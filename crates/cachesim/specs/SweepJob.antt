@@ -8,8 +8,8 @@ use Rattle.trace_core.specs.declared.line.Format.TheVariants.{Din}
 use Rattle.cachesim.specs.Faults.{Judgement, space}
 use Rattle.cachesim.specs.Numbers.{number_of, range_of, triple_of}
 use Rattle.cachesim.specs.Readings.{and_then, format_named, is_flagged, kind_named, optional_value, required_value, value_or}
-use Rattle.cachesim.specs.declared.execute.Job.{Job}
-use Rattle.cachesim.specs.declared.execute.Job.TheVariants.{Sweep}
+use Rattle.cachesim.specs.declared.job.Job.{Job}
+use Rattle.cachesim.specs.declared.job.Job.TheVariants.{Sweep}
 
 -- the space, or its fault
 abbrev pub judged_space : Result Ranges SpaceFault → Result Ranges Judgement

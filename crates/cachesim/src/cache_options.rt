@@ -2,8 +2,8 @@
 ghost use Rattle.cachesim.specs.Options.{IsOptionsOf};
 
 use crate::options::CommandOption;
+use crate::options::Presence::Optional;
 use crate::options::Spelling::Long;
-use crate::options::Use::Optional;
 use cache_core::plan::CacheName;
 
 /// The six options of one cache.
@@ -20,7 +20,7 @@ const SIZE: &str = "Bytes of all its blocks, a power of two, as 16k";
 
 const BSIZE: &str = "Bytes in a block, a power of two";
 
-const ASSOC: &str = "Lines in a set [default: 1]";
+const ASSOC: &str = "Lines in a set, a power of two [default: 1]";
 
 const REPL: &str = "What leaves a full set: l LRU, f FIFO, r random [default: l]";
 
@@ -32,37 +32,37 @@ static L1I_OPTIONS: CacheOptions = CacheOptions {
     size: CommandOption {
         name: "-l1-isize",
         spelling: Long("l1-isize"),
-        usage: Optional("BYTES"),
+        presence: Optional("BYTES"),
         help: SIZE,
     },
     bsize: CommandOption {
         name: "-l1-ibsize",
         spelling: Long("l1-ibsize"),
-        usage: Optional("BYTES"),
+        presence: Optional("BYTES"),
         help: BSIZE,
     },
     assoc: CommandOption {
         name: "-l1-iassoc",
         spelling: Long("l1-iassoc"),
-        usage: Optional("N"),
+        presence: Optional("N"),
         help: ASSOC,
     },
     repl: CommandOption {
         name: "-l1-irepl",
         spelling: Long("l1-irepl"),
-        usage: Optional("RULE"),
+        presence: Optional("RULE"),
         help: REPL,
     },
     walloc: CommandOption {
         name: "-l1-iwalloc",
         spelling: Long("l1-iwalloc"),
-        usage: Optional("MODE"),
+        presence: Optional("MODE"),
         help: WALLOC,
     },
     wback: CommandOption {
         name: "-l1-iwback",
         spelling: Long("l1-iwback"),
-        usage: Optional("MODE"),
+        presence: Optional("MODE"),
         help: WBACK,
     },
 };
@@ -71,37 +71,37 @@ static L1D_OPTIONS: CacheOptions = CacheOptions {
     size: CommandOption {
         name: "-l1-dsize",
         spelling: Long("l1-dsize"),
-        usage: Optional("BYTES"),
+        presence: Optional("BYTES"),
         help: SIZE,
     },
     bsize: CommandOption {
         name: "-l1-dbsize",
         spelling: Long("l1-dbsize"),
-        usage: Optional("BYTES"),
+        presence: Optional("BYTES"),
         help: BSIZE,
     },
     assoc: CommandOption {
         name: "-l1-dassoc",
         spelling: Long("l1-dassoc"),
-        usage: Optional("N"),
+        presence: Optional("N"),
         help: ASSOC,
     },
     repl: CommandOption {
         name: "-l1-drepl",
         spelling: Long("l1-drepl"),
-        usage: Optional("RULE"),
+        presence: Optional("RULE"),
         help: REPL,
     },
     walloc: CommandOption {
         name: "-l1-dwalloc",
         spelling: Long("l1-dwalloc"),
-        usage: Optional("MODE"),
+        presence: Optional("MODE"),
         help: WALLOC,
     },
     wback: CommandOption {
         name: "-l1-dwback",
         spelling: Long("l1-dwback"),
-        usage: Optional("MODE"),
+        presence: Optional("MODE"),
         help: WBACK,
     },
 };
@@ -110,37 +110,37 @@ static L1U_OPTIONS: CacheOptions = CacheOptions {
     size: CommandOption {
         name: "-l1-usize",
         spelling: Long("l1-usize"),
-        usage: Optional("BYTES"),
+        presence: Optional("BYTES"),
         help: SIZE,
     },
     bsize: CommandOption {
         name: "-l1-ubsize",
         spelling: Long("l1-ubsize"),
-        usage: Optional("BYTES"),
+        presence: Optional("BYTES"),
         help: BSIZE,
     },
     assoc: CommandOption {
         name: "-l1-uassoc",
         spelling: Long("l1-uassoc"),
-        usage: Optional("N"),
+        presence: Optional("N"),
         help: ASSOC,
     },
     repl: CommandOption {
         name: "-l1-urepl",
         spelling: Long("l1-urepl"),
-        usage: Optional("RULE"),
+        presence: Optional("RULE"),
         help: REPL,
     },
     walloc: CommandOption {
         name: "-l1-uwalloc",
         spelling: Long("l1-uwalloc"),
-        usage: Optional("MODE"),
+        presence: Optional("MODE"),
         help: WALLOC,
     },
     wback: CommandOption {
         name: "-l1-uwback",
         spelling: Long("l1-uwback"),
-        usage: Optional("MODE"),
+        presence: Optional("MODE"),
         help: WBACK,
     },
 };
@@ -149,37 +149,37 @@ static L2U_OPTIONS: CacheOptions = CacheOptions {
     size: CommandOption {
         name: "-l2-usize",
         spelling: Long("l2-usize"),
-        usage: Optional("BYTES"),
+        presence: Optional("BYTES"),
         help: SIZE,
     },
     bsize: CommandOption {
         name: "-l2-ubsize",
         spelling: Long("l2-ubsize"),
-        usage: Optional("BYTES"),
+        presence: Optional("BYTES"),
         help: BSIZE,
     },
     assoc: CommandOption {
         name: "-l2-uassoc",
         spelling: Long("l2-uassoc"),
-        usage: Optional("N"),
+        presence: Optional("N"),
         help: ASSOC,
     },
     repl: CommandOption {
         name: "-l2-urepl",
         spelling: Long("l2-urepl"),
-        usage: Optional("RULE"),
+        presence: Optional("RULE"),
         help: REPL,
     },
     walloc: CommandOption {
         name: "-l2-uwalloc",
         spelling: Long("l2-uwalloc"),
-        usage: Optional("MODE"),
+        presence: Optional("MODE"),
         help: WALLOC,
     },
     wback: CommandOption {
         name: "-l2-uwback",
         spelling: Long("l2-uwback"),
-        usage: Optional("MODE"),
+        presence: Optional("MODE"),
         help: WBACK,
     },
 };

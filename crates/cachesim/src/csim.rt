@@ -4,9 +4,9 @@ ghost use Rattle.trace_core.specs.Device.{one_more, WritesPrefix};
 ghost use Rattle.cachesim.specs.CsimText.{csim_task};
 ghost use Rattle.trace_core.specs.Task.{Completes, StopsAt, CutsOff, output, is_failed_read, source_failed, sink_failed};
 
+use crate::csim_text::{set_summary, write_line};
 use crate::simulation::Simulation;
 use crate::text::{Text, write_last};
-use crate::verbose::{set_summary, write_line};
 use cache_core::geometry::Geometry;
 use std::alloc::Global;
 use trace_core::fault::{RunFault, TraceFault};

@@ -4,7 +4,7 @@ ghost use Rattle.std.specs.Option.{option_to_list};
 ghost use Rattle.std.specs.Io.KnownBytes.{Appends};
 ghost use Rattle.trace_core.specs.Device.{CountsFailure, WritesPrefix};
 ghost use Rattle.cachesim.specs.CsimText.{letter_of, words_of, item_line, line_of, summary};
-ghost use Rattle.cachesim.specs.Simulation.{lookups_in};
+ghost use Rattle.cachesim.specs.Simulation.{lookups_of_pair};
 
 use crate::simulation::Lookup;
 use crate::text::{CAPACITY, Text};
@@ -38,7 +38,7 @@ fn push_lookup(text: &mut Text, lookup: Option<Lookup>)
 /// The line of an item whose references went so.
 fn push_item(text: &mut Text, item: Item, lookups: (Option<Lookup>, Option<Lookup>))
     requires { length text.old + 68 ≤ CAPACITY }
-    ensures { text.new ≡ text.old ++ item_line (letter_of item.op) item (lookups_in lookups) }
+    ensures { text.new ≡ text.old ++ item_line (letter_of item.op) item (lookups_of_pair lookups) }
 {
     let Some(letter) = letter(item.op) else {
         return;
@@ -54,7 +54,7 @@ fn push_item(text: &mut Text, item: Item, lookups: (Option<Lookup>, Option<Looku
 
 /// The line of an entry whose references went so, in place of what a text held.
 fn set_line(text: &mut Text, entry: Entry, lookups: (Option<Lookup>, Option<Lookup>))
-    ensures { text.new ≡ line_of entry (lookups_in lookups) }
+    ensures { text.new ≡ line_of entry (lookups_of_pair lookups) }
 {
     text.clear();
     if let Entry::Item(item) = entry {
@@ -71,9 +71,9 @@ pub(crate) fn write_line<K: Sink>(
     sink: &mut K,
 ) -> Result<(), DeviceFault>
     ensures ok { OnOk result (Appends (K.written sink.old) (K.written sink.new)
-        (if verbose then line_of entry (lookups_in lookups) else [])) }
+        (if verbose then line_of entry (lookups_of_pair lookups) else [])) }
     ensures fault { OnErr result (WritesPrefix (K.written sink.old) (K.written sink.new)
-        (if verbose then line_of entry (lookups_in lookups) else [])) }
+        (if verbose then line_of entry (lookups_of_pair lookups) else [])) }
     ensures counted { CountsFailure (K.failures sink.old) (K.failures sink.new) result }
 {
     if !verbose {

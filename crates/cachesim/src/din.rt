@@ -8,7 +8,7 @@ ghost use Rattle.cache_core.specs.Levels.{Levels, IsPlan};
 ghost use Rattle.cache_core.specs.SystemStands.{SystemStands};
 ghost use Rattle.cachesim.specs.DinText.{din_task};
 
-use crate::report::set_report;
+use crate::din_text::set_report;
 use crate::text::{Text, write_last};
 use cache_core::plan::Plan;
 use cache_core::system::System;

@@ -2,14 +2,14 @@
 ghost use Rattle.std.specs.Prelude.{◌≡◌, IfOk, Some};
 ghost use Rattle.clap.specs.Words.{found_of, rows_of};
 ghost use Rattle.sweep_core.specs.Space.{is_power};
-ghost use Rattle.cachesim.specs.Din.{cache_of, din_of, power_of, reading_of, repl_named, walloc_named, wback_named};
-ghost use Rattle.cachesim.specs.Faults.{told};
+ghost use Rattle.cachesim.specs.DinJob.{cache_of, din_of, power_of, reading_of, repl_named, walloc_named, wback_named};
+ghost use Rattle.cachesim.specs.Faults.{answer_in};
 ghost use Rattle.cachesim.specs.Job.{max_lines_of};
 ghost use Rattle.cachesim.specs.Readings.{optional_value};
 
 use crate::cache_options::cache_options;
-use crate::execute::Job;
 use crate::faults::WordsFault;
+use crate::job::Job;
 use crate::numbers::read_scaled;
 use crate::readings::{format_at, optional_number_at, text_at};
 use cache_core::outcome::{AllocMode, Repl, WriteMode};
@@ -30,7 +30,7 @@ pub struct CacheReading {
 
 /// The job of `din`.
 pub fn din_job(matches: &ArgMatches<'_>) -> Result<Job, WordsFault>
-    ensures job { told result ≡ Some (din_of (rows_of (found_of matches.now))) }
+    ensures job { answer_in result ≡ Some (din_of (rows_of (found_of matches.now))) }
     ensures limit { IfOk result (λ job. max_lines_of job ≡ MAX_LINES) }
 {
     let i = read_cache(matches, CacheName::L1I)?;
@@ -56,7 +56,7 @@ pub fn din_job(matches: &ArgMatches<'_>) -> Result<Job, WordsFault>
 
 /// The six options of a cache.
 fn read_cache(matches: &ArgMatches<'_>, cache: CacheName) -> Result<CacheReading, WordsFault>
-    ensures { told result ≡ Some (reading_of cache (rows_of (found_of matches.now))) }
+    ensures { answer_in result ≡ Some (reading_of cache (rows_of (found_of matches.now))) }
 {
     let options = cache_options(cache);
     Ok(CacheReading {
@@ -71,7 +71,7 @@ fn read_cache(matches: &ArgMatches<'_>, cache: CacheName) -> Result<CacheReading
 
 /// The cache, where one of its options was given.
 fn complete(cache: CacheName, reading: CacheReading) -> Result<Option<CacheSpec>, WordsFault>
-    ensures { told result ≡ Some (cache_of cache reading) }
+    ensures { answer_in result ≡ Some (cache_of cache reading) }
 {
     match reading {
         CacheReading {
@@ -103,7 +103,7 @@ fn complete(cache: CacheName, reading: CacheReading) -> Result<Option<CacheSpec>
 
 /// A power of two that may be left out.
 fn power_at(matches: &ArgMatches<'_>, option: &'static str) -> Result<Option<u64>, WordsFault>
-    ensures { told result ≡ Some (optional_value option.entry.now power_of (rows_of (found_of matches.now))) }
+    ensures { answer_in result ≡ Some (optional_value option.entry.now power_of (rows_of (found_of matches.now))) }
 {
     let Some(text) = text_at(matches, option) else {
         return Ok(None);
@@ -123,7 +123,7 @@ fn is_power(number: u64) -> bool
 
 /// The rule by which blocks leave a set, which may be left out.
 fn repl_at(matches: &ArgMatches<'_>, option: &'static str) -> Result<Option<Repl>, WordsFault>
-    ensures { told result ≡ Some (optional_value option.entry.now repl_named (rows_of (found_of matches.now))) }
+    ensures { answer_in result ≡ Some (optional_value option.entry.now repl_named (rows_of (found_of matches.now))) }
 {
     match text_at(matches, option) {
         None => Ok(None),
@@ -139,7 +139,7 @@ fn walloc_at(
     matches: &ArgMatches<'_>,
     option: &'static str,
 ) -> Result<Option<AllocMode>, WordsFault>
-    ensures { told result ≡ Some (optional_value option.entry.now walloc_named (rows_of (found_of matches.now))) }
+    ensures { answer_in result ≡ Some (optional_value option.entry.now walloc_named (rows_of (found_of matches.now))) }
 {
     match text_at(matches, option) {
         None => Ok(None),
@@ -151,7 +151,7 @@ fn walloc_at(
 
 /// Where writes go, which may be left out.
 fn wback_at(matches: &ArgMatches<'_>, option: &'static str) -> Result<Option<WriteMode>, WordsFault>
-    ensures { told result ≡ Some (optional_value option.entry.now wback_named (rows_of (found_of matches.now))) }
+    ensures { answer_in result ≡ Some (optional_value option.entry.now wback_named (rows_of (found_of matches.now))) }
 {
     match text_at(matches, option) {
         None => Ok(None),

@@ -1,4 +1,4 @@
-//! Jobs, and how they are done.
+//! How jobs are done.
 ghost use Rattle.std.specs.Prelude.{◌≡◌, ◌≤◌, Err, false, true, IfSome, OnOk, if◌then◌else◌};
 ghost use Rattle.trace_core.specs.Device.{one_more, WritesPrefix};
 ghost use Rattle.trace_core.specs.Task.{BreaksOff, Completes, StopsAt, CutsOff, output, is_failed_read, source_failed, sink_failed};
@@ -6,34 +6,12 @@ ghost use Rattle.cachesim.specs.Job.{task_of, max_lines_of, writes_early};
 
 use crate::csim::csim;
 use crate::din::din;
-use cache_core::geometry::Geometry;
-use cache_core::plan::Plan;
+use crate::job::Job;
 use std::alloc::Global;
-use sweep_core::request::Request;
 use sweep_core::sweep::sweep;
 use trace_core::fault::{RunFault, TraceFault};
 use trace_core::io::{Sink, Source};
-use trace_core::line::Format;
 use trace_core::reader::MAX_LINES;
-
-/// What a command line asks for. `max_lines` is the most lines that the trace may have, 1 to `MAX_LINES`.
-#[derive(Clone, Copy, Debug)]
-pub enum Job {
-    Csim {
-        geometry: Geometry,
-        verbose: bool,
-        max_lines: u64,
-    },
-    Din {
-        plan: Plan,
-        seed: u64,
-        format: Format,
-        max_lines: u64,
-    },
-    Sweep {
-        request: Request,
-    },
-}
 
 /// Does a job: what it answers, reads and writes is what the command of that name does.
 pub fn execute<S: Source, K: Sink>(

@@ -4,29 +4,31 @@
 mod cache_options;
 mod csim;
 mod csim_job;
+mod csim_text;
 mod din;
 mod din_job;
+mod din_text;
 mod execute;
 mod faults;
 mod help;
+mod job;
 mod numbers;
 mod options;
 mod parse;
 mod readings;
-mod report;
 mod respell;
 mod simulation;
 mod sweep_job;
 #[cfg(test)]
 mod tests;
 mod text;
-mod verbose;
 
 ghost use Rattle.std.specs.Prelude.{◌≤◌};
 ghost use Rattle.cachesim.specs.Job.{max_lines_of};
 
-use crate::execute::{Job, execute};
+use crate::execute::execute;
 use crate::faults::{ProgramFault, WordsFault};
+use crate::job::Job;
 use crate::parse::{Command, parse};
 use std::alloc::{AllocError, Global};
 use std::env::{self, Args};
@@ -43,7 +45,7 @@ const OUTPUT_BUFFER: usize = 65_536;
 fn main(rt: HostRuntime) -> ExitCode {
     match run(&rt) {
         Ok(()) => ExitCode::SUCCESS,
-        Err(fault) => told(&rt, &fault),
+        Err(fault) => tell(&rt, &fault),
     }
 }
 
@@ -52,7 +54,7 @@ fn run(rt: &HostRuntime) -> Result<(), ProgramFault> {
     let words = words_of(rt)?;
     let Command { job, trace } = parse(rt.alloc(), words.as_slice())?;
     match trace {
-        Some(name) => run_on(rt, &job, FromRead::new(opened(rt, name)?)),
+        Some(name) => run_on(rt, &job, FromRead::new(open_trace(rt, name)?)),
         None => run_on(rt, &job, FromRead::new(rt.stdin())),
     }
 }
@@ -64,11 +66,11 @@ fn words_of(rt: &HostRuntime) -> Result<Vec<String>, ProgramFault> {
         Err(error) if error.kind() == ErrorKind::OutOfMemory => return Err(ProgramFault::Memory),
         Err(_) => return Err(ProgramFault::NotText),
     };
-    pushed(rt.alloc(), args).map_err(|_error: AllocError| ProgramFault::Memory)
+    collect_words(rt.alloc(), args).map_err(|_error: AllocError| ProgramFault::Memory)
 }
 
 /// The words one by one: `collect` would ask for less room where the room for all of them is refused.
-fn pushed(alloc: Global, args: Args) -> Result<Vec<String>, AllocError> {
+fn collect_words(alloc: Global, args: Args) -> Result<Vec<String>, AllocError> {
     let mut words = Vec::new(alloc);
     for word in args {
         words.push(word)?;
@@ -77,7 +79,7 @@ fn pushed(alloc: Global, args: Args) -> Result<Vec<String>, AllocError> {
 }
 
 /// The file of the trace.
-fn opened(rt: &HostRuntime, name: String) -> Result<File, ProgramFault> {
+fn open_trace(rt: &HostRuntime, name: String) -> Result<File, ProgramFault> {
     match File::open(rt, name.as_str()) {
         Ok(file) => Ok(file),
         Err(error) if error.kind() == ErrorKind::OutOfMemory => Err(ProgramFault::Memory),
@@ -107,7 +109,7 @@ fn run_on<S: Source + Drop>(rt: &HostRuntime, job: &Job, mut source: S) -> Resul
 }
 
 /// Tells a fault on standard error, or help on standard output.
-fn told(rt: &HostRuntime, fault: &ProgramFault) -> ExitCode {
+fn tell(rt: &HostRuntime, fault: &ProgramFault) -> ExitCode {
     if let ProgramFault::Words(WordsFault::Usage { text, help: true }) = fault {
         let _ = println!(rt; "{text}");
         let _ = rt.stdout().flush();

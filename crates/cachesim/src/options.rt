@@ -12,7 +12,7 @@ use std::alloc::{AllocError, Global};
 
 /// Whether an option has to be given, and what its value is called in the help, if it takes one.
 #[derive(Clone, Copy)]
-pub enum Use {
+pub enum Presence {
     Required(&'static str),
     Optional(&'static str),
     Flag,
@@ -30,43 +30,43 @@ pub enum Spelling {
 pub struct CommandOption {
     pub name: &'static str,
     pub spelling: Spelling,
-    pub usage: Use,
+    pub presence: Presence,
     pub help: &'static str,
 }
 
+use Presence::{Flag, Optional, Required};
 use Spelling::{Long, Short};
-use Use::{Flag, Optional, Required};
 
 static CSIM_OPTIONS: [CommandOption; 5] = [
     CommandOption {
         name: "-s",
         spelling: Short('s'),
-        usage: Required("N"),
+        presence: Required("N"),
         help: "Set index bits, 0 to 20: the cache has 2^N sets",
     },
     CommandOption {
         name: "-E",
         spelling: Short('E'),
-        usage: Required("N"),
+        presence: Required("N"),
         help: "Lines in a set, 1 to 65536",
     },
     CommandOption {
         name: "-b",
         spelling: Short('b'),
-        usage: Required("N"),
+        presence: Required("N"),
         help: "Block bits, 0 to 20: a block has 2^N bytes",
     },
     CommandOption {
         name: "-t",
         spelling: Short('t'),
-        usage: Required("FILE"),
+        presence: Required("FILE"),
         help: "File of the trace, as lackey writes it",
     },
     CommandOption {
         name: "-v",
         spelling: Short('v'),
-        usage: Flag,
-        help: "Write a line for each data reference",
+        presence: Flag,
+        help: "Write a line for each load, store and modify",
     },
 ];
 
@@ -74,19 +74,19 @@ static DIN_OPTIONS: [CommandOption; 3] = [
     CommandOption {
         name: "-informat",
         spelling: Long("informat"),
-        usage: Optional("FORMAT"),
+        presence: Optional("FORMAT"),
         help: "Format of the trace: d din, l lackey [default: d]",
     },
     CommandOption {
         name: "--seed",
         spelling: Long("seed"),
-        usage: Optional("N"),
+        presence: Optional("N"),
         help: "Where the random numbers begin [default: 42]",
     },
     CommandOption {
         name: "-t",
         spelling: Short('t'),
-        usage: Optional("FILE"),
+        presence: Optional("FILE"),
         help: "File of the trace [default: standard input]",
     },
 ];
@@ -95,61 +95,61 @@ static SWEEP_OPTIONS: [CommandOption; 10] = [
     CommandOption {
         name: "--bsize",
         spelling: Long("bsize"),
-        usage: Required("RANGE"),
+        presence: Required("RANGE"),
         help: "Bytes in a block: powers of two up to 1m",
     },
     CommandOption {
         name: "--sets",
         spelling: Long("sets"),
-        usage: Required("RANGE"),
+        presence: Required("RANGE"),
         help: "Sets in a cache: powers of two up to 1m",
     },
     CommandOption {
         name: "--assoc",
         spelling: Long("assoc"),
-        usage: Required("RANGE"),
+        presence: Required("RANGE"),
         help: "Lines in a set: 1 to 64k",
     },
     CommandOption {
         name: "--size",
         spelling: Long("size"),
-        usage: Required("RANGE"),
+        presence: Required("RANGE"),
         help: "Bytes of all blocks of a cache; others have no row",
     },
     CommandOption {
         name: "--kind",
         spelling: Long("kind"),
-        usage: Optional("KIND"),
+        presence: Optional("KIND"),
         help: "References that count: u all, d data, i instruction fetches [default: u]",
     },
     CommandOption {
         name: "--format",
         spelling: Long("format"),
-        usage: Optional("FORMAT"),
+        presence: Optional("FORMAT"),
         help: "Format of the trace: d din, l lackey [default: d]",
     },
     CommandOption {
         name: "--after",
         spelling: Long("after"),
-        usage: Optional("B,S,E"),
+        presence: Optional("B,S,E"),
         help: "Write only the rows after this bsize, sets, assoc, without the header",
     },
     CommandOption {
         name: "--rows",
         spelling: Long("rows"),
-        usage: Optional("N"),
+        presence: Optional("N"),
         help: "Write at most this many rows [default: all]",
     },
     CommandOption {
         name: "--pow2",
         spelling: Long("pow2"),
-        usage: Flag,
+        presence: Flag,
         help: "Take only powers of two for --assoc",
     },
     CommandOption {
         name: "-t",
         spelling: Short('t'),
-        usage: Optional("FILE"),
+        presence: Optional("FILE"),
         help: "File of the trace [default: standard input]",
     },
 ];
@@ -164,7 +164,7 @@ fn arg_of<'a>(alloc: Global, option: &CommandOption) -> Arg<'a>
         Long(name) => arg.long(name),
         Short(letter) => arg.short(letter),
     };
-    match option.usage {
+    match option.presence {
         Required(value) => arg.action(ArgAction::Set).value_name(value).required(true),
         Optional(value) => arg.action(ArgAction::Set).value_name(value),
         Flag => arg.action(ArgAction::SetTrue),

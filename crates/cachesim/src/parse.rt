@@ -2,16 +2,16 @@
 ghost use Rattle.std.specs.Prelude.{codes, [], ◌≡◌, ◌≢◌, IfErr, IfOk, IfSome, None, Some, true, is_some, map, option_and_then, option_map, string_bytes};
 ghost use Rattle.std.specs.List.{list_any};
 ghost use Rattle.clap.specs.Words.{fault_of, first_of, found_of, kind_of, rows_of, subcommand_rows_of, takes};
-ghost use Rattle.cachesim.specs.CommandLine.{answer_of, command_of, is_help, job_named, ordered, refusal_of, usage_of};
-ghost use Rattle.cachesim.specs.Faults.{judgement_of, told};
+ghost use Rattle.cachesim.specs.CommandLine.{answer_of, command_of, is_help, job_named, chosen_command, refusal_of, usage_of};
+ghost use Rattle.cachesim.specs.Faults.{judgement_of, answer_in};
 ghost use Rattle.cachesim.specs.Job.{max_lines_of};
 ghost use Rattle.cachesim.specs.Options.{cachesim_app};
 ghost use Rattle.cachesim.specs.Respell.{respelled};
 
 use crate::csim_job::csim_job;
 use crate::din_job::din_job;
-use crate::execute::Job;
 use crate::faults::WordsFault;
+use crate::job::Job;
 use crate::options::cachesim_command;
 use crate::readings::text_at;
 use crate::respell::respell;
@@ -48,16 +48,16 @@ pub fn parse(alloc: Global, words: &[String]) -> Result<Command, WordsFault>
     let respelled = respell(alloc, words)?;
     let command = cachesim_command(alloc)?;
     match command.try_get_matches_from(respelled.as_slice()) {
-        Ok(matches) => chosen(alloc, &matches),
-        Err(error) => Err(refused(alloc, &error)),
+        Ok(matches) => read_command(alloc, &matches),
+        Err(error) => Err(usage_fault(alloc, &error)),
     }
 }
 
 /// The job of the command that was chosen.
-fn chosen(alloc: Global, matches: &ArgMatches<'_>) -> Result<Command, WordsFault>
-    requires { is_some (option_and_then ordered (subcommand_rows_of matches.now)) ≡ true }
+fn read_command(alloc: Global, matches: &ArgMatches<'_>) -> Result<Command, WordsFault>
+    requires { is_some (option_and_then chosen_command (subcommand_rows_of matches.now)) ≡ true }
     ensures answer { IfSome (answer_of result) (λ answer.
-        option_and_then ordered (subcommand_rows_of matches.now) ≡ Some answer) }
+        option_and_then chosen_command (subcommand_rows_of matches.now) ≡ Some answer) }
     ensures limit { IfOk result (λ c. max_lines_of c.job ≡ MAX_LINES) }
     ensures taken { refusal_of result ≡ None }
 {
@@ -72,7 +72,7 @@ fn chosen(alloc: Global, matches: &ArgMatches<'_>) -> Result<Command, WordsFault
 /// The job of a command, from its options.
 fn job_of(name: &str, options: &ArgMatches<'_>) -> Result<Job, WordsFault>
     requires { is_some (job_named name.now (rows_of (found_of options.now))) ≡ true }
-    ensures job { told result ≡ job_named name.now (rows_of (found_of options.now)) }
+    ensures job { answer_in result ≡ job_named name.now (rows_of (found_of options.now)) }
     ensures limit { IfOk result (λ job. max_lines_of job ≡ MAX_LINES) }
 {
     match name {
@@ -94,7 +94,7 @@ fn file_at(alloc: Global, options: &ArgMatches<'_>) -> Result<Option<String>, Al
 }
 
 /// What `clap` refused, with its text less the last LF.
-fn refused(alloc: Global, error: &clap::Error) -> WordsFault
+fn usage_fault(alloc: Global, error: &clap::Error) -> WordsFault
     ensures silent { judgement_of result ≡ None }
     ensures memory { kind_of error.now ≡ ErrorKind.OutOfMemory → usage_of result ≡ None }
     ensures help { IfSome (usage_of result) (λ help. help ≡ is_help (kind_of error.now)) }

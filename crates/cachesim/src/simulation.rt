@@ -2,7 +2,7 @@
 ghost use Rattle.std.specs.Prelude.{◌≡◌, ℕ, ◌+◌, ◌^◌, ◌≤◌, List, [], ◌∷◌, ◌++◌, IfOk, map};
 ghost use Rattle.std.specs.Option.{option_to_list};
 ghost use Rattle.cachesim.specs.CsimText.{words_of, lookup_at, lookups_of};
-ghost use Rattle.cachesim.specs.Simulation.{lookup_in, counted, AreFew, Simulates, data_events, lookups_in};
+ghost use Rattle.cachesim.specs.Simulation.{lookup_of, counted, AreFew, Simulates, data_events, lookups_of_pair};
 ghost use Rattle.cache_core.specs.Geometry.{Shape};
 ghost use Rattle.cache_core.specs.LruLaws.{place_after};
 ghost use Rattle.cache_core.specs.Windows.{places_after};
@@ -41,7 +41,7 @@ impl Lookup {
 /// How the reference of an outcome went.
 #[inline(always)]
 fn lookup_of(outcome: &Outcome) -> Lookup
-    ensures { result ≡ lookup_in outcome.now }
+    ensures { result ≡ lookup_of outcome.now }
 {
     if outcome.hit {
         Lookup::Hit
@@ -130,7 +130,7 @@ impl Simulation {
         requires { AreFew (2 ^ 61) self.old.counts }
         ensures stands { (g : Shape) (events : List Event) → Simulates g events self.old →
             Simulates g (events ++ events_of Kind.DataOnly entry) self.new
-            × (lookups_in result ≡ lookups_of g events entry) }
+            × (lookups_of_pair result ≡ lookups_of g events entry) }
         ensures few { (n : ℕ) → AreFew n self.old.counts → AreFew (n + 2) self.new.counts }
     {
         match entry {

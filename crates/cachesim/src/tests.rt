@@ -2,7 +2,8 @@
 ghost use Rattle.std.specs.Prelude.{◌≡◌, ◌<◌, ◌≤◌, IfOk, length};
 ghost use Rattle.cachesim.specs.Job.{max_lines_of};
 
-use crate::execute::{Job, execute};
+use crate::execute::execute;
+use crate::job::Job;
 use cache_core::geometry::Geometry;
 use cache_core::outcome::{AllocMode, Repl, WriteMode};
 use cache_core::plan::{CacheSpec, FirstLevel, Plan};

@@ -6,7 +6,7 @@ use Rattle.trace_core.specs.Task.{entries_of}
 use Rattle.trace_core.proofs.Tasks.{task_stops, task_cut}
 use Rattle.trace_core.specs.declared.fault.RunFault.TheVariants.{Trace}
 use Rattle.cachesim.specs.CsimText.{csim_task}
-use Rattle.cachesim.specs.Simulation.{lookups_in}
+use Rattle.cachesim.specs.Simulation.{lookups_of_pair}
 use Rattle.cachesim.proofs.CsimLemmas.{data_of, simulated_start, simulated_more, broken_line, wrote_all, broken_summary}
 use Rattle.cachesim.proofs.csim.csim.Goals as goal
 
@@ -20,7 +20,7 @@ loop-simulation-preserved g c =
     let inv = c.loop-simulation.invariant in
     let found = c.in_ok-entry.was ∙ ap Ok c.in-Some.is in
     simulated_more c.args.geometry c.args.verbose c.args.max_lines _ _ _ _ _ _ _ _ _ _ _ _ c.loop-simulation.lines c.next.new.self c.loop-simulation.simulation c.step-lookups.new.self inv
-    (c.in-Some.field-0-0, c.in-Some.entry) (lookups_in c.step-lookups.result)
+    (c.in-Some.field-0-0, c.in-Some.entry) (lookups_of_pair c.step-lookups.result)
     (rw found at (c.next.ensures.reached _ _ _ _ inv.read inv.reached))
     (c.step-lookups.ensures.stands c.args.geometry (data_of (entries_of inv.read)) inv.simulates)
     c.in_ok-write_line.ensures.ok c.in_ok-write_line.ensures.counted
@@ -49,7 +49,7 @@ pub returns-in_err-write_line-clause-write : goal.returns-in_err-write_line-clau
 returns-in_err-write_line-clause-write g c = λ _.
     let inv = c.loop-simulation.invariant in
     let found = c.in_ok-entry.was ∙ ap Ok c.in-Some.is in
-    broken_line c.args.geometry c.args.verbose c.args.max_lines _ _ _ _ _ _ _ inv.read (c.in-Some.field-0-0, c.in-Some.entry) (lookups_in c.step-lookups.result) c.next.new.self
+    broken_line c.args.geometry c.args.verbose c.args.max_lines _ _ _ _ _ _ _ inv.read (c.in-Some.field-0-0, c.in-Some.entry) (lookups_of_pair c.step-lookups.result) c.next.new.self
     (subst (Tells c.next.new.self.state) found c.next.ensures.tells)
     (rw found at (c.next.ensures.reached _ _ _ _ inv.read inv.reached))
     (c.step-lookups.ensures.stands c.args.geometry (data_of (entries_of inv.read)) inv.simulates).1

@@ -1,0 +1,25 @@
+//! Jobs.
+
+use cache_core::geometry::Geometry;
+use cache_core::plan::Plan;
+use sweep_core::request::Request;
+use trace_core::line::Format;
+
+/// What a command line asks for. `max_lines` is the most lines that the trace may have, 1 to `MAX_LINES`.
+#[derive(Clone, Copy, Debug)]
+pub enum Job {
+    Csim {
+        geometry: Geometry,
+        verbose: bool,
+        max_lines: u64,
+    },
+    Din {
+        plan: Plan,
+        seed: u64,
+        format: Format,
+        max_lines: u64,
+    },
+    Sweep {
+        request: Request,
+    },
+}
