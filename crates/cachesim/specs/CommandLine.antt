@@ -22,6 +22,7 @@ pub record CommandValue : Type 0 where
   pub job : Job
   pub trace : Option Text
 
+-- the same of a `Command` of `parse`
 abbrev pub command_value : Command → CommandValue
 command_value c = record { job = c.job; trace = option_map string_bytes c.trace }
 
@@ -31,9 +32,11 @@ job_named name rows = if bytes_eq name (codes "csim") then Some (csim_of rows)
     else (if bytes_eq name (codes "din") then Some (din_of rows)
     else (if bytes_eq name (codes "sweep") then Some (sweep_of rows) else None))
 
+-- what was read, with the file of `-t`
 abbrev pub with_trace : List Row → Result Job Judgement → Result CommandValue Judgement
 with_trace rows read = and_then read (λ j. Ok (record { job = j; trace = first_of (codes "-t") rows }))
 
+-- a subcommand of this name with these entries, read; none of another name
 abbrev pub chosen_command : Text × List Row → Option (Result CommandValue Judgement)
 chosen_command s = option_map (with_trace s.1) (job_named s.0 s.1)
 
@@ -56,6 +59,7 @@ abbrev pub refusal_of : Result Command WordsFault → Option Bool
 refusal_of (Ok c) = None
 refusal_of (Err e) = usage_of e
 
+-- clap says that help was asked for
 abbrev pub is_help : ErrorKind → Bool
 is_help kind.DisplayHelp = true
 is_help _ = false

@@ -1,22 +1,23 @@
 -- What the words after `din` say.
-use Rattle.std.specs.Prelude.{ℕ, Bool, List, Option, Some, None, Result, Ok, Err, codes, ◌||◌}
-use Rattle.std.specs.Prelude.{if◌then◌else◌, is_some, ok_or, option_and_then, unwrap_or, ◌^◌}
+use Rattle.std.specs.Prelude.{ℕ, Bool, List, Option, Some, None, Result, Ok, codes, ◌||◌}
+use Rattle.std.specs.Prelude.{if◌then◌else◌, is_some, ok_or, option_and_then, unwrap_or}
 use Rattle.sweep_core.specs.Space.{is_power}
+use Rattle.std.specs.Result.{result_map_both}
 use Rattle.std.specs.Str.{bytes_eq}
 use Rattle.clap.specs.Words.{Row, Text}
-use Rattle.cache_core.specs.Levels.{Levels, plan_of}
+use Rattle.cache_core.specs.Levels.{plan_of}
 use Rattle.trace_core.specs.declared.line.Format.TheVariants.{Din as DinFormat}
 use Rattle.cache_core.specs.declared.outcome.AllocMode.{AllocMode}
 use Rattle.cache_core.specs.declared.outcome.AllocMode.TheVariants.{Always, Never}
 use Rattle.cache_core.specs.declared.plan.CacheName.{CacheName}
 use Rattle.cache_core.specs.declared.plan.CacheName.TheVariants.{L1I, L1D, L1U, L2U}
 use Rattle.cache_core.specs.declared.plan.CacheSpec.{CacheSpec}
-use Rattle.cache_core.specs.declared.plan.PlanFault.{PlanFault}
 use Rattle.cache_core.specs.declared.outcome.Repl.{Repl}
 use Rattle.cache_core.specs.declared.outcome.Repl.TheVariants.{Lru, Fifo, Random}
 use Rattle.cache_core.specs.declared.outcome.WriteMode.{WriteMode}
 use Rattle.cache_core.specs.declared.outcome.WriteMode.TheVariants.{Back, Through}
 use Rattle.cachesim.specs.Faults.{Judgement, incomplete, plan}
+use Rattle.cachesim.specs.Job.{line_limit}
 use Rattle.cachesim.specs.Numbers.{number_of, scaled_of}
 use Rattle.cachesim.specs.Options.{option_of}
 use Rattle.cachesim.specs.Readings.{and_then, format_named, optional_value, value_or}
@@ -28,15 +29,18 @@ use Rattle.cachesim.specs.declared.job.Job.TheVariants.{Din}
 abbrev pub power_of : Text → Option ℕ
 power_of text = option_and_then (λ n. if is_power n then Some n else None) (scaled_of text)
 
+-- Dinero IV's letters: l LRU, f FIFO, r random
 abbrev pub repl_named : Text → Option Repl
 repl_named text = if bytes_eq text (codes "l") then Some Lru
     else (if bytes_eq text (codes "f") then Some Fifo
     else (if bytes_eq text (codes "r") then Some Random else None))
 
+-- Dinero IV's letters: a always, n never
 abbrev pub walloc_named : Text → Option AllocMode
 walloc_named text = if bytes_eq text (codes "a") then Some Always
     else (if bytes_eq text (codes "n") then Some Never else None)
 
+-- Dinero IV's letters: a write-back, n write-through
 abbrev pub wback_named : Text → Option WriteMode
 wback_named text = if bytes_eq text (codes "a") then Some Back
     else (if bytes_eq text (codes "n") then Some Through else None)
@@ -59,6 +63,7 @@ reading_of cache rows =
       wback = wback;
     })))))))
 
+-- one of the six was given
 abbrev pub is_given : CacheReading → Bool
 is_given r = is_some r.size || (is_some r.bsize || (is_some r.assoc || (is_some r.repl
     || (is_some r.walloc || is_some r.wback))))
@@ -81,10 +86,8 @@ cache_of cache r = if is_given r
     then and_then (ok_or (spec_with r.size r.bsize r) (incomplete cache)) (λ spec. Ok (Some spec))
     else Ok None
 
-abbrev pub judged_plan : Result Levels PlanFault → Result Levels Judgement
-judged_plan (Ok p) = Ok p
-judged_plan (Err f) = Err (plan f)
-
+-- The job of these entries, or the first fault: bad values in the table's order, then caches that lack size or bsize, then the plan's. The
+-- letters of the format and the default seed are this project's.
 abbrev pub din_of : List Row → Result Job Judgement
 din_of rows =
     and_then (reading_of L1I rows) (λ i.
@@ -97,5 +100,5 @@ din_of rows =
     and_then (cache_of L1D d) (λ d.
     and_then (cache_of L1U u) (λ u.
     and_then (cache_of L2U second) (λ second.
-    and_then (judged_plan (plan_of (record { i = i; d = d; u = u }) second))
-    (λ p. Ok (Din p seed format (2 ^ 40)))))))))))))
+    and_then (result_map_both (λ p. p) plan (plan_of (record { i = i; d = d; u = u }) second))
+    (λ p. Ok (Din p seed format line_limit))))))))))))

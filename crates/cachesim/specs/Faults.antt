@@ -17,6 +17,7 @@ pub data Judgement : Type 0 where
   plan : PlanFault → Judgement
   space : SpaceFault → Judgement
 
+-- the judgement that a fault tells, if it tells one
 abbrev pub judgement_of : WordsFault → Option Judgement
 judgement_of fault.Memory = None
 judgement_of (fault.Usage text help) = None
@@ -37,7 +38,8 @@ status_of fault.Memory = 1
 status_of (fault.Usage text true) = 0
 status_of _ = 2
 
--- the same of the program: it is 1 where the job stopped, and where its file or memory for it could not be had
+-- the same of the program: it is 1 where the job stopped, and where its file or memory for it could not be had, and 2 for a word that is
+-- not UTF-8
 abbrev pub program_status : ProgramFault → ℕ
 program_status (program.Words f) = status_of f
 program_status program.NotText = 2

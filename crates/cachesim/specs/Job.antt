@@ -1,11 +1,15 @@
 -- The work that a command line asks for.
-use Rattle.std.specs.Prelude.{ℕ, Bool, true, false}
+use Rattle.std.specs.Prelude.{ℕ, ◌^◌, Bool, true, false}
 use Rattle.trace_core.specs.Task.{Task}
 use Rattle.sweep_core.specs.SweepText.{sweep_task}
 use Rattle.cachesim.specs.declared.job.Job.{Job}
 use Rattle.cachesim.specs.declared.job.Job.TheVariants.{Csim, Din, Sweep}
 use Rattle.cachesim.specs.CsimText.{csim_task}
 use Rattle.cachesim.specs.DinText.{din_task}
+
+-- the most lines that a trace may have, `MAX_LINES` of the reader
+abbrev pub line_limit : ℕ
+line_limit = 2 ^ 40
 
 -- the most lines that a job takes
 abbrev pub max_lines_of : Job → ℕ

@@ -25,7 +25,7 @@ abbrev pub scaled_numeral : Text → ℕ → Option ℕ
 scaled_numeral text scale =
     if is_numeral text then within_u64 (value_of_digits text * scale) else None
 
--- `read_number`
+-- a decimal number below 2^64: digits alone, zeros in front allowed
 abbrev pub number_of : Text → Option ℕ
 number_of text = if is_numeral text then within_u64 (value_of_digits text) else None
 
@@ -35,7 +35,7 @@ scale_of c = if c == 107 || c == 75 then Some (2 ^ 10)
     else (if c == 109 || c == 77 then Some (2 ^ 20)
     else (if c == 103 || c == 71 then Some (2 ^ 30) else None))
 
--- `read_scaled`
+-- a number, or one times 2^10, 2^20, 2^30 with k, m, g after it; below 2^64
 abbrev pub scaled_of : Text → Option ℕ
 scaled_of text = option_map_or (scaled_numeral (take (length text - 1) text))
     (option_and_then scale_of (slice_get text (length text - 1))) (number_of text)
@@ -44,24 +44,27 @@ scaled_of text = option_map_or (scaled_numeral (take (length text - 1) text))
 abbrev pub both_of : Option ℕ → Option ℕ → Option (ℕ × ℕ)
 both_of low high = option_and_then (λ x. option_map (λ y. (x, y)) high) low
 
+-- the byte between the two numbers of a range
 abbrev pub is_dash : ℕ → Bool
 is_dash c = c == 45
 
--- `read_range`
+-- a scaled number, or two with a dash between: least and greatest, not compared here
 abbrev pub range_of : Text → Option (ℕ × ℕ)
 range_of text =
     if list_any is_dash text
     then both_of (scaled_of (before_first is_dash text)) (scaled_of (after_first is_dash text))
     else option_map (λ x. (x, x)) (scaled_of text)
 
+-- the byte between the numbers of a triple
 abbrev pub is_comma : ℕ → Bool
 is_comma c = c == 44
 
+-- the triple of three numbers, where there are all three
 abbrev pub config_of : Option ℕ → Option ℕ → Option ℕ → Option Config
 config_of (Some b) (Some s) (Some e) = Some (record { bsize = b; sets = s; assoc = e })
 config_of _ _ _ = None
 
--- `read_triple`: the numbers before the first comma, before the second, and after it
+-- three numbers: before the first comma, before the second, and after it; that some cache has them is not judged here
 abbrev pub triple_of : Text → Option Config
 triple_of text =
     let rest = after_first is_comma text in

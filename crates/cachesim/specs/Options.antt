@@ -5,6 +5,7 @@ use Rattle.clap.specs.Simple.{new_shape}
 use Rattle.clap.specs.declared.builder.command.Command.{Command}
 use Rattle.clap.specs.declared.builder.command.Command.TheViews.{out-Command}
 use Rattle.clap.specs.declared.builder.action.ArgAction.TheVariants.{Set, SetTrue}
+use Rattle.cache_core.specs.Levels.{label_of}
 use Rattle.cache_core.specs.declared.plan.CacheName.{CacheName}
 use Rattle.cache_core.specs.declared.plan.CacheName.TheVariants.{L1I, L1D, L1U, L2U}
 use Rattle.cachesim.specs.declared.cache_options.CacheOptions.{CacheOptions}
@@ -18,6 +19,7 @@ use Rattle.cachesim.specs.declared.options.Presence.TheVariants.{Required, Optio
 abbrev pub optional : Text → Text → Rule
 optional name long = record (new_rule name) { long = Some long; action = Some Set; value_names = 1 }
 
+-- the same of an option that has to be given
 abbrev pub required : Text → Text → Rule
 required name long = record (optional name long) { required = true }
 
@@ -33,6 +35,7 @@ file = record (new_rule (codes "-t")) { short = Some 116; action = Some Set; val
 abbrev pub letter : Text → ℕ → Rule
 letter name c = record (new_rule name) { short = Some c; action = Some Set; value_names = 1; required = true }
 
+-- the options of the CS:APP cache lab's csim
 abbrev pub csim_rules : List Rule
 csim_rules = letter (codes "-s") 115
     ∷ letter (codes "-E") 69
@@ -41,20 +44,15 @@ csim_rules = letter (codes "-s") 115
     ∷ record (new_rule (codes "-v")) { short = Some 118; action = Some SetTrue }
     ∷ []
 
--- a cache's name in its options
-abbrev pub label_of : CacheName → Text
-label_of L1I = codes "l1-i"
-label_of L1D = codes "l1-d"
-label_of L1U = codes "l1-u"
-label_of L2U = codes "l2-u"
-
 -- the option of a cache that ends in this word, by the name that a fault has
 abbrev pub option_of : CacheName → Text → Text
 option_of cache word = codes "-" ++ label_of cache ++ word
 
+-- that option; its long name has one dash less, which is what is left of it behind two dashes
 abbrev pub cache_rule : CacheName → Text → Rule
 cache_rule cache word = optional (option_of cache word) (label_of cache ++ word)
 
+-- the six options of a cache, which are Dinero IV's
 abbrev pub cache_rules : CacheName → List Rule
 cache_rules cache = cache_rule cache (codes "size")
     ∷ cache_rule cache (codes "bsize")
@@ -64,12 +62,14 @@ cache_rules cache = cache_rule cache (codes "size")
     ∷ cache_rule cache (codes "wback")
     ∷ []
 
+-- the options of `din`: those of the caches and -informat are Dinero IV's
 abbrev pub din_rules : List Rule
 din_rules = (optional (codes "-informat") (codes "informat")
     ∷ optional (codes "--seed") (codes "seed")
     ∷ file ∷ [])
     ++ cache_rules L1I ++ cache_rules L1D ++ cache_rules L1U ++ cache_rules L2U
 
+-- the options of `sweep`, which are this project's
 abbrev pub sweep_rules : List Rule
 sweep_rules = required (codes "--bsize") (codes "bsize")
     ∷ required (codes "--sets") (codes "sets")
@@ -109,10 +109,12 @@ pub record IsLeaf (name : Text) (rules : List Rule) (c : Command) : Type 0 where
 abbrev pub with_rules : App → List Rule → App
 with_rules a rules = record a { top = record a.top { rules = a.top.rules ++ rules } }
 
+-- the rule of an option that is written so
 abbrev pub with_spelling : Spelling → Rule → Rule
 with_spelling (Long name) r = record r { long = Some name.now }
 with_spelling (Short letter) r = record r { short = Some letter }
 
+-- the rule of an option that has to be given, may be given, or is a flag
 abbrev pub with_presence : Presence → Rule → Rule
 with_presence (Required value) r = record r { action = Some Set; value_names = 1; required = true }
 with_presence (Optional value) r = record r { action = Some Set; value_names = 1 }

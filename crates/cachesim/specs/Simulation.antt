@@ -39,10 +39,10 @@ pub record Simulates (g : Shape) (events : List Event) (sim : Simulation) : Type
   pub cache : StandsFor (lru_machine g Back) events (lru_contents sim.cache)
   pub counts : sim.counts ≡ counts g events
 
--- the event of a data reference
+-- the event of a reference, if there is one and it is no fetch
 abbrev pub data_events : Option Ref → List Event
 data_events r = map event.Reference (filter (λ x. keeps DataOnly x.access) (option_to_list r))
 
--- the lookups of an item
+-- the lookups of a pair, in order
 abbrev pub lookups_of_pair : Option Lookup × Option Lookup → List Lookup
 lookups_of_pair p = option_to_list p.0 ++ option_to_list p.1

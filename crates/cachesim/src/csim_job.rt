@@ -1,9 +1,9 @@
 //! The options of `csim`.
 ghost use Rattle.std.specs.Prelude.{◌≡◌, IfOk, Some};
-ghost use Rattle.clap.specs.Words.{found_of, rows_of};
 ghost use Rattle.cachesim.specs.CsimJob.{csim_of};
 ghost use Rattle.cachesim.specs.Faults.{answer_in};
 ghost use Rattle.cachesim.specs.Job.{max_lines_of};
+ghost use Rattle.cachesim.specs.Readings.{rows_given};
 
 use crate::faults::WordsFault;
 use crate::job::Job;
@@ -14,7 +14,7 @@ use trace_core::reader::MAX_LINES;
 
 /// The job of `csim`.
 pub fn csim_job(matches: &ArgMatches<'_>) -> Result<Job, WordsFault>
-    ensures job { answer_in result ≡ Some (csim_of (rows_of (found_of matches.now))) }
+    ensures job { answer_in result ≡ Some (csim_of (rows_given matches.now)) }
     ensures limit { IfOk result (λ job. max_lines_of job ≡ MAX_LINES) }
 {
     let s = number_at(matches, "-s")?;

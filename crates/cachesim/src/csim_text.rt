@@ -1,5 +1,5 @@
 //! The lines that `csim` writes.
-ghost use Rattle.std.specs.Prelude.{◌≡◌, ◌+◌, ◌≤◌, ◌∷◌, [], ◌++◌, length, flat_map, OnOk, OnErr, if◌then◌else◌};
+ghost use Rattle.std.specs.Prelude.{◌≡◌, ◌+◌, ◌≤◌, [], ◌++◌, length, flat_map, OnOk, OnErr, if◌then◌else◌};
 ghost use Rattle.std.specs.Option.{option_to_list};
 ghost use Rattle.std.specs.Io.KnownBytes.{Appends};
 ghost use Rattle.trace_core.specs.Device.{CountsFailure, WritesPrefix};
@@ -24,7 +24,7 @@ fn letter(op: Op) -> Option<u8>
     }
 }
 
-/// The words of a lookup, if there is one.
+/// Adds the words of a lookup, if there is one.
 fn push_lookup(text: &mut Text, lookup: Option<Lookup>)
     requires { length text.old + 14 ≤ CAPACITY }
     ensures value { text.new ≡ text.old ++ flat_map words_of (option_to_list lookup) }
@@ -35,7 +35,7 @@ fn push_lookup(text: &mut Text, lookup: Option<Lookup>)
     }
 }
 
-/// The line of an item whose references went so.
+/// Adds the line of an item whose references went so.
 fn push_item(text: &mut Text, item: Item, lookups: (Option<Lookup>, Option<Lookup>))
     requires { length text.old + 68 ≤ CAPACITY }
     ensures { text.new ≡ text.old ++ item_line (letter_of item.op) item (lookups_of_pair lookups) }
@@ -52,7 +52,7 @@ fn push_item(text: &mut Text, item: Item, lookups: (Option<Lookup>, Option<Looku
     text.push(b"\n");
 }
 
-/// The line of an entry whose references went so, in place of what a text held.
+/// Puts the line of an entry whose references went so in place of what a text held.
 fn set_line(text: &mut Text, entry: Entry, lookups: (Option<Lookup>, Option<Lookup>))
     ensures { text.new ≡ line_of entry (lookups_of_pair lookups) }
 {
@@ -83,7 +83,7 @@ pub(crate) fn write_line<K: Sink>(
     write_all(sink, text.as_slice())
 }
 
-/// The summary, in place of what a text held.
+/// Puts the summary in place of what a text held.
 pub(crate) fn set_summary(text: &mut Text, counts: Counts)
     ensures { text.new ≡ summary counts }
 {

@@ -19,7 +19,7 @@ use trace_core::io::{Sink, Source};
 use trace_core::line::Format;
 use trace_core::reader::{Lines, MAX_LINES};
 
-/// All the references of an entry, or a flush.
+/// Steps a system through all the references of an entry, or flushes it.
 #[inline(always)]
 fn step(system: &mut System, entry: Entry)
     requires { system.old.steps + 2 ≤ 2 ^ 41 }

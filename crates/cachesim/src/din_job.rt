@@ -1,11 +1,10 @@
 //! The options of `din`.
 ghost use Rattle.std.specs.Prelude.{◌≡◌, IfOk, Some};
-ghost use Rattle.clap.specs.Words.{found_of, rows_of};
 ghost use Rattle.sweep_core.specs.Space.{is_power};
 ghost use Rattle.cachesim.specs.DinJob.{cache_of, din_of, power_of, reading_of, repl_named, walloc_named, wback_named};
 ghost use Rattle.cachesim.specs.Faults.{answer_in};
 ghost use Rattle.cachesim.specs.Job.{max_lines_of};
-ghost use Rattle.cachesim.specs.Readings.{optional_value};
+ghost use Rattle.cachesim.specs.Readings.{optional_value, rows_given};
 
 use crate::cache_options::cache_options;
 use crate::faults::WordsFault;
@@ -30,7 +29,7 @@ pub struct CacheReading {
 
 /// The job of `din`.
 pub fn din_job(matches: &ArgMatches<'_>) -> Result<Job, WordsFault>
-    ensures job { answer_in result ≡ Some (din_of (rows_of (found_of matches.now))) }
+    ensures job { answer_in result ≡ Some (din_of (rows_given matches.now)) }
     ensures limit { IfOk result (λ job. max_lines_of job ≡ MAX_LINES) }
 {
     let i = read_cache(matches, CacheName::L1I)?;
@@ -56,7 +55,7 @@ pub fn din_job(matches: &ArgMatches<'_>) -> Result<Job, WordsFault>
 
 /// The six options of a cache.
 fn read_cache(matches: &ArgMatches<'_>, cache: CacheName) -> Result<CacheReading, WordsFault>
-    ensures { answer_in result ≡ Some (reading_of cache (rows_of (found_of matches.now))) }
+    ensures { answer_in result ≡ Some (reading_of cache (rows_given matches.now)) }
 {
     let options = cache_options(cache);
     Ok(CacheReading {
@@ -103,7 +102,7 @@ fn complete(cache: CacheName, reading: CacheReading) -> Result<Option<CacheSpec>
 
 /// A power of two that may be left out.
 fn power_at(matches: &ArgMatches<'_>, option: &'static str) -> Result<Option<u64>, WordsFault>
-    ensures { answer_in result ≡ Some (optional_value option.entry.now power_of (rows_of (found_of matches.now))) }
+    ensures { answer_in result ≡ Some (optional_value option.entry.now power_of (rows_given matches.now)) }
 {
     let Some(text) = text_at(matches, option) else {
         return Ok(None);
@@ -123,7 +122,7 @@ fn is_power(number: u64) -> bool
 
 /// The rule by which blocks leave a set, which may be left out.
 fn repl_at(matches: &ArgMatches<'_>, option: &'static str) -> Result<Option<Repl>, WordsFault>
-    ensures { answer_in result ≡ Some (optional_value option.entry.now repl_named (rows_of (found_of matches.now))) }
+    ensures { answer_in result ≡ Some (optional_value option.entry.now repl_named (rows_given matches.now)) }
 {
     match text_at(matches, option) {
         None => Ok(None),
@@ -139,7 +138,7 @@ fn walloc_at(
     matches: &ArgMatches<'_>,
     option: &'static str,
 ) -> Result<Option<AllocMode>, WordsFault>
-    ensures { answer_in result ≡ Some (optional_value option.entry.now walloc_named (rows_of (found_of matches.now))) }
+    ensures { answer_in result ≡ Some (optional_value option.entry.now walloc_named (rows_given matches.now)) }
 {
     match text_at(matches, option) {
         None => Ok(None),
@@ -151,7 +150,7 @@ fn walloc_at(
 
 /// Where writes go, which may be left out.
 fn wback_at(matches: &ArgMatches<'_>, option: &'static str) -> Result<Option<WriteMode>, WordsFault>
-    ensures { answer_in result ≡ Some (optional_value option.entry.now wback_named (rows_of (found_of matches.now))) }
+    ensures { answer_in result ≡ Some (optional_value option.entry.now wback_named (rows_given matches.now)) }
 {
     match text_at(matches, option) {
         None => Ok(None),

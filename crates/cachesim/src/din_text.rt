@@ -1,11 +1,11 @@
 //! The report of `din`.
-ghost use Rattle.std.specs.Prelude.{◌≡◌, ◌+◌, ◌*◌, ◌≤◌, ◌++◌, length};
+ghost use Rattle.std.specs.Prelude.{◌≡◌, ◌+◌, ◌≤◌, ◌++◌, length};
 ghost use Rattle.cachesim.specs.DinText.{field, cache_line, report_of};
 
 use crate::text::{CAPACITY, Text};
 use cache_core::plan::{CacheStats, Stats};
 
-/// A name, and a number behind it.
+/// Adds a name, and a number behind it.
 fn push_field(text: &mut Text, name: &[u8], number: u64)
     requires { length text.old + length name.now + 20 ≤ CAPACITY }
     ensures value { text.new ≡ text.old ++ field name.now number }
@@ -15,7 +15,7 @@ fn push_field(text: &mut Text, name: &[u8], number: u64)
     text.push_decimal(number);
 }
 
-/// The line of a cache, if there is one.
+/// Adds the line of a cache, if there is one.
 fn push_cache(text: &mut Text, name: &[u8], stats: Option<CacheStats>)
     requires room { length text.old + 300 ≤ CAPACITY }
     requires name { length name.now ≤ 4 }
@@ -37,7 +37,7 @@ fn push_cache(text: &mut Text, name: &[u8], stats: Option<CacheStats>)
     text.push(b"\n");
 }
 
-/// The report, in place of what a text held.
+/// Puts the report in place of what a text held.
 pub(crate) fn set_report(text: &mut Text, stats: &Stats)
     ensures { text.new ≡ report_of stats.now }
 {

@@ -15,7 +15,7 @@ pub enum WordsFault {
     /// Memory was refused.
     #[error("out of memory")]
     Memory,
-    /// The words are no call of a command, or help was asked for, which is then the text.
+    /// The words are no call of a command, as the text of `clap` says; or help was asked for, which is then the text.
     #[error("{text}")]
     Usage { text: String, help: bool },
     /// The value of an option can't be read. The option is named as the tables of options do.
@@ -36,7 +36,7 @@ pub enum WordsFault {
 }
 
 impl WordsFault {
-    /// The status that the program ends with.
+    /// The status that the program ends with: 0 where help was asked for, 1 for `Memory`, and else 2.
     pub fn status(&self) -> u8
         ensures { result ≡ status_of self.now }
     {
@@ -93,7 +93,7 @@ pub enum ProgramFault {
 }
 
 impl ProgramFault {
-    /// The status that the program ends with.
+    /// The status that the program ends with: that of the words' fault, 2 for a word that is not UTF-8, and else 1.
     pub fn status(&self) -> u8
         ensures { result ≡ program_status self.now }
     {
@@ -102,6 +102,16 @@ impl ProgramFault {
             ProgramFault::NotText => 2,
             _ => 1,
         }
+    }
+}
+
+impl From<AllocError> for ProgramFault {
+    ghost use Rattle.cachesim.specs.declared.faults.ProgramFault.TheVariants as program;
+
+    ghost from_gives = { λ _ e. e ≡ program.Memory };
+
+    fn from(_error: AllocError) -> ProgramFault {
+        ProgramFault::Memory
     }
 }
 

@@ -36,7 +36,7 @@ use std::fs::File;
 use std::io::{BufWriter, ErrorKind, Write};
 use std::process::ExitCode;
 use trace_core::fault::RunFault;
-use trace_core::io::{FromRead, Sink, Source, ToWrite};
+use trace_core::io::{FromRead, Source, ToWrite};
 use trace_core::reader::MAX_LINES;
 
 /// How many bytes of the output are gathered before they are written.
@@ -66,10 +66,10 @@ fn words_of(rt: &HostRuntime) -> Result<Vec<String>, ProgramFault> {
         Err(error) if error.kind() == ErrorKind::OutOfMemory => return Err(ProgramFault::Memory),
         Err(_) => return Err(ProgramFault::NotText),
     };
-    collect_words(rt.alloc(), args).map_err(|_error: AllocError| ProgramFault::Memory)
+    Ok(collect_words(rt.alloc(), args)?)
 }
 
-/// The words one by one: `collect` would ask for less room where the room for all of them is refused.
+/// Collects the words one by one: `collect` would ask for less room where the room for all of them is refused.
 fn collect_words(alloc: Global, args: Args) -> Result<Vec<String>, AllocError> {
     let mut words = Vec::new(alloc);
     for word in args {
@@ -78,7 +78,7 @@ fn collect_words(alloc: Global, args: Args) -> Result<Vec<String>, AllocError> {
     Ok(words)
 }
 
-/// The file of the trace.
+/// Opens the file of the trace.
 fn open_trace(rt: &HostRuntime, name: String) -> Result<File, ProgramFault> {
     match File::open(rt, name.as_str()) {
         Ok(file) => Ok(file),
@@ -102,6 +102,7 @@ fn run_on<S: Source + Drop>(rt: &HostRuntime, job: &Job, mut source: S) -> Resul
             if let RunFault::Trace(_) = fault {
                 let _ = output.flush();
             }
+            // Dropping the writer would write again what it still holds.
             let (_stdout, _unwritten) = output.into_parts();
             Err(ProgramFault::Run(fault))
         }

@@ -6,7 +6,7 @@ ghost use Rattle.cachesim.specs.Numbers.{number_of, range_of, scale_of, scaled_o
 
 use sweep_core::config::Config;
 
-/// One or more decimal digits, and nothing else.
+/// The number of one or more decimal digits, zeros in front allowed. `None` for any other text, and from 2^64 on.
 pub fn read_number(text: &str) -> Option<u64>
     ensures { result ≡ number_of text.now }
 {
@@ -17,13 +17,15 @@ pub fn read_number(text: &str) -> Option<u64>
     }
 }
 
+/// Whether each byte is a decimal digit, as in no text at all.
 fn has_only_digits(text: &str) -> bool
     ensures { result ≡ list_all is_ascii_digit text.now }
 {
     text.bytes().all(|byte| byte.is_ascii_digit())
 }
 
-/// A number, with one of `k K m M g G` behind it or none.
+/// A number as `read_number` reads it, or one of `k K m M g G` behind it: times 2^10, 2^20 or 2^30. `None` for any other text, and where
+/// the product is 2^64 or more.
 pub fn read_scaled(text: &str) -> Option<u64>
     ensures { result ≡ scaled_of text.now }
 {
@@ -34,7 +36,7 @@ pub fn read_scaled(text: &str) -> Option<u64>
     }
 }
 
-/// What a letter behind a number stands for.
+/// What a letter behind a number stands for. `None` for another byte.
 fn scale_of(letter: u8) -> Option<u64>
     ensures { result ≡ scale_of letter }
 {
@@ -46,7 +48,7 @@ fn scale_of(letter: u8) -> Option<u64>
     }
 }
 
-/// `X`, or `LO-HI`.
+/// `X` or `LO-HI`, each as `read_scaled` reads it: `(X, X)` or `(LO, HI)`, not compared with each other. `None` for any other text.
 pub fn read_range(text: &str) -> Option<(u64, u64)>
     ensures { result ≡ range_of text.now }
 {
@@ -59,7 +61,7 @@ pub fn read_range(text: &str) -> Option<(u64, u64)>
     }
 }
 
-/// `B,S,E`.
+/// `B,S,E`, each as `read_number` reads it: bsize, sets and assoc, which need not be those of a cache. `None` for any other text.
 pub fn read_triple(text: &str) -> Option<Config>
     ensures { result ≡ triple_of text.now }
 {

@@ -1,11 +1,12 @@
 //! From the words of the command line to a job.
-ghost use Rattle.std.specs.Prelude.{codes, [], ◌≡◌, ◌≢◌, IfErr, IfOk, IfSome, None, Some, true, is_some, map, option_and_then, option_map, string_bytes};
+ghost use Rattle.std.specs.Prelude.{codes, [], ◌≡◌, ◌≢◌, IfOk, IfSome, None, Some, true, is_some, map, option_and_then, option_map, string_bytes};
 ghost use Rattle.std.specs.List.{list_any};
-ghost use Rattle.clap.specs.Words.{fault_of, first_of, found_of, kind_of, rows_of, subcommand_rows_of, takes};
+ghost use Rattle.clap.specs.Words.{fault_of, first_of, kind_of, subcommand_rows_of, takes};
 ghost use Rattle.cachesim.specs.CommandLine.{answer_of, command_of, is_help, job_named, chosen_command, refusal_of, usage_of};
 ghost use Rattle.cachesim.specs.Faults.{judgement_of, answer_in};
 ghost use Rattle.cachesim.specs.Job.{max_lines_of};
 ghost use Rattle.cachesim.specs.Options.{cachesim_app};
+ghost use Rattle.cachesim.specs.Readings.{rows_given};
 ghost use Rattle.cachesim.specs.Respell.{respelled};
 
 use crate::csim_job::csim_job;
@@ -28,7 +29,10 @@ pub struct Command {
     pub trace: Option<String>,
 }
 
-/// The job that the words ask for. The first word is the program's name.
+/// The job that the words ask for. The first word is the program's name. No file is opened.
+///
+/// Errors, the first that applies: `Usage` for what `clap` refuses or for help; `Value` for the first bad value, in the order of the manual's
+/// tables; `Incomplete`; then `BadShape`, `Plan` or `Space`. `Memory` wherever memory is refused.
 pub fn parse(alloc: Global, words: &[String]) -> Result<Command, WordsFault>
     // But for want of memory and for what clap refuses, the answer is what the words mean, and clap refuses nothing.
     ensures answer { IfSome (answer_of result) (λ answer.
@@ -71,8 +75,8 @@ fn read_command(alloc: Global, matches: &ArgMatches<'_>) -> Result<Command, Word
 
 /// The job of a command, from its options.
 fn job_of(name: &str, options: &ArgMatches<'_>) -> Result<Job, WordsFault>
-    requires { is_some (job_named name.now (rows_of (found_of options.now))) ≡ true }
-    ensures job { answer_in result ≡ job_named name.now (rows_of (found_of options.now)) }
+    requires { is_some (job_named name.now (rows_given options.now)) ≡ true }
+    ensures job { answer_in result ≡ job_named name.now (rows_given options.now) }
     ensures limit { IfOk result (λ job. max_lines_of job ≡ MAX_LINES) }
 {
     match name {
@@ -85,7 +89,7 @@ fn job_of(name: &str, options: &ArgMatches<'_>) -> Result<Job, WordsFault>
 
 /// The file of `-t`.
 fn file_at(alloc: Global, options: &ArgMatches<'_>) -> Result<Option<String>, AllocError>
-    ensures { IfOk result (λ file. option_map string_bytes file ≡ first_of (codes "-t") (rows_of (found_of options.now))) }
+    ensures { IfOk result (λ file. option_map string_bytes file ≡ first_of (codes "-t") (rows_given options.now)) }
 {
     match text_at(options, "-t") {
         Some(name) => Ok(Some(String::from_str(alloc, name)?)),

@@ -1,9 +1,9 @@
 //! How the text of an option is read.
 ghost use Rattle.std.specs.Prelude.{◌≡◌, Some, option_map};
-ghost use Rattle.clap.specs.Words.{first_of, found_of, rows_of};
+ghost use Rattle.clap.specs.Words.{first_of};
 ghost use Rattle.cachesim.specs.Faults.{answer_in};
 ghost use Rattle.cachesim.specs.Numbers.{number_of, range_of, triple_of};
-ghost use Rattle.cachesim.specs.Readings.{format_named, is_flagged, kind_named, optional_value, required_value, value_or};
+ghost use Rattle.cachesim.specs.Readings.{format_named, is_flagged, kind_named, optional_value, required_value, rows_given, value_or};
 
 use crate::faults::WordsFault;
 use crate::numbers::{read_number, read_range, read_triple};
@@ -14,14 +14,14 @@ use trace_core::line::Format;
 
 /// The text of an option, where it was given.
 pub fn text_at<'a>(matches: &ArgMatches<'a>, option: &str) -> Option<&'a str>
-    ensures { option_map (λ s. s.now) result ≡ first_of option.now (rows_of (found_of matches.now)) }
+    ensures { option_map (λ s. s.now) result ≡ first_of option.now (rows_given matches.now) }
 {
     matches.get_str(option)
 }
 
 /// A range that has to be there.
 pub fn range_at(matches: &ArgMatches<'_>, option: &'static str) -> Result<(u64, u64), WordsFault>
-    ensures { answer_in result ≡ Some (required_value option.entry.now range_of (rows_of (found_of matches.now))) }
+    ensures { answer_in result ≡ Some (required_value option.entry.now range_of (rows_given matches.now)) }
 {
     let Some(text) = text_at(matches, option) else {
         return Err(WordsFault::Value { option });
@@ -34,7 +34,7 @@ pub fn range_at(matches: &ArgMatches<'_>, option: &'static str) -> Result<(u64, 
 
 /// A number that has to be there.
 pub fn number_at(matches: &ArgMatches<'_>, option: &'static str) -> Result<u64, WordsFault>
-    ensures { answer_in result ≡ Some (required_value option.entry.now number_of (rows_of (found_of matches.now))) }
+    ensures { answer_in result ≡ Some (required_value option.entry.now number_of (rows_given matches.now)) }
 {
     let Some(text) = text_at(matches, option) else {
         return Err(WordsFault::Value { option });
@@ -50,7 +50,7 @@ pub fn optional_number_at(
     matches: &ArgMatches<'_>,
     option: &'static str,
 ) -> Result<Option<u64>, WordsFault>
-    ensures { answer_in result ≡ Some (optional_value option.entry.now number_of (rows_of (found_of matches.now))) }
+    ensures { answer_in result ≡ Some (optional_value option.entry.now number_of (rows_given matches.now)) }
 {
     let Some(text) = text_at(matches, option) else {
         return Ok(None);
@@ -66,7 +66,7 @@ pub fn config_at(
     matches: &ArgMatches<'_>,
     option: &'static str,
 ) -> Result<Option<Config>, WordsFault>
-    ensures { answer_in result ≡ Some (optional_value option.entry.now triple_of (rows_of (found_of matches.now))) }
+    ensures { answer_in result ≡ Some (optional_value option.entry.now triple_of (rows_given matches.now)) }
 {
     let Some(text) = text_at(matches, option) else {
         return Ok(None);
@@ -79,7 +79,7 @@ pub fn config_at(
 
 /// The kind of `--kind`, all where it is left out.
 pub fn kind_at(matches: &ArgMatches<'_>, option: &'static str) -> Result<Kind, WordsFault>
-    ensures { answer_in result ≡ Some (value_or Kind.All option.entry.now kind_named (rows_of (found_of matches.now))) }
+    ensures { answer_in result ≡ Some (value_or Kind.All option.entry.now kind_named (rows_given matches.now)) }
 {
     match text_at(matches, option).unwrap_or("u") {
         "u" => Ok(Kind::All),
@@ -91,7 +91,7 @@ pub fn kind_at(matches: &ArgMatches<'_>, option: &'static str) -> Result<Kind, W
 
 /// The format of `--format` or `-informat`, din where it is left out.
 pub fn format_at(matches: &ArgMatches<'_>, option: &'static str) -> Result<Format, WordsFault>
-    ensures { answer_in result ≡ Some (value_or Format.Din option.entry.now format_named (rows_of (found_of matches.now))) }
+    ensures { answer_in result ≡ Some (value_or Format.Din option.entry.now format_named (rows_given matches.now)) }
 {
     match text_at(matches, option).unwrap_or("d") {
         "d" => Ok(Format::Din),
@@ -100,9 +100,9 @@ pub fn format_at(matches: &ArgMatches<'_>, option: &'static str) -> Result<Forma
     }
 }
 
-/// Whether a flag was given.
+/// Whether a flag was given: `clap` then keeps the text `true`, and else `false`.
 pub fn is_flagged(matches: &ArgMatches<'_>, option: &str) -> bool
-    ensures { result ≡ is_flagged option.now (rows_of (found_of matches.now)) }
+    ensures { result ≡ is_flagged option.now (rows_given matches.now) }
 {
     match text_at(matches, option) {
         Some(text) => text == "true",

@@ -1,5 +1,5 @@
 //! One LRU cache, and how its references go.
-ghost use Rattle.std.specs.Prelude.{◌≡◌, ℕ, ◌+◌, ◌^◌, ◌≤◌, List, [], ◌∷◌, ◌++◌, IfOk, map};
+ghost use Rattle.std.specs.Prelude.{◌≡◌, ℕ, ◌+◌, ◌^◌, List, [], ◌∷◌, ◌++◌, IfOk, map};
 ghost use Rattle.std.specs.Option.{option_to_list};
 ghost use Rattle.cachesim.specs.CsimText.{words_of, lookup_at, lookups_of};
 ghost use Rattle.cachesim.specs.Simulation.{lookup_of, counted, AreFew, Simulates, data_events, lookups_of_pair};
@@ -69,7 +69,7 @@ fn count(counts: &mut Counts, lookup: Lookup)
     }
 }
 
-/// An LRU cache that writes back, and how its references went.
+/// An LRU cache, write-back and write-allocate, with its counts.
 #[derive(Drop)]
 pub(crate) struct Simulation {
     pub(crate) cache: Cache<Lru>,
@@ -77,6 +77,7 @@ pub(crate) struct Simulation {
 }
 
 impl Simulation {
+    /// Makes an empty cache of this geometry, with nothing counted.
     pub(crate) fn new(alloc: Global, geometry: Geometry) -> Result<Simulation, AllocError>
         ensures stands { IfOk result (Simulates geometry []) }
         ensures few { IfOk result (λ sim. AreFew 0 sim.counts) }
@@ -92,7 +93,7 @@ impl Simulation {
         Ok(Simulation { cache, counts })
     }
 
-    /// One reference.
+    /// Makes one reference, counts how it went, and answers that.
     #[inline(always)]
     fn access(&mut self, reference: Ref) -> Lookup
         requires { AreFew (2 ^ 62) self.old.counts }
@@ -107,7 +108,7 @@ impl Simulation {
         lookup
     }
 
-    /// A reference that is there, if it isn't a fetch.
+    /// Makes a reference, if there is one and it is no fetch.
     #[inline(always)]
     fn access_data(&mut self, reference: Option<Ref>) -> Option<Lookup>
         requires { AreFew (2 ^ 62) self.old.counts }
@@ -124,7 +125,7 @@ impl Simulation {
         }
     }
 
-    /// The data references of an entry. A flush empties the cache.
+    /// Makes the data references of an entry, and answers how they went. A flush empties the cache.
     #[inline(always)]
     pub(crate) fn step(&mut self, entry: Entry) -> (Option<Lookup>, Option<Lookup>)
         requires { AreFew (2 ^ 61) self.old.counts }

@@ -1,8 +1,8 @@
 //! The options of `sweep`.
 ghost use Rattle.std.specs.Prelude.{◌≡◌, IfOk, Some};
-ghost use Rattle.clap.specs.Words.{found_of, rows_of};
 ghost use Rattle.cachesim.specs.Faults.{answer_in};
 ghost use Rattle.cachesim.specs.Job.{max_lines_of};
+ghost use Rattle.cachesim.specs.Readings.{rows_given};
 ghost use Rattle.cachesim.specs.SweepJob.{sweep_of};
 
 use crate::faults::WordsFault;
@@ -15,7 +15,7 @@ use trace_core::reader::MAX_LINES;
 
 /// The job of `sweep`.
 pub fn sweep_job(matches: &ArgMatches<'_>) -> Result<Job, WordsFault>
-    ensures job { answer_in result ≡ Some (sweep_of (rows_of (found_of matches.now))) }
+    ensures job { answer_in result ≡ Some (sweep_of (rows_given matches.now)) }
     ensures limit { IfOk result (λ job. max_lines_of job ≡ MAX_LINES) }
 {
     let bsize = range_at(matches, "--bsize")?;

@@ -1,5 +1,5 @@
 //! The calls that jobs make of their devices, which no clause counts, and traces without end.
-ghost use Rattle.std.specs.Prelude.{◌≡◌, ◌<◌, ◌≤◌, IfOk, length};
+ghost use Rattle.std.specs.Prelude.{◌≡◌, ◌≤◌, IfOk};
 ghost use Rattle.cachesim.specs.Job.{max_lines_of};
 
 use crate::execute::execute;

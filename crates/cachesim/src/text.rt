@@ -27,6 +27,7 @@ impl Model for Text {
 }
 
 impl Text {
+    /// Makes an empty text.
     pub(crate) fn new() -> Text
         ensures { result ≡ [] }
     {
@@ -36,18 +37,21 @@ impl Text {
         }
     }
 
+    /// Drops the bytes that were added.
     pub(crate) fn clear(&mut self)
         ensures { self.new ≡ [] }
     {
         self.len = 0;
     }
 
+    /// The bytes that were added.
     pub(crate) fn as_slice(&self) -> &[u8]
         ensures { result.now ≡ self.now }
     {
         &self.bytes[..self.len]
     }
 
+    /// Adds bytes.
     pub(crate) fn push(&mut self, piece: &[u8])
         requires { length self.old + length piece.now ≤ CAPACITY }
         ensures { self.new ≡ self.old ++ piece.now }
@@ -57,7 +61,7 @@ impl Text {
         self.len = end;
     }
 
-    /// A number in decimal digits.
+    /// Adds a number in decimal digits.
     pub(crate) fn push_decimal(&mut self, number: u64)
         requires { length self.old + 20 ≤ CAPACITY }
         ensures value { self.new ≡ self.old ++ decimal number }
@@ -67,7 +71,7 @@ impl Text {
         self.push(buffer.format(number).as_bytes());
     }
 
-    /// A number in lower-case hexadecimal digits.
+    /// Adds a number in lower-case hexadecimal digits.
     pub(crate) fn push_hexadecimal(&mut self, number: u64)
         requires { length self.old + 16 ≤ CAPACITY }
         ensures value { self.new ≡ self.old ++ hexadecimal number }
