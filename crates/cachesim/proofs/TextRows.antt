@@ -3,16 +3,14 @@ use Rattle.std.proofs.Common.{◌≡◌, ℕ, true, false, List, Option, Some, N
 use Rattle.std.specs.Prelude.{codes}
 use Rattle.std.specs.Fmt.{digits}
 use Rattle.trace_core.specs.declared.fault.TraceFault.TheVariants as fault
-use Rattle.trace_core.specs.declared.line.LineFault.TheVariants.{Label, Address}
+use Rattle.trace_core.specs.declared.line.LineFault.TheVariants.{Address}
 use Rattle.trace_core.specs.declared.line.Format.TheVariants.{Din, Lackey}
 use Rattle.trace_core.specs.Reading.{reading}
 use Rattle.trace_core.specs.Task.{entries_in}
 use Rattle.cache_core.specs.declared.outcome.Repl.{Repl}
 use Rattle.cache_core.specs.declared.outcome.Repl.TheVariants.{Lru, Fifo}
-use Rattle.cache_core.specs.declared.outcome.WriteMode.{WriteMode}
-use Rattle.cache_core.specs.declared.outcome.WriteMode.TheVariants.{Back, Through}
-use Rattle.cache_core.specs.declared.outcome.AllocMode.{AllocMode}
-use Rattle.cache_core.specs.declared.outcome.AllocMode.TheVariants.{Always, Never}
+use Rattle.cache_core.specs.declared.outcome.WriteMode.TheVariants.{Back}
+use Rattle.cache_core.specs.declared.outcome.AllocMode.TheVariants.{Always}
 use Rattle.cache_core.specs.declared.plan.Level.{Level}
 use Rattle.cache_core.specs.Levels.{Levels}
 use Rattle.cache_core.specs.Geometry.{shape}
@@ -35,9 +33,6 @@ handout_summary = refl
 
 abbrev bad_third : List ℕ
 bad_third = codes " L 10,1\n M 20,1\n X 22,1"
-
-bad_line_is_the_fault : (reading Lackey 9 bad_third).fault ≡ Some (fault.Line 3 Label)
-bad_line_is_the_fault = refl
 
 lines_before_a_bad_line : csim_lines (shape 4 1 4) true (entries_in (reading Lackey 9 bad_third)) ≡ codes "L 10,1 miss\nM 20,1 miss hit\n"
 unfolding digits window places_after distinct distinct_of_set lines_after
@@ -62,79 +57,39 @@ lackey_log : csim_text (shape 0 1 4) true valgrind ≡ codes "S be80199c,4 miss\
 unfolding digits counts window places_after distinct distinct_of_set lines_after
 lackey_log = refl
 
--- one set of so many lines of 16 bytes
-abbrev level : ℕ → Repl → WriteMode → AllocMode → Level
-level ways repl w a = record { design = record { geometry = shape 0 ways 4; write = w; allocate = a }; repl = repl }
+-- one set of so many lines of 16 bytes, write-back and write-allocate
+abbrev level : ℕ → Repl → Level
+level ways repl = record { design = record { geometry = shape 0 ways 4; write = Back; alloc = Always }; repl = repl }
 
 abbrev unified : Level → Option Level → Levels
 unified u second = record { i = None; d = None; u = Some u; second = second }
 
 abbrev one : Level
-one = level 1 Lru Back Always
+one = level 1 Lru
 
 abbrev two : Level
-two = level 2 Lru Back Always
+two = level 2 Lru
 
 written_block_is_copied_back : din_text (unified one None) 42 Din (codes "1 0\n0 10\n")
     ≡ codes "l1-u fetches=0 fetch-misses=0 reads=1 read-misses=1 writes=1 write-misses=1 evictions=1 copybacks=1\nmemory reads=2 writes=1\nbypassed=0\n"
 unfolding digits
 written_block_is_copied_back = refl
 
-written_through : din_text (unified (level 1 Lru Through Always) None) 42 Din (codes "1 0\n0 10\n")
-    ≡ codes "l1-u fetches=0 fetch-misses=0 reads=1 read-misses=1 writes=1 write-misses=1 evictions=1 copybacks=0\nmemory reads=2 writes=1\nbypassed=0\n"
-unfolding digits
-written_through = refl
-
-written_around : din_text (unified (level 1 Lru Through Never) None) 42 Din (codes "1 0\n0 10\n")
-    ≡ codes "l1-u fetches=0 fetch-misses=0 reads=1 read-misses=1 writes=1 write-misses=1 evictions=0 copybacks=0\nmemory reads=1 writes=1\nbypassed=0\n"
-unfolding digits
-written_around = refl
-
 second_level_hits : din_text (unified one (Some two)) 42 Din (codes "0 0\n0 10\n0 0\n")
     ≡ codes "l1-u fetches=0 fetch-misses=0 reads=3 read-misses=3 writes=0 write-misses=0 evictions=2 copybacks=0\nl2-u fetches=0 fetch-misses=0 reads=3 read-misses=2 writes=0 write-misses=0 evictions=0 copybacks=0\nmemory reads=2 writes=0\nbypassed=0\n"
 unfolding digits
 second_level_hits = refl
-
-copyback_enters_the_second_level : din_text (unified one (Some one)) 42 Din (codes "1 0\n0 10\n")
-    ≡ codes "l1-u fetches=0 fetch-misses=0 reads=1 read-misses=1 writes=1 write-misses=1 evictions=1 copybacks=1\nl2-u fetches=0 fetch-misses=0 reads=2 read-misses=2 writes=1 write-misses=0 evictions=1 copybacks=1\nmemory reads=2 writes=1\nbypassed=0\n"
-unfolding digits
-copyback_enters_the_second_level = refl
-
-fetch_bypasses : din_text (record { i = None; d = Some one; u = None; second = None }) 42 Din (codes "2 0\n0 0\n")
-    ≡ codes "l1-d fetches=0 fetch-misses=0 reads=1 read-misses=1 writes=0 write-misses=0 evictions=0 copybacks=0\nmemory reads=1 writes=0\nbypassed=1\n"
-unfolding digits
-fetch_bypasses = refl
-
-fetch_bypasses_both_levels : din_text (record { i = None; d = Some one; u = None; second = Some two }) 42 Din (codes "2 0\n0 0\n")
-    ≡ codes "l1-d fetches=0 fetch-misses=0 reads=1 read-misses=1 writes=0 write-misses=0 evictions=0 copybacks=0\nl2-u fetches=0 fetch-misses=0 reads=1 read-misses=1 writes=0 write-misses=0 evictions=0 copybacks=0\nmemory reads=1 writes=0\nbypassed=1\n"
-unfolding digits
-fetch_bypasses_both_levels = refl
 
 split_first_level : din_text (record { i = Some one; d = Some one; u = None; second = None }) 42 Din (codes "2 0\n1 0\n2 4\n")
     ≡ codes "l1-i fetches=2 fetch-misses=1 reads=0 read-misses=0 writes=0 write-misses=0 evictions=0 copybacks=0\nl1-d fetches=0 fetch-misses=0 reads=0 read-misses=0 writes=1 write-misses=1 evictions=0 copybacks=0\nmemory reads=2 writes=0\nbypassed=0\n"
 unfolding digits
 split_first_level = refl
 
-flush_copies_back : din_text (unified one None) 42 Din (codes "1 0\n4 0\n0 0\n")
-    ≡ codes "l1-u fetches=0 fetch-misses=0 reads=1 read-misses=1 writes=1 write-misses=1 evictions=0 copybacks=1\nmemory reads=2 writes=1\nbypassed=0\n"
-unfolding digits
-flush_copies_back = refl
-
-flush_empties_the_second_level : din_text (unified one (Some two)) 42 Din (codes "1 0\n0 10\n4 0\n")
-    ≡ codes "l1-u fetches=0 fetch-misses=0 reads=1 read-misses=1 writes=1 write-misses=1 evictions=1 copybacks=1\nl2-u fetches=0 fetch-misses=0 reads=2 read-misses=2 writes=1 write-misses=0 evictions=0 copybacks=1\nmemory reads=2 writes=1\nbypassed=0\n"
-unfolding digits
-flush_empties_the_second_level = refl
-
-flush_goes_past_the_second_level : din_text (unified one (Some two)) 42 Din (codes "1 0\n4 0\n")
-    ≡ codes "l1-u fetches=0 fetch-misses=0 reads=0 read-misses=0 writes=1 write-misses=1 evictions=0 copybacks=1\nl2-u fetches=0 fetch-misses=0 reads=1 read-misses=1 writes=0 write-misses=0 evictions=0 copybacks=0\nmemory reads=1 writes=1\nbypassed=0\n"
-unfolding digits
-flush_goes_past_the_second_level = refl
-
 -- six reads of three blocks
 abbrev six : List ℕ
 six = codes "0 10\n0 20\n0 30\n0 10\n0 20\n0 10\n"
 
-oldest_block_leaves : din_text (unified (level 2 Fifo Back Always) None) 42 Din six
+oldest_block_leaves : din_text (unified (level 2 Fifo) None) 42 Din six
     ≡ codes "l1-u fetches=0 fetch-misses=0 reads=6 read-misses=5 writes=0 write-misses=0 evictions=3 copybacks=0\nmemory reads=5 writes=0\nbypassed=0\n"
 unfolding digits
 oldest_block_leaves = refl

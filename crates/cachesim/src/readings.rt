@@ -23,26 +23,18 @@ pub fn text_at<'a>(matches: &ArgMatches<'a>, option: &str) -> Option<&'a str>
 pub fn range_at(matches: &ArgMatches<'_>, option: &'static str) -> Result<(u64, u64), WordsFault>
     ensures { answer_in result ≡ Some (required_value option.entry.now range_of (rows_given matches.now)) }
 {
-    let Some(text) = text_at(matches, option) else {
-        return Err(WordsFault::Value { option });
-    };
-    match read_range(text) {
-        Some(range) => Ok(range),
-        None => Err(WordsFault::Value { option }),
-    }
+    text_at(matches, option)
+        .and_then(read_range)
+        .ok_or(WordsFault::Value { option })
 }
 
 /// A number that has to be there.
 pub fn number_at(matches: &ArgMatches<'_>, option: &'static str) -> Result<u64, WordsFault>
     ensures { answer_in result ≡ Some (required_value option.entry.now number_of (rows_given matches.now)) }
 {
-    let Some(text) = text_at(matches, option) else {
-        return Err(WordsFault::Value { option });
-    };
-    match read_number(text) {
-        Some(number) => Ok(number),
-        None => Err(WordsFault::Value { option }),
-    }
+    text_at(matches, option)
+        .and_then(read_number)
+        .ok_or(WordsFault::Value { option })
 }
 
 /// A number that may be left out.
@@ -55,10 +47,8 @@ pub fn optional_number_at(
     let Some(text) = text_at(matches, option) else {
         return Ok(None);
     };
-    match read_number(text) {
-        Some(number) => Ok(Some(number)),
-        None => Err(WordsFault::Value { option }),
-    }
+    let number = read_number(text).ok_or(WordsFault::Value { option })?;
+    Ok(Some(number))
 }
 
 /// A triple that may be left out.
@@ -71,10 +61,8 @@ pub fn config_at(
     let Some(text) = text_at(matches, option) else {
         return Ok(None);
     };
-    match read_triple(text) {
-        Some(config) => Ok(Some(config)),
-        None => Err(WordsFault::Value { option }),
-    }
+    let config = read_triple(text).ok_or(WordsFault::Value { option })?;
+    Ok(Some(config))
 }
 
 /// The kind of `--kind`, all where it is left out.
