@@ -8,3 +8,4 @@ pub mod OptionLemmas
 pub mod Rows
 pub mod Simulating
 mod TextRows
+pub mod TraceFaults

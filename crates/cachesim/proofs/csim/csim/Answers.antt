@@ -1,13 +1,12 @@
-use Rattle.std.proofs.Common.{◌≡◌, ◌*◌, Ok, Err, ap, ◌∙◌, subst}
+use Rattle.std.proofs.Common.{◌*◌, Ok, ap, ◌∙◌, subst}
 use Rattle.std.proofs.lemmas.List.{append-nil}
 use Rattle.trace_core.specs.Reader.{Tells}
-use Rattle.trace_core.specs.declared.reader.ReaderState.TheVariants as state
 use Rattle.trace_core.specs.Task.{entries_of}
 use Rattle.trace_core.proofs.Tasks.{task_stops, task_cut}
-use Rattle.trace_core.specs.declared.fault.RunFault.TheVariants.{Trace}
 use Rattle.cachesim.specs.CsimText.{csim_task}
 use Rattle.cachesim.specs.Simulation.{lookups_of_pair}
 use Rattle.cachesim.proofs.CsimLemmas.{data_of, simulated_start, simulated_more, broken_line, wrote_all, broken_summary}
+use Rattle.cachesim.proofs.TraceFaults.{failed_by}
 use Rattle.cachesim.proofs.csim.csim.Goals as goal
 
 pub loop-simulation-init : goal.loop-simulation-init
@@ -30,18 +29,14 @@ loop-simulation-preserved g c =
 pub returns-in_err-entry-clause-fault : goal.returns-in_err-entry-clause-fault
 returns-in_err-entry-clause-fault g c = λ x is own.
     let inv = c.loop-simulation.invariant in
-    let given : Trace x ≡ Trace c.in_err-entry.field-0.0 = rw is at c.from_residual-in_err-entry.ensures.1 in
-    let same : c.in_err-entry.field-0.0 ≡ x = cc in
-    let failed : c.next.new.self.state ≡ state.Failed x = subst (Tells c.next.new.self.state) (c.in_err-entry.was ∙ ap Err same) c.next.ensures.tells in
+    let failed = failed_by c.next.new.self.state c.next.result x c.in_err-entry.field-0.0 c.in_err-entry.was (rw is at c.from_residual-in_err-entry.ensures.1) c.next.ensures.tells in
     let reached = rw (c.in_err-entry.was, append-nil inv.read) at (c.next.ensures.reached _ _ _ _ inv.read inv.reached) in
     task_stops (csim_task c.args.geometry c.args.verbose c.args.max_lines) _ _ _ _ _ _ inv.read c.next.new.self x failed own reached inv.wrote
 
 pub returns-in_err-entry-clause-cut : goal.returns-in_err-entry-clause-cut
 returns-in_err-entry-clause-cut g c = λ x is own.
     let inv = c.loop-simulation.invariant in
-    let given : Trace x ≡ Trace c.in_err-entry.field-0.0 = rw is at c.from_residual-in_err-entry.ensures.1 in
-    let same : c.in_err-entry.field-0.0 ≡ x = cc in
-    let failed : c.next.new.self.state ≡ state.Failed x = subst (Tells c.next.new.self.state) (c.in_err-entry.was ∙ ap Err same) c.next.ensures.tells in
+    let failed = failed_by c.next.new.self.state c.next.result x c.in_err-entry.field-0.0 c.in_err-entry.was (rw is at c.from_residual-in_err-entry.ensures.1) c.next.ensures.tells in
     let reached = rw (c.in_err-entry.was, append-nil inv.read) at (c.next.ensures.reached _ _ _ _ inv.read inv.reached) in
     task_cut (csim_task c.args.geometry c.args.verbose c.args.max_lines) _ _ _ _ _ _ inv.read c.next.new.self x failed own reached inv.wrote
 

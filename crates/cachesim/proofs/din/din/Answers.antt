@@ -1,12 +1,11 @@
-use Rattle.std.proofs.Common.{◌≡◌, Ok, Err, ap, ◌∙◌, subst}
+use Rattle.std.proofs.Common.{Ok, ap, ◌∙◌, subst}
 use Rattle.std.proofs.lemmas.List.{append-nil}
 use Rattle.trace_core.specs.Reader.{Tells}
-use Rattle.trace_core.specs.declared.reader.ReaderState.TheVariants as state
 use Rattle.trace_core.specs.Task.{entries_of}
 use Rattle.trace_core.proofs.Tasks.{task_stops, task_cut}
-use Rattle.trace_core.specs.declared.fault.RunFault.TheVariants.{Trace}
 use Rattle.cachesim.specs.DinText.{din_task, report_of}
 use Rattle.cachesim.proofs.DinLemmas.{all_of, stepped_start, stepped_more, silent, reported, broken_report}
+use Rattle.cachesim.proofs.TraceFaults.{failed_by}
 use Rattle.cachesim.proofs.din.din.Goals as goal
 
 pub loop-system-init : goal.loop-system-init
@@ -25,9 +24,7 @@ loop-system-preserved g c =
 pub returns-in_err-entry-clause-fault : goal.returns-in_err-entry-clause-fault
 returns-in_err-entry-clause-fault g c = λ x is own.
     let inv = c.loop-system.invariant in
-    let given : Trace x ≡ Trace c.in_err-entry.field-0.0 = rw is at c.from_residual-in_err-entry.ensures.1 in
-    let same : c.in_err-entry.field-0.0 ≡ x = cc in
-    let failed : c.next.new.self.state ≡ state.Failed x = subst (Tells c.next.new.self.state) (c.in_err-entry.was ∙ ap Err same) c.next.ensures.tells in
+    let failed = failed_by c.next.new.self.state c.next.result x c.in_err-entry.field-0.0 c.in_err-entry.was (rw is at c.from_residual-in_err-entry.ensures.1) c.next.ensures.tells in
     let reached = rw (c.in_err-entry.was, append-nil inv.read) at (c.next.ensures.reached _ _ _ _ inv.read inv.reached) in
     task_stops (din_task c.args.plan c.args.seed c.args.format c.args.max_lines) _ _ _ _ _ _ inv.read c.next.new.self x failed own reached
     (silent c.args.plan c.args.seed c.args.format c.args.max_lines _ (entries_of inv.read))
@@ -35,9 +32,7 @@ returns-in_err-entry-clause-fault g c = λ x is own.
 pub returns-in_err-entry-clause-cut : goal.returns-in_err-entry-clause-cut
 returns-in_err-entry-clause-cut g c = λ x is own.
     let inv = c.loop-system.invariant in
-    let given : Trace x ≡ Trace c.in_err-entry.field-0.0 = rw is at c.from_residual-in_err-entry.ensures.1 in
-    let same : c.in_err-entry.field-0.0 ≡ x = cc in
-    let failed : c.next.new.self.state ≡ state.Failed x = subst (Tells c.next.new.self.state) (c.in_err-entry.was ∙ ap Err same) c.next.ensures.tells in
+    let failed = failed_by c.next.new.self.state c.next.result x c.in_err-entry.field-0.0 c.in_err-entry.was (rw is at c.from_residual-in_err-entry.ensures.1) c.next.ensures.tells in
     let reached = rw (c.in_err-entry.was, append-nil inv.read) at (c.next.ensures.reached _ _ _ _ inv.read inv.reached) in
     task_cut (din_task c.args.plan c.args.seed c.args.format c.args.max_lines) _ _ _ _ _ _ inv.read c.next.new.self x failed own reached
     (silent c.args.plan c.args.seed c.args.format c.args.max_lines _ (entries_of inv.read))
