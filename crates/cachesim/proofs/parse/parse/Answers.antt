@@ -1,4 +1,4 @@
-use Rattle.std.proofs.Common.{rules, ap, ap₂, ◌∙◌, subst, sym, ◌≡◌, List, Option, Some, IfSome, map, string_bytes, option_and_then}
+use Rattle.std.proofs.Common.{ap, ap₂, ◌∙◌, subst, sym, ◌≡◌, List, Option, Some, IfSome, map, string_bytes, option_and_then}
 use Rattle.clap.specs.Words.{HasKind, Row, Text, fault_of, is_simple, is_simple_and_free, subcommand_of, takes}
 use Rattle.cachesim.proofs.AppFacts.{IfSome-always, app_is_free, app_is_simple, parse_ordered}
 use Rattle.cachesim.proofs.HelpLemmas.{help_told, refusal_told}
