@@ -48,7 +48,7 @@ csim_rules = letter (codes "-s") 115
 abbrev pub option_of : CacheName → Text → Text
 option_of cache word = codes "-" ++ label_of cache ++ word
 
--- that option; its long name has one dash less, which is what is left of it behind two dashes
+-- the rule of that option, whose spelling stands behind two dashes
 abbrev pub cache_rule : CacheName → Text → Rule
 cache_rule cache word = optional (option_of cache word) (label_of cache ++ word)
 
