@@ -59,7 +59,7 @@ lackey_log = refl
 
 -- one set of so many lines of 16 bytes, write-back and write-allocate
 abbrev level : ℕ → Repl → Level
-level ways repl = record { design = record { geometry = shape 0 ways 4; write = Back; alloc = Always }; repl = repl }
+level ways repl = record { design = record { geometry = shape 0 ways 4; write = Back; allocate = Always }; repl = repl }
 
 abbrev unified : Level → Option Level → Levels
 unified u second = record { i = None; d = None; u = Some u; second = second }

@@ -1,8 +1,8 @@
 //! The command `csim`.
-ghost use Rattle.std.specs.Prelude.{◌≡◌, ◌≤◌, Some, Err, false, true, IfSome, OnOk, if◌then◌else◌};
-ghost use Rattle.trace_core.specs.Device.{one_more, WritesPrefix};
+ghost use Rattle.std.specs.Prelude.{◌≡◌, ◌≤◌, Some, Err, false, true, IfSome, OnOk};
+ghost use Rattle.trace_core.specs.Device.{failures_after, WritesPrefix};
 ghost use Rattle.cachesim.specs.CsimText.{csim_task};
-ghost use Rattle.trace_core.specs.Task.{Completes, StopsAt, CutsOff, output, is_failed_read, source_failed, sink_failed};
+ghost use Rattle.trace_core.specs.Task.{Completes, StopsAt, CutsOff, output, FlushesOnce, is_failed_read, source_failed, sink_failed};
 
 use crate::csim_text::{set_summary, write_line};
 use crate::simulation::Simulation;
@@ -47,10 +47,11 @@ pub fn csim<S: Source, K: Sink>(
     ensures memory { result ≡ Err RunFault.Memory → (source.new ≡ source.old) × (sink.new ≡ sink.old) }
 
     // Each device failed exactly where the answer says so.
-    ensures reads { S.failures source.new
-        ≡ (if source_failed result then one_more (S.failures source.old) else S.failures source.old) }
-    ensures writes { K.failures sink.new
-        ≡ (if sink_failed result then one_more (K.failures sink.old) else K.failures sink.old) }
+    ensures reads { S.failures source.new ≡ failures_after (source_failed result) (S.failures source.old) }
+    ensures writes { K.failures sink.new ≡ failures_after (sink_failed result) (K.failures sink.old) }
+
+    // The sink is flushed once at the end of a whole text, and not at a fault of the trace.
+    ensures flushes { FlushesOnce (K.flushes sink.old) (K.flushes sink.new) result }
 {
     let mut lines = Lines::new(alloc, Format::Lackey, max_lines)?;
     let mut simulation = Simulation::new(alloc, geometry)?;

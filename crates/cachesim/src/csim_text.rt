@@ -75,6 +75,7 @@ pub(crate) fn write_line<K: Sink>(
     ensures fault { OnErr result (WritesPrefix (K.written sink.old) (K.written sink.new)
         (if verbose then line_of entry (lookups_of_pair lookups) else [])) }
     ensures counted { CountsFailure (K.failures sink.old) (K.failures sink.new) result }
+    ensures unflushed { K.flushes sink.new ≡ K.flushes sink.old }
 {
     if !verbose {
         return Ok(());

@@ -1,7 +1,7 @@
 //! A text that is gathered in a buffer of fixed size.
 ghost use Rattle.std.specs.Prelude.{◌≡◌, ℕ, ◌+◌, ◌<◌, ◌≤◌, List, [], ◌++◌, length, take, drop, false, OnOk, OnErr};
 ghost use Rattle.std.specs.Io.KnownBytes.{Appends};
-ghost use Rattle.trace_core.specs.Device.{CountsFailure, WritesPrefix};
+ghost use Rattle.trace_core.specs.Device.{CountsFailure, FlushesLast, WritesPrefix};
 ghost use Rattle.std.specs.Fmt.{decimal, digit_glyph};
 ghost use Rattle.cachesim.specs.Text.{hexadecimal};
 
@@ -117,6 +117,7 @@ pub(crate) fn write_last<K: Sink>(text: &Text, sink: &mut K) -> Result<(), Devic
     ensures ok { OnOk result (Appends (K.written sink.old) (K.written sink.new) text.now) }
     ensures fault { OnErr result (WritesPrefix (K.written sink.old) (K.written sink.new) text.now) }
     ensures counted { CountsFailure (K.failures sink.old) (K.failures sink.new) result }
+    ensures flushed { FlushesLast (K.flushes sink.old) (K.flushes sink.new) result }
 {
     write_all(sink, text.as_slice())?;
     sink.flush()

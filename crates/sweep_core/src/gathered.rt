@@ -45,6 +45,7 @@ impl Gathered {
         ensures ok { OnOk result (Passes (K.written sink.old) (K.written sink.new) self.old self.new piece.now) }
         ensures fault { OnErr result (WritesPrefix (K.written sink.old) (K.written sink.new) self.old) }
         ensures counted { CountsFailure (K.failures sink.old) (K.failures sink.new) result }
+        ensures unflushed { K.flushes sink.new ≡ K.flushes sink.old }
     {
         self.make_room(sink, piece.len())?;
         self.push(piece);
@@ -57,6 +58,7 @@ impl Gathered {
         ensures none { OnOk result (self.new ≡ []) }
         ensures fault { OnErr result (WritesPrefix (K.written sink.old) (K.written sink.new) self.old) }
         ensures counted { CountsFailure (K.failures sink.old) (K.failures sink.new) result }
+        ensures unflushed { K.flushes sink.new ≡ K.flushes sink.old }
     {
         write_all(sink, &self.bytes[..self.len])?;
         self.len = 0;
@@ -70,6 +72,7 @@ impl Gathered {
         ensures room { OnOk result (length self.new + count ≤ ROOM) }
         ensures fault { OnErr result (WritesPrefix (K.written sink.old) (K.written sink.new) self.old) }
         ensures counted { CountsFailure (K.failures sink.old) (K.failures sink.new) result }
+        ensures unflushed { K.flushes sink.new ≡ K.flushes sink.old }
     {
         if self.len + count <= ROOM {
             return Ok(());

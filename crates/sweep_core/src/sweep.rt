@@ -1,8 +1,8 @@
 //! The sweep.
-ghost use Rattle.std.specs.Prelude.{◌≡◌, ◌≤◌, true, false, Some, Err, IfOk, IfSome, OnOk, if◌then◌else◌};
+ghost use Rattle.std.specs.Prelude.{◌≡◌, ◌≤◌, true, false, Some, Err, IfOk, IfSome, OnOk};
 ghost use Rattle.std.specs.Io.KnownBytes.{IsAtEnd};
-ghost use Rattle.trace_core.specs.Device.{one_more};
-ghost use Rattle.trace_core.specs.Task.{Completes, StopsAt, CutsOff, BreaksOff, is_failed_read, source_failed, sink_failed};
+ghost use Rattle.trace_core.specs.Device.{failures_after};
+ghost use Rattle.trace_core.specs.Task.{Completes, StopsAt, CutsOff, BreaksOff, FlushesOnce, is_failed_read, source_failed, sink_failed};
 ghost use Rattle.sweep_core.specs.SweepText.{sweep_task, has_read};
 ghost use Rattle.sweep_core.specs.Work.{sweep_work};
 
@@ -59,10 +59,11 @@ pub fn sweep<S: Source, K: Sink>(
     ensures memory { result ≡ Err RunFault.Memory → (source.new ≡ source.old) × (sink.new ≡ sink.old) }
 
     // Each device failed exactly where the answer says so.
-    ensures reads { S.failures source.new
-        ≡ (if source_failed result then one_more (S.failures source.old) else S.failures source.old) }
-    ensures writes { K.failures sink.new
-        ≡ (if sink_failed result then one_more (K.failures sink.old) else K.failures sink.old) }
+    ensures reads { S.failures source.new ≡ failures_after (source_failed result) (S.failures source.old) }
+    ensures writes { K.failures sink.new ≡ failures_after (sink_failed result) (K.failures sink.old) }
+
+    // The sink is flushed once at the end of the table, and not at a fault of the trace.
+    ensures flushes { FlushesOnce (K.flushes sink.old) (K.flushes sink.new) result }
 {
     let mut lines = Lines::new(alloc, request.format, request.max_lines)?;
     let mut profiles = make_profiles(alloc, request)?;

@@ -1,7 +1,7 @@
 //! What a sweep writes once it has read a trace.
 ghost use Rattle.std.specs.Prelude.{◌≡◌, ◌∷◌, ◌++◌, [], List, OnOk, OnErr};
 ghost use Rattle.std.specs.Io.KnownBytes.{Appends};
-ghost use Rattle.trace_core.specs.Device.{CountsFailure, WritesPrefix};
+ghost use Rattle.trace_core.specs.Device.{CountsFailure, FlushesLast, WritesPrefix};
 ghost use Rattle.trace_core.specs.declared.events.Event.{Event};
 ghost use Rattle.sweep_core.specs.SweepText.{header_of, table_text, rows_text, rows_of, row_counts};
 ghost use Rattle.sweep_core.specs.Gathering.{Passes};
@@ -35,6 +35,7 @@ pub(crate) fn write_table<K: Sink>(
     ensures fault { (es : List Event) → Swept request.now es profiles.now →
         OnErr result (WritesPrefix (K.written sink.old) (K.written sink.new) (table_text request.now es)) }
     ensures counted { CountsFailure (K.failures sink.old) (K.failures sink.new) result }
+    ensures flushed { FlushesLast (K.flushes sink.old) (K.flushes sink.new) result }
 {
     let mut gathered = gathered;
     write_header(sink, request.after, &mut gathered)?;
@@ -53,6 +54,7 @@ fn write_header<K: Sink>(
         gathered.old gathered.new (header_of after)) }
     ensures fault { OnErr result (WritesPrefix (K.written sink.old) (K.written sink.new) gathered.old) }
     ensures counted { CountsFailure (K.failures sink.old) (K.failures sink.new) result }
+    ensures unflushed { K.flushes sink.new ≡ K.flushes sink.old }
 {
     match after {
         None => gathered.put(sink, HEADER),
@@ -75,6 +77,7 @@ fn write_rows<K: Sink>(
         OnErr result (WritesPrefix (K.written sink.old) (K.written sink.new)
         (gathered.old ++ rows_text es (rows_of request.now))) }
     ensures counted { CountsFailure (K.failures sink.old) (K.failures sink.new) result }
+    ensures unflushed { K.flushes sink.new ≡ K.flushes sink.old }
 {
     let mut left = profiles;
     let Some(first) = left.first() else {

@@ -1,4 +1,4 @@
-use Rattle.std.proofs.Common.{◌*◌, Ok, ap, ◌∙◌, subst}
+use Rattle.std.proofs.Common.{◌*◌, Ok, ap, refl, ◌∙◌, subst}
 use Rattle.std.proofs.lemmas.List.{append-nil}
 use Rattle.trace_core.specs.Reader.{Tells}
 use Rattle.trace_core.specs.Task.{entries_of}
@@ -10,39 +10,43 @@ use Rattle.cachesim.proofs.TraceFaults.{failed_by}
 use Rattle.cachesim.proofs.csim.csim.Goals as goal
 
 pub loop-simulation-init : goal.loop-simulation-init
-loop-simulation-init g c =
-    simulated_start c.args.geometry c.args.verbose c.args.max_lines _ _ _ _ c.in_ok-lines.lines c.in_ok-simulation.simulation
-    c.in_ok-lines.ensures c.requires.most c.in_ok-simulation.ensures.stands c.in_ok-simulation.ensures.few
+loop-simulation-init g c = (
+  simulated_start c.args.geometry c.args.verbose c.args.max_lines _ _ _ _ c.in_ok-lines.lines c.in_ok-simulation.simulation
+      c.in_ok-lines.ensures c.requires.most c.in_ok-simulation.ensures.stands c.in_ok-simulation.ensures.few,
+  refl,
+)
 
 pub loop-simulation-preserved : goal.loop-simulation-preserved
 loop-simulation-preserved g c =
-    let inv = c.loop-simulation.invariant in
-    let found = c.in_ok-entry.was ∙ ap Ok c.in-Some.is in
-    simulated_more c.args.geometry c.args.verbose c.args.max_lines _ _ _ _ _ _ _ _ _ _ _ _ c.loop-simulation.lines c.next.new.self c.loop-simulation.simulation c.step-lookups.new.self inv
-    (c.in-Some.field-0-0, c.in-Some.entry) (lookups_of_pair c.step-lookups.result)
-    (rw found at (c.next.ensures.reached _ _ _ _ inv.read inv.reached))
-    (c.step-lookups.ensures.stands c.args.geometry (data_of (entries_of inv.read)) inv.simulates)
-    c.in_ok-write_line.ensures.ok c.in_ok-write_line.ensures.counted
-    (c.step-lookups.ensures.few (2 * c.loop-simulation.lines.lines) inv.few)
-    (rw c.in-Some.is at c.in_ok-entry.ensures.entry).1 c.next.ensures.same.1
+    let inv = c.loop-simulation.invariant.0 in
+    let found = c.in_ok-entry.was ∙ ap Ok c.in-Some.is in (
+      simulated_more c.args.geometry c.args.verbose c.args.max_lines _ _ _ _ _ _ _ _ _ _ _ _ c.loop-simulation.lines c.next.new.self c.loop-simulation.simulation c.step-lookups.new.self inv
+          (c.in-Some.field-0-0, c.in-Some.entry) (lookups_of_pair c.step-lookups.result)
+          (rw found at (c.next.ensures.reached _ _ _ _ inv.read inv.reached))
+          (c.step-lookups.ensures.stands c.args.geometry (data_of (entries_of inv.read)) inv.simulates)
+          c.in_ok-write_line.ensures.ok c.in_ok-write_line.ensures.counted
+          (c.step-lookups.ensures.few (2 * c.loop-simulation.lines.lines) inv.few)
+          (rw c.in-Some.is at c.in_ok-entry.ensures.entry).1 c.next.ensures.same.1,
+      c.write_line.ensures.unflushed ∙ c.loop-simulation.invariant.1,
+    )
 
 pub returns-in_err-entry-clause-fault : goal.returns-in_err-entry-clause-fault
 returns-in_err-entry-clause-fault g c = λ x is own.
-    let inv = c.loop-simulation.invariant in
+    let inv = c.loop-simulation.invariant.0 in
     let failed = failed_by c.next.new.self.state c.next.result x c.in_err-entry.field-0.0 c.in_err-entry.was (rw is at c.from_residual-in_err-entry.ensures.1) c.next.ensures.tells in
     let reached = rw (c.in_err-entry.was, append-nil inv.read) at (c.next.ensures.reached _ _ _ _ inv.read inv.reached) in
     task_stops (csim_task c.args.geometry c.args.verbose c.args.max_lines) _ _ _ _ _ _ inv.read c.next.new.self x failed own reached inv.wrote
 
 pub returns-in_err-entry-clause-cut : goal.returns-in_err-entry-clause-cut
 returns-in_err-entry-clause-cut g c = λ x is own.
-    let inv = c.loop-simulation.invariant in
+    let inv = c.loop-simulation.invariant.0 in
     let failed = failed_by c.next.new.self.state c.next.result x c.in_err-entry.field-0.0 c.in_err-entry.was (rw is at c.from_residual-in_err-entry.ensures.1) c.next.ensures.tells in
     let reached = rw (c.in_err-entry.was, append-nil inv.read) at (c.next.ensures.reached _ _ _ _ inv.read inv.reached) in
     task_cut (csim_task c.args.geometry c.args.verbose c.args.max_lines) _ _ _ _ _ _ inv.read c.next.new.self x failed own reached inv.wrote
 
 pub returns-in_err-write_line-clause-write : goal.returns-in_err-write_line-clause-write
 returns-in_err-write_line-clause-write g c = λ _.
-    let inv = c.loop-simulation.invariant in
+    let inv = c.loop-simulation.invariant.0 in
     let found = c.in_ok-entry.was ∙ ap Ok c.in-Some.is in
     broken_line c.args.geometry c.args.verbose c.args.max_lines _ _ _ _ _ _ _ inv.read (c.in-Some.field-0-0, c.in-Some.entry) (lookups_of_pair c.step-lookups.result) c.next.new.self
     (subst (Tells c.next.new.self.state) found c.next.ensures.tells)
@@ -52,7 +56,7 @@ returns-in_err-write_line-clause-write g c = λ _.
 
 pub returns-in_err-write_last-clause-write : goal.returns-in_err-write_last-clause-write
 returns-in_err-write_last-clause-write g c = λ _.
-    let inv = c.loop-simulation.invariant in
+    let inv = c.loop-simulation.invariant.0 in
     let none = c.in_ok-entry.was ∙ ap Ok c.in_default.is in
     broken_summary c.args.geometry c.args.verbose c.args.max_lines _ _ _ _ _ _ _ inv.read c.next.new.self c.loop-simulation.simulation
     (subst (Tells c.next.new.self.state) none c.next.ensures.tells)
@@ -61,7 +65,7 @@ returns-in_err-write_last-clause-write g c = λ _.
 
 pub returns-clause-ok : goal.returns-clause-ok
 returns-clause-ok g c =
-    let inv = c.loop-simulation.invariant in
+    let inv = c.loop-simulation.invariant.0 in
     let none = c.in_ok-entry.was ∙ ap Ok c.in_default.is in
     wrote_all c.args.geometry c.args.verbose c.args.max_lines _ _ _ _ _ _ _ inv.read c.next.new.self c.loop-simulation.simulation
     (subst (Tells c.next.new.self.state) none c.next.ensures.tells)

@@ -27,6 +27,7 @@ loop-config-init g c = (
     written-start (rows_of c.args.request.now) es (g.K.Sink.written c.args.sink.now) c.args.gathered.now,
   ),
   refl,
+  refl,
 )
 
 pub next_counts-counts-requires : goal.next_counts-counts-requires
@@ -56,6 +57,7 @@ loop-config-preserved g c = (
             (subst (Passes b d c.loop-config.gathered c.put.new.self) row c.in_ok-put.ensures.ok),
       ),
   c.in_ok-put.ensures.counted ∙ c.loop-config.invariant.1,
+  c.put.ensures.unflushed ∙ c.loop-config.invariant.2,
 )
 
 pub returns-in_err-put-clause-fault : goal.returns-in_err-put-clause-fault

@@ -12,3 +12,4 @@ invariant-loop-config g l =
     ((es : List Event) → Swept l.request es l.profiles → Walks es l.left l.tally l.config-iterator
     × Written (rows_of l.request) es (g.K.Sink.written l.initial.sink) (g.K.Sink.written l.sink) l.initial.gathered l.gathered l.config-iterator)
     × (g.K.Sink.failures l.sink ≡ g.K.Sink.failures l.initial.sink)
+    × (g.K.Sink.flushes l.sink ≡ g.K.Sink.flushes l.initial.sink)
