@@ -63,7 +63,7 @@ impl Counts {
     ghost use Rattle.cache_core.specs.LruLaws.{counted};
 
     /// Counts one access: a hit or a miss, and an eviction where a block left. No count may be at its type's limit.
-    pub fn count(&mut self, outcome: &Outcome)
+    pub(crate) fn count(&mut self, outcome: &Outcome)
         requires hits { self.old.hits + 1 < 2 ^ 64 }
         requires misses { self.old.misses + 1 < 2 ^ 64 }
         requires evictions { self.old.evictions + 1 < 2 ^ 64 }

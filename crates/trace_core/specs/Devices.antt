@@ -10,9 +10,9 @@ pub record TapeState : Type 0 where
   pub calls : ℕ
   pub failures : ℕ
 
--- A sink that keeps what is written to it: these bytes, the most that a call takes, its calls as those of a tape, and how many of
+-- An array that is written to: the bytes that it holds, the most that a call takes, its calls as those of a tape, and how many of
 -- them were flushes, up to 2^64 - 1.
-pub record Store : Type 0 where
+pub record ArrayState : Type 0 where
   pub bytes : List ℕ
   pub most : ℕ
   pub fails_at : ℕ
