@@ -61,8 +61,8 @@ impl Model for Tally {
 
 impl Profile {
     /// A profile of caches of `2^s` sets of 1 to `depth` lines of `2^b` bytes. It takes all its memory here: 8 bytes
-    /// for each of `depth * 2^s` blocks, 4 for each set, and 16 for each associativity. Where memory is refused,
-    /// nothing is kept.
+    /// for each of `depth * 2^s` blocks, 4 and a quarter for each set, and 16 for each associativity. Where memory
+    /// is refused, nothing is kept.
     pub fn new(alloc: Global, b: u64, s: u64, depth: u64) -> Result<Profile, AllocError>
         requires { IsGeometry (shape s depth b) }
         ensures { IfOk result (λ profile. profile ≡ empty (shape s depth b)) }
