@@ -19,8 +19,6 @@ mod readings;
 mod respell;
 mod simulation;
 mod sweep_job;
-#[cfg(test)]
-mod tests;
 mod text;
 
 ghost use Rattle.std.specs.Prelude.{◌≤◌};
