@@ -36,7 +36,7 @@ refusals: build
 	tests/refusals
 	@RT="$(RT)" python3 tests/refusals-library
 
-wrong-bodies:
+wrong-bodies: build
 	@RT="$(RT)" python3 tests/wrong-bodies
 
 install: build
