@@ -11,14 +11,14 @@ use Rattle.trace_core.specs.declared.events.Kind.TheVariants.{DataOnly}
 use Rattle.trace_core.specs.declared.line.Format.TheVariants.{Lackey}
 use Rattle.trace_core.specs.declared.fault.TraceFault.{TraceFault}
 use Rattle.trace_core.specs.declared.reader.ReaderState.TheVariants as state
-use Rattle.trace_core.specs.Device.{WritesPrefix}
+use Rattle.trace_core.specs.Device.{WritesPrefix, FlushesAfter}
 use Rattle.trace_core.specs.Events.{events_of}
 use Rattle.trace_core.specs.Reading.{entries}
 use Rattle.trace_core.specs.Reader.{Progress, Reached, begun}
 use Rattle.trace_core.specs.Task.{Task, Completes, BreaksOff, entries_of, output}
 use Rattle.trace_core.proofs.Collecting.{collected-more}
 use Rattle.trace_core.proofs.Runs.{Reached-start}
-use Rattle.trace_core.proofs.Tasks.{WritesAlong, task_completes, task_breaks, task_fails, BreaksOff-output, prefix_after}
+use Rattle.trace_core.proofs.Tasks.{WritesAlong, task_completes, task_breaks, task_fails, task_flushes, BreaksOff-output, prefix_after, flushes_after}
 use Rattle.cache_core.specs.Geometry.{Shape}
 use Rattle.cache_core.specs.Windows.{counts}
 use Rattle.cachesim.specs.declared.simulation.Lookup.{Lookup}
@@ -147,6 +147,16 @@ module _ (g : Shape) (verbose : Bool) (limit : ℕ) where
   wrote_all before told w0 w w' a b read p sim ended reached stands wrote last =
       task_completes task before told w0 w' a b read p ended reached
       (λ text all. subst (Appends w0 w') (sym (text_is text read sim all stands)) (Appends-trans w0 w w' _ _ wrote last))
+
+  -- a flush comes after the summary
+  pub flushed_summary : (before told w0 w w' : Option (List ℕ)) (a b i j k : ℕ) (read : List (ℕ × Entry)) (p : Progress) (sim : Simulation) → p.state ≡ state.Ended
+      → Reached task.format task.limit before told a b read p → Simulates g (data_of (entries_of read)) sim
+      → Appends w0 w (task.partial (entries_of read)) → j ≡ i → FlushesAfter (summary sim.counts) j k w w' → IfSome before (λ text. FlushesAfter (task.whole text) i k w0 w')
+  unfolding csim_task
+  flushed_summary before told w0 w w' a b i j k read p sim ended reached stands wrote unflushed flushed =
+      task_flushes task before told w0 w' a b i k read p ended reached
+      (λ text all. subst (λ t. FlushesAfter t i k w0 w') (sym (text_is text read sim all stands))
+      (flushes_after w0 w w' (csim_lines g verbose (entries_of read)) (summary sim.counts) i j k wrote unflushed flushed))
 
   -- a summary that was written in part
   pub broken_summary : (before told w0 w w' : Option (List ℕ)) (a b : ℕ) (read : List (ℕ × Entry)) (p : Progress) (sim : Simulation) → p.state ≡ state.Ended

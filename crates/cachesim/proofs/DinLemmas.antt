@@ -1,10 +1,9 @@
--- How far `din` has come.
-use Rattle.std.proofs.Common.{◌≡◌, ℕ, ◌+◌, ◌*◌, ◌^◌, ◌<◌, ◌≤◌, List, [], ◌∷◌, ◌++◌, Option, None, Some, map, sym, ap, ◌∙◌, subst, arith, append_assoc}
+-- What `din` has read, stepped through and written when it ends.
+use Rattle.std.proofs.Common.{◌≡◌, ℕ, List, [], ◌∷◌, ◌++◌, false, true, Option, None, Some, map, sym, ap, ◌∙◌, subst, append_assoc}
 use Rattle.std.proofs.KnownBytes.{Appends-nil}
-use Rattle.std.specs.List.{flat_map, filter}
+use Rattle.std.specs.List.{filter}
 use Rattle.std.specs.Option.{IfSome, option_to_list}
 use Rattle.std.specs.Io.KnownBytes.{Appends}
-use Rattle.trace_core.specs.declared.events.Entry.{Entry}
 use Rattle.trace_core.specs.declared.events.Entry.TheVariants as entry
 use Rattle.trace_core.specs.declared.events.Item.{Item}
 use Rattle.trace_core.specs.declared.events.Ref.{Ref}
@@ -12,84 +11,61 @@ use Rattle.trace_core.specs.declared.events.Event.{Event}
 use Rattle.trace_core.specs.declared.events.Event.TheVariants as event
 use Rattle.trace_core.specs.declared.events.Kind.TheVariants.{All}
 use Rattle.trace_core.specs.declared.line.Format.{Format}
+use Rattle.trace_core.specs.declared.fault.TraceFault.{TraceFault}
 use Rattle.trace_core.specs.declared.reader.ReaderState.TheVariants as state
-use Rattle.trace_core.specs.Device.{WritesPrefix}
+use Rattle.trace_core.specs.Device.{WritesPrefix, FlushesAfter}
 use Rattle.trace_core.specs.Events.{events_of, keeps, references}
 use Rattle.trace_core.specs.Reading.{entries}
-use Rattle.trace_core.specs.Reader.{Progress, Reached, begun}
-use Rattle.trace_core.specs.Task.{Task, Completes, BreaksOff, entries_of}
-use Rattle.trace_core.proofs.Collecting.{collected-more}
-use Rattle.trace_core.proofs.Runs.{Reached-start}
-use Rattle.trace_core.proofs.Tasks.{task_completes, task_breaks}
+use Rattle.trace_core.specs.Reader.{Progress, begun}
+use Rattle.trace_core.specs.Task.{Task, Completes, StopsAt, CutsOff, BreaksOff, entries_of, is_failed_read}
+use Rattle.trace_core.proofs.Tasks.{task_stops, task_cut, task_completes, task_breaks, task_flushes}
 use Rattle.cache_core.specs.Levels.{Levels, IsPlan}
 use Rattle.cache_core.specs.Systems.{system_run}
 use Rattle.cache_core.specs.SystemSteps.{SystemValue, IsNewSystem, Steps, stats_of}
 use Rattle.cache_core.specs.SystemStands.{SystemStands}
 use Rattle.cache_core.proofs.SystemLaw.{new_law, step_law}
+use Rattle.cachesim.specs.DinPass.{StepsThrough, all_of}
 use Rattle.cachesim.specs.DinText.{din_task, report_of}
 
--- all that entries give to caches
-abbrev pub all_of : List Entry → List Event
-all_of es = flat_map (events_of All) es
+-- a reader that began with a format and a limit
+pub steps-from : (format : Format) (limit : ℕ) (start : Progress) (before told : Option (List ℕ)) (a b : ℕ) (p : Progress) (old new : SystemValue) → start ≡ begun format limit
+    → StepsThrough start.format start.limit before told a b p old new → StepsThrough format limit before told a b p old new
+steps-from format limit start before told a b p old new is run = subst (λ (q : Progress). StepsThrough q.format q.limit before told a b p old new) is run
 
--- the invariant of the loop: what was read and stepped
-pub record Stepped (plan : Levels) (seed : ℕ) (format : Format) (limit : ℕ) (before told : Option (List ℕ)) (a b : ℕ) (p : Progress) (v : SystemValue) : Type 0 where
-  pub read : List (ℕ × Entry)
-  pub reached : Reached (din_task plan seed format limit).format (din_task plan seed format limit).limit before told a b read p
-  pub stands : SystemStands plan seed (all_of (entries_of read)) v
-  pub few : v.steps ≤ 2 * p.lines
-  pub limited : p.limit ≤ 2 ^ 40
-
-module _ (plan : Levels) (seed : ℕ) (format : Format) (limit : ℕ) where
+module _ (plan : Levels) (seed : ℕ) (format : Format) (limit : ℕ) (before told : Option (List ℕ)) (a b : ℕ) (p : Progress) (old new : SystemValue)
+    (good : IsPlan plan) (fresh : IsNewSystem plan seed old) (run : StepsThrough format limit before told a b p old new) where
   abbrev task : Task
   task = din_task plan seed format limit
 
-  pub stepped_start : (told : Option (List ℕ)) (a : ℕ) (p : Progress) (v : SystemValue) → p ≡ begun format limit → limit ≤ 2 ^ 40 → IsNewSystem plan seed v
-      → Stepped plan seed format limit told told a a p v
-  unfolding din_task
-  stepped_start told a p v is few_lines new = record {
-    read = [];
-    reached = rw is (Reached-start format limit told a);
-    stands = new_law plan seed v new;
-    few = omega (arith, new.steps);
-    limited = rw is few_lines;
-  }
-
-  pub stepped_more : (before told told' : Option (List ℕ)) (a b b' : ℕ) (p q : Progress) (v v' : SystemValue) (old : Stepped plan seed format limit before told a b p v) (x : ℕ × Entry)
-      → Reached task.format task.limit before told' a b' (old.read ++ x ∷ []) q → SystemStands plan seed (all_of (entries_of old.read) ++ events_of All x.1) v'
-      → v'.steps ≤ v.steps + 2 → p.lines < q.lines → q.limit ≡ p.limit → Stepped plan seed format limit before told' a b' q v'
-  stepped_more before told told' a b b' p q v v' old x reached stands few further same = record {
-    read = old.read ++ x ∷ [];
-    reached = reached;
-    stands = subst (λ es. SystemStands plan seed es v') (sym (collected-more All old.read x)) stands;
-    few = omega (arith, few, old.few, further);
-    limited = omega (arith, same, old.limited);
-  }
-
   -- nothing stands written before the report
-  pub silent : (w : Option (List ℕ)) (es : List Entry) → Appends w w (task.partial es)
+  pub din-stops : (x : TraceFault) (w : Option (List ℕ)) → p.state ≡ state.Failed x → is_failed_read x ≡ false → IfSome before (λ text. StopsAt task x text w w)
   unfolding din_task
-  silent w es = Appends-nil w
+  din-stops x w failed own = task_stops task before told w w a b run.read p x failed own run.reached (Appends-nil w)
 
-  -- the report of a system is that of the text that it was run on
-  report_is : (text : List ℕ) (xs : List (ℕ × Entry)) (v : SystemValue) → entries_of xs ≡ entries format text
-      → SystemStands plan seed (all_of (entries_of xs)) v → report_of (stats_of v) ≡ task.whole text
+  pub din-cut : (x : TraceFault) (w : Option (List ℕ)) → p.state ≡ state.Failed x → is_failed_read x ≡ true
+      → IfSome before (λ text. IfSome told (λ rest. CutsOff task x text rest w w))
   unfolding din_task
-  report_is text xs v all stands = ap report_of (stands.stats ∙ ap (λ es. system_run plan seed (all_of es)) all)
+  din-cut x w failed own = task_cut task before told w w a b run.read p x failed own run.reached (Appends-nil w)
 
-  pub reported : (before told w w' : Option (List ℕ)) (a b : ℕ) (xs : List (ℕ × Entry)) (p : Progress) (v : SystemValue) → p.state ≡ state.Ended
-      → Reached task.format task.limit before told a b xs p → SystemStands plan seed (all_of (entries_of xs)) v → Appends w w' (report_of (stats_of v))
-      → IfSome before (λ text. Completes task text told w w')
+  -- the report of the system is that of the text that it was stepped through
+  report_is : (text : List ℕ) → entries_of run.read ≡ entries format text → report_of (stats_of new) ≡ task.whole text
   unfolding din_task
-  reported before told w w' a b xs p v ended reached stands wrote =
-      task_completes task before told w w' a b xs p ended reached (λ text all. subst (Appends w w') (report_is text xs v all stands) wrote)
+  report_is text all = ap report_of ((run.stands plan seed [] good (new_law plan seed old fresh)).stats ∙ ap (λ es. system_run plan seed (all_of es)) all)
 
-  pub broken_report : (before told w w' : Option (List ℕ)) (a b : ℕ) (xs : List (ℕ × Entry)) (p : Progress) (v : SystemValue) → p.state ≡ state.Ended
-      → Reached task.format task.limit before told a b xs p → SystemStands plan seed (all_of (entries_of xs)) v → WritesPrefix w w' (report_of (stats_of v))
-      → IfSome before (λ text. BreaksOff task text told w w')
+  pub din-completes : (w w' : Option (List ℕ)) → p.state ≡ state.Ended → Appends w w' (report_of (stats_of new)) → IfSome before (λ text. Completes task text told w w')
   unfolding din_task
-  broken_report before told w w' a b xs p v ended reached stands part =
-      task_breaks task before told w w' a b xs p ended reached (λ text all. subst (WritesPrefix w w') (report_is text xs v all stands) part)
+  din-completes w w' ended wrote =
+      task_completes task before told w w' a b run.read p ended run.reached (λ text all. subst (Appends w w') (report_is text all) wrote)
+
+  pub din-breaks : (w w' : Option (List ℕ)) → p.state ≡ state.Ended → WritesPrefix w w' (report_of (stats_of new)) → IfSome before (λ text. BreaksOff task text told w w')
+  unfolding din_task
+  din-breaks w w' ended part =
+      task_breaks task before told w w' a b run.read p ended run.reached (λ text all. subst (WritesPrefix w w') (report_is text all) part)
+
+  pub din-flushes : (j k : ℕ) (w w' : Option (List ℕ)) → p.state ≡ state.Ended → FlushesAfter (report_of (stats_of new)) j k w w' → IfSome before (λ text. FlushesAfter (task.whole text) j k w w')
+  unfolding din_task
+  din-flushes j k w w' ended flushed =
+      task_flushes task before told w w' a b j k run.read p ended run.reached (λ text all. subst (λ t. FlushesAfter t j k w w') (report_is text all) flushed)
 
 -- all the references of an item
 pub both_events : (item : Item) (first second : Ref) → references item ≡ (first, Some second) → events_of All (entry.Item item) ≡ event.Reference first ∷ event.Reference second ∷ []

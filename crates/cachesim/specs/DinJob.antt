@@ -5,7 +5,7 @@ use Rattle.sweep_core.specs.Space.{is_power}
 use Rattle.std.specs.Result.{result_map_both}
 use Rattle.std.specs.Str.{bytes_eq}
 use Rattle.clap.specs.Words.{Row, Text}
-use Rattle.cache_core.specs.Levels.{plan_of}
+use Rattle.cache_core.specs.Levels.{Levels, plan_of}
 use Rattle.trace_core.specs.declared.line.Format.TheVariants.{Din as DinFormat}
 use Rattle.cache_core.specs.declared.outcome.AllocMode.{AllocMode}
 use Rattle.cache_core.specs.declared.outcome.AllocMode.TheVariants.{Always, Never}
@@ -86,8 +86,17 @@ cache_of cache r = if is_given r
     then and_then (ok_or (spec_with r.size r.bsize r) (incomplete cache)) (λ spec. Ok (Some spec))
     else Ok None
 
--- The job of these entries, or the first fault: bad values in the table's order, then caches that lack size or bsize, then the plan's. The
--- letters of the format and the default seed are this project's.
+-- The plan of what was given of the four caches, or the first fault: caches that lack size or bsize, then the plan's.
+abbrev pub plan_given : CacheReading → CacheReading → CacheReading → CacheReading → Result Levels Judgement
+plan_given i d u second =
+    and_then (cache_of L1I i) (λ i.
+    and_then (cache_of L1D d) (λ d.
+    and_then (cache_of L1U u) (λ u.
+    and_then (cache_of L2U second) (λ second.
+    result_map_both (λ p. p) plan (plan_of (record { i = i; d = d; u = u }) second)))))
+
+-- The job of these entries, or the first fault: bad values in the table's order, then the caches' and the plan's. The letters of the
+-- format and the default seed are this project's.
 abbrev pub din_of : List Row → Result Job Judgement
 din_of rows =
     and_then (reading_of L1I rows) (λ i.
@@ -96,9 +105,4 @@ din_of rows =
     and_then (reading_of L2U rows) (λ second.
     and_then (value_or DinFormat (codes "-informat") format_named rows) (λ format.
     and_then (value_or 42 (codes "--seed") number_of rows) (λ seed.
-    and_then (cache_of L1I i) (λ i.
-    and_then (cache_of L1D d) (λ d.
-    and_then (cache_of L1U u) (λ u.
-    and_then (cache_of L2U second) (λ second.
-    and_then (result_map_both (λ p. p) plan (plan_of (record { i = i; d = d; u = u }) second))
-    (λ p. Ok (Din p seed format line_limit))))))))))))
+    and_then (plan_given i d u second) (λ p. Ok (Din p seed format line_limit))))))))

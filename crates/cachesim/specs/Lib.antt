@@ -2,6 +2,7 @@ pub mod CommandLine
 pub mod CsimJob
 pub mod CsimText
 pub mod DinJob
+pub mod DinPass
 pub mod DinText
 pub mod Faults
 pub mod Job

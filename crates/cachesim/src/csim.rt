@@ -1,6 +1,6 @@
 //! The command `csim`.
 ghost use Rattle.std.specs.Prelude.{◌≡◌, ◌≤◌, Some, Err, false, true, IfSome, OnOk};
-ghost use Rattle.trace_core.specs.Device.{failures_after, WritesPrefix};
+ghost use Rattle.trace_core.specs.Device.{failures_after, FlushesAfter, WritesPrefix};
 ghost use Rattle.cachesim.specs.CsimText.{csim_task};
 ghost use Rattle.trace_core.specs.Task.{Completes, StopsAt, CutsOff, output, FlushesOnce, is_failed_read, source_failed, sink_failed};
 
@@ -52,6 +52,10 @@ pub fn csim<S: Source, K: Sink>(
 
     // The sink is flushed once at the end of a whole text, and not at a fault of the trace.
     ensures flushes { FlushesOnce (K.flushes sink.old) (K.flushes sink.new) result }
+
+    // The flush comes after the last byte: where it is what failed, the whole text stands written.
+    ensures last { result ≡ Err RunFault.Write → IfSome (S.remaining source.old) (λ text. FlushesAfter ((csim_task geometry verbose max_lines).whole text)
+        (K.flushes sink.old) (K.flushes sink.new) (K.written sink.old) (K.written sink.new)) }
 {
     let mut lines = Lines::new(alloc, Format::Lackey, max_lines)?;
     let mut simulation = Simulation::new(alloc, geometry)?;

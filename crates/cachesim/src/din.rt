@@ -1,23 +1,26 @@
 //! The command `din`.
-ghost use Rattle.std.specs.Prelude.{◌≡◌, ◌≤◌, ◌+◌, ◌^◌, ◌++◌, ℕ, List, Err, false, true, IfSome, OnOk};
-ghost use Rattle.trace_core.specs.Device.{failures_after};
+ghost use Rattle.std.specs.Prelude.{◌≡◌, ◌≤◌, ◌+◌, ◌^◌, ◌++◌, ℕ, List, Err, false, true, IfSome, IfOk, MatchResult, OnOk};
+ghost use Rattle.trace_core.specs.Device.{failures_after, FlushesAfter};
 ghost use Rattle.trace_core.specs.Events.{events_of};
+ghost use Rattle.trace_core.specs.Reader.{begun};
 ghost use Rattle.trace_core.specs.Task.{BreaksOff, Completes, StopsAt, CutsOff, FlushesOnce, is_failed_read, source_failed, sink_failed};
 ghost use Rattle.trace_core.specs.declared.events.Event.{Event};
 ghost use Rattle.cache_core.specs.Levels.{Levels, IsPlan};
+ghost use Rattle.cache_core.specs.SystemSteps.{SystemValue, stats_of};
 ghost use Rattle.cache_core.specs.SystemStands.{SystemStands};
+ghost use Rattle.cachesim.specs.DinPass.{StepsThrough};
 ghost use Rattle.cachesim.specs.DinText.{din_task};
 
 use crate::din_text::set_report;
 use crate::text::{Text, write_last};
-use cache_core::plan::Plan;
+use cache_core::plan::{Plan, Stats};
 use cache_core::system::System;
 use std::alloc::Global;
 use trace_core::events::{Entry, Kind, refs_of};
 use trace_core::fault::{RunFault, TraceFault};
 use trace_core::io::{Sink, Source};
 use trace_core::line::Format;
-use trace_core::reader::{Lines, MAX_LINES};
+use trace_core::reader::{Lines, MAX_LINES, ReaderState};
 
 /// Steps a system through all the references of an entry, or flushes it.
 #[inline(always)]
@@ -37,6 +40,45 @@ fn step(system: &mut System, entry: Entry)
         }
         Entry::Flush => system.flush(),
     }
+}
+
+/// Steps a system through a trace, up to its end or its first fault.
+fn step_through<S: Source>(
+    system: &mut System,
+    lines: &mut Lines,
+    source: &mut S,
+) -> Result<(), TraceFault>
+    requires begun { lines.old ≡ begun lines.old.format lines.old.limit }
+    requires limited { lines.old.limit ≤ 2 ^ 40 }
+    requires new { system.old.steps ≡ 0 }
+    ensures stepped { StepsThrough lines.old.format lines.old.limit (S.remaining source.old) (S.remaining source.new)
+        (S.failures source.old) (S.failures source.new) lines.new system.old system.new }
+    ensures tells { MatchResult result (λ _. lines.new.state ≡ ReaderState.Ended)
+        (λ fault. lines.new.state ≡ ReaderState.Failed fault) }
+{
+    while let Some((_, entry)) = lines.next(source)? {
+        step(system, entry);
+    }
+    Ok(())
+}
+
+/// Steps a new system through a trace, and answers what it counted.
+fn stats_after<S: Source>(
+    mut system: System,
+    lines: &mut Lines,
+    source: &mut S,
+) -> Result<Stats, TraceFault>
+    requires begun { lines.old ≡ begun lines.old.format lines.old.limit }
+    requires limited { lines.old.limit ≤ 2 ^ 40 }
+    requires new { system.steps ≡ 0 }
+    ensures stepped { (end : SystemValue) × StepsThrough lines.old.format lines.old.limit (S.remaining source.old)
+        (S.remaining source.new) (S.failures source.old) (S.failures source.new) lines.new system end
+        × IfOk result (λ stats. stats ≡ stats_of end) }
+    ensures tells { MatchResult result (λ _. lines.new.state ≡ ReaderState.Ended)
+        (λ fault. lines.new.state ≡ ReaderState.Failed fault) }
+{
+    step_through(&mut system, lines, source)?;
+    Ok(system.stats())
 }
 
 /// Runs a trace through the caches of a plan, and writes the report after its end; then the sink is flushed, once. Each cache with
@@ -79,15 +121,17 @@ pub fn din<S: Source, K: Sink>(
 
     // The sink is flushed once at the end of a whole text, and not at a fault of the trace.
     ensures flushes { FlushesOnce (K.flushes sink.old) (K.flushes sink.new) result }
+
+    // The flush comes after the last byte: where it is what failed, the whole text stands written.
+    ensures last { result ≡ Err RunFault.Write → IfSome (S.remaining source.old) (λ text. FlushesAfter ((din_task plan seed format max_lines).whole text)
+        (K.flushes sink.old) (K.flushes sink.new) (K.written sink.old) (K.written sink.new)) }
 {
     plan.limits();
     let mut lines = Lines::new(alloc, format, max_lines)?;
-    let mut system = System::new(alloc, plan, seed)?;
-    while let Some((_, entry)) = lines.next(source)? {
-        step(&mut system, entry);
-    }
+    let system = System::new(alloc, plan, seed)?;
+    let stats = stats_after(system, &mut lines, source)?;
     let mut text = Text::new();
-    set_report(&mut text, &system.stats());
+    set_report(&mut text, &stats);
     write_last(&text, sink)?;
     Ok(())
 }

@@ -1,7 +1,6 @@
 //! The options of `din`.
 ghost use Rattle.std.specs.Prelude.{◌≡◌, IfOk, Some};
-ghost use Rattle.sweep_core.specs.Space.{is_power};
-ghost use Rattle.cachesim.specs.DinJob.{cache_of, din_of, power_of, reading_of, repl_named, walloc_named, wback_named};
+ghost use Rattle.cachesim.specs.DinJob.{cache_of, din_of, plan_given, power_of, reading_of, repl_named, walloc_named, wback_named};
 ghost use Rattle.cachesim.specs.Faults.{answer_in};
 ghost use Rattle.cachesim.specs.Job.{max_lines_of};
 ghost use Rattle.cachesim.specs.Readings.{optional_value, rows_given};
@@ -14,6 +13,7 @@ use crate::readings::{format_at, optional_number_at, text_at};
 use cache_core::outcome::{AllocMode, Repl, WriteMode};
 use cache_core::plan::{CacheName, CacheSpec, FirstLevel, Plan};
 use clap::ArgMatches;
+use sweep_core::space::is_power;
 use trace_core::reader::MAX_LINES;
 
 /// What was given of the options of one cache.
@@ -38,19 +38,31 @@ pub fn din_job(matches: &ArgMatches<'_>) -> Result<Job, WordsFault>
     let second = read_cache(matches, CacheName::L2U)?;
     let format = format_at(matches, "-informat")?;
     let seed = optional_number_at(matches, "--seed")?.unwrap_or(42);
-    let first = FirstLevel {
-        i: complete(CacheName::L1I, i)?,
-        d: complete(CacheName::L1D, d)?,
-        u: complete(CacheName::L1U, u)?,
-    };
-    let second = complete(CacheName::L2U, second)?;
-    let plan = Plan::new(first, second)?;
+    let plan = plan_given(i, d, u, second)?;
     Ok(Job::Din {
         plan,
         seed,
         format,
         max_lines: MAX_LINES,
     })
+}
+
+/// The plan of what was given of the four caches.
+fn plan_given(
+    i: CacheReading,
+    d: CacheReading,
+    u: CacheReading,
+    second: CacheReading,
+) -> Result<Plan, WordsFault>
+    ensures { answer_in result ≡ Some (plan_given i d u second) }
+{
+    let first = FirstLevel {
+        i: complete(CacheName::L1I, i)?,
+        d: complete(CacheName::L1D, d)?,
+        u: complete(CacheName::L1U, u)?,
+    };
+    let second = complete(CacheName::L2U, second)?;
+    Ok(Plan::new(first, second)?)
 }
 
 /// The six options of a cache.
@@ -111,13 +123,6 @@ fn power_at(matches: &ArgMatches<'_>, option: &'static str) -> Result<Option<u64
         Some(number) if is_power(number) => Ok(Some(number)),
         _ => Err(WordsFault::Value { option }),
     }
-}
-
-/// Whether a number is 2 to some power.
-fn is_power(number: u64) -> bool
-    ensures { result ≡ is_power number }
-{
-    number.is_power_of_two()
 }
 
 /// The rule by which blocks leave a set, which may be left out.

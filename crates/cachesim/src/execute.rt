@@ -1,6 +1,6 @@
 //! How jobs are done.
 ghost use Rattle.std.specs.Prelude.{◌≡◌, ◌≤◌, Err, false, true, IfSome, OnOk};
-ghost use Rattle.trace_core.specs.Device.{failures_after, WritesPrefix};
+ghost use Rattle.trace_core.specs.Device.{failures_after, FlushesAfter, WritesPrefix};
 ghost use Rattle.trace_core.specs.Task.{BreaksOff, Completes, StopsAt, CutsOff, output, FlushesOnce, is_failed_read, source_failed, sink_failed};
 ghost use Rattle.cachesim.specs.Job.{task_of, max_lines_of, writes_early};
 
@@ -50,6 +50,10 @@ pub fn execute<S: Source, K: Sink>(
 
     // The sink is flushed once at the end of a whole text, and not at a fault of the trace.
     ensures flushes { FlushesOnce (K.flushes sink.old) (K.flushes sink.new) result }
+
+    // The flush comes after the last byte: where it is what failed, the whole text stands written.
+    ensures last { result ≡ Err RunFault.Write → IfSome (S.remaining source.old) (λ text. FlushesAfter ((task_of job.now).whole text)
+        (K.flushes sink.old) (K.flushes sink.new) (K.written sink.old) (K.written sink.new)) }
 {
     match *job {
         Job::Csim {

@@ -2,7 +2,7 @@
 ghost use Rattle.std.specs.Prelude.{◌≡◌};
 ghost use Rattle.std.specs.List.{list_all};
 ghost use Rattle.std.specs.Char.{is_ascii_digit};
-ghost use Rattle.cachesim.specs.Numbers.{number_of, range_of, scale_of, scaled_of, triple_of};
+ghost use Rattle.cachesim.specs.Numbers.{config_of, number_of, range_of, scale_of, scaled_of, triple_of};
 
 use sweep_core::config::Config;
 
@@ -67,6 +67,13 @@ pub fn read_triple(text: &str) -> Option<Config>
 {
     let (bsize, rest) = text.split_once(',')?;
     let (sets, assoc) = rest.split_once(',')?;
+    read_config(bsize, sets, assoc)
+}
+
+/// The triple of three numbers.
+fn read_config(bsize: &str, sets: &str, assoc: &str) -> Option<Config>
+    ensures { result ≡ config_of (number_of bsize.now) (number_of sets.now) (number_of assoc.now) }
+{
     Some(Config {
         bsize: read_number(bsize)?,
         sets: read_number(sets)?,

@@ -2,7 +2,7 @@
 ghost use Rattle.std.specs.Prelude.{◌≡◌, IfOk, false, codes, map};
 ghost use Rattle.clap.specs.Words.{app_of, rule_of};
 ghost use Rattle.clap.specs.declared.builder.command.Command.TheViews.{out-Command as fields_of};
-ghost use Rattle.cachesim.specs.Options.{IsLeaf, cache_rules, cachesim_app, csim_rules, din_rules, rule_of_option, sweep_rules, with_rules};
+ghost use Rattle.cachesim.specs.Options.{IsLeaf, cache_rules, cachesim_app, csim_rules, din_rules, rule_of_option, sweep_rules, with_presence, with_rules, with_spelling};
 
 use crate::cache_options::cache_options;
 use crate::help;
@@ -160,11 +160,26 @@ fn arg_of<'a>(alloc: Global, option: &CommandOption) -> Arg<'a>
     ensures local { result.global ≡ false }
 {
     let arg = Arg::new(alloc, option.name).help(option.help);
-    let arg = match option.spelling {
+    with_presence(with_spelling(arg, option.spelling), option.presence)
+}
+
+/// The argument with a spelling.
+fn with_spelling<'a>(arg: Arg<'a>, spelling: Spelling) -> Arg<'a>
+    ensures rule { rule_of result ≡ with_spelling spelling (rule_of arg.entry) }
+    ensures local { result.global ≡ arg.entry.global }
+{
+    match spelling {
         Long(name) => arg.long(name),
         Short(letter) => arg.short(letter),
-    };
-    match option.presence {
+    }
+}
+
+/// The argument that has to be given, may be given, or is a flag.
+fn with_presence<'a>(arg: Arg<'a>, presence: Presence) -> Arg<'a>
+    ensures rule { rule_of result ≡ with_presence presence (rule_of arg.entry) }
+    ensures local { result.global ≡ arg.entry.global }
+{
+    match presence {
         Required(value) => arg.action(ArgAction::Set).value_name(value).required(true),
         Optional(value) => arg.action(ArgAction::Set).value_name(value),
         Flag => arg.action(ArgAction::SetTrue),

@@ -9,13 +9,13 @@ use Rattle.std.proofs.lemmas.List.Folds.{sum_by-replicate}
 use Rattle.trace_core.specs.declared.events.Event.{Event}
 use Rattle.trace_core.specs.declared.fault.TraceFault.{TraceFault}
 use Rattle.trace_core.specs.declared.reader.ReaderState.TheVariants as state
-use Rattle.trace_core.specs.Device.{WritesPrefix}
+use Rattle.trace_core.specs.Device.{WritesPrefix, FlushesAfter}
 use Rattle.trace_core.specs.Events.{events_of}
 use Rattle.trace_core.specs.Reader.{Progress, begun}
 use Rattle.trace_core.specs.Task.{StopsAt, CutsOff, BreaksOff, Completes, entries_of, is_failed_read}
 use Rattle.trace_core.proofs.Entries.{entries-reading}
 use Rattle.trace_core.proofs.Runs.{Reached-end}
-use Rattle.trace_core.proofs.Tasks.{task_stops, task_cut, task_breaks, task_completes}
+use Rattle.trace_core.proofs.Tasks.{task_stops, task_cut, task_breaks, task_completes, task_flushes}
 use Rattle.cache_core.specs.Geometry.{Shape}
 use Rattle.profile_core.specs.State.{empty, fed_of}
 use Rattle.sweep_core.specs.declared.request.Request.{Request}
@@ -70,6 +70,14 @@ module _ (r : Request) (before told : Option (List ℕ)) (a b : ℕ) (p : Progre
   sweep-breaks w0 w ended start wrote =
       task_breaks (sweep_task r) before told w0 w a b run.read p ended run.reached
       (λ text same. subst (λ es. WritesPrefix w0 w (table_text r (flat_map (events_of r.kind) es))) same (wrote (fed_events r before told a b p xs ys run) (swept-on start)))
+
+  pub sweep-flushes : (j k : ℕ) (w0 w : Option (List ℕ)) → p.state ≡ state.Ended → Swept r [] xs
+      → ((es : List Event) → Swept r es ys → FlushesAfter (table_text r es) j k w0 w)
+      → IfSome before (λ text. FlushesAfter ((sweep_task r).whole text) j k w0 w)
+  unfolding sweep_task sweep_text
+  sweep-flushes j k w0 w ended start flushed =
+      task_flushes (sweep_task r) before told w0 w a b j k run.read p ended run.reached
+      (λ text same. subst (λ es. FlushesAfter (table_text r (flat_map (events_of r.kind) es)) j k w0 w) same (flushed (fed_events r before told a b p xs ys run) (swept-on start)))
 
   pub sweep-completes : (w0 w : Option (List ℕ)) → p.state ≡ state.Ended → Swept r [] xs
       → ((es : List Event) → Swept r es ys → Appends w0 w (table_text r es))

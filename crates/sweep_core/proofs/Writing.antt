@@ -5,7 +5,7 @@ use Rattle.std.proofs.KnownBytes.{Appends-nil}
 use Rattle.std.proofs.Math.Seq.{take-length}
 use Rattle.std.proofs.lemmas.List.Concat.{flat_map-append}
 use Rattle.trace_core.specs.declared.events.Event.{Event}
-use Rattle.trace_core.specs.Device.{WritesPrefix, StaysOrUntold}
+use Rattle.trace_core.specs.Device.{WritesPrefix, StaysOrUntold, TookAll}
 use Rattle.trace_core.proofs.Tasks.{prefix_after}
 use Rattle.sweep_core.specs.declared.config.Config.{Config}
 use Rattle.sweep_core.specs.Gathering.{Passes}
@@ -67,3 +67,10 @@ flushed-broken (Some x) b None text wrote stays = tt
 flushed-broken (Some x) None (Some z) text wrote stays = absurd wrote
 flushed-broken (Some x) (Some y) (Some z) text wrote stays =
     (length text, omega arith, let same : y ≡ z = cc in sym same ∙ wrote ∙ ap (λ l. x ++ l) (sym (take-length text)))
+
+-- a failed flush comes after the whole text
+pub flushed-last : (a b d : Option (List ℕ)) (text : List ℕ) → Appends a b text → StaysOrUntold b d → TookAll a d text
+flushed-last None b d text wrote stays = tt
+flushed-last (Some x) b None text wrote stays = tt
+flushed-last (Some x) None (Some z) text wrote stays = absurd wrote
+flushed-last (Some x) (Some y) (Some z) text wrote stays = let same : y ≡ z = cc in sym same ∙ wrote

@@ -1,7 +1,7 @@
 //! The sweep.
 ghost use Rattle.std.specs.Prelude.{◌≡◌, ◌≤◌, true, false, Some, Err, IfOk, IfSome, OnOk};
 ghost use Rattle.std.specs.Io.KnownBytes.{IsAtEnd};
-ghost use Rattle.trace_core.specs.Device.{failures_after};
+ghost use Rattle.trace_core.specs.Device.{failures_after, FlushesAfter};
 ghost use Rattle.trace_core.specs.Task.{Completes, StopsAt, CutsOff, BreaksOff, FlushesOnce, is_failed_read, source_failed, sink_failed};
 ghost use Rattle.sweep_core.specs.SweepText.{sweep_task, has_read};
 ghost use Rattle.sweep_core.specs.Work.{sweep_work};
@@ -64,6 +64,10 @@ pub fn sweep<S: Source, K: Sink>(
 
     // The sink is flushed once at the end of the table, and not at a fault of the trace.
     ensures flushes { FlushesOnce (K.flushes sink.old) (K.flushes sink.new) result }
+
+    // The flush comes after the last byte: where it is what failed, the whole text stands written.
+    ensures last { result ≡ Err RunFault.Write → IfSome (S.remaining source.old) (λ text. FlushesAfter ((sweep_task request.now).whole text)
+        (K.flushes sink.old) (K.flushes sink.new) (K.written sink.old) (K.written sink.new)) }
 {
     let mut lines = Lines::new(alloc, request.format, request.max_lines)?;
     let mut profiles = make_profiles(alloc, request)?;

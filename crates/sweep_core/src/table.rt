@@ -1,7 +1,7 @@
 //! What a sweep writes once it has read a trace.
 ghost use Rattle.std.specs.Prelude.{◌≡◌, ◌∷◌, ◌++◌, [], List, OnOk, OnErr};
 ghost use Rattle.std.specs.Io.KnownBytes.{Appends};
-ghost use Rattle.trace_core.specs.Device.{CountsFailure, FlushesLast, WritesPrefix};
+ghost use Rattle.trace_core.specs.Device.{CountsFailure, FlushesAfter, FlushesLast, WritesPrefix};
 ghost use Rattle.trace_core.specs.declared.events.Event.{Event};
 ghost use Rattle.sweep_core.specs.SweepText.{header_of, table_text, rows_text, rows_of, row_counts};
 ghost use Rattle.sweep_core.specs.Gathering.{Passes};
@@ -36,6 +36,8 @@ pub(crate) fn write_table<K: Sink>(
         OnErr result (WritesPrefix (K.written sink.old) (K.written sink.new) (table_text request.now es)) }
     ensures counted { CountsFailure (K.failures sink.old) (K.failures sink.new) result }
     ensures flushed { FlushesLast (K.flushes sink.old) (K.flushes sink.new) result }
+    ensures last { (es : List Event) → Swept request.now es profiles.now → OnErr result (FlushesAfter (table_text request.now es)
+        (K.flushes sink.old) (K.flushes sink.new) (K.written sink.old) (K.written sink.new)) }
 {
     let mut gathered = gathered;
     write_header(sink, request.after, &mut gathered)?;

@@ -1,5 +1,5 @@
 -- What a run over a trace has read and written when it ends: for its loop's start and turns see Runs and Collecting.
-use Rattle.std.proofs.Common.{◌≡◌, ◌≢◌, ℕ, ◌+◌, ◌≤◌, List, [], ◌++◌, length, take, true, false, Option, None, Some, refl, sym, ap, ◌∙◌, subst, arith, append-nil, append_assoc, length-append}
+use Rattle.std.proofs.Common.{◌≡◌, ◌≢◌, ℕ, ◌+◌, ◌≤◌, List, [], ◌++◌, length, take, true, false, Option, None, Some, inl, inr, refl, sym, ap, ◌∙◌, subst, arith, append-nil, append_assoc, length-append}
 use Rattle.std.proofs.Math.Seq.{take-append-add}
 use Rattle.std.proofs.lemmas.List.{take-append-le, map-append}
 use Rattle.std.specs.Option.{IfSome}
@@ -10,7 +10,7 @@ use Rattle.trace_core.specs.declared.fault.TraceFault.{TraceFault}
 use Rattle.trace_core.specs.declared.fault.TraceFault.TheVariants as fault
 use Rattle.trace_core.specs.declared.reader.ReaderState.{ReaderState}
 use Rattle.trace_core.specs.declared.reader.ReaderState.TheVariants as state
-use Rattle.trace_core.specs.Device.{WritesPrefix}
+use Rattle.trace_core.specs.Device.{WritesPrefix, TookAll, FlushesAfter}
 use Rattle.trace_core.specs.Reading.{Reading, reading, at_end, entries, ends}
 use Rattle.trace_core.specs.Reader.{entries_then, still_gives, Progress, Reached, Delivers, device_failed}
 use Rattle.trace_core.specs.Task.{Task, Completes, StopsAt, CutsOff, BreaksOff, entries_of, entries_in, output, output_for}
@@ -70,6 +70,20 @@ module _ (task : Task) where
       let end = Reached-whole (λ t. WritesPrefix w0 w (task.whole t)) text told a b xs p ended run wrote in
       record { faultless = end.0; read = end.1; wrote = end.2 }
 
+  -- At the end, where the sink may have been flushed.
+  pub task_flushes : (before told written-before written : Option (List ℕ)) (a b j k : ℕ) (xs : List (ℕ × Entry)) (p : Progress) → p.state ≡ state.Ended
+      → Reached task.format task.limit before told a b xs p
+      → ((text : List ℕ) → entries_of xs ≡ entries task.format text → FlushesAfter (task.whole text) j k written-before written)
+      → IfSome before (λ text. FlushesAfter (task.whole text) j k written-before written)
+  task_flushes None told w0 w a b j k xs p ended run flushed = tt
+  task_flushes (Some text) told w0 w a b j k xs p ended run flushed =
+      (Reached-whole (λ t. FlushesAfter (task.whole t) j k w0 w) text told a b xs p ended run flushed).2
+
+  -- Before the end, where the sink was not flushed.
+  pub task_unflushed : (before written-before written : Option (List ℕ)) (j k : ℕ) → k ≡ j → IfSome before (λ text. FlushesAfter (task.whole text) j k written-before written)
+  task_unflushed None w0 w j k same = tt
+  task_unflushed (Some text) w0 w j k same = inl same
+
   -- At a fault of the trace.
   pub task_stops : (before told written-before written : Option (List ℕ)) (a b : ℕ) (xs : List (ℕ × Entry)) (p : Progress) (x : TraceFault) → p.state ≡ state.Failed x
       → device_failed (state.Failed x) ≡ false → Reached task.format task.limit before told a b xs p → Appends written-before written (task.partial (entries_of xs))
@@ -108,6 +122,17 @@ prefix_after (Some x) (Some y) (Some z) front piece more all wrote part is = (
   part.2 ∙ ap (λ l. l ++ take part.0 piece) wrote ∙ append_assoc x front (take part.0 piece)
       ∙ ap (λ l. x ++ l) (sym (take_past front piece more part.0 part.1) ∙ ap (take (length front + part.0)) (sym is)),
 )
+
+-- what was written before, and then the rest, behind which a sink is flushed
+pub flushes_after : (a b c : Option (List ℕ)) (front piece : List ℕ) (i j k : ℕ) → Appends a b front → j ≡ i → FlushesAfter piece j k b c → FlushesAfter (front ++ piece) i k a c
+flushes_after a b c front piece i j k wrote same (inl unflushed) = inl (unflushed ∙ same)
+flushes_after a b c front piece i j k wrote same (inr all) = inr (took a b c wrote all)
+  where
+    took : (a b c : Option (List ℕ)) → Appends a b front → TookAll b c piece → TookAll a c (front ++ piece)
+    took None b c wrote all = tt
+    took (Some x) None c wrote all = absurd wrote
+    took (Some x) (Some y) None wrote all = tt
+    took (Some x) (Some y) (Some z) wrote all = all ∙ ap (λ l. l ++ piece) wrote ∙ append_assoc x front piece
 
 -- A task whose output grows with the entries: what is written of some comes before what is written of more, or of the whole text.
 pub record WritesAlong (task : Task) : Type 0 where

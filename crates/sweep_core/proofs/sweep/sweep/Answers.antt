@@ -7,7 +7,7 @@ use Rattle.trace_core.specs.declared.reader.ReaderState.TheVariants as state
 use Rattle.profile_core.specs.State.{fed_of}
 use Rattle.sweep_core.specs.declared.profiles.PairProfile.{PairProfile}
 use Rattle.sweep_core.specs.Pass.{Swept}
-use Rattle.sweep_core.proofs.Sweeping.{unfed, feeds-from, fed_events, swept-on, sweep-stops, sweep-cut, sweep-breaks, sweep-completes, sweep-works}
+use Rattle.sweep_core.proofs.Sweeping.{unfed, feeds-from, fed_events, swept-on, sweep-stops, sweep-cut, sweep-breaks, sweep-flushes, sweep-completes, sweep-works}
 use Rattle.sweep_core.proofs.sweep.sweep.Goals as goal
 
 pub read_trace-requires-clause-unfed : goal.read_trace-requires-clause-unfed
@@ -44,6 +44,14 @@ returns-in_err-write_table-clause-write g c = λ is.
     let end : c.deref.result.now ≡ c.read_trace.new.profiles = c.deref.ensures.value ∙ take_at _ _ _ (omega arith) in
     sweep-breaks c.args.request.now (g.S.Source.remaining c.args.source.now) (g.S.Source.remaining c.read_trace.new.source) (g.S.Source.failures c.args.source.now) (g.S.Source.failures c.read_trace.new.source) c.read_trace.new.lines c.deref_mut.result.now c.read_trace.new.profiles run (g.K.Sink.written c.args.sink.now) (g.K.Sink.written c.write_table.new.sink) c.in_ok-read_trace.ensures.tells start
     (λ es swept. c.in_err-write_table.ensures.fault es (subst (Swept c.args.request.now es) (sym end) swept))
+
+pub returns-in_err-write_table-clause-last : goal.returns-in_err-write_table-clause-last
+returns-in_err-write_table-clause-last g c = λ is.
+    let run = feeds-from c.args.request.now c.in_ok-lines.lines (g.S.Source.remaining c.args.source.now) (g.S.Source.remaining c.read_trace.new.source) (g.S.Source.failures c.args.source.now) (g.S.Source.failures c.read_trace.new.source) c.read_trace.new.lines c.deref_mut.result.now c.read_trace.new.profiles c.in_ok-lines.ensures c.read_trace.ensures.fed in
+    let start : Swept c.args.request.now [] c.deref_mut.result.now = subst (Swept c.args.request.now []) (sym c.deref_mut.ensures.value) c.in_ok-profiles.ensures in
+    let end : c.deref.result.now ≡ c.read_trace.new.profiles = c.deref.ensures.value ∙ take_at _ _ _ (omega arith) in
+    sweep-flushes c.args.request.now (g.S.Source.remaining c.args.source.now) (g.S.Source.remaining c.read_trace.new.source) (g.S.Source.failures c.args.source.now) (g.S.Source.failures c.read_trace.new.source) c.read_trace.new.lines c.deref_mut.result.now c.read_trace.new.profiles run (g.K.Sink.flushes c.args.sink.now) (g.K.Sink.flushes c.write_table.new.sink) (g.K.Sink.written c.args.sink.now) (g.K.Sink.written c.write_table.new.sink) c.in_ok-read_trace.ensures.tells start
+    (λ es swept. c.in_err-write_table.ensures.last es (subst (Swept c.args.request.now es) (sym end) swept))
 
 pub returns-clause-ok : goal.returns-clause-ok
 returns-clause-ok g c =

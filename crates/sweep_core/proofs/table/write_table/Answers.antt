@@ -1,10 +1,10 @@
-use Rattle.std.proofs.Common.{List, ℕ, [], ◌++◌, append-nil, subst}
+use Rattle.std.proofs.Common.{List, ℕ, [], ◌++◌, append-nil, inr, subst}
 use Rattle.std.proofs.lemmas.Result.{err_from_is_err_and, MatchResult-weaker}
 use Rattle.trace_core.specs.Device.{WritesPrefix}
 use Rattle.sweep_core.specs.Gathering.{Passes}
 use Rattle.sweep_core.specs.SweepText.{header_of, rows_text, rows_of}
 use Rattle.sweep_core.proofs.Gathers.{passes-then, passes-all, passes-broken, passes-broken_later}
-use Rattle.sweep_core.proofs.Writing.{broken-first, flushed-ok, flushed-broken}
+use Rattle.sweep_core.proofs.Writing.{broken-first, flushed-ok, flushed-broken, flushed-last}
 use Rattle.sweep_core.proofs.table.write_table.Goals as goal
 
 pub returns-in_err-write_header-clause-fault : goal.returns-in_err-write_header-clause-fault
@@ -55,3 +55,14 @@ returns-clause-fault g c es swept =
     MatchResult-weaker c.flush.result c.flush.ensures.bytes
     (λ done kept. tt)
     (λ fault stays. flushed-broken a e (g.K.Sink.written c.flush.new.self) (h ++ t) (passes-all a d e [] n (h ++ t) all c.in_ok-write_out.ensures.ok) stays)
+
+pub returns-clause-last : goal.returns-clause-last
+returns-clause-last g c es swept =
+    let a = g.K.Sink.written c.args.sink.now in let b = g.K.Sink.written c.write_header.new.sink in let d = g.K.Sink.written c.write_rows.new.sink in
+    let e = g.K.Sink.written c.write_out.new.sink in
+    let h = header_of c.args.request.now.after in let t = rows_text es (rows_of c.args.request.now) in
+    let m = c.write_header.new.gathered in let n = c.write_rows.new.gathered in
+    let all = passes-then a b d [] m n h t (subst (λ (l : List ℕ). Passes a b l m h) c.requires.none c.in_ok-write_header.ensures.ok) (c.in_ok-write_rows.ensures.ok es swept) in
+    MatchResult-weaker c.flush.result c.flush.ensures.bytes
+    (λ done kept. tt)
+    (λ fault stays. inr (flushed-last a e (g.K.Sink.written c.flush.new.self) (h ++ t) (passes-all a d e [] n (h ++ t) all c.in_ok-write_out.ensures.ok) stays))
