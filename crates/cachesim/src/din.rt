@@ -123,7 +123,8 @@ pub fn din<S: Source, K: Sink>(
     ensures flushes { FlushesOnce (K.flushes sink.old) (K.flushes sink.new) result }
 
     // The flush comes after the last byte: where it is what failed, the whole text stands written.
-    ensures last { result ≡ Err RunFault.Write → IfSome (S.remaining source.old) (λ text. FlushesAfter ((din_task plan seed format max_lines).whole text)
+    ensures last { result ≡ Err RunFault.Write → IfSome (S.remaining source.old) (λ text.
+        FlushesAfter ((din_task plan seed format max_lines).whole text)
         (K.flushes sink.old) (K.flushes sink.new) (K.written sink.old) (K.written sink.new)) }
 {
     plan.limits();

@@ -118,7 +118,8 @@ pub(crate) fn write_last<K: Sink>(text: &Text, sink: &mut K) -> Result<(), Devic
     ensures fault { OnErr result (WritesPrefix (K.written sink.old) (K.written sink.new) text.now) }
     ensures counted { CountsFailure (K.failures sink.old) (K.failures sink.new) result }
     ensures flushed { FlushesLast (K.flushes sink.old) (K.flushes sink.new) result }
-    ensures last { OnErr result (FlushesAfter text.now (K.flushes sink.old) (K.flushes sink.new) (K.written sink.old) (K.written sink.new)) }
+    ensures last { OnErr result (FlushesAfter text.now
+        (K.flushes sink.old) (K.flushes sink.new) (K.written sink.old) (K.written sink.new)) }
 {
     write_all(sink, text.as_slice())?;
     sink.flush()

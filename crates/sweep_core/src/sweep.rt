@@ -66,7 +66,8 @@ pub fn sweep<S: Source, K: Sink>(
     ensures flushes { FlushesOnce (K.flushes sink.old) (K.flushes sink.new) result }
 
     // The flush comes after the last byte: where it is what failed, the whole text stands written.
-    ensures last { result ≡ Err RunFault.Write → IfSome (S.remaining source.old) (λ text. FlushesAfter ((sweep_task request.now).whole text)
+    ensures last { result ≡ Err RunFault.Write → IfSome (S.remaining source.old) (λ text.
+        FlushesAfter ((sweep_task request.now).whole text)
         (K.flushes sink.old) (K.flushes sink.new) (K.written sink.old) (K.written sink.new)) }
 {
     let mut lines = Lines::new(alloc, request.format, request.max_lines)?;

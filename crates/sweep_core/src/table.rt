@@ -36,7 +36,8 @@ pub(crate) fn write_table<K: Sink>(
         OnErr result (WritesPrefix (K.written sink.old) (K.written sink.new) (table_text request.now es)) }
     ensures counted { CountsFailure (K.failures sink.old) (K.failures sink.new) result }
     ensures flushed { FlushesLast (K.flushes sink.old) (K.flushes sink.new) result }
-    ensures last { (es : List Event) → Swept request.now es profiles.now → OnErr result (FlushesAfter (table_text request.now es)
+    ensures last { (es : List Event) → Swept request.now es profiles.now →
+        OnErr result (FlushesAfter (table_text request.now es)
         (K.flushes sink.old) (K.flushes sink.new) (K.written sink.old) (K.written sink.new)) }
 {
     let mut gathered = gathered;
