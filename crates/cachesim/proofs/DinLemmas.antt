@@ -1,7 +1,7 @@
 -- What `din` has read, stepped through and written when it ends.
 use Rattle.std.proofs.Common.{◌≡◌, ℕ, List, [], ◌∷◌, ◌++◌, false, true, Option, None, Some, map, sym, ap, ◌∙◌, subst, append_assoc}
 use Rattle.std.proofs.KnownBytes.{Appends-nil}
-use Rattle.std.specs.List.{filter}
+use Rattle.std.specs.List.{filter, flat_map}
 use Rattle.std.specs.Option.{IfSome, option_to_list}
 use Rattle.std.specs.Io.KnownBytes.{Appends}
 use Rattle.trace_core.specs.declared.events.Entry.TheVariants as entry
@@ -24,7 +24,7 @@ use Rattle.cache_core.specs.Systems.{system_run}
 use Rattle.cache_core.specs.SystemSteps.{SystemValue, IsNewSystem, Steps, stats_of}
 use Rattle.cache_core.specs.SystemStands.{SystemStands}
 use Rattle.cache_core.proofs.SystemLaw.{new_law, step_law}
-use Rattle.cachesim.specs.DinPass.{StepsThrough, all_of}
+use Rattle.cachesim.specs.DinPass.{StepsThrough}
 use Rattle.cachesim.specs.DinText.{din_task, report_of}
 
 -- a reader that began with a format and a limit
@@ -50,7 +50,7 @@ module _ (plan : Levels) (seed : ℕ) (format : Format) (limit : ℕ) (before to
   -- the report of the system is that of the text that it was stepped through
   report_is : (text : List ℕ) → entries_of run.read ≡ entries format text → report_of (stats_of new) ≡ task.whole text
   unfolding din_task
-  report_is text all = ap report_of ((run.stands plan seed [] good (new_law plan seed old fresh)).stats ∙ ap (λ es. system_run plan seed (all_of es)) all)
+  report_is text all = ap report_of ((run.stands plan seed [] good (new_law plan seed old fresh)).stats ∙ ap (λ es. system_run plan seed (flat_map (events_of All) es)) all)
 
   pub din-completes : (w w' : Option (List ℕ)) → p.state ≡ state.Ended → Appends w w' (report_of (stats_of new)) → IfSome before (λ text. Completes task text told w w')
   unfolding din_task

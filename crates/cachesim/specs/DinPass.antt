@@ -11,14 +11,10 @@ use Rattle.cache_core.specs.Levels.{Levels, IsPlan}
 use Rattle.cache_core.specs.SystemSteps.{SystemValue}
 use Rattle.cache_core.specs.SystemStands.{SystemStands}
 
--- all that entries give to caches
-abbrev pub all_of : List Entry → List Event
-all_of es = flat_map (events_of All) es
-
 -- These entries were read of a source, and a system that stood for some events stands for these and theirs.
 pub record StepsThrough (format : Format) (limit : ℕ) (before told : Option (List ℕ)) (failures-before failures : ℕ)
     (p : Progress) (old new : SystemValue) : Type 0 where
   pub read : List (ℕ × Entry)
   pub reached : Reached format limit before told failures-before failures read p
   pub stands : (plan : Levels) (seed : ℕ) (events : List Event) → IsPlan plan → SystemStands plan seed events old →
-      SystemStands plan seed (events ++ all_of (entries_of read)) new
+      SystemStands plan seed (events ++ flat_map (events_of All) (entries_of read)) new

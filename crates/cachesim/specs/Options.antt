@@ -1,6 +1,6 @@
 -- The commands and their options, as clap sees them.
 use Rattle.std.specs.Prelude.{◌≡◌, ℕ, true, false, List, [], ◌∷◌, ◌++◌, map, Some, codes}
-use Rattle.clap.specs.Words.{App, Rule, Shape, Text, app_of, new_rule}
+use Rattle.clap.specs.Words.{App, Rule, Shape, Text, app_of, new_rule, with_subcommand}
 use Rattle.clap.specs.Simple.{new_shape}
 use Rattle.clap.specs.declared.builder.command.Command.{Command}
 use Rattle.clap.specs.declared.builder.command.Command.TheViews.{out-Command}
@@ -104,6 +104,11 @@ cachesim_app = record {
 pub record IsLeaf (name : Text) (rules : List Rule) (c : Command) : Type 0 where
   pub app : app_of c ≡ record { top = leaf name rules; subs = [] }
   pub local : (out-Command c).has_globals ≡ false
+
+-- `new` is the command `old` with such a leaf as one subcommand more
+pub record AddsLeaf (name : Text) (rules : List Rule) (old new : Command) : Type 0 where
+  pub app : app_of new ≡ with_subcommand (app_of old) (leaf name rules)
+  pub local : (out-Command new).has_globals ≡ (out-Command old).has_globals
 
 -- the command with these options after its own
 abbrev pub with_rules : App → List Rule → App

@@ -1,8 +1,8 @@
 //! The commands and their options, as `clap` meets them.
-ghost use Rattle.std.specs.Prelude.{◌≡◌, IfOk, false, codes, map};
-ghost use Rattle.clap.specs.Words.{app_of, rule_of};
+ghost use Rattle.std.specs.Prelude.{◌≡◌, IfOk, List, false, codes, map};
+ghost use Rattle.clap.specs.Words.{Rule, Text, app_of, rule_of};
 ghost use Rattle.clap.specs.declared.builder.command.Command.TheViews.{out-Command as fields_of};
-ghost use Rattle.cachesim.specs.Options.{IsLeaf, cache_rules, cachesim_app, csim_rules, din_rules, rule_of_option, sweep_rules, with_presence, with_rules, with_spelling};
+ghost use Rattle.cachesim.specs.Options.{AddsLeaf, IsLeaf, cache_rules, cachesim_app, csim_rules, din_rules, rule_of_option, sweep_rules, with_presence, with_rules, with_spelling};
 
 use crate::cache_options::cache_options;
 use crate::help;
@@ -266,17 +266,28 @@ fn sweep_command<'a>(alloc: Global) -> Result<Command<'a>, AllocError>
     with_options(alloc, command, &SWEEP_OPTIONS)
 }
 
+/// Adds a command below another one, where it could be made.
+fn with_subcommand<'a>(
+    command: Command<'a>,
+    subcommand: Result<Command<'a>, AllocError>,
+) -> Result<Command<'a>, AllocError>
+    ensures { (name : Text) (rules : List Rule) → IfOk subcommand.entry (IsLeaf name rules) →
+        IfOk result (AddsLeaf name rules command.entry) }
+{
+    command.subcommand(subcommand?)
+}
+
 /// The program's command line.
 pub fn cachesim_command<'a>(alloc: Global) -> Result<Command<'a>, AllocError>
     ensures app { IfOk result (λ c. app_of c ≡ cachesim_app) }
     ensures local { IfOk result (λ c. (fields_of c).has_globals ≡ false) }
 {
-    Command::new(alloc, "cachesim")
+    let command = Command::new(alloc, "cachesim")
         .about(help::ABOUT)
         .after_help(help::PROGRAM)
         .subcommand_required(true)
-        .disable_help_subcommand(true)
-        .subcommand(csim_command(alloc)?)?
-        .subcommand(din_command(alloc)?)?
-        .subcommand(sweep_command(alloc)?)
+        .disable_help_subcommand(true);
+    let command = with_subcommand(command, csim_command(alloc))?;
+    let command = with_subcommand(command, din_command(alloc))?;
+    with_subcommand(command, sweep_command(alloc))
 }

@@ -1,4 +1,5 @@
 use Rattle.std.proofs.Common.{◌++◌, [], Ok, sym, ap, ◌∙◌, subst, arith, append-nil, append_assoc}
+use Rattle.std.specs.List.{flat_map}
 use Rattle.trace_core.specs.declared.events.Kind.TheVariants.{All}
 use Rattle.trace_core.specs.Events.{events_of}
 use Rattle.trace_core.specs.Reader.{Progress, Reached, answered}
@@ -6,7 +7,6 @@ use Rattle.trace_core.specs.Task.{entries_of}
 use Rattle.trace_core.proofs.Collecting.{collected-more}
 use Rattle.trace_core.proofs.Runs.{Reached-start}
 use Rattle.cache_core.specs.SystemStands.{SystemStands}
-use Rattle.cachesim.specs.DinPass.{all_of}
 use Rattle.cachesim.proofs.din.step_through.Goals as goal
 
 pub loop-entry-init : goal.loop-entry-init
@@ -32,7 +32,7 @@ loop-entry-preserved g c =
         read = so_far.read ++ answered c.next.result;
         reached = c.next.ensures.reached c.args.lines.now.format c.args.lines.now.limit (g.S.Source.remaining c.args.source.now) (g.S.Source.failures c.args.source.now) so_far.read so_far.reached;
         stands = λ plan seed events good stands.
-            let before = all_of (entries_of so_far.read) in
+            let before = flat_map (events_of All) (entries_of so_far.read) in
             let now = c.step.ensures.stands plan seed (events ++ before) good (so_far.stands plan seed events good stands) in
             rw found (subst (λ es. SystemStands plan seed es c.step.new.system)
             (append_assoc events before (events_of All c.in-Some.entry) ∙ ap (λ es. events ++ es) (sym (collected-more All so_far.read (c.in-Some.field-0-0, c.in-Some.entry))))
