@@ -7,6 +7,7 @@ pub record Shape : Type 0 where
   pub e : ℕ
   pub b : ℕ
 
+-- the geometry of three numbers, in the order of the CS:APP cache lab: s, E, b
 abbrev pub shape : ℕ → ℕ → ℕ → Shape
 shape s e b = record { s = s; e = e; b = b }
 

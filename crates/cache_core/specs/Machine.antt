@@ -32,6 +32,7 @@ pub record Machine : Type 0 where
   pub policy : Repl
   pub words : ℕ → ℕ
 
+-- the state at first: nothing is held, and no word is drawn
 abbrev pub start : MachineState
 start = record { clock = 0; lines = []; drawn = 0 }
 
@@ -39,10 +40,12 @@ start = record { clock = 0; lines = []; drawn = 0 }
 abbrev pub slot_of : Line → Slot
 slot_of line = record { block = line.block; dirty = line.dirty }
 
+-- the same of a line that may be none
 abbrev pub option_slot : Option Line → Option Slot
 option_slot None = None
 option_slot (Some line) = Some (slot_of line)
 
+-- whether a line holds a block
 abbrev pub is_block : ℕ → Line → Bool
 is_block block line = line.block == block
 
@@ -127,11 +130,12 @@ answer_at m ref block leaving (Some line) = on_hit m.design.write ref
 answer_at m ref block leaving None =
     if allocates m.design.allocate ref.access then on_placing m.design.geometry m.design.write ref block (option_slot leaving) else on_passing ref
 
--- the state after one reference, and the answer to it, where this line leaves if the block is placed
+-- the state after one reference, where this line leaves if the block is placed
 abbrev pub step_with : Machine → Ref → Option Line → MachineState → MachineState
 step_with m ref leaving st =
     let block = block_of m.design.geometry ref.addr in step_at m ref block leaving st (find (is_block block) st.lines)
 
+-- the answer to it
 abbrev pub answer_with : Machine → Ref → Option Line → MachineState → Answer
 answer_with m ref leaving st =
     let block = block_of m.design.geometry ref.addr in answer_at m ref block leaving (find (is_block block) st.lines)
@@ -142,10 +146,11 @@ leaves m st set =
     let here = lines_of_set m.design.geometry set st.lines in
     if nat_lt (length here) m.design.geometry.e then None else victim m.policy m.design.geometry.e (m.words st.drawn) here
 
--- the state after one reference, and the answer to it
+-- the state after one reference
 abbrev pub step : Machine → MachineState → Ref → MachineState
 step m st ref = step_with m ref (leaves m st (set_of m.design.geometry ref.addr)) st
 
+-- the answer to one reference
 abbrev pub answer : Machine → MachineState → Ref → Answer
 answer m st ref = answer_with m ref (leaves m st (set_of m.design.geometry ref.addr)) st
 
@@ -168,6 +173,7 @@ answered_from m st [] = []
 answered_from m st (event.Reference ref ∷ events) = (ref, answer m st ref) ∷ answered_from m (step m st ref) events
 answered_from m st (event.Flush ∷ events) = answered_from m (next m st event.Flush) events
 
+-- the same from the start
 abbrev pub answered : Machine → List Event → List (Ref × Answer)
 answered m events = answered_from m start events
 

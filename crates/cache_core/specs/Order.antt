@@ -89,6 +89,7 @@ pub record Contents : Type 0 where
   pub words : ℕ → ℕ
   pub sets : List (List Slot)
 
+-- the slots of a set
 abbrev pub slots_of : List (List Slot) → ℕ → List Slot
 slots_of sets set = slice_index_or sets set []
 
@@ -100,10 +101,11 @@ pub record Accesses (old : Contents) (ref : Ref) (outcome : Outcome) (new : Cont
   pub design : new.design ≡ old.design
   pub rule : new.rule ≡ old.rule
 
--- how many slots of a set are dirty, and of all sets
+-- how many slots of a set are dirty
 abbrev pub dirty_in : List Slot → ℕ
 dirty_in slots = count_by (λ slot. slot.dirty) slots
 
+-- how many slots of all sets are dirty
 abbrev pub dirty_slots : List (List Slot) → ℕ
 dirty_slots sets = sum_by dirty_in sets
 
@@ -115,10 +117,12 @@ pub record Flushes (old : Contents) (dirty : ℕ) (new : Contents) : Type 0 wher
   pub design : new.design ≡ old.design
   pub rule : new.rule ≡ old.rule
 
+-- whether there is a slot, and it is dirty
 abbrev pub is_dirty : Option Slot → Bool
 is_dirty None = false
 is_dirty (Some slot) = slot.dirty
 
+-- 1 where something is so, and else 0
 abbrev pub one_if : Bool → ℕ
 one_if b = if b then 1 else 0
 

@@ -12,6 +12,7 @@ use Rattle.cache_core.specs.declared.outcome.AllocMode.{AllocMode}
 use Rattle.cache_core.specs.declared.outcome.AllocMode.TheVariants.{Always, Never}
 use Rattle.cache_core.specs.Geometry.{Shape, address_of}
 
+-- whether an access is a write
 abbrev pub is_write : Access → Bool
 is_write Fetch = false
 is_write Read = false

@@ -38,5 +38,6 @@ pub record CacheValue (P : Type 0) : Type 0 where
 abbrev pub contents_of : {P : Type 0} → (P → Option Repl) → (P → ℕ → ℕ) → CacheValue P → Contents
 contents_of rule words c = record { design = c.design; rule = rule c.policy; words = words c.policy; sets = c.sets }
 
+-- the sets of an empty cache
 abbrev pub empty_sets : Shape → List (List Slot)
 empty_sets g = replicate (2 ^ g.s) []

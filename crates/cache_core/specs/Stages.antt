@@ -14,11 +14,13 @@ use Rattle.cache_core.specs.Slab.{contents_of}
 use Rattle.cache_core.specs.Systems.{is_fetch, is_read}
 use Rattle.cache_core.specs.Words.{word_of}
 
+-- the rule by which a policy takes blocks out
 abbrev pub rule_of : Policy → Option Repl
 rule_of (Lru p) = Some LruRule
 rule_of (Fifo p) = Some FifoRule
 rule_of (Random p) = Some RandomRule
 
+-- the random words still to come: for Random those of its generator
 abbrev pub words_of : Policy → ℕ → ℕ
 words_of (Lru p) = λ n. 0
 words_of (Fifo p) = λ n. 0

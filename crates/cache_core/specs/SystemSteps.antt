@@ -20,10 +20,11 @@ listed [] = []
 listed (None ∷ xs) = listed xs
 listed (Some ref ∷ xs) = ref ∷ listed xs
 
--- the memory's counts after a reference comes down to it, and after a list
+-- the memory's counts after a reference comes down to it
 abbrev pub reaches : Memory → Ref → Memory
 reaches memory ref = if is_write ref.access then record memory { writes = memory.writes + 1 } else record memory { reads = memory.reads + 1 }
 
+-- the same after a list
 abbrev pub all_reach : Memory → List Ref → Memory
 all_reach memory [] = memory
 all_reach memory (ref ∷ refs) = all_reach (reaches memory ref) refs
@@ -107,6 +108,7 @@ pub record FlushStep (old new : SystemValue) : Type 0 where
   pub bypassed : new.bypassed ≡ old.bypassed
   pub steps : new.steps ≡ old.steps + 1
 
+-- the counts of a cache, where there is one
 abbrev pub stats_held : Option Stage → Option CacheStats
 stats_held None = None
 stats_held (Some stage) = Some stage.stats
@@ -128,6 +130,7 @@ stats_of v = record {
   bypassed = v.bypassed;
 }
 
+-- the counts of a new cache
 abbrev pub no_counts : CacheStats
 no_counts = record { fetches = 0; fetch_misses = 0; reads = 0; read_misses = 0; writes = 0; write_misses = 0; evictions = 0; copybacks = 0 }
 

@@ -29,11 +29,13 @@ words_for Random seed = word_of (seeded seed)
 abbrev pub machine_of : ℕ → Level → Machine
 machine_of seed level = record { design = level.design; policy = level.repl; words = words_for level.repl seed }
 
+-- whether an access is an instruction fetch
 abbrev pub is_fetch : Access → Bool
 is_fetch Fetch = true
 is_fetch Read = false
 is_fetch Write = false
 
+-- whether an access is a data read
 abbrev pub is_read : Access → Bool
 is_read Fetch = false
 is_read Read = true

@@ -6,6 +6,7 @@ use Rattle.trace_core.specs.declared.events.Event.TheVariants as event
 use Rattle.cache_core.specs.declared.outcome.Counts.{Counts}
 use Rattle.cache_core.specs.Geometry.{Shape, block_of, set_of_block}
 
+-- whether an event is a flush
 abbrev pub is_flush : Event → Bool
 is_flush (event.Reference r) = false
 is_flush event.Flush = true
@@ -31,6 +32,7 @@ places_after g before (event.Reference r ∷ es) =
     record { block = block_of g r.addr; window = window g before } ∷ places_after g (before ++ event.Reference r ∷ []) es
 places_after g before (event.Flush ∷ es) = places_after g (before ++ event.Flush ∷ []) es
 
+-- the places of a list of events, in order: one for each reference
 abbrev pub places : Shape → List Event → List Place
 places g es = places_after g [] es
 

@@ -31,7 +31,7 @@ impl Model for TouchedSets {
 }
 
 /// Sets the counts of the listed sets to 0, which are all that are not 0.
-fn empty_listed(counts: &mut [u32], sets: &[u32])
+fn zero_listed(counts: &mut [u32], sets: &[u32])
     requires { ListsFilled sets.now counts.old }
     ensures { counts.new ≡ replicate (length counts.old) 0 }
 {
@@ -98,7 +98,7 @@ impl TouchedSets {
         ensures sets { self.new ≡ no_sets self.old }
     {
         match self.listed() {
-            Some(sets) => empty_listed(counts, sets),
+            Some(sets) => zero_listed(counts, sets),
             None => counts.fill(0),
         }
         self.clear();

@@ -5,6 +5,7 @@ use Rattle.std.specs.List.{list_all, list_any, before_first, after_first}
 use Rattle.std.specs.Option.{option_map_or}
 use Rattle.std.specs.Char.{is_ascii_digit}
 use Rattle.clap.specs.Words.{Text}
+use Rattle.trace_core.specs.Line.{is_comma}
 use Rattle.sweep_core.specs.declared.config.Config.{Config}
 
 -- the value of decimal digits: each times its power of ten
@@ -54,10 +55,6 @@ range_of text =
     if list_any is_dash text
     then both_of (scaled_of (before_first is_dash text)) (scaled_of (after_first is_dash text))
     else option_map (λ x. (x, x)) (scaled_of text)
-
--- the byte between the numbers of a triple
-abbrev pub is_comma : ℕ → Bool
-is_comma c = c == 44
 
 -- the triple of three numbers, where there are all three
 abbrev pub config_of : Option ℕ → Option ℕ → Option ℕ → Option Config

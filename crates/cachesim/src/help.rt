@@ -54,6 +54,7 @@ pub const CSIM: &str = "\
 It writes one line, 'hits:H misses:M evictions:E'. With -v a line for each load, store and modify
 comes before it: its letter (L load, S store, M modify), address and size, and how it went: hit,
 miss or miss eviction. A modify is a read and a write, and says how each went. Fetches have none.
+A cache has at most 4m lines in all: 2^s * E.
 
 A trace of a program, and a cache of 64 sets of 8 lines of 64 bytes:
   valgrind --tool=lackey --trace-mem=yes --log-file=trace.txt PROGRAM
@@ -70,7 +71,9 @@ pub const DIN: &str = "\
 The options of a cache and -informat may be written with one dash, as Dinero IV has them, or with
 two. A cache is there if one of its options is, and then needs its size and bsize. The first level
 is a unified cache, or an instruction cache, a data cache or both. BYTES is a decimal number, with
-k, m or g behind it for 2^10, 2^20 or 2^30 times as much. N is a decimal number.
+k, m or g behind it for 2^10, 2^20 or 2^30 times as much. N is a decimal number. A block has at
+most 1m bytes, and a cache at most 1m sets, 64k lines in a set and 4m lines in all. The blocks of
+the second level are no smaller than those of the first.
 
 The report has a line for each cache: its fetches, reads and writes, the misses of each, the
 blocks that left (evictions), and the dirty blocks among those that left or were flushed

@@ -1,5 +1,5 @@
 //! The commands and their options, as `clap` meets them.
-ghost use Rattle.std.specs.Prelude.{◌≡◌, IfOk, List, false, codes, map};
+ghost use Rattle.std.specs.Prelude.{◌≡◌, IfOk, List, Some, false, codes, map};
 ghost use Rattle.clap.specs.Words.{Rule, Text, app_of, rule_of};
 ghost use Rattle.clap.specs.declared.builder.command.Command.TheViews.{out-Command as fields_of};
 ghost use Rattle.cachesim.specs.Options.{AddsLeaf, IsLeaf, cache_rules, cachesim_app, csim_rules, din_rules, rule_of_option, sweep_rules, with_presence, with_rules, with_spelling};
@@ -158,6 +158,7 @@ static SWEEP_OPTIONS: [CommandOption; 10] = [
 fn arg_of<'a>(alloc: Global, option: &CommandOption) -> Arg<'a>
     ensures rule { rule_of result ≡ rule_of_option option.now }
     ensures local { result.global ≡ false }
+    ensures help { result.help ≡ Some option.now.help }
 {
     let arg = Arg::new(alloc, option.name).help(option.help);
     with_presence(with_spelling(arg, option.spelling), option.presence)
@@ -167,6 +168,7 @@ fn arg_of<'a>(alloc: Global, option: &CommandOption) -> Arg<'a>
 fn with_spelling<'a>(arg: Arg<'a>, spelling: Spelling) -> Arg<'a>
     ensures rule { rule_of result ≡ with_spelling spelling (rule_of arg.entry) }
     ensures local { result.global ≡ arg.entry.global }
+    ensures help { result.help ≡ arg.entry.help }
 {
     match spelling {
         Long(name) => arg.long(name),
@@ -178,6 +180,7 @@ fn with_spelling<'a>(arg: Arg<'a>, spelling: Spelling) -> Arg<'a>
 fn with_presence<'a>(arg: Arg<'a>, presence: Presence) -> Arg<'a>
     ensures rule { rule_of result ≡ with_presence presence (rule_of arg.entry) }
     ensures local { result.global ≡ arg.entry.global }
+    ensures help { result.help ≡ arg.entry.help }
 {
     match presence {
         Required(value) => arg.action(ArgAction::Set).value_name(value).required(true),

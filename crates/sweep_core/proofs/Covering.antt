@@ -14,7 +14,7 @@ use Rattle.sweep_core.specs.Table.{is_less, IsRising}
 use Rattle.sweep_core.specs.SweepText.{log2, all_of, rows_of}
 use Rattle.sweep_core.specs.Work.{pairs, depth}
 use Rattle.sweep_core.specs.Pass.{Swept, pair_after_events, begun_for, HasGeometry}
-use Rattle.sweep_core.specs.Walk.{is_same_pair, Serves, Covers, IsProfileOf, IsTally, Walks}
+use Rattle.sweep_core.specs.Walk.{is_same_pair, Serves, ServeAll, IsProfileOf, IsTally, Walks}
 use Rattle.sweep_core.proofs.Validity.{IsLimited, limits_of, valid_of, products}
 use Rattle.sweep_core.proofs.Orders.{Less, less_of}
 use Rattle.sweep_core.proofs.Tables.{Member, Each-both}
@@ -67,21 +67,21 @@ module _ (r : Request) (es : List Event) where
     fits = s.fits;
   }
 
-  covers-from : (c : Config) (cs : List Config) → IsRising (c ∷ cs) → Each (Sized r) cs → Covers (own (pair c) ∷ map own (left_pairs (Some c) cs)) c.assoc cs
+  covers-from : (c : Config) (cs : List Config) → IsRising (c ∷ cs) → Each (Sized r) cs → ServeAll (own (pair c) ∷ map own (left_pairs (Some c) cs)) c.assoc cs
   covers-from c [] rise all = tt
   covers-from c (d ∷ cs) rise all =
       elim (cases_Bool (is_same_pair (Some c) d)) [
         | inl same ↦
             let one : pair c ≡ pair d = same-pair c d same in
-            subst (λ (x : PairProfile). Covers (x ∷ map own (left_pairs (Some c) (d ∷ cs))) c.assoc (d ∷ cs)) (sym (ap own one))
-            (subst (λ (ps : List (ℕ × ℕ)). Covers (own (pair d) ∷ map own ps) c.assoc (d ∷ cs)) (sym (left-same (Some c) d cs same))
+            subst (λ (x : PairProfile). ServeAll (x ∷ map own (left_pairs (Some c) (d ∷ cs))) c.assoc (d ∷ cs)) (sym (ap own one))
+            (subst (λ (ps : List (ℕ × ℕ)). ServeAll (own (pair d) ∷ map own ps) c.assoc (d ∷ cs)) (sym (left-same (Some c) d cs same))
             (inl (serves d c.assoc all.0 (more-ways c d one rise.0.0), covers-from d cs rise.1 all.1)))
         | inr new ↦
-            subst (λ (ps : List (ℕ × ℕ)). Covers (own (pair c) ∷ map own ps) c.assoc (d ∷ cs)) (sym (left-new (Some c) d cs rise new))
+            subst (λ (ps : List (ℕ × ℕ)). ServeAll (own (pair c) ∷ map own ps) c.assoc (d ∷ cs)) (sym (left-new (Some c) d cs rise new))
             (inr (new, serves d 0 all.0 (omega arith), covers-from d cs rise.1 all.1))
       ]
 
-  covers : (cs : List Config) → IsRising cs → Each (Sized r) cs → Covers (map own (pairs cs)) 0 cs
+  covers : (cs : List Config) → IsRising cs → Each (Sized r) cs → ServeAll (map own (pairs cs)) 0 cs
   unfolding pairs
   covers [] rise all = tt
   covers (c ∷ cs) rise all = inl (serves c 0 all.0 (omega arith), covers-from c cs rise all.1)
@@ -102,7 +102,7 @@ module _ (r : Request) (es : List Event) where
       record {
         fed = subst (Each (IsProfileOf es)) (sym is) (profiles-are (pairs (rows_of r)) swept.sound);
         tallied = of_first;
-        covers = subst (λ (l : List PairProfile). Covers l tally.ways (rows_of r)) (sym is) (subst (λ (n : ℕ). Covers (map own (pairs (rows_of r))) n (rows_of r)) (sym none) (covers (rows_of r) (rows-rise r) (rows-sized r swept.space)));
+        covers = subst (λ (l : List PairProfile). ServeAll l tally.ways (rows_of r)) (sym is) (subst (λ (n : ℕ). ServeAll (map own (pairs (rows_of r))) n (rows_of r)) (sym none) (covers (rows_of r) (rows-rise r) (rows-sized r swept.space)));
       }
 
   -- without profiles there are no rows

@@ -34,12 +34,12 @@ Leads [] c = ⊥
 Leads (x ∷ xs) c = Serves x 0 c
 
 -- Some profiles serve some configurations in order: the first one, while they are of its pair, and then those behind it.
-abbrev pub Covers : List PairProfile → ℕ → List Config → Type 0
-Covers xs ways [] = ⊤
-Covers [] ways (c ∷ cs) = ⊥
-Covers (x ∷ xs) ways (c ∷ cs) =
-    (Serves x ways c × Covers (x ∷ xs) c.assoc cs)
-    ⊎ ((is_of c x ≡ false) × Leads xs c × Covers xs c.assoc cs)
+abbrev pub ServeAll : List PairProfile → ℕ → List Config → Type 0
+ServeAll xs ways [] = ⊤
+ServeAll [] ways (c ∷ cs) = ⊥
+ServeAll (x ∷ xs) ways (c ∷ cs) =
+    (Serves x ways c × ServeAll (x ∷ xs) c.assoc cs)
+    ⊎ ((is_of c x ≡ false) × Leads xs c × ServeAll xs c.assoc cs)
 
 -- a profile stands for a trace, and has the shape of its pair
 pub record IsProfileOf (es : List Event) (x : PairProfile) : Type 0 where
@@ -56,7 +56,7 @@ pub record Walks (es : List Event) (profiles : List PairProfile) (tally : TallyS
     (cs : List Config) : Type 0 where
   pub fed : AllByRecursion (IsProfileOf es) profiles
   pub tallied : IsTally profiles tally
-  pub covers : Covers profiles tally.ways cs
+  pub covers : ServeAll profiles tally.ways cs
 
 -- The first profile serves the next configuration, and then they serve the others.
 pub record Ready (es : List Event) (profiles : List PairProfile) (tally : TallyState)
@@ -64,4 +64,4 @@ pub record Ready (es : List Event) (profiles : List PairProfile) (tally : TallyS
   pub fed : AllByRecursion (IsProfileOf es) profiles
   pub tallied : IsTally profiles tally
   pub first : (x : PairProfile) × (xs : List PairProfile) × (profiles ≡ x ∷ xs) × Serves x tally.ways c
-  pub covers : Covers profiles c.assoc cs
+  pub covers : ServeAll profiles c.assoc cs

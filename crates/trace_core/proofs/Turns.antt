@@ -8,17 +8,17 @@ use Rattle.trace_core.specs.Device.{one_more}
 use Rattle.trace_core.specs.declared.scan.Scan.{Scan}
 use Rattle.trace_core.specs.declared.reader.ReaderState.{ReaderState}
 use Rattle.trace_core.specs.declared.reader.ReaderState.TheVariants as state
-use Rattle.trace_core.specs.Scan.{progress, distance}
+use Rattle.trace_core.specs.Scan.{progress, left_to_limit}
 use Rattle.trace_core.specs.Reader.{Advances, Delivers, device_failed}
 
--- an open scan has a turn more than its distance, and another none
+-- an open scan has a turn more than its left_to_limit, and another none
 abbrev pub turns_in : ReaderState → ℕ → ℕ
 turns_in state.Open n = n + 1
 turns_in state.Ended n = 0
 turns_in (state.Failed f) n = 0
 
 abbrev pub turns : Scan → ℕ
-turns s = turns_in s.state (distance s)
+turns s = turns_in s.state (left_to_limit s)
 
 -- A scan went from old to new with no entry, over these bytes.
 pub record Skips (told-before told : Option (List ℕ)) (failures-before failures : ℕ) (old new : Scan) : Type 0 where

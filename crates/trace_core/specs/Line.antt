@@ -20,7 +20,8 @@ abbrev pub or_fault : {T : Type 0} → LineFault → Option T → (T → Result 
 or_fault fault None next = Err fault
 or_fault fault (Some x) next = next x
 
--- what the labels `0` to `4` make of an address: a load, a store, a fetch, nothing, a flush (Dinero IV, traditional format)
+-- what the labels `0` to `4` make of an address: a load, a store, a fetch (Dinero IV, traditional format), nothing, a flush (this
+-- project's)
 abbrev pub din_entry : ℕ → ℕ → Option Entry
 din_entry label addr =
     if label == 48 then item Load addr 0

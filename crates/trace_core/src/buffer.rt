@@ -28,6 +28,7 @@ impl Model for Buffer {
 }
 
 impl Buffer {
+    /// An empty buffer, with all its room.
     pub(crate) fn new(alloc: Global) -> Result<Buffer, AllocError>
         ensures { IfOk result (λ b. b ≡ []) }
     {
@@ -40,6 +41,7 @@ impl Buffer {
         })
     }
 
+    /// The bytes that wait, in order.
     #[inline(always)]
     pub(crate) fn as_slice(&self) -> &[u8]
         ensures value { result.now ≡ self.now }
@@ -48,6 +50,7 @@ impl Buffer {
         &self.bytes[self.start..self.end]
     }
 
+    /// Drops the first bytes.
     #[inline(always)]
     pub(crate) fn consume(&mut self, count: usize)
         requires { count ≤ length self.old }

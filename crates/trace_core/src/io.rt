@@ -1,6 +1,6 @@
 //! Where bytes come from and go to, how often that failed, and how often a sink was flushed.
 ghost use Rattle.std.specs.Prelude.{◌≡◌, ℕ, ◌<◌, ◌≤◌, ◌==◌, List, Option, None, IfOk, OnOk, OnErr, MatchResult, length, if◌then◌else◌};
-ghost use Rattle.std.specs.Io.KnownBytes.{Keeps, Appends};
+ghost use Rattle.std.specs.Io.KnownBytes.{Keeps, Appends, ReadConsumes, WriteAppends};
 ghost use Rattle.trace_core.specs.Device.{CountsFailure, Gives, Takes, StaysOrUntold, WritesPrefix, one_more};
 
 use std::io::{Read, Write};
@@ -78,7 +78,15 @@ impl<R: Read + Drop> Source for FromRead<R> {
 
     ghost remaining = { λ s. if s.failures == 0 then R.remaining s.reader else None };
 
-    fn read(&mut self, into: &mut [u8]) -> Result<usize, DeviceFault> {
+    fn read(&mut self, into: &mut [u8]) -> Result<usize, DeviceFault>
+        // The source's clauses.
+        ensures bound { IfOk result (λ n. n ≤ length into.new) }
+        ensures bytes { Gives (⟦<FromRead<R> as Source>⟧.remaining self.old) (⟦<FromRead<R> as Source>⟧.remaining self.new) result into.new }
+        ensures counted { CountsFailure self.old.failures self.new.failures result }
+
+        // What it answers was read of the reader, and nothing was at a fault, also after one.
+        ensures passed { ReadConsumes (R.remaining self.old.reader) (R.remaining self.new.reader) result into.new }
+    {
         match self.reader.read(into) {
             Ok(count) => Ok(count),
             Err(_) => {
@@ -120,7 +128,17 @@ impl<W: Write + Drop> Sink for ToWrite<W> {
 
     ghost flushes = { λ s. s.flushes };
 
-    fn write(&mut self, from: &[u8]) -> Result<usize, DeviceFault> {
+    fn write(&mut self, from: &[u8]) -> Result<usize, DeviceFault>
+        // The sink's clauses.
+        ensures bound { IfOk result (λ n. n ≤ length from.now) }
+        ensures some { IfOk result (λ n. 0 < length from.now → 0 < n) }
+        ensures bytes { Takes (⟦<ToWrite<W> as Sink>⟧.written self.old) (⟦<ToWrite<W> as Sink>⟧.written self.new) result from.now }
+        ensures counted { CountsFailure self.old.failures self.new.failures result }
+        ensures unflushed { self.new.flushes ≡ self.old.flushes }
+
+        // What it answers was written to the writer, and nothing was at a fault, also after one.
+        ensures passed { WriteAppends (W.contents self.old.writer) (W.contents self.new.writer) result from.now }
+    {
         match self.writer.write(from) {
             Ok(count) if count > 0 || from.is_empty() => Ok(count),
             _ => {

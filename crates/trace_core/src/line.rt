@@ -12,8 +12,8 @@ use thiserror::Error;
 /// How lines are written.
 #[derive(Clone, Copy, Debug, PartialEq, Eq)]
 pub enum Format {
-    /// Dinero IV's traditional format: a label `0` (load), `1` (store), `2` (fetch), `3` (nothing)
-    /// or `4` (flush), a hexadecimal address, and a comment.
+    /// Dinero's traditional format: a label `0` (load), `1` (store), `2` (fetch), and of this
+    /// project's own `3` (nothing) or `4` (flush), a hexadecimal address, and a comment.
     Din,
     /// The log of valgrind's lackey with `--trace-mem=yes`: `I`, `L`, `S` or `M`, a hexadecimal
     /// address, a comma and a decimal size.

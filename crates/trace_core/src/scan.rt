@@ -28,7 +28,7 @@ pub(crate) struct Scan {
 }
 
 impl Scan {
-    ghost use Rattle.trace_core.specs.Scan.{progress, distance, Reads, KeepsTask, BearsLine};
+    ghost use Rattle.trace_core.specs.Scan.{progress, left_to_limit, Reads, KeepsTask, BearsLine};
     ghost use Rattle.trace_core.specs.Reader.{Advances, device_failed};
 
     /// Reads on to the next entry. Without one, the state says why.
@@ -68,7 +68,7 @@ impl Scan {
         ensures entry { BearsLine self.old self.new result }
         ensures lines { self.old.lines ≤ self.new.lines }
         ensures goes_on { OnSome result ((f : TraceFault) → self.new.state ≢ ReaderState.Failed f) }
-        ensures nearer { self.new.state ≡ ReaderState.Open → distance self.new < distance self.old }
+        ensures nearer { self.new.state ≡ ReaderState.Open → left_to_limit self.new < left_to_limit self.old }
     {
         let unread = self.buffer.as_slice();
         if self.lines == self.limit && !unread.is_empty() {
@@ -97,7 +97,7 @@ impl Scan {
         ensures entry { BearsLine self.old self.new result }
         ensures lines { self.old.lines ≤ self.new.lines }
         ensures goes_on { OnSome result ((f : TraceFault) → self.new.state ≢ ReaderState.Failed f) }
-        ensures nearer { self.new.state ≡ ReaderState.Open → distance self.new < distance self.old }
+        ensures nearer { self.new.state ≡ ReaderState.Open → left_to_limit self.new < left_to_limit self.old }
     {
         match memchr(b'\n', self.buffer.as_slice()) {
             Some(at) => self.take_line(at),
@@ -135,7 +135,7 @@ impl Scan {
         ensures entry { BearsLine self.old self.new result }
         ensures lines { self.old.lines ≤ self.new.lines }
         ensures goes_on { OnSome result (self.new.state ≡ ReaderState.Open) }
-        ensures nearer { self.new.state ≡ ReaderState.Open → distance self.new < distance self.old }
+        ensures nearer { self.new.state ≡ ReaderState.Open → left_to_limit self.new < left_to_limit self.old }
     {
         let line = self.lines + 1;
         match judge(self.format, line, &self.buffer.as_slice()[..at]) {
@@ -166,7 +166,7 @@ impl Scan {
         ensures entry { BearsLine self.old self.new result }
         ensures lines { self.old.lines ≤ self.new.lines }
         ensures goes_on { OnSome result (self.new.state ≡ ReaderState.Ended) }
-        ensures nearer { self.new.state ≡ ReaderState.Open → distance self.new < distance self.old }
+        ensures nearer { self.new.state ≡ ReaderState.Open → left_to_limit self.new < left_to_limit self.old }
     {
         let line = self.lines + 1;
         if self.buffer.as_slice().len() > MAX_LINE {

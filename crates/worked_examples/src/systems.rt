@@ -1,14 +1,11 @@
 //! Systems of caches: what each level counts, and what goes past the last one.
 use cache_core::outcome::{AllocMode, Repl, WriteMode};
 use cache_core::plan::{CacheName, CacheSpec, CacheStats, FirstLevel, Plan, PlanFault, Stats};
-use cache_core::system::System;
+use cache_core::system::{MAX_STEPS, System};
 use std::alloc::Global;
 use std::process::Abort;
 use std::test::Fail;
 use trace_core::events::{Access, Event, Ref};
-
-/// More steps than these are not made.
-const MOST: u64 = 1 << 41;
 
 fn fetch(addr: u64) -> Event {
     let access = Access::Fetch;
@@ -66,7 +63,7 @@ fn stats_of(
     let plan = Plan::new(first, second)?;
     let mut system = System::new(alloc, plan, 42)?;
     for event in events {
-        assert!(rt; system.steps() < MOST);
+        assert!(rt; system.steps() < MAX_STEPS);
         match event {
             Event::Reference(reference) => system.step(*reference),
             Event::Flush => system.flush(),

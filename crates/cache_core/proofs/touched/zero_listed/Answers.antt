@@ -2,7 +2,7 @@ use Rattle.std.proofs.Common.{◌∙◌, ap, arith, subst, replicate}
 use Rattle.std.proofs.lemmas.List.{drop_all}
 use Rattle.cache_core.specs.Touched.{ListsFilled}
 use Rattle.cache_core.proofs.TouchedSets.{no_count}
-use Rattle.cache_core.proofs.touched.empty_listed.Goals as goal
+use Rattle.cache_core.proofs.touched.zero_listed.Goals as goal
 
 pub returns : goal.returns
 returns c =
