@@ -1,12 +1,13 @@
 #   make                       proves and builds the program, and says where it is
 #   make demo                  builds it and sweeps a real trace
 #   make test                  proves everything and tests the program; the last line is 'N passed, M failed'
-#   make strain                what takes longer: more random cases, refused memory in the libraries too, devices, Cachegrind
+#   make strain                what takes longer: more random cases, refused memory in the libraries too, devices, Cachegrind, C code
 #   make refusals              of these, refused memory alone, for the program and for each call of the libraries
 #   make wrong-bodies          more wrong bodies than make test tries, each of which the prover must refuse
 #   make install PREFIX=/usr   builds it and copies it to PREFIX/bin (/usr/local without PREFIX)
 #
-# All of them need the kit's command rt, make test and make strain Python 3 and a C compiler, and make strain Valgrind.
+# All of them need the kit's command rt. make test, make refusals and make strain need Python 3 and a C compiler too, make strain
+# Valgrind, and make wrong-bodies Python 3 and a checkout of git.
 
 PREFIX ?= /usr/local
 RT ?= rt
