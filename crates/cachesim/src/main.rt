@@ -17,6 +17,8 @@ mod options;
 mod parse;
 mod readings;
 mod respell;
+#[cfg(test)]
+mod runs;
 mod simulation;
 mod sweep_job;
 mod text;
