@@ -11,7 +11,7 @@ use Rattle.trace_core.specs.declared.reader.ReaderState.TheVariants as state
 use Rattle.trace_core.specs.Scan.{progress, left_to_limit}
 use Rattle.trace_core.specs.Reader.{Advances, Delivers, device_failed}
 
--- an open scan has a turn more than its left_to_limit, and another none
+-- an open scan has a turn more than is left to its limit, and another none
 abbrev pub turns_in : ReaderState → ℕ → ℕ
 turns_in state.Open n = n + 1
 turns_in state.Ended n = 0
