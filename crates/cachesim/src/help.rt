@@ -11,7 +11,9 @@ How to get a trace: Valgrind writes that of any program in the lackey format.
   valgrind --tool=lackey --trace-mem=yes --log-file=trace.txt PROGRAM
   cachesim sweep --format l --bsize 64 --sets 64 --assoc 1-8 --size 0-1m -t trace.txt
 
-Exit status: 0 done or help, 1 the trace, the output or the memory failed, 2 wrong words.";
+Exit status: 0 done or help, 1 the trace, the output or the memory failed, 2 wrong words.
+
+cachesim 1.0.0";
 
 /// What `sweep` does.
 pub const SWEEP_ABOUT: &str =
