@@ -1,0 +1,104 @@
+"""What the tests of the tools share: a folder for each test, runs of a tool, and the packages that a test needs."""
+
+import os
+import pathlib
+import shutil
+import subprocess
+import tempfile
+import unittest
+
+TOP = pathlib.Path(__file__).resolve().parent.parent.parent
+TOOLS = TOP / "tools"
+EXAMPLES = TOP / "examples"
+PROGRAM = pathlib.Path(os.environ.get("CACHESIM") or TOP / "crates/cachesim/out/cachesim").resolve()
+
+# Debian's packages, each with a file or command that shows that it is there
+PACKAGES = {
+    "bash-completion": "/usr/share/bash-completion/bash_completion",
+    "chromium": "chromium",
+    "fish": "fish",
+    "flake8": "flake8",
+    "gcc-aarch64-linux-gnu": "aarch64-linux-gnu-gcc",
+    "gnuplot-nox": "gnuplot",
+    "lintian": "lintian",
+    "lowdown": "lowdown",
+    "man-db": "man",
+    "miller": "mlr",
+    "munge": "munged",
+    "parallel": "parallel",
+    "python3-pandas": "/usr/lib/python3/dist-packages/pandas",
+    "python3-plotly": "/usr/lib/python3/dist-packages/plotly",
+    "pv": "pv",
+    "qemu-user": "qemu-x86_64",
+    "shellcheck": "shellcheck",
+    "slurm-wlm": "slurmctld",
+    "valgrind": "valgrind",
+    "xz-utils": "xz",
+    "zsh": "zsh",
+    "zstd": "zstd",
+}
+# set by the runner where tests that need a package are left out
+PLAIN = bool(os.environ.get("CACHESIM_PLAIN_TESTS"))
+
+
+def is_there(package):
+    shown_by = PACKAGES[package]
+    return os.path.exists(shown_by) if shown_by.startswith("/") else shutil.which(shown_by, path=os.environ["PATH"] + ":/usr/sbin") is not None
+
+
+def needs(*packages):
+    """Marks a test, or a class of tests, that needs Debian's packages: left out of the plain tests, and else a failure that names them."""
+
+    def marked(test):
+        missing = [package for package in packages if not is_there(package)]
+        if PLAIN:
+            return unittest.skip("needs " + " ".join(packages))(test)
+        if not missing:
+            return test
+
+        def fails(self):
+            self.fail("missing: apt-get install " + " ".join(missing))
+
+        if isinstance(test, type):
+            for name in [name for name in dir(test) if name.startswith("test")]:
+                setattr(test, name, fails)
+            test.setUpClass = test.tearDownClass = classmethod(lambda cls: None)
+            return test
+        return fails
+
+    return marked
+
+
+class ToolTest(unittest.TestCase):
+    """A test with a folder of its own, `self.folder`, in which the tools are run."""
+
+    maxDiff = 4000
+
+    def setUp(self):
+        self.folder = pathlib.Path(tempfile.mkdtemp(prefix="cachesim-test-"))
+        self.addCleanup(shutil.rmtree, self.folder, ignore_errors=True)
+
+    def run_words(self, *words, stdin=b"", env=None, seconds=120):
+        """Runs a command with the program on its path. What it wrote comes as bytes."""
+        given = {**os.environ, "CACHESIM": str(PROGRAM), "PATH": f"{PROGRAM.parent}:{os.environ['PATH']}", **(env or {})}
+        return subprocess.run([str(word) for word in words], input=stdin, capture_output=True, cwd=self.folder, env=given, timeout=seconds)
+
+    def run_tool(self, tool, *words, **given):
+        """Runs a tool of tools/."""
+        return self.run_words(TOOLS / tool, *words, **given)
+
+    def good(self, ran):
+        """What a run wrote to standard output, as text; it must have ended well and without a message."""
+        self.assertEqual((ran.stderr.decode(errors="replace"), ran.returncode), ("", 0))
+        return ran.stdout.decode()
+
+    def refused(self, ran, status, *texts):
+        """A run that must end with this status, one message that has these texts, and no output."""
+        message = ran.stderr.decode(errors="replace")
+        self.assertEqual((ran.returncode, ran.stdout), (status, b""), message)
+        for text in texts:
+            self.assertIn(text, message)
+
+    def sweep(self, *words, stdin=b""):
+        """The table of a sweep by the program itself."""
+        return self.good(self.run_words(PROGRAM, "sweep", *words, stdin=stdin))

@@ -1,0 +1,66 @@
+"""Reading a sweep's table."""
+
+import argparse
+import unittest
+
+import table
+
+
+class Reading(unittest.TestCase):
+    def test_rows(self):
+        rows = table.read_table([table.HEADER + "\n", "16,1,2,32,4,5,3\n"], "t")
+        self.assertEqual(rows, [table.Row(16, 1, 2, 32, 4, 5, 3)])
+        self.assertEqual((rows[0].references, rows[0].ratio, rows[0].cache), (9, 5 / 9, (16, 1, 2)))
+
+    def test_a_page_has_no_header(self):
+        self.assertEqual(len(table.read_table(["16,1,2,32,4,5,3\n", "16,2,1,32,4,5,3\n"], "t")), 2)
+
+    def test_what_is_no_table(self):
+        for text, fault in (
+            ("0 10\n", "t: line 1: no row of a sweep's table"),
+            ("16,1,2,32,4,5\n", "t: line 1: no row of a sweep's table"),
+            (f"{table.HEADER}\n16,1,2,33,4,5,3\n", "t: line 2: size is not bsize * sets * assoc"),
+            (f"{table.HEADER}\n16,1,2,32,4,5,-3\n", "t: line 2: no row of a sweep's table"),
+            (f"{table.HEADER}\n", "t: a table without a row"),
+            ("", "t: a table without a row"),
+        ):
+            with self.assertRaises(table.BadTable) as raised:
+                table.read_table(text.splitlines(keepends=True), "t")
+            self.assertEqual(str(raised.exception), fault)
+
+
+class Pareto(unittest.TestCase):
+    def test_front(self):
+        # 64 bytes miss 9 times at best; of the two caches of 128 bytes that miss 7 times the direct-mapped one stays, 256 bytes do no
+        # better than 128, and of the three caches of 512 bytes that miss 5 times that of one way with the smaller blocks stays.
+        rows = [
+            table.Row(16, 1, 4, 64, 1, 9, 5),
+            table.Row(16, 2, 2, 64, 0, 10, 6),
+            table.Row(16, 4, 2, 128, 3, 7, 0),
+            table.Row(16, 8, 1, 128, 3, 7, 0),
+            table.Row(16, 16, 1, 256, 2, 8, 0),
+            table.Row(32, 4, 2, 256, 3, 7, 0),
+            table.Row(64, 8, 1, 512, 5, 5, 0),
+            table.Row(32, 16, 1, 512, 5, 5, 0),
+            table.Row(32, 8, 2, 512, 5, 5, 0),
+        ]
+        front = [(16, 1, 4), (16, 8, 1), (32, 16, 1)]
+        self.assertEqual([row.cache for row in table.pareto(rows)], front)
+        self.assertEqual([row.cache for row in table.pareto(rows[::-1])], front)
+
+    def test_one_row(self):
+        self.assertEqual(table.pareto([table.Row(16, 1, 2, 32, 4, 5, 3)]), [table.Row(16, 1, 2, 32, 4, 5, 3)])
+
+
+class Sizes(unittest.TestCase):
+    def test_sizes(self):
+        for text, size in (("0", 0), ("512", 512), ("32k", 32768), ("1M", 1 << 20), ("3g", 3 << 30)):
+            self.assertEqual(table.size_of(text), size)
+
+    def test_what_is_no_size(self):
+        for text in ("", "k", "1kk", "-1", "1.5k", "٣"):
+            with self.assertRaises(argparse.ArgumentTypeError):
+                table.size_of(text)
+
+    def test_texts(self):
+        self.assertEqual([table.size_text(size) for size in (0, 100, 1024, 1536, 1 << 20, 3 << 30)], ["0", "100", "1k", "1536", "1m", "3g"])
