@@ -4,9 +4,11 @@
    READ_FAILS=N     the Nth read fails; 0: none
    WRITE_MOST=N     the same of writes to standard output
    WRITE_FAILS=N
+   TELL_CALLS=1     at the end of the process the number of both is written to standard error
 
    A read or a write after one that failed ends the process with status 98: a device that failed is not to be asked again. */
 #include <errno.h>
+#include <stdio.h>
 #include <stdlib.h>
 #include <sys/syscall.h>
 #include <unistd.h>
@@ -28,6 +30,10 @@ __attribute__((constructor)) static void begin(void) {
     reads.fails = number("READ_FAILS");
     writes.most = number("WRITE_MOST");
     writes.fails = number("WRITE_FAILS");
+}
+
+__attribute__((destructor)) static void end(void) {
+    if (number("TELL_CALLS")) fprintf(stderr, "%lu reads, %lu writes\n", reads.made, writes.made);
 }
 
 /* How many bytes a call may move, or 0 where it fails. */

@@ -2,9 +2,12 @@
 
    REFUSE_AT=N      the Nth call that asks for memory gets none; 0: no call is refused
    REFUSE_AFTER=1   nor does any later call
-   REFUSE_TELL=FD   at each refusal one byte is written there */
+   REFUSE_TELL=FD   at each refusal one byte is written there
+   REFUSE_OPEN=1    no file can be opened, for want of memory in the kernel */
 #include <errno.h>
+#include <fcntl.h>
 #include <malloc.h>
+#include <stdarg.h>
 #include <stdlib.h>
 #include <sys/mman.h>
 #include <sys/syscall.h>
@@ -55,4 +58,16 @@ int posix_memalign(void **out, size_t step, size_t size) {
 void *mmap(void *at, size_t size, int prot, int flags, int file, off_t from) {
     if (refuses()) return MAP_FAILED;
     return (void *)syscall(SYS_mmap, at, size, prot, flags, file, from);
+}
+
+int open(const char *name, int flags, ...) {
+    if (number("REFUSE_OPEN")) {
+        errno = ENOMEM;
+        return -1;
+    }
+    va_list more;
+    va_start(more, flags);
+    int mode = va_arg(more, int);
+    va_end(more);
+    return (int)syscall(SYS_openat, AT_FDCWD, name, flags, mode);
 }
