@@ -35,22 +35,30 @@ find_cachesim() {
 
 # private_folder: makes a folder, `folder`, that only this user can read and that is removed when the tool ends, also by a signal
 private_folder() {
-    folder=$(mktemp -d -t "cachesim-$name.XXXXXXXX")
+    folder=
     trap 'rm -rf -- "$folder"' EXIT
     trap 'exit 129' HUP
     trap 'exit 130' INT
     trap 'exit 143' TERM
+    folder=$(mktemp -d -t "cachesim-$name.XXXXXXXX")
+}
+
+# find_unpacker FILE: sets `unpacker` to the command that writes a trace to standard output, for a tool that must know its process
+find_unpacker() {
+    case $1 in
+    -) unpacker=(cat) ;;
+    *.gz) unpacker=(gzip -dc -- "$1") ;;
+    *.xz) needs xz xz-utils && unpacker=(xz -dc -- "$1") ;;
+    *.zst) needs zstd zstd && unpacker=(zstd -dcq -- "$1") ;;
+    *) unpacker=(cat -- "$1") ;;
+    esac
 }
 
 # unpacked FILE: writes a trace to standard output. '-' is standard input; .gz, .xz and .zst are unpacked
 unpacked() {
-    case $1 in
-    -) cat ;;
-    *.gz) gzip -dc -- "$1" ;;
-    *.xz) needs xz xz-utils && xz -dc -- "$1" ;;
-    *.zst) needs zstd zstd && zstd -dcq -- "$1" ;;
-    *) cat -- "$1" ;;
-    esac
+    local -a unpacker
+    find_unpacker "$1"
+    "${unpacker[@]}"
 }
 
 # compiled NAME SOURCE FLAG..: compiles a C file of this folder to out/NAME where that is older, and sets `binary` to its path.
@@ -63,5 +71,44 @@ compiled() {
     mkdir -p -- "$here/out"
     fresh=$(mktemp -- "$here/out/$1.XXXXXXXX")
     cc -O2 -Wall -Wextra "${@:3}" -o "$fresh" "$source" || { rm -f -- "$fresh"; fail "$source can't be compiled"; }
+    chmod +rx -- "$fresh"  # for all who may use the folder: mktemp made it for one
     mv -- "$fresh" "$binary"
+}
+
+# readable TRACE: ends where a trace is neither '-' nor something that can be read
+readable() { [ "$1" = - ] || { [ -r "$1" ] && [ ! -d "$1" ]; } || fail "$1: no file that can be read"; }
+
+# stop_jobs: ends what still runs in the background of this shell
+stop_jobs() {
+    local running
+    mapfile -t running < <(jobs -rp)
+    [ "${#running[@]}" = 0 ] || kill -- "${running[@]}" 2> /dev/null || :
+}
+
+# side_by_side TRACE STEP..: runs functions side by side over one reading of a trace. Each has it as standard input and writes to
+# $folder/STEP. Where one fails, its message is told and the tool ends with its status.
+side_by_side() {
+    local step status=0 ended pipes=() jobs=()
+    trap 'stop_jobs; rm -rf -- "$folder"' EXIT
+    for step in "${@:2}"; do
+        mkfifo -- "$folder/$step.pipe"
+        "$step" < "$folder/$step.pipe" > "$folder/$step" 2> "$folder/$step.fault" &
+        jobs+=($!) pipes+=("$folder/$step.pipe")
+    done
+    unpacked "$1" | tee -p -- "${pipes[@]:1}" > "${pipes[0]}" || status=$?
+    for step in "${@:2}"; do
+        ended=0
+        wait "${jobs[0]}" || ended=$?
+        [ $ended = 0 ] || { cat -- "$folder/$step.fault" >&2 && exit $ended; }
+        jobs=("${jobs[@]:1}")
+    done
+    [ $status = 0 ] || exit $status
+}
+
+# deliver FILE: writes a finished answer to standard output
+deliver() {
+    local status=0
+    cat -- "$1" 2> /dev/null || status=$?
+    [ $status != 1 ] || fail "standard output: write failed"
+    return $status
 }

@@ -1,6 +1,7 @@
 """The table that `cachesim sweep` writes, for the tools of this folder that read one."""
 
 import argparse
+import os
 import sys
 from typing import NamedTuple
 
@@ -39,16 +40,19 @@ class BadTable(Exception):
 
 
 def read_table(lines, name):
-    """The rows of a table, given its lines. A page without a header will do; `name` is for the fault."""
+    """The rows of a table, given its lines. A page without a header will do; `name` is for the fault. A header may name more
+    columns behind those of a sweep, as the tools that write some add them: these are not read."""
     rows = []
+    own = width = len(Row._fields)
     for number, line in enumerate(lines, 1):
         line = line.rstrip("\r\n")
-        if number == 1 and line == HEADER:
-            continue
         fields = line.split(",")
-        if len(fields) != len(Row._fields) or not all(field.isascii() and field.isdigit() for field in fields):
+        if number == 1 and ",".join(fields[:own]) == HEADER:
+            width = len(fields)
+            continue
+        if len(fields) != width or not all(field.isascii() and field.isdigit() for field in fields[:own]):
             raise BadTable(f"{name}: line {number}: no row of a sweep's table")
-        row = Row(*map(int, fields))
+        row = Row(*map(int, fields[:own]))
         if row.size != row.bsize * row.sets * row.assoc:
             raise BadTable(f"{name}: line {number}: size is not bsize * sets * assoc")
         rows.append(row)
@@ -61,6 +65,7 @@ def open_table(name):
     """The rows of the table in a file; '-' is standard input. Ends the tool with one line where that fails."""
     try:
         if name == "-":
+            sys.stdin.reconfigure(encoding="ascii", errors="replace")
             return read_table(sys.stdin, "standard input")
         with open(name, encoding="ascii", errors="replace") as file:
             return read_table(file, name)
@@ -78,6 +83,18 @@ def pareto(rows):
         if not front or row.misses < front[-1].misses:
             front.append(row)
     return front
+
+
+def write_lines(lines):
+    """Writes lines to standard output. Ends the tool where that fails: with a message, unless the reader of a pipe has gone."""
+    try:
+        sys.stdout.write("".join(f"{line}\n" for line in lines))
+        sys.stdout.flush()
+    except OSError as fault:
+        os.dup2(os.open(os.devnull, os.O_WRONLY), sys.stdout.fileno())  # what is still held must not fail again at the end
+        if isinstance(fault, BrokenPipeError):
+            sys.exit(141)
+        fail(f"standard output: {fault.strerror}")
 
 
 def fail(text, status=1):

@@ -1,9 +1,12 @@
 """What the tests of the tools share: a folder for each test, runs of a tool, and the packages that a test needs."""
 
+import collections
+import importlib
 import os
 import pathlib
 import shutil
 import subprocess
+import sys
 import tempfile
 import unittest
 
@@ -15,9 +18,12 @@ PROGRAM = pathlib.Path(os.environ.get("CACHESIM") or TOP / "crates/cachesim/out/
 # Debian's packages, each with a file or command that shows that it is there
 PACKAGES = {
     "bash-completion": "/usr/share/bash-completion/bash_completion",
+    "bubblewrap": "bwrap",
     "chromium": "chromium",
+    "dpkg-dev": "dpkg-shlibdeps",
     "fish": "fish",
     "flake8": "flake8",
+    "gcc": "gcc",
     "gcc-aarch64-linux-gnu": "aarch64-linux-gnu-gcc",
     "gnuplot-nox": "gnuplot",
     "lintian": "lintian",
@@ -39,6 +45,48 @@ PACKAGES = {
 }
 # set by the runner where tests that need a package are left out
 PLAIN = bool(os.environ.get("CACHESIM_PLAIN_TESTS"))
+
+
+# the model of the program, which shares nothing with it
+sys.path.append(str(TOP / "tests"))
+model = importlib.import_module("model")
+
+
+def references(text, format="d", kind="u"):
+    """The references of a trace's text, with model.FLUSH for each flush, as the model reads them."""
+    entries, fault = model.read(format, text)
+    if fault:
+        raise fault
+    return model.events_of(entries, kind)
+
+
+class Lru:
+    """A cache that replaces the block least recently used, as plainly as can be: each set is a list, the block used last behind."""
+
+    def __init__(self, bsize, sets, assoc):
+        self.bsize, self.assoc = bsize, assoc
+        self.sets = [[] for _ in range(sets)]
+        self.went = collections.Counter()
+
+    def access(self, address):
+        block = address // self.bsize
+        held = self.sets[block % len(self.sets)]
+        outcome = "hit" if block in held else "miss" if len(held) < self.assoc else "miss eviction"
+        if outcome == "hit":
+            held.remove(block)
+        elif outcome == "miss eviction":
+            held.pop(0)
+        held.append(block)
+        self.went[outcome] += 1
+        return outcome
+
+    def flush(self):
+        self.sets = [[] for _ in self.sets]
+
+    @property
+    def counts(self):
+        """Hits, misses and evictions, as in a row of a table."""
+        return self.went["hit"], self.went["miss"] + self.went["miss eviction"], self.went["miss eviction"]
 
 
 def is_there(package):
