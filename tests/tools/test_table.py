@@ -15,12 +15,18 @@ class Reading(unittest.TestCase):
     def test_a_page_has_no_header(self):
         self.assertEqual(len(table.read_table(["16,1,2,32,4,5,3\n", "16,2,1,32,4,5,3\n"], "t")), 2)
 
+    def test_further_columns(self):
+        text = [table.HEADER + ",percent,note\n", "16,1,2,32,4,5,3,55.556,\n"]
+        self.assertEqual(table.read_table(text, "t"), [table.Row(16, 1, 2, 32, 4, 5, 3)])
+
     def test_what_is_no_table(self):
         for text, fault in (
             ("0 10\n", "t: line 1: no row of a sweep's table"),
             ("16,1,2,32,4,5\n", "t: line 1: no row of a sweep's table"),
             (f"{table.HEADER}\n16,1,2,33,4,5,3\n", "t: line 2: size is not bsize * sets * assoc"),
             (f"{table.HEADER}\n16,1,2,32,4,5,-3\n", "t: line 2: no row of a sweep's table"),
+            (f"{table.HEADER}\n16,1,2,32,4,5,3,55.556\n", "t: line 2: no row of a sweep's table"),
+            (f"{table.HEADER},percent\n16,1,2,32,4,5,3\n", "t: line 2: no row of a sweep's table"),
             (f"{table.HEADER}\n", "t: a table without a row"),
             ("", "t: a table without a row"),
         ):
@@ -31,8 +37,8 @@ class Reading(unittest.TestCase):
 
 class Pareto(unittest.TestCase):
     def test_front(self):
-        # 64 bytes miss 9 times at best; of the two caches of 128 bytes that miss 7 times the direct-mapped one stays, 256 bytes do no
-        # better than 128, and of the three caches of 512 bytes that miss 5 times that of one way with the smaller blocks stays.
+        # 64 bytes miss 9 times at best. Of the two caches of 128 bytes that miss 7 times the direct-mapped one stays. 256 bytes
+        # do no better than 128. Of the three caches of 512 bytes that miss 5 times that of one way with the smaller blocks stays.
         rows = [
             table.Row(16, 1, 4, 64, 1, 9, 5),
             table.Row(16, 2, 2, 64, 0, 10, 6),

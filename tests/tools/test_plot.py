@@ -1,0 +1,255 @@
+"""Pictures of a table: what gnuplot is told, and what is refused. None of this needs gnuplot or plotly."""
+
+import math
+import os
+import re
+import signal
+import subprocess
+import time
+
+import base
+import table
+
+# Eight caches and 100 references, so that misses are per cent. 32 and 2 are the block size and the ways nearest to 64 and 4.
+EIGHT = """16,2,1,32,60,40,38
+16,2,2,64,75,25,21
+16,4,1,64,70,30,26
+16,4,2,128,90,10,2
+32,1,1,32,50,50,49
+32,1,2,64,72,28,26
+32,2,1,64,68,32,30
+32,2,2,128,92,8,4
+"""
+ALL = [(32, 40), (64, 25), (64, 30), (128, 10), (32, 50), (64, 28), (64, 32), (128, 8)]
+TITLES = (
+    "Miss ratio by cache size: blocks of 32 bytes",
+    "Miss ratio by block size: 2 ways",
+    "The smallest caches that miss least",
+)
+AXES = {"miss ratio in per cent", "cache size in bytes", "block size in bytes"}
+
+
+def rows_of(pairs, bsize=64):
+    """A table of direct-mapped caches, given their sets and misses of 1,000 references."""
+    return "".join(f"{bsize},{sets},1,{bsize * sets},{1000 - misses},{misses},0\n" for sets, misses in pairs)
+
+
+def data_of(script):
+    """The data in a script for gnuplot: for each name its runs of places and percentages."""
+    found = {}
+    for name, text in re.findall(r"^\$(\w+) << END\n(.*?)^END$", script, re.MULTILINE | re.DOTALL):
+        found[name] = [[tuple(map(float, line.split())) for line in run.splitlines()] for run in text.split("\n\n")]
+    return found
+
+
+class PlotTest(base.ToolTest):
+    def setUp(self):
+        super().setUp()
+        self.write("eight.csv", f"{table.HEADER}\n{EIGHT}")
+
+    def write(self, name, text):
+        (self.folder / name).write_text(text)
+
+    def plot(self, *words, **given):
+        return self.run_tool("plot", *words, **given)
+
+    def script(self, *words, **given):
+        return self.good(self.plot("--script", *words, **given))
+
+    def stand_in(self, text):
+        """A path with a gnuplot of our own, a script."""
+        (self.folder / "bin").mkdir()
+        self.write("bin/gnuplot", f"#!/bin/sh\n{text}\n")
+        (self.folder / "bin/gnuplot").chmod(0o755)
+        return {"PATH": f"{self.folder}/bin:{os.environ['PATH']}"}
+
+    def names(self):
+        return sorted(path.name for path in self.folder.iterdir())
+
+
+class Script(PlotTest):
+    def test_data(self):
+        script = self.script("eight.csv", "eight.svg")
+        data = data_of(script)
+        every = data.pop("pareto_all")[0]
+        labelled = data.pop("pareto_labelled")[0]
+        front = [(32, 40), (64, 25), (128, 8)]
+        self.assertEqual(data, {
+            "size_1": [[(32, 50), (64, 32)]],
+            "size_2": [[(64, 28), (128, 8)]],
+            "block_1": [[(16, 25), (32, 28)]],
+            "block_2": [[(16, 10), (32, 8)]],
+            "pareto_steps": [[*front, (128, 8)]],
+            "pareto_front": [front],
+        })
+        self.assertEqual(sorted(every), sorted(ALL))
+        self.assertEqual(labelled[0], (128, 8))
+        self.assertIn("set label '32,2,2' at 128,8 right", script)
+        for text in [*TITLES, *AXES, "1 way", "2 ways", "64", "128", "cache size", "all caches", "fewest misses up to this size"]:
+            self.assertRegex(script, f"'{text}[' ]")
+
+    def test_what_is_fixed(self):
+        data = data_of(self.script("--bsize", "16", "--ways=1", "eight.csv", "-"))
+        self.assertEqual(data["size_1"], [[(32, 40), (64, 30)]])
+        self.assertEqual(data["size_2"], [[(64, 25), (128, 10)]])
+        self.assertEqual(data["block_1"], [[(16, 40), (32, 50)]])
+        self.assertEqual(data["block_2"], [[(16, 30), (32, 32)]])
+
+    def test_only(self):
+        for name, title in zip(("size", "block", "pareto"), TITLES):
+            script = self.script("--only", name, "eight.csv", "-")
+            self.assertEqual({given.split("_")[0] for given in data_of(script)}, {name})
+            self.assertEqual([given for given in TITLES if given in script], [title])
+
+    def test_64_bytes_and_4_ways_where_they_are(self):
+        space = "--bsize 32-128 --sets 1-4 --assoc 3-5 --size 1-8k".split()
+        self.write("t.csv", self.sweep(*space, "-t", base.EXAMPLES / "sort.din"))
+        script = self.script("t.csv", "-")
+        self.assertIn("blocks of 64 bytes'", script)
+        self.assertIn("Miss ratio by block size: 4 ways'", script)
+
+    def test_pages_without_a_header_from_standard_input(self):
+        self.assertEqual(self.script("-", "a.png", stdin=EIGHT.encode()), self.script("eight.csv", "a.png"))
+
+    def test_a_line_is_cut_where_a_size_is_missing(self):
+        # Of direct-mapped caches the one of 4 sets is missing, which there is with two ways. Nobody has 32 sets.
+        two = "64,4,2,512,500,500,0\n"
+        self.write("t.csv", rows_of([(2, 900), (8, 700), (16, 600), (64, 500)]) + two)
+        cut = [[(128, 90)], [(512, 70), (1024, 60), (4096, 50)]]
+        self.assertEqual(data_of(self.script("--only", "size", "t.csv", "-"))["size_1"], cut)
+        self.write("t.csv", rows_of([(8, 900)], 16) + rows_of([(2, 700)], 64) + rows_of([(1, 600)], 32))
+        self.assertEqual(data_of(self.script("--only", "block", "t.csv", "-"))["block_1"], [[(16, 90)], [(64, 70)]])
+
+    def test_a_few_of_many_lines(self):
+        for ways, chosen in (
+            (range(1, 8), [1, 2, 3, 4, 5, 6, 7]),
+            (range(1, 65), [1, 2, 4, 8, 16, 32, 64]),
+            (range(1, 513), [1, 4, 16, 64, 256]),
+            (range(9, 29), [9, 12, 15, 18, 21, 24, 27]),
+        ):
+            self.write("t.csv", "".join(f"64,1,{way},{64 * way},9,1,0\n" for way in ways))
+            named = re.findall(r"title ' (\d+) ways?'", self.script("--only", "size", "t.csv", "-"))
+            self.assertEqual(list(map(int, named)), chosen)
+
+    def test_axis(self):
+        """It is logarithmic where the greatest is five times the least, and has a place for 0. Ticks have their texts."""
+        for misses, is_log in (([100, 499], False), ([100, 500], True), ([1000, 1000], False), ([0, 0], False), ([1, 1000], True),
+                               ([0, 10, 900], True), ([0, 300, 900], False)):
+            self.write("t.csv", rows_of(enumerate(misses, 1)))
+            # labels of 14 pixels in a height of some 380 must not touch, nor those of a text in its rows
+            self.judge_axis(misses, is_log, self.script("--only", "size", "t.csv", "a.png"), 380, 20)
+            for lines, rows in ((16, 11), (60, 54)):
+                size = {"COLUMNS": "72", "LINES": str(lines)}
+                self.judge_axis(misses, is_log, self.script("--only", "size", "t.csv", "-", env=size), rows, 1.2)
+
+    def judge_axis(self, misses, is_log, script, height, closest):
+        self.assertIn(f"{'set' if is_log else 'unset'} logscale y\n", script)
+        ticks = re.search(r"^set ytics \((.*)\)$", script, re.MULTILINE)[1]
+        ticks = {text: float(value) for text, value in re.findall(r"'([^']+)' ([^ ,]+)", ticks)}
+        foot = ticks["0"] if is_log and 0 in misses else 0
+        self.assertEqual([float(text) for text in ticks], [value if value != foot else 0 for value in ticks.values()])
+        self.assertTrue(len(ticks) > 3 and max(ticks.values()) <= 100, ticks)
+        low, high = map(float, re.search(r"^set yrange \[(.*):(.*)\]$", script, re.MULTILINE).groups())
+        places = [miss / 10 or foot for miss in misses]
+        self.assertEqual([place for _, place in data_of(script)["size_1"][0]], places)
+        self.assertTrue(all(low <= place <= high for place in [*places, *ticks.values()]), script)
+        measure = math.log if is_log else float
+        heights = [height * (measure(value) - measure(low)) / (measure(high) - measure(low)) for value in ticks.values()]
+        self.assertGreater(min(above - below for below, above in zip(heights, heights[1:])), closest)
+
+    def test_no_references(self):
+        self.write("t.csv", "64,1,1,64,0,0,0\n64,2,1,128,0,0,0\n")
+        self.assertIn("'empty (no references)'", self.script("--title", "empty", "t.csv", "a.png"))
+
+    def test_title_is_quoted(self):
+        self.assertIn(r"""'it''s `a` "b" \n  c'""", self.script("--title", "it's `a` \"b\" \\n \nc", "eight.csv", "a.svg"))
+
+    def test_names_with_blanks_and_dashes(self):
+        self.write("-a table.csv", EIGHT)
+        self.assertEqual(self.script("--", "-a table.csv", "-an out.png"), self.script("eight.csv", "a.png"))
+
+    def test_as_it_is_installed(self):
+        (self.folder / "cachesim-plot").symlink_to(base.TOOLS / "plot")
+        ran = self.run_words("./cachesim-plot", "--script", "eight.csv", "-")
+        self.assertEqual(self.good(ran), self.script("eight.csv", "-"))
+        ran = self.run_words("./cachesim-plot", "--script", "none.csv", "-")
+        self.refused(ran, 1, "cachesim-plot: none.csv: No such file or directory\n")
+
+
+class Refused(PlotTest):
+    def test_bad_tables(self):
+        for text, fault in (
+            (EIGHT + "16,2,1,33,60,40,38\n", "line 9: size is not bsize * sets * assoc"),
+            ("line\n", "line 1: no row of a sweep's table"),
+            (table.HEADER + "\n", "a table without a row"),
+            (EIGHT + "16,2,1,32,60,40,38\n", "two rows for the cache 16,2,1"),
+            (EIGHT + "64,2,1,128,60,41,38\n", "100 references in the first row, 101 in that of 64,2,1"),
+            (EIGHT + "0,2,1,0,60,40,38\n", "0,2,1 is no cache of a sweep"),
+        ):
+            self.write("bad.csv", text)
+            self.refused(self.plot("bad.csv", "-", env=self.no_gnuplot()), 1, "plot: bad.csv: ", fault)
+
+    def no_gnuplot(self):
+        """Where gnuplot is asked for at once, one that is never run."""
+        return {"PATH": f"{self.folder}/bin"} if (self.folder / "bin").exists() else self.stand_in("exit 9")
+
+    def test_faults_of_the_run(self):
+        self.write("bin.png", "")
+        (self.folder / "folder.png").mkdir()
+        path = self.no_gnuplot()
+        for words, fault in (
+            (["none.csv", "a.png"], "none.csv: No such file or directory"),
+            (["eight.csv", "none/a.png"], "none/a.png: there is no folder"),
+            (["eight.csv", "bin.png/a.png"], "bin.png/a.png: there is no folder"),
+            (["eight.csv", "folder.png"], "folder.png: is a folder"),
+            (["--bsize", "64", "eight.csv", "a.png"], "eight.csv: no cache has the block size 64; there are 16, 32"),
+            (["--ways", "4", "eight.csv", "a.png"], "eight.csv: no cache has the associativity 4; there are 1, 2"),
+        ):
+            self.refused(self.plot(*words, env=path), 1, f"plot: {fault}")
+
+    def test_wrong_words(self):
+        for words in ([], ["eight.csv"], ["eight.csv", "a.pdf"], ["eight.csv", "a"], ["--only", "x", "eight.csv", "-"],
+                      ["--bsize", "x", "eight.csv", "-"], ["--script", "eight.csv", "a.html"], ["--bs", "16", "eight.csv", "-"]):
+            ran = self.plot(*words)
+            self.refused(ran, 2, "plot: ", "'plot --help' explains the arguments\n")
+            self.assertEqual(ran.stderr.count(b"\n"), 1)
+
+    def test_missing_packages(self):
+        empty = self.folder / "empty"
+        (empty / "plotly").mkdir(parents=True)
+        self.write("empty/plotly/__init__.py", "raise ImportError('as if it were missing')\n")
+        for out in ("-", "a.png", "a.svg"):
+            message = "plot: gnuplot is missing: apt-get install gnuplot-nox\n"
+            self.refused(self.plot("eight.csv", out, env={"PATH": str(empty)}), 1, message)
+        message = "plot: plotly is missing: apt-get install python3-plotly\n"
+        self.refused(self.plot("eight.csv", "a.html", env={"PYTHONPATH": str(empty)}), 1, message)
+        self.assertEqual(self.names(), ["eight.csv", "empty"])
+
+    def test_a_failure_leaves_what_was_there(self):
+        self.write("a.png", "as before")
+        path = self.stand_in("cat > /dev/null; echo half a picture; echo 'line 0: no such terminal' >&2; exit 1")
+        self.refused(self.plot("eight.csv", "a.png", env=path), 1, "plot: gnuplot failed: line 0: no such terminal\n")
+        self.write("bin/gnuplot", "#!/bin/sh\ncat > /dev/null; head -c 100000 /dev/zero\n")
+        limited = ["bash", "-c", 'ulimit -f 50; exec "$@"', "-", base.TOOLS / "plot", "eight.csv", "a.png"]
+        self.refused(self.run_words(*limited, env=path), 1, "plot: a.png: File too large\n")
+        self.refused(self.plot("eight.csv", "/proc/a.png", env=path), 1, "plot: /proc/a.png: ")
+        self.assertEqual((self.names(), (self.folder / "a.png").read_text()), (["a.png", "bin", "eight.csv"], "as before"))
+
+    def test_a_warning_is_passed_on(self):
+        ran = self.plot("eight.csv", "a.png", env=self.stand_in("cat > /dev/null; echo picture; echo 'no such font' >&2"))
+        self.assertEqual((ran.returncode, ran.stdout, ran.stderr), (0, b"", b"plot: gnuplot: no such font\n"))
+        self.assertEqual((self.folder / "a.png").read_text(), "picture\n")
+
+    def test_full_device(self):
+        ran = self.run_words("bash", "-c", f'"{base.TOOLS}/plot" --script eight.csv - > /dev/full')
+        self.refused(ran, 1, "plot: standard output: No space left on device\n")
+
+    def test_interrupt(self):
+        path = self.stand_in("exec sleep 60")
+        for number in (signal.SIGINT, signal.SIGTERM):
+            words = [base.TOOLS / "plot", "eight.csv", "a.png"]
+            with subprocess.Popen(words, cwd=self.folder, env={**os.environ, **path}, stderr=subprocess.PIPE) as ran:
+                time.sleep(1)
+                ran.send_signal(number)
+                self.assertEqual((ran.communicate(timeout=20)[1], ran.returncode), (b"", 128 + number))
+        self.assertEqual(self.names(), ["bin", "eight.csv"])

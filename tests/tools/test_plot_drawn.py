@@ -1,0 +1,218 @@
+"""Pictures as they come out of gnuplot, and the page as a browser shows it."""
+
+import fcntl
+import html.parser
+import json
+import math
+import os
+import pty
+import re
+import shutil
+import struct
+import subprocess
+import termios
+import xml.etree.ElementTree
+import zlib
+
+import base
+import table
+from base import needs
+from test_plot import ALL, AXES, TITLES, PlotTest, rows_of
+
+
+def png_of(data):
+    """The width and height of a PNG, and how many different bytes are in its lines, of which a blank one has very few."""
+    assert data[:8] == b"\x89PNG\r\n\x1a\n"
+    at, packed = 8, b""
+    while at < len(data):
+        length, kind = struct.unpack(">I4s", data[at:at + 8])
+        body = data[at + 8:at + 8 + length]
+        assert zlib.crc32(kind + body) == struct.unpack(">I", data[at + 8 + length:at + 12 + length])[0]
+        if kind == b"IHDR":
+            width, height = struct.unpack(">II", body[:8])
+        packed += body if kind == b"IDAT" else b""
+        at += length + 12
+    return width, height, len(set(zlib.decompress(packed)))
+
+
+def svg_of(data):
+    """The texts of an SVG, and where on it the marks of each colour stand."""
+    texts, marks = [], {}
+    for part in xml.etree.ElementTree.fromstring(data).iter():
+        if part.tag.endswith("}text"):
+            texts.append("".join(part.itertext()))
+        elif part.tag.endswith("}use") and part.get("transform", "").startswith("translate"):
+            place = re.match(r"translate\(([^,]+),([^)]+)\)", part.get("transform"))
+            marks.setdefault(re.sub(" +", "", part.get("color")), []).append((float(place[1]), float(place[2])))
+    return texts, marks
+
+
+@needs("gnuplot-nox")
+class Drawn(PlotTest):
+    def drawn(self, *words):
+        self.assertEqual(self.good(self.plot(*words)), "")
+        return (self.folder / words[-1]).read_bytes()
+
+    def test_png(self):
+        width, height, different = png_of(self.drawn("--title", "Eight", "eight.csv", "an out.png"))
+        self.assertEqual((width, height), (920, 800))
+        self.assertGreater(different, 100)
+        self.assertEqual(png_of(self.drawn("--only", "size", "--", "eight.csv", "-a.png"))[:2], (860, 480))
+        mask = os.umask(0)
+        os.umask(mask)
+        self.assertEqual((self.folder / "-a.png").stat().st_mode & 0o777, 0o666 & ~mask)
+        self.assertEqual(self.names(), ["-a.png", "an out.png", "eight.csv"])
+
+    def test_svg(self):
+        texts, marks = svg_of(self.drawn("--only", "size", "--title", "<&> ]]> 'é'", "eight.csv", "a.svg"))
+        named = ["<&> ]] > 'é'", TITLES[0], "cache size in bytes", "miss ratio in per cent", "1 way", "2 ways"]
+        for text in [*named, "32", "64", "128"]:
+            self.assertIn(text, texts)
+        # One way: 50 % at 32 bytes, 32 % at 64. Two ways: 28 % at 64, 8 % at 128. The third mark of each is that of the legend.
+        (at_50, at_32, _), (at_28, at_8, _) = marks["rgb(0,114,178)"], marks["rgb(213,94,0)"]
+        self.assertEqual(at_32[0], at_28[0])
+        self.assertAlmostEqual(at_32[0] - at_50[0], at_8[0] - at_28[0], delta=0.1)
+        unit = (at_8[1] - at_50[1]) / math.log(50 / 8)
+        self.assertAlmostEqual(at_32[1] - at_50[1], unit * math.log(50 / 32), delta=0.1)
+        self.assertAlmostEqual(at_28[1] - at_50[1], unit * math.log(50 / 28), delta=0.1)
+        texts, marks = svg_of(self.drawn("eight.csv", "a.svg"))
+        for text in [*TITLES[:2], TITLES[2] + " (block size, sets, ways)", *AXES, "cache size", "all caches", "32,2,2"]:
+            self.assertIn(text, texts)
+        self.assertEqual(len(marks["rgb(187,187,187)"]), len(ALL) + 1)
+
+    def test_the_script_is_what_is_run(self):
+        ran = self.run_words("gnuplot", "-d", stdin=self.script("eight.csv", "a.svg").encode())
+        self.assertEqual(self.good(ran), self.drawn("eight.csv", "a.svg").decode())
+
+    def test_text(self):
+        for columns, lines in ((80, 24), (120, 40)):
+            size = {"COLUMNS": str(columns), "LINES": str(lines)}
+            drawn = self.good(self.plot("--title", "Eight", "eight.csv", "-", env=size))
+            for text in [*TITLES, *AXES, "A*** 1 way\n", "B### 2 ways\n", ". all caches", "32,2,2\n"]:
+                self.assertIn(text, drawn)
+            self.assertEqual(drawn.count("Eight"), 3)
+            alone = self.good(self.plot("--only", "block", "eight.csv", "-", env=size)).splitlines()
+            self.assertTrue(columns - 8 < max(map(len, alone)) <= columns)
+            self.assertEqual(len(alone), lines - 1)
+            self.assertEqual([line for line in alone if line != line.rstrip()], [])
+
+    def test_text_has_the_size_of_the_terminal(self):
+        ours, theirs = pty.openpty()
+        fcntl.ioctl(theirs, termios.TIOCSWINSZ, struct.pack("HHHH", 30, 100, 0, 0))
+        env = {name: value for name, value in os.environ.items() if name not in ("COLUMNS", "LINES")}
+        words = [base.TOOLS / "plot", "--only", "size", "eight.csv", "-"]
+        self.assertEqual(subprocess.run(words, cwd=self.folder, env=env, stdout=theirs).returncode, 0)
+        os.close(theirs)
+        lines = os.read(ours, 1 << 16).decode().splitlines()
+        os.close(ours)
+        self.assertEqual(len(lines), 29)
+        self.assertGreater(max(map(len, lines)), 90)
+
+    def test_odd_tables(self):
+        """Whatever the table, all is drawn, and gnuplot has nothing to say."""
+        (self.folder / "tables").mkdir()
+        for name, text in {
+            "one": "64,32,8,16384,900,100,3\n",
+            "all-hit": rows_of([(1, 0), (2, 0)]),
+            "all-miss": rows_of([(1, 1000), (2, 1000)]),
+            "no-reference": "64,1,1,64,0,0,0\n64,2,1,128,0,0,0\n",
+            "one-byte": "1,1,1,1,5,5,0\n",
+            "a-million": f"1048576,4,1048576,{1 << 42},{1 << 62},1,0\n",
+            "ways": self.sweep(*"--bsize 64 --sets 1-2 --assoc 1-2000 --size 64-1m".split(), "-t", base.EXAMPLES / "sort.din"),
+        }.items():
+            self.write(f"tables/{name}", text)
+            for out in ("-", "a.svg"):
+                drawn = self.good(self.plot(f"tables/{name}", out))
+                for text in [TITLES[0][:24], TITLES[1][:24], TITLES[2]]:
+                    self.assertIn(text, drawn or (self.folder / out).read_text())
+
+    def test_picture_of_the_documents(self):
+        """It can be drawn anew, by the command beside it, as large as it is."""
+        stored = base.TOP / "docs/pictures"
+        (self.folder / "docs").mkdir()
+        shutil.copytree(stored, self.folder / "docs/pictures")
+        (self.folder / "docs/pictures/sort.png").unlink()
+        command = re.search("^    tools/(plot .*)$", (stored / "README.md").read_text(), re.MULTILINE)[1]
+        self.good(self.run_words("bash", "-c", f"{base.TOOLS}/{command}"))
+        was, made = (png_of((folder / "docs/pictures/sort.png").read_bytes()) for folder in (base.TOP, self.folder))
+        self.assertEqual(made[:2], was[:2])
+        self.assertEqual(len(table.open_table(stored / "sort.csv")), 633)
+
+
+class Sources(html.parser.HTMLParser):
+    """All that a page names to be fetched, its policy, its scripts and its heading."""
+
+    def __init__(self, page):
+        super().__init__()
+        self.fetched, self.policy, self.scripts, self.within, self.heading = [], "", [], "", ""
+        self.feed(page)
+
+    def handle_starttag(self, tag, attrs):
+        self.within = tag
+        self.fetched += [value for name, value in attrs if name in ("src", "href", "srcset", "data", "action", "poster")]
+        if ("http-equiv", "Content-Security-Policy") in attrs:
+            self.policy = dict(attrs)["content"]
+
+    def handle_data(self, data):
+        if self.within == "script" and data.strip():
+            self.scripts.append(data)
+        self.heading += data if self.within == "h1" else ""
+
+    def handle_endtag(self, tag):
+        self.within = ""
+
+
+@needs("python3-plotly")
+class Page(PlotTest):
+    def page(self, *words):
+        self.assertEqual(self.good(self.plot(*words, "a page.html")), "")
+        return (self.folder / "a page.html").read_text()
+
+    def test_it_has_all_and_fetches_nothing(self):
+        sources = Sources(self.page("--title", "<Eight> & more", "eight.csv"))
+        self.assertEqual(sources.fetched, [])
+        self.assertTrue(sources.policy.startswith("default-src 'none';"), sources.policy)
+        self.assertNotRegex(sources.policy, r"http|\*|'self'|connect")
+        self.assertGreater(len(sources.scripts[0]), 1_000_000)
+        self.assertEqual((len(sources.scripts), sources.heading), (2, "<Eight> & more"))
+
+    def test_data(self):
+        script = Sources(self.page("eight.csv")).scripts[1]
+        figures = json.loads(re.search("^const figures = (.*);$", script, re.MULTILINE)[1])
+        self.assertEqual({name: list(choices) for name, choices in figures.items()},
+                         {"size": ["16", "32"], "block": ["1", "2"], "pareto": ["0"]})
+        one, two = figures["size"]["16"]["data"]
+        self.assertEqual((one["name"], one["x"], one["y"]), ("1 way", [32, 64], [40, 30]))
+        self.assertEqual((two["name"], two["x"], two["y"]), ("2 ways", [64, 128], [25, 10]))
+        self.assertEqual(two["customdata"], [[16, 2, 2, 64, 75, 25, 21, 25], [16, 4, 2, 128, 90, 10, 2, 10]])
+        every, steps, front = figures["pareto"]["0"]["data"]
+        self.assertEqual(sorted(zip(every["x"], every["y"])), sorted(ALL))
+        self.assertEqual((steps["x"], steps["y"], steps["line"]["shape"]), ([32, 64, 128, 128], [40, 25, 8, 8], "hv"))
+        self.assertEqual(list(zip(front["x"], front["y"])), [(32, 40), (64, 25), (128, 8)])
+
+    @needs("chromium")
+    def test_in_a_browser(self):
+        """The choice behind '#', one from a menu, what is told of a point, and that nothing else is asked for."""
+        page = self.page("--title", "Eight", "eight.csv")
+        watch = "<head><script>addEventListener('securitypolicyviolation', () => { document.title = 'More'; });</script>"
+        choose = """<script>
+            const menu = document.querySelector("select[name=ways]");
+            menu.value = "1";
+            menu.dispatchEvent(new Event("change"));
+            Plotly.Fx.hover("block", [{curveNumber: 1, pointNumber: 1}]);
+            document.body.dataset.hash = location.hash;
+        </script></body>"""
+        self.write("watched.html", page.replace("<head>", watch, 1).replace("</body>", choose))
+        address = (self.folder / "watched.html").as_uri() + "#bsize=16"
+        ran = self.run_words("chromium", "--headless", "--no-sandbox", "--disable-gpu", f"--user-data-dir={self.folder}/profile",
+                             "--virtual-time-budget=20000", "--dump-dom", address)
+        shown = re.sub("<script.*?</script>", "", ran.stdout.decode(), flags=re.DOTALL)
+        self.assertEqual(ran.returncode, 0)
+        for text in ("Miss ratio by cache size: blocks of 16 bytes", "Miss ratio by block size: 1 way", TITLES[2], "Eight</h1>"):
+            self.assertIn(text, shown)
+        for text in ("64 bytes: block 32, sets 2, ways 1", "hits 68, misses 32, evictions 30", "miss ratio 32 %"):
+            self.assertIn(text, shown)
+        self.assertIn('data-hash="#bsize=16&amp;ways=1"', shown)
+        self.assertEqual(len(re.findall('<div id="?(size|block|pareto)"?[^>]*class="[^"]*js-plotly-plot', shown)), 3)
+        self.assertGreaterEqual(shown.count('class="main-svg"'), 3)
+        self.assertIn("<title>Eight</title>", shown)
