@@ -1,0 +1,344 @@
+"""The tools for the cache lab of CS:APP. What they must say is from the handout, or worked out by hand."""
+
+import contextlib
+import os
+import pathlib
+import re
+import shutil
+import signal
+import subprocess
+import tempfile
+import time
+
+from base import EXAMPLES, PROGRAM, TOOLS, TOP, ToolTest, needs
+
+LAB = TOOLS / "lab"
+STUDENTS = TOP / "tests/tools/lab"
+YI = TOP / "tests/cases/inputs/handout.lackey"
+YI_LINES = ["L 10,1 miss", "M 20,1 miss hit", "L 22,1 hit", "S 18,1 hit", "L 110,1 miss eviction", "L 210,1 miss eviction",
+            "M 12,1 miss eviction hit"]
+YI_TEXT = "".join(f"{line} \n" for line in YI_LINES) + "hits:4 misses:5 evictions:3\n"
+TRACES = {
+    "yi.trace": YI.read_text(),
+    "order.trace": "I  400,3\n L 10,1\n L 20,1\nI  403,2\n L 10,1\n S 30,8\n L 20,1\n",
+    "wide.trace": " L 10,1\n L 100000010,1\n",
+}
+LAB_LINE = re.compile(r"(I  | [LSM] )[0-9a-f]+,[0-9]+")
+
+
+def is_running(program):
+    """Whether a process runs a program."""
+    for link in pathlib.Path("/proc").glob("[0-9]*/exe"):
+        with contextlib.suppress(OSError):
+            if os.readlink(link) == str(program):
+                return True
+    return False
+
+
+def comes(condition, seconds=20):
+    """Whether a condition comes true within some time."""
+    until = time.monotonic() + seconds
+    while not condition() and time.monotonic() < until:
+        time.sleep(0.01)
+    return condition()
+
+
+class LabTest(ToolTest):
+    """A test with a folder for a tool's private files."""
+
+    def setUp(self):
+        super().setUp()
+        self.private = self.folder / "private"
+        self.private.mkdir()
+
+    def leaves_nothing(self, *words, stdin=b""):
+        """Runs a tool, and interrupts it as the keyboard does once it has begun to write. Its files are removed."""
+        given = {"env": {**os.environ, "TMPDIR": str(self.private)}, "cwd": self.folder, "start_new_session": True}
+        pipes = {"stdin": subprocess.PIPE, "stdout": subprocess.PIPE, "stderr": subprocess.DEVNULL}
+        for number in (signal.SIGINT, signal.SIGTERM):
+            tool = subprocess.Popen(words, **given, **pipes)
+            try:
+                tool.stdin.write(stdin)
+                tool.stdin.flush()
+                self.assertTrue(tool.stdout.read(1))
+                self.assertTrue(list(self.private.iterdir()))
+                os.killpg(tool.pid, number)
+                self.assertEqual(tool.wait(20), 128 + number)
+            finally:
+                with contextlib.suppress(ProcessLookupError):
+                    os.killpg(tool.pid, signal.SIGKILL)
+                tool.communicate()
+            self.assertEqual(list(self.private.iterdir()), [])
+
+    def without_a_reader(self, *words):
+        """The message and the status of a tool whose output goes to a pipe that nobody reads."""
+        reader, writer = os.pipe()
+        os.close(reader)
+        ran = subprocess.run(words, stdout=writer, stderr=subprocess.PIPE, cwd=self.folder, text=True, timeout=60)
+        os.close(writer)
+        return ran.stderr, ran.returncode
+
+
+class Csim(LabTest):
+    """cachesim in the place of the lab's csim."""
+
+    def csim(self, *words, **given):
+        return self.run_tool("lab/csim", *words, **given)
+
+    def results(self):
+        path = self.folder / ".csim_results"
+        return path.read_text() if path.exists() else None
+
+    def test_the_handouts_example(self):
+        self.assertEqual(self.good(self.csim("-v", "-s", 4, "-E", 1, "-b", 4, "-t", YI)), YI_TEXT)
+        self.assertEqual(self.results(), "4 5 3\n")
+        self.assertEqual(self.good(self.csim("-s", 4, "-E", 2, "-b", 4, "-t", YI)), "hits:4 misses:5 evictions:2\n")
+        self.assertEqual(self.results(), "4 5 2\n")
+
+    def test_a_link_under_the_name_of_the_reference(self):
+        (self.folder / "csim-ref").symlink_to(LAB / "csim")
+        words = ["./csim-ref", "-vs4", "-E1", "-b4", "-t", YI]
+        self.assertEqual(self.good(self.run_words(*words)), YI_TEXT)
+        self.refused(self.run_words(*words, env={"CACHESIM": "absent"}), 1, "csim-ref: absent is no program")
+
+    def test_traces_with_odd_names(self):
+        for name, text in (("./-a b", b""), ("/dev/stdin", YI.read_bytes())):
+            shutil.copy(YI, self.folder / "-a b")
+            self.assertEqual(self.good(self.csim("-v", "-s", 4, "-E", 1, "-b", 4, "-t", name, stdin=text)), YI_TEXT)
+
+    def test_a_fault_keeps_its_message_and_status_and_leaves_no_results(self):
+        for words, text, wrote, status, message in (
+            ("-v -s 4 -E 1 -b 4 -t trace", " L 10,1\n X 22,1\n", "L 10,1 miss \n", 1, "line 2: bad label"),
+            ("-s 4 -E 1 -b 4 -t trace", "I  10\n", "", 1, "line 1: bad size"),
+            ("-s 21 -E 1 -b 4 -t trace", "", "", 2, "bad geometry"),
+            ("-s 4 -E 1 -b 4 -t absent", "", "", 1, "cannot open absent"),
+        ):
+            (self.folder / ".csim_results").write_text("1 2 3\n")
+            (self.folder / "trace").write_text(text)
+            ran = self.csim(*words.split())
+            self.assertEqual((ran.stdout.decode(), ran.returncode, self.results()), (wrote, status, None))
+            self.assertTrue(ran.stderr.decode().startswith(f"cachesim: {message}"), ran.stderr)
+
+    def test_help(self):
+        for word in ("-h", "--help", "-hv", "-vh"):
+            self.assertTrue(self.good(self.csim("-s", 4, word)).startswith("csim [-v] -s N -E N -b N -t FILE "))
+        for words in (["-s", "-h"], ["--hits"], ["-s4", "-E1", "-b4", "-t", YI, "--", "-h"]):
+            self.refused(self.csim(*words), 2, "cachesim: ")
+        self.assertIsNone(self.results())
+
+    def test_outputs_that_fail(self):
+        message = "csim: the output can't be written\n"
+        ran = self.run_words("bash", "-c", f"'{LAB}/csim' -s 4 -E 1 -b 4 -t '{YI}' > /dev/full")
+        self.assertEqual((ran.stderr.decode(), ran.returncode, self.results()), (message, 1, None))
+        self.assertEqual(self.without_a_reader(LAB / "csim", "-s4", "-E1", "-b4", "-t", YI), (message, 1))
+        self.assertIsNone(self.results())
+        (self.folder / ".csim_results").mkdir()
+        self.refused(self.csim("-s", 4, "-E", 1, "-b", 4, "-t", YI), 1, "csim: the old .csim_results can't be removed\n")
+
+    def test_private_files_are_removed(self):
+        self.good(self.csim("-s", 4, "-E", 1, "-b", 4, "-t", YI, env={"TMPDIR": str(self.private)}))
+        self.assertEqual(list(self.private.iterdir()), [])
+        self.leaves_nothing(LAB / "csim", "-vs4", "-E1", "-b4", "-t", "/dev/stdin", stdin=b" L 10,1\n" * 20000)
+
+
+def mistakes():
+    """The cases in mistakes.cases: names of mistakes, words, and what is to be written."""
+    for case in (STUDENTS / "mistakes.cases").read_text().split("\n== ")[1:]:
+        lines = case.splitlines()
+        words = next(line[2:] for line in lines if line.startswith("$ "))
+        yield lines[0].split(), words.split(), "".join(f"{line[2:]}\n" for line in lines if line.startswith("> "))
+
+
+class Grade(LabTest):
+    """What is said of programs that are right, and of those that are not."""
+
+    @classmethod
+    def setUpClass(cls):
+        cls.programs = pathlib.Path(tempfile.mkdtemp(prefix="cachesim-students-"))
+        cls.addClassCleanup(shutil.rmtree, cls.programs)
+
+    def setUp(self):
+        super().setUp()
+        for name, text in TRACES.items():
+            (self.folder / name).write_text(text)
+
+    def student(self, *mistakes):
+        """A student's program with these mistakes, compiled once."""
+        program = self.programs / ("-".join(mistakes) or "right")
+        if not program.exists():
+            flags = ["-O1", "-Wall", "-Wextra", "-Werror", *(f"-D{mistake}" for mistake in mistakes)]
+            subprocess.run(["cc", *flags, "-o", program, STUDENTS / "student.c"], check=True)
+        return program
+
+    def grade(self, *words, env=None):
+        return self.run_tool("lab/grade", *words, env={"TMPDIR": str(self.private), **(env or {})}, seconds=40)
+
+    def says(self, ran, text, status):
+        """A run that must end with this status, and with this output alone. It must leave nothing but that."""
+        self.assertEqual((ran.stderr.decode(), ran.returncode), ("", status))
+        self.assertEqual(ran.stdout.decode(), text)
+        self.assertEqual(list(self.private.iterdir()), [])
+
+    def test_a_right_program(self):
+        """A simulator that shares nothing with cachesim."""
+        ran = self.grade(self.student(), "yi.trace", EXAMPLES / "blocks.lackey", EXAMPLES / "transpose.lackey")
+        self.says(ran, "39 of 39 right\n", 0)
+
+    def test_the_labs_caches_are_among_those_tried(self):
+        said = self.good(self.grade("--all", self.student(), "yi.trace")).splitlines()
+        self.assertEqual((len(said), said[-1]), (14, "13 of 13 right"))
+        for cache in "1 1 1, 4 2 4, 2 1 4, 2 1 3, 2 2 3, 2 4 3, 5 1 5".split(", "):
+            self.assertIn("right: -s {} -E {} -b {} -t yi.trace".format(*cache.split()), said)
+
+    def test_mistakes(self):
+        cases = list(mistakes())
+        self.assertEqual(len(cases), 16)
+        for names, words, said in cases:
+            with self.subTest(names):
+                program = self.student(*names)
+                self.says(self.grade(*(program if word == "CSIM" else word for word in words[1:])), said, 1)
+                self.assertTrue(comes(lambda: not is_running(program)))
+
+    def test_what_plays_no_part(self):
+        """Other output, files and folders that are left behind, an emptied copy of the trace, a process that goes on."""
+        for mistake in ("CHATTY", "JUNK", "LEAVES_CHILD"):
+            self.says(self.grade(self.student(mistake), "order.trace"), "13 of 13 right\n", 0)
+            self.assertTrue(comes(lambda: not is_running(self.student(mistake))))
+        self.assertEqual({path.name: path.read_text() for path in self.folder.glob("*.trace")}, TRACES)
+        self.assertEqual(len(list(self.folder.iterdir())), len(TRACES) + 1)
+
+    def test_notes(self):
+        note = "note: no .csim_results was written; the lab's printSummary would have done so\n"
+        self.says(self.grade("--geometry", "4,1,4", self.student("NO_RESULTS"), "yi.trace"), note + "1 of 1 right\n", 0)
+        (self.folder / "odd.trace").write_text(" L 10,1\nI  400,3\n==1== a message\n")
+        note = "note: line 3 of odd.trace isn't in the lab's form; a program may rightly misread it\n"
+        self.says(self.grade("--geometry", "4,1,4", self.student(), "odd.trace"), note + "1 of 1 right\n", 0)
+
+    def test_odd_names(self):
+        """Of a program, and of traces, one of which isn't UTF-8."""
+        shutil.copy(self.student("FIFO"), self.folder / "-my csim")
+        names = ["-a trace", os.fsdecode(b"tr\xffce")]
+        for name in names:
+            (self.folder / name).write_text(TRACES["order.trace"])
+        ran = self.grade("--geometry=0,2,4", "--verbose-lines=no", "--", "-my csim", *names)
+        said = "wrong: -s 0 -E 2 -b 4 -t {}\n    wanted hits:1 misses:4 evictions:2\n    got    hits:2 misses:3 evictions:1\n"
+        self.says(ran, said.format("-a trace") + said.format(r"tr\xffce") + "0 of 2 right\n", 1)
+
+    def test_nothing_to_judge(self):
+        (self.folder / "bad.trace").write_text(" L 10,1\n X 10,1\n")
+        (self.folder / "text").write_text("no program\n")
+        (self.folder / "text").chmod(0o755)
+        right, option = self.student(), "grade: error: argument"
+        for words, message in (
+            (["absent", "yi.trace"], "grade: absent: no such file\n"),
+            (["private", "yi.trace"], "grade: private: no such file\n"),
+            (["yi.trace", "yi.trace"], f"grade: {self.folder}/yi.trace: Permission denied\n"),
+            (["text", "yi.trace"], f"grade: {self.folder}/text: Exec format error\n"),
+            ([right, "yi.trace", "absent"], "grade: absent: no such file\n"),
+            ([right, "yi.trace", "bad.trace"], "grade: -s 1 -E 1 -b 1 -t bad.trace: line 2: bad label\n"),
+            (["--geometry", "21,1,1", right, "yi.trace"], "grade: -s 21 -E 1 -b 1 -t yi.trace: bad geometry\n"),
+            (["--geometry", "4,1", right, "yi.trace"], f"{option} --geometry: invalid geometry value: '4,1'\n"),
+            (["--seconds", "0", right, "yi.trace"], f"{option} --seconds: invalid seconds value: '0'\n"),
+            (["--verbose-lines", "some", right, "yi.trace"], f"{option} --verbose-lines: invalid choice"),
+            ([right], "grade: error: the following arguments are required: TRACE\n"),
+        ):
+            self.refused(self.grade(*words), 2, message)
+        self.refused(self.grade(right, "yi.trace", env={"CACHESIM": "/absent"}), 2, "grade: /absent: No such file or directory\n")
+
+    def test_outputs_that_fail(self):
+        ran = self.run_words("bash", "-c", f"'{LAB}/grade' '{self.student()}' yi.trace > /dev/full")
+        self.assertEqual((ran.stderr.decode(), ran.returncode), ("grade: standard output: No space left on device\n", 2))
+        self.assertEqual(self.without_a_reader(LAB / "grade", self.student(), "yi.trace"), ("", 141))
+
+    def test_an_interrupt(self):
+        """Nothing goes on, and no file is left."""
+        student, env = self.student("LOOPS"), {**os.environ, "TMPDIR": str(self.private)}
+        for number in (signal.SIGINT, signal.SIGTERM):
+            with subprocess.Popen([LAB / "grade", "--seconds", "30", student, YI], env=env) as grade:
+                self.assertTrue(comes(lambda: is_running(student)))
+                grade.send_signal(number)
+                self.assertEqual(grade.wait(20), 128 + number)
+            self.assertTrue(comes(lambda: not is_running(student)))
+            self.assertEqual(list(self.private.iterdir()), [])
+
+    def test_an_interrupt_as_a_run_begins(self):
+        """The program itself sends it, several times since it need not come at the worst moment."""
+        for _ in range(10):
+            self.says(self.grade(self.student("STOPS_GRADE"), "yi.trace"), "", 143)
+            self.assertTrue(comes(lambda: not is_running(self.student("STOPS_GRADE"))))
+
+    def test_where_cachesim_is(self):
+        """On the path, where the tools stand alone."""
+        shutil.copytree(LAB, self.folder / "lib/lab")
+        words = [self.folder / "lib/lab/grade", self.student(), "yi.trace"]
+        self.says(self.run_words(*words, env={"CACHESIM": ""}), "13 of 13 right\n", 0)
+        self.refused(self.run_words(*words, env={"CACHESIM": "", "PATH": "/nowhere"}), 2, "grade: no program cachesim")
+
+    @needs("bubblewrap")
+    def test_confined(self):
+        """As README.md shows it: a program can write in its own folder alone, and sees no other processes."""
+        naughty = self.folder / "naughty"
+        tries = f"echo > here && ! echo > '{self.folder}/there' && [ ! -e /proc/{os.getpid()} ] && exec '{self.student()}' \"$@\""
+        naughty.write_text(f"#!/bin/bash\n{tries}\n")
+        naughty.chmod(0o755)
+        places = "--ro-bind / / --dev /dev --proc /proc --tmpfs /var/tmp --setenv TMPDIR /var/tmp"
+        confined = ["bwrap", *places.split(), "--unshare-all", "--die-with-parent"]
+        self.says(self.run_words(*confined, LAB / "grade", naughty, "yi.trace"), "13 of 13 right\n", 0)
+        self.assertIn(places, (LAB / "README.md").read_text())
+
+
+class Trace(LabTest):
+    """A trace of a program, in the lab's form."""
+
+    def trace(self, *words, **given):
+        return self.run_tool("lab/trace", *words, **given)
+
+    @needs("valgrind")
+    def test_a_program_and_its_child(self):
+        """Ten stores of the program are there, and none of its child; so are the program's words, its input and its status."""
+        subprocess.run(["cc", "-O1", "-o", self.folder / "-a program", STUDENTS / "stores.c"], check=True)
+        ran = self.trace("--", "./-a program", stdin=b"input\n")
+        address, *words = ran.stderr.decode().split()
+        self.assertEqual((words, ran.returncode), (["input", "L", "77,1"], 7))
+        lines = ran.stdout.decode().splitlines()
+        self.assertEqual([line for line in lines if not LAB_LINE.fullmatch(line) or line == " L 77,1"], [])
+        self.assertEqual(len([line for line in lines if line == f" S {int(address, 16):08x},8"]), 10)
+        self.good(self.run_words(PROGRAM, "csim", "-s", 4, "-E", 1, "-b", 4, "-t", "/dev/stdin", stdin=ran.stdout))
+
+    @needs("valgrind")
+    def test_statuses(self):
+        ran = self.trace("sh", "-c", "kill -ABRT $$")
+        self.assertEqual((ran.stderr, ran.returncode), (b"", 134))
+        self.assertTrue(ran.stdout)
+        self.refused(self.trace("absent"), 127, "absent: command not found")
+        self.refused(self.trace("/etc/passwd"), 126, "/etc/passwd: Permission denied")
+
+    @needs("valgrind")
+    def test_outputs_that_fail(self):
+        message = "trace: the trace can't be written\n"
+        ran = self.run_words("bash", "-c", f"'{LAB}/trace' true > /dev/full")
+        self.assertEqual((ran.stderr.decode(), ran.returncode), (message, 125))
+        self.assertEqual(self.without_a_reader(LAB / "trace", "true"), (message, 125))
+
+    def test_a_failure_of_valgrind(self):
+        """With a valgrind that writes what the real one does where it meets an instruction that it doesn't know."""
+        log = r"I  0400d7d4,8\n\nhost stacktrace:\n==1== at 0\n"
+        (self.folder / "valgrind").write_text(f"#!/bin/sh\nprintf '{log}' >&9\nexit 1\n")
+        (self.folder / "valgrind").chmod(0o755)
+        ran = self.trace("true", env={"PATH": f"{self.folder}:{os.environ['PATH']}", "TMPDIR": str(self.private)})
+        self.assertEqual((ran.stdout, ran.returncode), (b"I  0400d7d4,8\n", 125))
+        said = "\nhost stacktrace:\n==1== at 0\ntrace: Valgrind itself failed; the trace ends there\n"
+        self.assertEqual(ran.stderr.decode(), said)
+        self.assertEqual(list(self.private.iterdir()), [])
+
+    @needs("valgrind")
+    def test_an_interrupt(self):
+        self.leaves_nothing(LAB / "trace", "sh", "-c", "while :; do :; done")
+
+    def test_wrong_words_and_a_missing_valgrind(self):
+        self.refused(self.trace(), 125, "trace: no program; 'trace --help' explains the arguments\n")
+        self.refused(self.trace("--all", "ls"), 125, "trace: unknown option --all; ")
+        self.assertTrue(self.good(self.trace("--help")).startswith("trace PROGRAM ARGS.. "))
+        (self.private / "readlink").symlink_to(shutil.which("readlink"))
+        message = "trace: valgrind is missing: apt-get install valgrind\n"
+        self.refused(self.trace("ls", env={"PATH": str(self.private)}), 125, message)
