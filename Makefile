@@ -1,45 +1,70 @@
-#   make                       proves and builds the program, and says where it is
-#   make demo                  builds it and sweeps a real trace
-#   make test                  proves everything and tests the program; the last line is 'N passed, M failed'
-#   make strain                what takes longer: more random cases, refused memory in the libraries too, devices, Cachegrind, C code
-#   make refusals              of these, refused memory alone, for the program and for each call of the libraries
-#   make wrong-bodies          more wrong bodies than make test tries, each of which the prover must refuse
-#   make install PREFIX=/usr   builds it and copies it to PREFIX/bin (/usr/local without PREFIX)
+#   make                        proves and builds the program (12 minutes on four processors), and says where it is
+#   make demo                   sweeps a real trace within a minute, by the program as yet unproved where none is built
+#   make test                   proves everything and tests the program; the last line is 'N passed, M failed'
+#   make test-tools             builds the program and tests the tools and the package with it
+#   make strain                 what takes longer: more random cases, refused memory in the libraries too, Cachegrind, C code
+#   make refusals               of these, refused memory alone, for the program and for each call of the libraries
+#   make wrong-bodies           more wrong bodies than make test tries, each of which the prover must refuse
+#   make tools                  compiles the C parts of the tools, which else are compiled at their first use
+#   make install PREFIX=/usr    builds the program and puts it, tools, manual, completion and documents below PREFIX (/usr/local)
+#   make uninstall PREFIX=/usr  removes what make install has put there
+#   make deb                    builds the program and makes a Debian package of the same, out/cachesim_VERSION_amd64.deb
+#   make clean                  removes all that was built; the next make proves everything anew
+#   make help                   writes this
 #
-# All of them need the kit's command rt. make test, make refusals and make strain need Python 3 and a C compiler too, make strain
-# Valgrind, and make wrong-bodies Python 3 and a checkout of git.
+# What proves or builds needs the kit's command rt, on the path or by RT=/its/path. make test, make refusals and make strain need
+# Python 3 and a C compiler too, make strain Valgrind, and make wrong-bodies Python 3 and a checkout of git. make test-tools and
+# make deb name the Debian packages that they miss.
 
 PREFIX ?= /usr/local
-RT ?= rt
 PROGRAM := crates/cachesim/out/cachesim
-TRACE := examples/transpose.lackey
 
-.PHONY: build demo test strain refusals wrong-bodies install
+.PHONY: build demo tools test test-tools strain refusals wrong-bodies install uninstall deb clean help kit
 
 build:
-	@cd crates/cachesim && $(RT) run -- --help < /dev/null > /dev/null
-	@echo "built: $(CURDIR)/$(PROGRAM)"
+	@tools/package/build
 
-demo: build
-	$(PROGRAM) sweep --format l --kind d --bsize 16-64 --sets 1-16 --assoc 1-4 --size 512-1k -t $(TRACE)
+demo:
+	@tools/package/build --demo
 
-test:
-	@RT="$(RT)" python3 tests/all
+tools:
+	@tools/package/compile
+
+test: kit
+	@python3 tests/all
+
+test-tools: build
+	tests/test-tools
 
 strain: build refusals
 	tests/fuzz --cases 100000
-	tests/pieces
-	tests/devices
 	tests/against_cachegrind
 	tests/against_c
 
-refusals: build
+refusals: kit build
 	tests/refusals
-	@RT="$(RT)" python3 tests/refusals-library
+	@python3 tests/refusals-library
 
-wrong-bodies: build
-	@RT="$(RT)" python3 tests/wrong-bodies
+wrong-bodies: kit build
+	@python3 tests/wrong-bodies
 
 install: build
-	install -d $(DESTDIR)$(PREFIX)/bin
-	install -m 755 $(PROGRAM) $(DESTDIR)$(PREFIX)/bin/cachesim
+	@tools/package/install "$(DESTDIR)$(PREFIX)"
+
+uninstall:
+	@tools/package/install --remove "$(DESTDIR)$(PREFIX)"
+
+deb: build
+	@tools/package/deb
+
+clean:
+	rm -rf crates/*/out tools/out out
+	find . -name __pycache__ -prune -exec rm -r {} +
+	@echo "removed all that was built: the next make proves everything anew"
+
+help:
+	@sed -n '/^#/!q; s/^# \{0,1\}//; p' Makefile
+
+# fails with one line where the kit's command is missing
+kit:
+	@tools/package/build --kit

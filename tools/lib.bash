@@ -25,9 +25,11 @@ misused() {
 # needs COMMAND PACKAGE: ends where a command is missing, naming Debian's package
 needs() { command -v -- "$1" > /dev/null || fail "$1 is missing: apt-get install $2"; }
 
-# find_cachesim: sets `cachesim` to the program: $CACHESIM, else that of this checkout, else the one on the path
+# find_cachesim: sets `cachesim` to the program: $CACHESIM, else that of this checkout, else that installed with this folder, else the
+# one on the path
 find_cachesim() {
     cachesim=${CACHESIM:-$here/../crates/cachesim/out/cachesim}
+    [ -n "${CACHESIM:-}" ] || [ -x "$cachesim" ] || cachesim=$here/../../bin/cachesim
     [ -n "${CACHESIM:-}" ] || [ -x "$cachesim" ] || cachesim=$(command -v cachesim) || fail "no program cachesim: build it by 'make', or set CACHESIM to its path"
     [ -x "$cachesim" ] || fail "$cachesim is no program that can be run"
     export CACHESIM=$cachesim
@@ -35,13 +37,16 @@ find_cachesim() {
 
 # private_folder: makes a folder, `folder`, that only this user can read and that is removed when the tool ends, also by a signal
 private_folder() {
-    folder=
-    trap 'rm -rf -- "$folder"' EXIT
+    private_folder_made=  # a name that no function has for something else, so that nothing else is ever removed
+    trap remove_private_folder EXIT
     trap 'exit 129' HUP
     trap 'exit 130' INT
     trap 'exit 143' TERM
-    folder=$(mktemp -d -t "cachesim-$name.XXXXXXXX")
+    private_folder_made=$(mktemp -d -t "cachesim-$name.XXXXXXXX")
+    folder=$private_folder_made
 }
+
+remove_private_folder() { [ -z "$private_folder_made" ] || rm -rf -- "$private_folder_made"; }
 
 # find_unpacker FILE: sets `unpacker` to the command that writes a trace to standard output, for a tool that must know its process
 find_unpacker() {
@@ -71,7 +76,7 @@ compiled() {
     mkdir -p -- "$here/out"
     fresh=$(mktemp -- "$here/out/$1.XXXXXXXX")
     cc -O2 -Wall -Wextra "${@:3}" -o "$fresh" "$source" || { rm -f -- "$fresh"; fail "$source can't be compiled"; }
-    chmod +rx -- "$fresh"  # for all who may use the folder: mktemp made it for one
+    chmod 755 -- "$fresh"  # for all who may use the folder: mktemp made it for one
     mv -- "$fresh" "$binary"
 }
 
@@ -89,7 +94,7 @@ stop_jobs() {
 # $folder/STEP. Where one fails, its message is told and the tool ends with its status.
 side_by_side() {
     local step status=0 ended pipes=() jobs=()
-    trap 'stop_jobs; rm -rf -- "$folder"' EXIT
+    trap 'stop_jobs; remove_private_folder' EXIT
     for step in "${@:2}"; do
         mkfifo -- "$folder/$step.pipe"
         "$step" < "$folder/$step.pipe" > "$folder/$step" 2> "$folder/$step.fault" &

@@ -2,8 +2,9 @@
 
 A code block of a document, indented or fenced, is one of these:
 
-    a session          some lines begin with '$ '. Each is a command, with what a backslash at a line's end joins to it; what
-                       follows up to the next '$ ' is all that it writes. '...' alone on a line stands for any lines.
+    a session          some lines begin with '$ '. Each is a command, with the lines that a backslash, a pipe or << 'WORD' at a
+                       line's end joins to it; what follows up to the next '$ ' is all that it writes. '...' alone on a line stands
+                       for any lines.
     a script           its first word is a command. The whole block is run by bash, and must end with status 0.
     anything else      a piece of a file, or of a table
 
@@ -26,7 +27,9 @@ import base
 DOCUMENTS = ["README.md", "examples/README.md", "tests/README.md", *(f"docs/{path.name}" for path in sorted((base.TOP / "docs").glob("*.md")))]
 DOCUMENTS += [str(path.relative_to(base.TOP)) for path in sorted(base.TOOLS.glob("**/README.md"))]
 NOT_RUN = re.compile(r"<!-- not run: (\S.*) -->")
-WORDS = re.compile(r"^(\w+=\S* )*(cachesim|tools/|tests/|examples/|make|rt|bash|python3|apt-get|git|valgrind|gnuplot|mlr|sbatch|export|set|for|time|sort|tail|head|printf|mkfifo|cd|PATH=)")
+COMMANDS = "cachesim|tools/|tests/|examples/|make|rt|bash|python3|apt-get|git|valgrind|gnuplot|mlr|sbatch|export|set|for|time|sort|tail|head|printf"
+WORDS = re.compile(rf"^(\w+=\S* )*({COMMANDS})")
+HERE_DOCUMENT = re.compile(r"<< '(\w+)'$")
 SECONDS = 120
 
 
@@ -46,15 +49,18 @@ class Block:
 
     def commands(self):
         """The commands of a session, each with its line's number and the lines that it must write."""
-        found, is_open = [], False
+        found, is_open, word = [], False, None
         for number, line in enumerate(self.lines, self.number):
-            if is_open:
+            if is_open or word:
                 found[-1][1] += "\n" + line
+                word = None if line == word else word
             elif line.startswith("$ "):
                 found.append([number, line[2:], []])
+                here = HERE_DOCUMENT.search(line)
+                word = here.group(1) if here else None
             elif found:
                 found[-1][2].append(line)
-            is_open = bool(found) and not found[-1][2] and line.endswith(("\\", "|"))
+            is_open = bool(found) and not found[-1][2] and not word and line.endswith(("\\", "|"))
         return found
 
 

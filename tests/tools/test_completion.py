@@ -1,0 +1,172 @@
+"""The completion of bash, zsh and fish."""
+
+import functools
+import os
+import pty
+import re
+import select
+import subprocess
+import time
+
+from base import PROGRAM, TOOLS, ToolTest, needs
+
+# The commands with their options, from the manual
+OF_A_CACHE = ("size", "bsize", "assoc", "repl", "walloc", "wback")
+ONE_OR_TWO = [f"{cache}{option}" for cache in ("l1-i", "l1-d", "l1-u", "l2-u") for option in OF_A_CACHE] + ["informat"]
+OPTIONS = {
+    "sweep": set("--bsize --sets --assoc --size --kind --format --after --rows --pow2 -t -h --help".split()),
+    "csim": set("-s -E -b -t -v -h --help".split()),
+    "din": {f"-{name}" for name in ONE_OR_TWO} | {"--seed", "-t", "-h", "--help"},
+}
+ONE_OF = {
+    "sweep --kind": "u d i",
+    "sweep --format": "d l",
+    "din -informat": "d l",
+    "din --informat": "d l",
+    "din -l1-urepl": "l f r",
+    "din --l2-urepl": "l f r",
+    "din -l1-dwalloc": "a n",
+    "din --l1-iwback": "a n",
+}
+
+
+@functools.cache
+def written(shell):
+    """The completion for a shell."""
+    words = [TOOLS / "package/completion", shell, PROGRAM]
+    return subprocess.run(words, stdout=subprocess.PIPE, check=True, text=True, timeout=120).stdout
+
+
+def on_terminal(words, env, *typed):
+    """What a program shows on a terminal that is given texts, each with the mark that is waited for after it."""
+    process, terminal = pty.fork()
+    if not process:
+        os.execvpe(words[0], words, env)
+    shown = b""
+    seen = 0
+    for text, mark in typed:
+        os.write(terminal, text.encode())
+        end = time.monotonic() + 60
+        while mark not in shown[seen:] and time.monotonic() < end and select.select([terminal], [], [], 60)[0]:
+            try:
+                shown += os.read(terminal, 65536)
+            except OSError:
+                break
+        seen = len(shown)
+    os.close(terminal)
+    os.waitpid(process, 0)
+    return shown.decode(errors="replace")
+
+
+class Generated(ToolTest):
+    """What is written for the shells, without them."""
+
+    def offered(self, *words):
+        """What the function for bash offers for the last of these words."""
+        quoted = " ".join(f"'{word}'" for word in words)
+        called = f"COMP_WORDS=({quoted}) COMP_CWORD={len(words) - 1}; _cachesim\necho \"${{COMPREPLY[@]}}\""
+        script = f"{written('bash')}\n{called}"
+        return set(self.good(self.run_words("bash", "-c", script)).split())
+
+    def test_commands(self):
+        self.assertEqual(self.offered("cachesim", ""), {"sweep", "csim", "din", "-h", "--help"})
+        self.assertEqual(self.offered("cachesim", "sw"), {"sweep"})
+        self.assertEqual(self.offered("cachesim", "x"), set())
+
+    def test_options(self):
+        for command, options in OPTIONS.items():
+            self.assertEqual(self.offered("cachesim", command, ""), options)
+            self.assertEqual(self.offered("cachesim", command, "-"), options)
+        two = {f"--{name}" for name in [*ONE_OR_TWO, "seed", "help"]}
+        self.assertEqual(self.offered("cachesim", "din", "--"), two)
+        self.assertEqual(self.offered("cachesim", "din", "-l2-us"), {"-l2-usize"})
+        self.assertEqual(self.offered("cachesim", "din", "--l2-us"), {"--l2-usize"})
+
+    def test_each_option_once(self):
+        left = self.offered("cachesim", "sweep", "--bsize", "16", "--pow2", "--kind", "=", "d", "")
+        self.assertEqual(left, OPTIONS["sweep"] - {"--bsize", "--pow2", "--kind"})
+        others = {"-l1-ubsize", "-l1-uassoc", "-l1-urepl", "-l1-uwalloc", "-l1-uwback"}
+        for given in ("-l1-usize", "--l1-usize"):
+            self.assertEqual(self.offered("cachesim", "din", given, "1k", "-l1-u"), others)
+            self.assertNotIn("--l1-usize", self.offered("cachesim", "din", given, "1k", "--"))
+
+    def test_values(self):
+        for option, letters in ONE_OF.items():
+            self.assertEqual(self.offered("cachesim", *option.split(), ""), set(letters.split()))
+            self.assertEqual(self.offered("cachesim", *option.split(), "="), set(letters.split()))
+            self.assertEqual(self.offered("cachesim", *option.split(), "=", letters[0]), {letters[0]})
+        for option in ("sweep --bsize", "sweep --after", "csim -b", "din -l1-usize", "din --seed"):
+            self.assertEqual(self.offered("cachesim", *option.split(), ""), set())
+
+    def test_every_shell_has_every_option(self):
+        options = set().union(*OPTIONS.values()) | {f"--{name}" for name in ONE_OR_TWO}
+        for shell in ("bash", "zsh"):
+            found = set(re.findall(r"(?<![\w-])--?[a-zA-Z][\w-]*(?=[=+[ ')|])", written(shell)))
+            self.assertEqual(options - found, set(), shell)
+        for option in options:
+            self.assertRegex(written("fish"), rf" -[slo] {option.lstrip('-')} ")
+
+    def test_a_program_without_such_a_help(self):
+        for program, text in (("/bin/true", "tells no command"), (self.folder / "none", "none")):
+            self.refused(self.run_tool("package/completion", "bash", program), 1, "completion: ", text)
+        self.refused(self.run_tool("package/completion", "csh", PROGRAM), 2, "csh")
+
+
+class Shells(ToolTest):
+    """The shells themselves: all that fits is put into a line, where 'cachesim' is a function that writes its words."""
+
+    LINES = {
+        "sw": "sweep",
+        "sweep --kind ": "sweep|--kind|d|i|u",
+        "sweep --bsize ": "sweep|--bsize",
+        "sweep -t a": "sweep|-t|a trace.din",
+        "csim -t ": "csim|-t|a trace.din|b.din|folder",
+        "din --l2-urepl ": "din|--l2-urepl|f|l|r",
+        "din -l1-uw": "din|-l1-uwalloc|-l1-uwback",
+        "din --l1-uw": "din|--l1-uwalloc|--l1-uwback",
+    }
+    SHOW = "cachesim() { printf '\\n'; printf '<%s>' \"$@\"; echo EN''-D; }; cd traces; echo REA''-DY\n"
+
+    def setUp(self):
+        super().setUp()
+        self.env = {"PATH": os.environ["PATH"], "HOME": str(self.folder), "TERM": "dumb", "LC_ALL": "C.UTF-8", "PS1": "> "}
+        (self.folder / "traces/folder").mkdir(parents=True)
+        for name in ("a trace.din", "b.din"):
+            (self.folder / "traces" / name).touch()
+
+    def check(self, words, before, key):
+        for typed, wanted in self.LINES.items():
+            start = f"cd '{self.folder}'; {before}; {self.SHOW}"
+            shown = on_terminal(words, self.env, (start, b"REA-DY"), (f"cachesim {typed}{key}\n", b"EN-D"))
+            found = [word.rstrip("/") for word in re.findall(r"<(.*?)>", shown.rpartition("\n<")[2].join(["<", ""]))]
+            self.assertEqual(sorted(found), sorted(wanted.split("|")), (typed, shown))
+
+    @needs("bash-completion")
+    def test_bash(self):
+        share = self.folder / "share/bash-completion/completions"
+        share.mkdir(parents=True)
+        (share / "cachesim").write_text(written("bash"))
+        self.env["XDG_DATA_DIRS"] = str(self.folder / "share")
+        before = ". /usr/share/bash-completion/bash_completion; bind 'set enable-bracketed-paste off'"
+        self.check(["bash", "--norc", "-i"], before, "\x1b*")
+
+    @needs("zsh")
+    def test_zsh(self):
+        (self.folder / "site").mkdir()
+        (self.folder / "site/_cachesim").write_text(written("zsh"))
+        before = (
+            "fpath=(./site $fpath); autoload -Uz compinit && compinit -u -D; zle -C all-matches complete-word _generic;"
+            " bindkey '^Xa' all-matches; zstyle ':completion:all-matches::::' completer _all_matches _complete;"
+            " zstyle ':completion:all-matches:*' insert true; autoload +X _cachesim"
+        )
+        self.check(["zsh", "-f", "-i"], before, "\x18a")
+
+    @needs("fish")
+    def test_fish(self):
+        (self.folder / "c.fish").write_text(written("fish"))
+        more = {"": "sweep|csim|din", "csim -": "|".join(OPTIONS["csim"]), "sweep --kind=": "--kind=u|--kind=d|--kind=i"}
+        for typed, wanted in {**self.LINES, **more}.items():
+            ran = self.run_words("fish", "-N", "-c", f"source c.fish; cd traces; complete -C 'cachesim {typed}'", env=self.env)
+            found = {line.partition("\t")[0].replace("\\ ", " ").rstrip("/") for line in self.good(ran).splitlines()}
+            given = typed.split()[:-1] if not typed.endswith(" ") else typed.split()
+            self.assertEqual(found, set(wanted.split("|")) - set(given), typed)

@@ -1,0 +1,149 @@
+"""make install and make uninstall, in a copy of the repository and into a folder of its own."""
+
+import os
+import re
+import shutil
+
+from base import PROGRAM, TOP
+from test_make import MakeTest, put_program
+
+
+class Installing(MakeTest):
+    def setUp(self):
+        super().setUp()
+        put_program(self.top)
+        self.to = self.folder / "to install"
+        self.to.mkdir()
+        self.path = {"PATH": self.path_without("rt", "lowdown")}
+
+    def few_tools(self):
+        """Leaves few tools in the copy, so that a test is quick."""
+        for path in (self.top / "tools").iterdir():
+            if path.is_file() and path.name not in ("best", "lib.bash", "table.py"):
+                path.unlink()
+
+    def below(self):
+        return sorted(str(path.relative_to(self.to)) for path in self.to.rglob("*"))
+
+    def install(self, *words):
+        ran = self.make("install", f"DESTDIR={self.to}", "PREFIX=/usr", *words, env=self.path)
+        self.assertEqual(ran.returncode, 0, ran.stderr)
+        return ran
+
+    def uninstall(self, status=0):
+        ran = self.make("uninstall", f"DESTDIR={self.to}", "PREFIX=/usr", env=self.path)
+        self.assertEqual(ran.returncode, status, ran.stderr)
+        return ran
+
+    def test_install_and_uninstall_leave_nothing(self):
+        self.few_tools()
+        ran = self.install()
+        self.assertIn("lowdown is missing (apt-get install lowdown)", ran.stderr)
+        program = self.to / "usr/bin/cachesim"
+        self.assertEqual((program.read_bytes(), program.stat().st_mode & 0o777), (PROGRAM.read_bytes(), 0o755))
+        self.assertEqual(os.readlink(self.to / "usr/bin/cachesim-best"), "../lib/cachesim/best")
+        for name in ("lib/cachesim/lib.bash", "share/bash-completion/completions/cachesim", "share/doc/cachesim/docs/manual.md"):
+            self.assertTrue((self.to / "usr" / name).is_file(), name)
+        self.assertFalse((self.to / "usr/share/man/man1/cachesim.1.gz").exists())
+        self.uninstall()
+        self.assertEqual(self.below(), [])
+        self.assertIn("nothing is installed below", self.uninstall(2).stderr)
+
+    def test_a_prefix_in_the_home_folder(self):
+        self.few_tools()
+        env = {**self.path, "HOME": str(self.to)}
+        ran = self.make("install", "PREFIX=~/.local", env=env)
+        self.assertEqual(ran.returncode, 0, ran.stderr)
+        self.assertEqual(ran.stdout.splitlines()[-1], f"installed: {self.to}/.local/bin/cachesim")
+        self.assertTrue((self.to / ".local/bin/cachesim").exists())
+        self.assertEqual(self.make("uninstall", "PREFIX=~/.local", env=env).returncode, 0)
+        self.assertEqual(self.below(), [])
+
+    def test_what_was_there_stays(self):
+        self.few_tools()
+        for name in ("usr/bin/other", "usr/lib/cachesim/mine"):
+            (self.to / name).parent.mkdir(parents=True, exist_ok=True)
+            (self.to / name).touch()
+        (self.to / "usr/share/man").mkdir(parents=True)
+        before = self.below()
+        self.install()
+        (self.to / "usr/share/man/man1/other.1").touch()
+        (self.to / "usr/bin/other").unlink()
+        before.remove("usr/bin/other")
+        self.uninstall()
+        added = ["usr/share/man/man1", "usr/share/man/man1/other.1"]
+        self.assertEqual(self.below(), sorted([*before, *added]))
+
+    def test_a_later_version_takes_the_place_of_an_earlier_one(self):
+        self.few_tools()
+        old = self.top / "tools/old"
+        old.write_text("#!/bin/bash\n# old    does what was once needed\nsed -n '2s/# //p' \"$0\"\n")
+        old.chmod(0o755)
+        self.install()
+        self.assertTrue((self.to / "usr/bin/cachesim-old").exists())
+        old.unlink()
+        self.install()
+        self.assertEqual([path for path in self.below() if "old" in path], [])
+        self.uninstall()
+        self.assertEqual(self.below(), [])
+
+    def test_a_fault_on_the_way_harms_nothing_else(self):
+        self.few_tools()
+        self.install()
+        (self.to / "usr/bin/other").touch()
+        (self.folder / "failing").mkdir()
+        env = {"PATH": f"{self.folder}/failing:{self.path['PATH']}", "TMPDIR": str(self.folder / "failing")}
+        for command, words, end in (("rmdir", "--*", "exit 1"), ("rmdir", "--*", "kill -TERM $PPID"), ("cp", "-P", "exit 1")):
+            failing = self.folder / "failing" / command
+            failing.write_text(f'#!/bin/bash\n[[ $1 != {words} ]] && exec {shutil.which(command)} "$@"\n{end}\n')
+            failing.chmod(0o755)
+            ran = self.make("install", f"DESTDIR={self.to}", "PREFIX=/usr", env=env)
+            self.assertEqual(ran.returncode, 2)
+            self.assertTrue((self.to / "usr/bin/other").exists())
+            failing.unlink()
+            self.assertEqual(os.listdir(self.folder / "failing"), [])
+        self.install()
+        self.uninstall()
+        self.assertEqual(self.below(), ["usr", "usr/bin", "usr/bin/other"])
+
+    def test_which_tools_are_installed(self):
+        self.install()
+        there = {path for path in self.below() if path.startswith("usr/lib/cachesim/")}
+        for path in there:
+            self.assertNotRegex(path, r"\.[ch]$|/package(/|$)|\.md$|__pycache__")
+        wanted = [path for path in (TOP / "tools").glob("*") if path.is_file() and os.access(path, os.X_OK)]
+        for path in wanted:
+            # a tool with a C part may be left out where there is no C compiler
+            link = self.to / "usr/bin" / f"cachesim-{path.name}"
+            self.assertTrue(link.resolve().is_file(), link)
+        for link in (self.to / "usr/bin").glob("cachesim-*"):
+            env = {"PATH": f"{link.parent}:{os.environ['PATH']}", "PYTHONDONTWRITEBYTECODE": ""}
+            ran = self.run_words(link, "--help", env=env)
+            self.assertEqual(ran.returncode, 0, ran.stderr)
+        # Python has left no files there
+        self.assertEqual({path for path in self.below() if path.startswith("usr/lib/cachesim/")}, there)
+
+    def test_each_c_part_is_compiled(self):
+        parts = set()
+        for path in (TOP / "tools").rglob("*"):
+            if path.is_file() and "package" not in path.parts and os.access(path, os.X_OK) and path.parent.name != "out":
+                parts |= set(re.findall(r"^ *compiled ([\w.-]+) ", path.read_text(errors="replace"), re.M))
+        self.assertIn("to-din", parts)
+        ran = self.make("tools")
+        self.assertEqual((ran.returncode, ran.stderr), (0, ""))
+        self.assertEqual(parts - {path.name for path in self.top.glob("tools/out/*")}, set())
+
+    def test_without_a_compiler_tools_are_left_out(self):
+        self.few_tools()
+        tool = self.top / "tools/needs-c"
+        tool.write_text("#!/bin/bash\n# needs-c    does much\n[ \"$*\" != --build ] || exit 1\nsed -n '2s/# //p' \"$0\"\n")
+        tool.chmod(0o755)
+        ran = self.install()
+        self.assertRegex(ran.stderr, "(?m)^stage: left out, since their C parts are not compiled:.* needs-c")
+        self.assertFalse((self.to / "usr/bin/cachesim-needs-c").exists())
+
+    def test_a_place_that_cannot_be_written(self):
+        self.few_tools()
+        ran = self.make("install", "PREFIX=/proc/cachesim", env=self.path)
+        self.assertEqual(ran.returncode, 2)
+        self.assertIn("install: /proc/cachesim can't be made", ran.stderr)

@@ -1,0 +1,84 @@
+"""What is asked of every tool: help, small files, and what the linters say."""
+
+import os
+import subprocess
+import unittest
+
+import base
+
+# they pass on the status of the program that they trace
+WRONG_ARGUMENTS = {"trace": 125, "lab/trace": 125}
+
+
+def scripts():
+    """The tracked and new files of the repository that are no data, without what is built."""
+    found = []
+    for folder, folders, names in os.walk(base.TOP):
+        folders[:] = sorted(set(folders) - {".git", "out", "__pycache__", "crates"})
+        found += [os.path.join(folder, name) for name in sorted(names)]
+    return found
+
+
+def first_line(path):
+    with open(path, "rb") as file:
+        return file.readline(80)
+
+
+def written_in(word):
+    return [path for path in scripts() if first_line(path).startswith(b"#!") and word in first_line(path)]
+
+
+def tools():
+    """The executables under tools/, those of the folders too."""
+    return [path for path in scripts() if path.startswith(str(base.TOOLS)) and os.access(path, os.X_OK)]
+
+
+class Tools(base.ToolTest):
+    def test_help(self):
+        for tool in tools():
+            with self.subTest(tool):
+                for option in ("--help", "-h"):
+                    text = self.good(self.run_words(tool, option))
+                    self.assertIn(os.path.basename(tool), text)
+                self.assertRegex(text, r"(?i)exit status", "the help names the exit statuses")
+
+    def test_wrong_arguments(self):
+        for tool in tools():
+            with self.subTest(tool):
+                ran = self.run_words(tool, "--no-such-option")
+                self.assertEqual(ran.returncode, WRONG_ARGUMENTS.get(os.path.relpath(tool, base.TOOLS), 2))
+                self.assertIn(os.path.basename(tool), ran.stderr.decode())
+                # what writes a trace ends it in a line that no simulator takes
+                self.assertRegex(ran.stdout.decode(), rf"\A({os.path.basename(tool)}: .*\n)?\Z")
+
+    def test_small_files(self):
+        for path in scripts():
+            if path.startswith((str(base.TOOLS), str(base.TOP / "tests/tools"))):
+                with open(path, "rb") as file:
+                    self.assertLessEqual(sum(1 for _ in file), 420, path)
+
+
+class Linters(unittest.TestCase):
+    def clean(self, *words):
+        ran = subprocess.run(words, capture_output=True, text=True, cwd=base.TOP)
+        self.assertEqual((ran.stdout + ran.stderr, ran.returncode), ("", 0))
+
+    @base.needs("shellcheck")
+    def test_shell(self):
+        paths = written_in(b"bash") + written_in(b"/sh") + [str(base.TOOLS / "lib.bash")]
+        self.assertGreater(len(paths), 5)
+        self.clean("shellcheck", "-x", "-P", str(base.TOP), "-P", "SCRIPTDIR", *paths)
+
+    @base.needs("flake8")
+    def test_python(self):
+        paths = written_in(b"python") + [path for path in scripts() if path.endswith(".py")]
+        of_tools = [path for path in paths if "/tools/" in path or path.endswith("test-tools")]
+        self.assertGreater(len(of_tools), 5)
+        self.clean("flake8", "--isolated", "--max-line-length", "170", *sorted(set(of_tools)))
+        self.clean("flake8", "--isolated", "--select", "E9,F,W6", *sorted(set(paths)))
+
+    @base.needs("gcc")
+    def test_c(self):
+        for path in scripts():
+            if path.endswith(".c") and path.startswith(str(base.TOOLS)):
+                self.clean("gcc", "-std=gnu11", "-O2", "-Wall", "-Wextra", "-fsyntax-only", path)
