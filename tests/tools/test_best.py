@@ -1,0 +1,132 @@
+"""The best caches of a table."""
+
+import csv
+import os
+import subprocess
+
+import base
+import table
+
+TABLE = """bsize,sets,assoc,size,hits,misses,evictions
+16,1,4,64,800,200,196
+16,4,1,64,800,200,196
+32,1,2,64,900,100,98
+16,2,4,128,895,105,97
+32,2,2,128,950,50,46
+64,1,4,256,948,52,48
+64,4,1,256,950,50,46
+64,2,4,512,951,49,41
+64,8,1,512,951,49,41
+"""
+
+
+class Best(base.ToolTest):
+    def setUp(self):
+        super().setUp()
+        (self.folder / "table.csv").write_text(TABLE)
+
+    def best(self, *words, stdin=b""):
+        """The triples of the rows that are chosen, as texts."""
+        text = self.good(self.run_tool("best", *words, stdin=stdin))
+        self.assertEqual(text.split("\n")[0], table.HEADER + ",percent")
+        return [",".join(line.split(",")[:3]) for line in text.split("\n")[1:-1]]
+
+    def test_the_smallest_with_the_fewest_misses(self):
+        # of the two that miss 49 times, both of 512 bytes, that of one way comes first
+        self.assertEqual(self.best("table.csv"), ["64,8,1", "64,2,4"])
+        # 50 misses are the fewest of up to 256 bytes; 128 bytes are the least size that has them
+        self.assertEqual(self.best("table.csv", "--up-to", "256"), ["32,2,2"])
+        self.assertEqual(self.best("table.csv", "--up-to", "511"), ["32,2,2"])
+        self.assertEqual(self.best("--up-to", "64", "table.csv"), ["32,1,2"])
+
+    def test_within(self):
+        # 49 and so many per cent more: 49.98, 50.0045, 99.47, 100.0041
+        for percent, caches in (
+            ("0", ["64,8,1", "64,2,4"]),
+            ("2", ["64,8,1", "64,2,4"]),
+            ("2.05", ["32,2,2"]),
+            ("103", ["32,2,2"]),
+            ("104.09", ["32,1,2"]),
+            ("1000", ["32,1,2", "16,4,1", "16,1,4"]),
+        ):
+            self.assertEqual(self.best("table.csv", "--within", percent), caches, percent)
+        # 50 are the fewest of up to 256 bytes; twice as many is 100 per cent more, and that itself is within
+        self.assertEqual(self.best("table.csv", "--within", "100", "--up-to", "256"), ["32,1,2"])
+        self.assertEqual(self.best("table.csv", "--within", "99.99", "--up-to", "256"), ["32,2,2"])
+
+    def test_rows(self):
+        self.assertEqual(self.best("table.csv", "--rows", "4"), ["64,8,1", "64,2,4", "32,2,2", "64,4,1"])
+        self.assertEqual(self.best("table.csv", "--rows", "2", "--up-to", "64"), ["32,1,2", "16,4,1"])
+        self.assertEqual(len(self.best("table.csv", "--rows", "100")), 9)
+
+    def test_front(self):
+        self.assertEqual(self.best("table.csv", "--front"), ["32,1,2", "32,2,2", "64,8,1"])
+        self.assertEqual(self.best("table.csv", "--front", "--up-to", "128"), ["32,1,2", "32,2,2"])
+
+    def test_per_cent(self):
+        text = self.good(self.run_tool("best", "table.csv", "--rows", "9"))
+        percent = [row["percent"] for row in csv.DictReader(text.splitlines())]
+        self.assertEqual(percent, "4.900 4.900 5.000 5.000 5.200 10.000 10.500 20.000 20.000".split())
+        nothing = f"{table.HEADER}\n16,1,1,16,0,0,0\n"
+        self.assertIn("\n16,1,1,16,0,0,0,0.000\n", self.good(self.run_tool("best", "-", stdin=nothing.encode())))
+
+    def test_real_tables(self):
+        space = ("--bsize", "16-128", "--sets", "1-64", "--assoc", "1-8", "--size", "64-8k")
+        for name, words in (("sort.din", ()), ("transpose.lackey", ("--format", "l", "--kind", "d"))):
+            text = self.sweep(*space, *words, "-t", base.EXAMPLES / name)
+            points = {(int(row["size"]), int(row["misses"])) for row in csv.DictReader(text.splitlines())}
+            # by the definition: no other point is as small and as good
+            front = [point for point in points if not any(s <= point[0] and m <= point[1] for s, m in points - {point})]
+            found = [tuple(map(int, cache.split(","))) for cache in self.best("-", "--front", stdin=text.encode())]
+            self.assertEqual([b * s * e for b, s, e in found], sorted(size for size, _ in front))
+            self.assertGreater(len(front), 3)
+            most = 1.25 * min(misses for _, misses in points)
+            least = min(size for size, misses in points if misses <= most)
+            near = {
+                f"{row['bsize']},{row['sets']},{row['assoc']}"
+                for row in csv.DictReader(text.splitlines())
+                if int(row["size"]) == least and int(row["misses"]) <= most
+            }
+            self.assertEqual(set(self.best("-", "--within", "25", stdin=text.encode())), near)
+
+    def test_the_answer_is_a_table(self):
+        front = self.run_tool("best", "table.csv", "--front").stdout
+        self.assertEqual(self.best("-", "--up-to", "511", stdin=front), ["32,2,2"])
+
+    def test_names(self):
+        os.rename(self.folder / "table.csv", self.folder / "-a table.csv")
+        self.assertEqual(self.best("./-a table.csv", "--front"), self.best("--front", "--", "-a table.csv"))
+        link = self.folder / "cachesim-best"
+        link.symlink_to(base.TOOLS / "best")
+        self.assertEqual(self.good(self.run_words(link, "./-a table.csv")).count("\n"), 3)
+        self.refused(self.run_words(link, "none.csv"), 1, "cachesim-best: none.csv: No such file or directory\n")
+
+    def test_what_is_refused(self):
+        for stdin, words, status, fault in (
+            (b"", ["-"], 1, "best: standard input: a table without a row\n"),
+            (b"\xff\xfe\n", ["-"], 1, "best: standard input: line 1: no row of a sweep's table\n"),
+            (b"16,1,1,16,2,1,0\n16,1,2,32,2,2,0\n", ["-"], 1, "best: -: rows of several traces: they count different numbers"),
+            (b"", ["table.csv", "--up-to", "63"], 1, "best: table.csv: no cache of at most 63 bytes\n"),
+            (b"", ["."], 1, "best: .: Is a directory\n"),
+            (b"", [], 2, "required: TABLE"),
+            (b"", ["table.csv", "--within", "-1"], 2, "--within"),
+            (b"", ["table.csv", "--within", "nan"], 2, "'nan' is no number of per cent"),
+            (b"", ["table.csv", "--within", "1", "--front"], 2, "not allowed with"),
+            (b"", ["table.csv", "--rows", "0"], 2, "'0' is no number above 0"),
+            (b"", ["table.csv", "--up-to", "1x"], 2, "'1x' is no size"),
+        ):
+            given = {"PYTHONIOENCODING": "utf-8:strict"}
+            self.refused(self.run_tool("best", *words, stdin=stdin, env=given), status, fault)
+
+    def test_writing(self):
+        with open("/dev/full", "wb") as full:
+            ran = subprocess.run([base.TOOLS / "best", self.folder / "table.csv"], stdout=full, stderr=subprocess.PIPE)
+        self.assertEqual((ran.returncode, ran.stderr), (1, b"best: standard output: No space left on device\n"))
+        reader, writer = os.pipe()
+        os.close(reader)
+        ran = subprocess.run([base.TOOLS / "best", self.folder / "table.csv"], stdout=writer, stderr=subprocess.PIPE)
+        os.close(writer)
+        self.assertEqual((ran.returncode, ran.stderr), (141, b""))
+
+    def test_help(self):
+        self.assertIn("--front", self.good(self.run_tool("best", "--help")))

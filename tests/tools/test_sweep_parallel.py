@@ -1,0 +1,295 @@
+"""Sweeps by several processes, and the pages that they write."""
+
+import gzip
+import itertools
+import math
+import os
+import pty
+import shlex
+import signal
+import subprocess
+import time
+
+from base import EXAMPLES, PROGRAM, TOOLS, TOP, ToolTest, needs
+
+HEADER = "bsize,sets,assoc,size,hits,misses,evictions\n"
+SPACE = "--bsize 16-128 --sets 1-4096 --assoc 1-16 --size 1k-1m".split()
+SMALL = "--bsize 16-32 --sets 1-64 --assoc 1-4 --size 1k-4k".split()
+# of the nine configurations only these have 64 bytes to 1k: 16,2,2, then 16,4,1 and 16,4,2
+THREE = "--bsize 16 --sets 1-4 --assoc 1-2 --size 64-1k".split()
+SPACES = (SPACE, SMALL, THREE, "--bsize 4-64 --sets 1-256 --assoc 1-64 --size 0-1g".split(), "--bsize 64 --sets 1 --assoc 1-300 --size 0-1m".split())
+LACKEY, DIN = EXAMPLES / "transpose.lackey", EXAMPLES / "sort.din"
+BAD = "0 10\n0 20\n2 1g\n0 30\n"
+FAULT = b"cachesim: line 3: bad address\n"
+
+
+def pair(row):
+    return tuple(map(int, row.split(",")[:2]))
+
+
+def dearest_page(costs, most):
+    """The cost of the dearest page, where `costs` are cut into at most so many pages so that it is least: by dynamic programming."""
+    sums = list(itertools.accumulate(costs, initial=0))
+    least = [0] + [math.inf] * len(costs)
+    for _ in range(most):
+        least = [0] + [min(max(least[cut], sums[end] - sums[cut]) for cut in range(end)) for end in range(1, len(sums))]
+    return least[-1]
+
+
+class ParallelTest(ToolTest):
+    def write(self, name, text):
+        path = self.folder / name
+        path.write_bytes(text if isinstance(text, bytes) else text.encode())
+        return path
+
+    def program(self, body):
+        """A program in place of cachesim that does what the body says for a page, and else is cachesim. In the body "$after" is the
+        triple behind which the page begins."""
+        script = f'#!/bin/bash\n[[ $* == *"-t /dev/null"* ]] || {{ after=$* after=${{after#*--after }} after=${{after%% *}}\n{body}\n}}\nexec {PROGRAM} "$@"\n'
+        path = self.write("the program", script)
+        path.chmod(0o755)
+        return {"CACHESIM": str(path)}
+
+
+class Pages(ParallelTest):
+    def pages(self, *words):
+        return self.good(self.run_tool("pages", *words)).splitlines()
+
+    def test_a_small_table(self):
+        words = " ".join(THREE)
+        self.assertEqual(self.pages(1, *THREE), [f"{words} --rows 3"])
+        for most in (2, 3, 99):
+            self.assertEqual(self.pages(most, *THREE), [f"{words} --rows 1", f"{words} --after 16,2,2 --rows 2"])
+
+    def test_parts_of_a_table(self):
+        words = " ".join(THREE)
+        self.assertEqual(self.pages(2, *THREE, "--rows", 2), [f"{words} --rows 1", f"{words} --after 16,2,2 --rows 1"])
+        self.assertEqual(self.pages(2, *THREE, "--after", "16,2,2"), [f"{words} --after 16,2,2 --rows 2"])
+        self.assertEqual(self.pages(2, "--rows=07", "--pow2", *THREE, "--after=16,4,1", "--"), [f"--pow2 {words} --after 16,4,1 --rows 1"])
+        for nothing in (("--rows", 0), ("--after", "32,0,0")):
+            self.assertEqual([line.split()[-2:] for line in self.pages(4, *THREE, *nothing)], [["--rows", "0"]])
+        self.assertEqual(self.pages(4, *THREE[:-1], "5-6"), [f"{' '.join(THREE[:-1])} 5-6 --rows 0"])
+
+    def test_cuts(self):
+        """Pages are cut between pairs, make up the table, and the dearest costs no more than it must."""
+        for space, most in itertools.product(SPACES, (1, 2, 3, 4, 7, 16, 500)):
+            table = self.sweep(*space, "-t", "/dev/null").splitlines()[1:]
+            costs = {pair(row): 0 for row in table}
+            for bsize, sets, assoc in (map(int, row.split(",")[:3]) for row in table):
+                costs[bsize, sets] = 1 + 8 * math.log2(1 + assoc) / (bsize * sets) ** (2 / 3)
+            taken = [pair(row) for row in table]
+            pages, dearest, after = self.pages(most, *space), 0, ""
+            for page in pages:
+                rows = int(page.split()[-1])
+                self.assertEqual(page, f"{' '.join(space)}{after} --rows {rows}")
+                after = " --after " + ",".join(table[len(table) - len(taken) + rows - 1].split(",")[:3])
+                here, taken = taken[:rows], taken[rows:]
+                self.assertNotEqual(here[-1], taken[0] if taken else None, page)
+                dearest = max(dearest, sum(costs[name] for name in dict.fromkeys(here)))
+            self.assertEqual(taken, [])
+            self.assertLessEqual(len(pages), most)
+            self.assertAlmostEqual(dearest, dearest_page(list(costs.values()), most))
+        self.assertEqual(len(self.pages("auto", *SPACE)), min(49, len(os.sched_getaffinity(0))))
+
+    def test_refused(self):
+        self.refused(self.run_tool("pages", 4, "--bsize", "24", *SPACE[2:]), 2, "cachesim: bsize: not a power of two")
+        self.refused(self.run_tool("pages", 4, *SPACE[2:]), 2, "cachesim: error: ", "--bsize <RANGE>")
+        for word in ("-t", "-tx", "-t=x"):
+            self.refused(self.run_tool("pages", 4, *SPACE, word, "x"), 2, "pages: ", "leave out -t")
+        for most in ("0", "-1", "x", "", "4 4"):
+            self.refused(self.run_tool("pages", most, *SPACE), 2, f"pages: {most} is no number of jobs")
+        self.refused(self.run_tool("pages"), 2, "pages: the number of jobs is missing")
+
+    @needs("parallel")
+    def test_by_gnu_parallel(self):
+        """As the help shows it."""
+        shown = self.good(self.run_tool("pages", "--help"))
+        script = f'pages() {{ "{TOOLS}/pages" "$@"; }}; set -e; HOME=$PWD; pages 4 ' + shown.split("\n    pages 4 ")[1]
+        self.good(self.run_words("bash", "-c", script.replace("trace.din", shlex.quote(str(DIN)))))
+        self.assertEqual((self.folder / "table.csv").read_text(), self.sweep(*SPACE, "-t", DIN))
+
+
+class SameBytes(ParallelTest):
+    def same(self, most, trace, *words, single=None, **given):
+        wanted = self.sweep("-t", single or trace, *words)
+        self.assertEqual(self.good(self.run_tool("sweep-parallel", most, trace, *words, **given)), wanted)
+        return wanted
+
+    def test_by_hand(self):
+        nine = TOP / "tests/cases/inputs/nine-references.din"
+        table = HEADER + "16,1,1,16,3,6,5\n16,1,2,32,4,5,3\n16,2,1,32,4,5,3\n16,2,2,64,4,5,2\n"
+        for most in (1, 2, 4):
+            words = (most, nine, *"--bsize 16 --sets 1-2 --assoc 1-2 --size 16-64".split())
+            self.assertEqual(self.good(self.run_tool("sweep-parallel", *words)), table)
+
+    def test_spaces(self):
+        for space, most in itertools.product(SPACES, (1, 2, 4)):
+            self.same(most, DIN, *space)
+        for most in (3, 13, 200, "auto"):
+            self.same(most, DIN, *SMALL)
+
+    def test_options(self):
+        for options in ("--kind d", "--kind=i", "--pow2", "--rows 0", "--rows 7", "--after 16,16,4", "--after=9,9,9 --rows=5", "--after 99,1,1 --pow2", "--"):
+            for trace in ("-", DIN):
+                self.same(3, trace, *SMALL, *options.split(), single=DIN, stdin=DIN.read_bytes())
+        for kind in "udi":
+            self.same(4, LACKEY, *SPACE, "--format", "l", "--kind", kind)
+
+    def test_no_row(self):
+        self.assertEqual(self.same(4, DIN, *THREE[:-1], "5-6"), HEADER)
+        self.assertEqual(self.same(4, DIN, *THREE[:-1], "5-6", "--after", "1,1,1"), "")
+        self.assertEqual(self.same(4, "/dev/null", *THREE, "--rows", "0"), HEADER)
+
+    def test_names(self):
+        for name in ("a b.din", "-x.din", "-", "-h", "it's \"$HOME\" `x`\\n.din", "line\nfeed", "é"):
+            for pressed in ("", ".gz"):
+                trace = self.write(name + pressed, gzip.compress(DIN.read_bytes()) if pressed else DIN.read_bytes())
+                shown = f"./{trace.name}" if name + pressed in ("-", "-h") else trace.name
+                self.same(2, shown, *SMALL, single=DIN)
+
+    def test_installed(self):
+        """By a link from elsewhere, with the program on the path."""
+        link = self.folder / "cachesim-sweep-parallel"
+        link.symlink_to(TOOLS / "sweep-parallel")
+        ran = self.run_words(link, 3, DIN, *SMALL, env={"CACHESIM": ""})
+        self.assertEqual(self.good(ran), self.sweep(*SMALL, "-t", DIN))
+        self.refused(self.run_words(link, 3, DIN, *SMALL, env={"CACHESIM": "./none"}), 1, "cachesim-sweep-parallel: ./none is no program")
+
+    def test_read_once(self):
+        """Standard input from where it stands, a pipe with a name, and one from bash."""
+        text = LACKEY.read_bytes()
+        options = (*SPACE, "--format", "l")
+        self.same(4, "-", *options, single=LACKEY, stdin=text)
+        wanted = self.sweep(*options, "-t", self.write("rest", text[text.index(b"\n") + 1:]))
+        run = f'"{TOOLS}/sweep-parallel" 4 - {" ".join(options)}'
+        self.assertEqual(self.good(self.run_words("bash", "-c", f'{{ read -r line; {run}; }} < "$1"', "-", LACKEY)), wanted)
+        os.mkfifo(self.folder / "pipe")
+        script = f'cat -- "$1" > pipe & {run.replace(" - ", " pipe ")}; {run.replace(" - ", " <(cat -- $1) ")}; {run.replace(" - ", " /dev/stdin ")} < "$1"'
+        self.assertEqual(self.good(self.run_words("bash", "-c", script, "-", LACKEY)), 3 * self.sweep(*options, "-t", LACKEY))
+
+    @needs("xz-utils", "zstd")
+    def test_compressed(self):
+        trace = self.write("a trace", LACKEY.read_bytes())
+        for command, suffix in (("gzip", "gz"), ("xz", "xz"), ("zstd", "zst")):
+            subprocess.run([command, "-qk", trace], check=True)
+            for most in (1, 4):
+                self.same(most, f"a trace.{suffix}", *SPACE, "--format", "l", single=trace)
+
+    def test_progress(self):
+        """On a terminal, what is read is told each second; elsewhere nothing is."""
+        for trace, shown in (("-", rb"\rsweep-parallel: 0 MB of the trace read"), ("slow", rb"\rsweep-parallel: \d+ % of the trace read")):
+            self.write("slow", DIN.read_bytes())
+            master, terminal = pty.openpty()
+            words = [TOOLS / "sweep-parallel", "2", trace, *SMALL]
+            env = {**os.environ, **self.program('[[ $* != *" slow"* ]] || sleep 2')}
+            ran = subprocess.Popen(words, stdin=subprocess.PIPE, stdout=subprocess.PIPE, stderr=terminal, cwd=self.folder, env=env)
+            os.close(terminal)
+            time.sleep(1.5)
+            self.assertEqual(ran.communicate(DIN.read_bytes())[0].decode(), self.sweep(*SMALL, "-t", DIN))
+            self.assertEqual(ran.returncode, 0)
+            told = os.read(master, 10000)
+            os.close(master)
+            self.assertRegex(told, shown)
+            self.assertTrue(told.endswith(b"\r\033[K"))
+        self.same(2, "slow", *SMALL, single=DIN, env=env)
+
+
+class Faults(ParallelTest):
+    def failed(self, ran, status, message):
+        self.assertEqual((ran.returncode, ran.stdout, ran.stderr.decode()), (status, b"", message.decode() if isinstance(message, bytes) else message))
+
+    def tool(self, *words, **given):
+        return self.run_tool("sweep-parallel", *words, seconds=30, **given)
+
+    def test_bad_line(self):
+        self.write("bad", BAD)
+        self.write("bad.gz", gzip.compress(BAD.encode()))
+        for trace, most in itertools.product(("bad", "bad.gz", "-"), (1, 2, 4)):
+            self.failed(self.tool(most, trace, *SPACE, stdin=BAD.encode()), 1, FAULT)
+            self.failed(self.tool(most, trace, *SPACE, "--rows", 0, stdin=BAD.encode()), 1, FAULT)
+        many = self.write("many", b"0 10\n" * 300_000 + b"0 x\n" + b"0 10\n" * 300_000)
+        self.failed(self.tool(4, many, *SPACE), 1, b"cachesim: line 300001: bad address\n")
+        self.failed(self.tool(4, "-", *SPACE, stdin=many.read_bytes()), 1, b"cachesim: line 300001: bad address\n")
+
+    def test_bad_line_of_an_endless_trace(self):
+        """The fault of a live trace ends the run, and so its writer."""
+        script = f'{{ printf "0 10\\n2 1g\\n"; while echo 0 20; do :; done 2> writer; echo ended >> writer; }} | "{TOOLS}/sweep-parallel" 4 - {" ".join(SPACE)}'
+        self.failed(self.run_words("bash", "-c", script, seconds=30), 1, b"cachesim: line 2: bad address\n")
+
+    def test_no_trace(self):
+        for repeated in range(10):
+            self.failed(self.tool(4, "none", *SPACE), 1, "cachesim: cannot open none\n")
+            self.failed(self.tool(4, ".", *SPACE), 1, "cachesim: line 1: read failed\n")
+        self.refused(self.tool(4, "none.gz", *SPACE), 1, "sweep-parallel: none.gz can't be read: gzip: ", "No such file")
+        ran = self.run_words("bash", "-c", f'"{TOOLS}/sweep-parallel" 4 - {" ".join(SPACE)} <&-')
+        self.failed(ran, 1, "sweep-parallel: standard input can't be read: Bad file descriptor\n")
+
+    def test_words(self):
+        self.refused(self.tool(4, "none", "--bsize", "24", *SPACE[2:]), 2, "cachesim: bsize: not a power of two\n")
+        self.refused(self.tool(4, "-", *SPACE[2:]), 2, "cachesim: error: ")
+        self.refused(self.tool(4, DIN, *SPACE, "-t", DIN), 2, "sweep-parallel: ", "leave out -t")
+        self.refused(self.tool("four", DIN, *SPACE), 2, "sweep-parallel: four is no number of jobs")
+        self.refused(self.tool(4), 2, "sweep-parallel: ", "missing")
+
+    def test_cut_short(self):
+        """A compressed trace that ends too early, also behind a whole line: no page may take what was read for the whole."""
+        pressed = gzip.compress(LACKEY.read_bytes())
+        for repeated, text in itertools.product(range(5), (pressed[:-4], pressed[:-8], pressed[:3000], pressed[:-8] + b"8 bytes!", b"", b"0 10\n")):
+            self.write("cut.gz", text)
+            self.refused(self.tool(2, "cut.gz", *SMALL, "--format", "l"), 1, "sweep-parallel: cut.gz can't be read: gzip: ")
+
+    def test_missing_package(self):
+        bin = self.folder / "bin"
+        bin.mkdir()
+        for name in ("bash", "gzip"):
+            (bin / name).symlink_to(f"/usr/bin/{name}")
+        environment = {"PATH": str(bin)}
+        self.good(self.tool(2, DIN, *SMALL, env=environment))
+        for suffix, package in (("zst", "zstd"), ("xz", "xz-utils")):
+            self.refused(self.tool(2, f"x.{suffix}", *SMALL, env=environment), 1, f"is missing: apt-get install {package}\n")
+
+    def test_a_page_fails(self):
+        """The others, which would run on, are ended, also where nothing comes from a live trace."""
+        killed = "sweep-parallel: page 2 of 2 ended with signal 9\n"
+        for body, status, message in (("kill -KILL $$", 1, killed), ("echo x: no >&2; exit 1", 1, "x: no\n"), ("echo 2 >&2; exit 2", 2, "2\n")):
+            for trace in (DIN, "-"):
+                read, write = os.pipe()
+                env = {**os.environ, **self.program(f"[ $after != 16,2,2 ] && exec sleep 60 || {{ {body}; }}")}
+                began = time.monotonic()
+                ran = subprocess.run([TOOLS / "sweep-parallel", "2", trace, *THREE], stdin=read, capture_output=True, env=env, timeout=30)
+                os.close(read)
+                os.close(write)
+                self.failed(ran, status, message)
+                self.assertLess(time.monotonic() - began, 20)
+
+    def test_no_output(self):
+        for place in ("> /dev/full", ">&-", "| true"):
+            script = f'set -o pipefail; "{TOOLS}/sweep-parallel" 2 "$1" {" ".join(SMALL)} {place}'
+            self.failed(self.run_words("bash", "-c", script, "-", DIN), 1, "sweep-parallel: write failed\n")
+
+    def test_interrupted(self):
+        """No process and no file is left, whatever stage the run is at."""
+        self.write("long.gz", gzip.compress(LACKEY.read_bytes() * 20))
+        rooms = self.folder / "room"
+        rooms.mkdir()
+        stages = [(sent, trace, seconds) for sent in (signal.SIGINT, signal.SIGTERM, signal.SIGHUP) for trace in ("-", DIN, "long.gz") for seconds in (0.03, 0.5)]
+        for sent, trace, seconds in stages:
+            env = {**os.environ, **self.program("exec sleep 60"), "TMPDIR": str(rooms)}
+            words = [TOOLS / "sweep-parallel", "2", trace, *SMALL]
+            given = {"stdin": subprocess.PIPE, "stdout": subprocess.PIPE, "stderr": subprocess.PIPE}
+            ran = subprocess.Popen(words, cwd=self.folder, env=env, start_new_session=True, **given)
+            time.sleep(seconds)
+            (os.killpg if sent == signal.SIGINT else os.kill)(ran.pid, sent)
+            try:
+                _, message = ran.communicate(timeout=20)
+            except subprocess.TimeoutExpired:
+                os.killpg(ran.pid, signal.SIGKILL)
+                raise
+            self.assertEqual((ran.returncode in (-sent, 128 + sent), os.listdir(rooms)), (True, []), (sent, trace, seconds))
+            self.assertTrue(seconds < 0.5 or message == b"", message)
+            for _ in range(100):
+                left = subprocess.run(["ps", "-o", "stat=,args=", "-g", str(ran.pid)], capture_output=True).stdout
+                if not left.strip():
+                    break
+                time.sleep(0.02)
+            self.assertEqual(left, b"", (sent, trace, seconds))

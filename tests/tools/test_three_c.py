@@ -1,0 +1,181 @@
+"""Compulsory, capacity and conflict misses."""
+
+import csv
+import random
+import signal
+import subprocess
+import time
+
+import base
+
+HEADER = "bsize,sets,assoc,size,hits,misses,evictions,compulsory,capacity,conflict\n"
+
+
+def misses(events, bsize, sets, assoc):
+    cache = base.Lru(bsize, sets, assoc)
+    for event in events:
+        if event is base.model.FLUSH:
+            cache.flush()
+        else:
+            cache.access(event.addr)
+    return cache.counts[1]
+
+
+def first_references(events, bsize):
+    seen, first = set(), 0
+    for event in events:
+        if event is base.model.FLUSH:
+            seen = set()
+        else:
+            first += event.addr // bsize not in seen
+            seen.add(event.addr // bsize)
+    return first
+
+
+def random_trace(lines, flushes=False):
+    """Walks and repeated places, so that there are misses of all kinds."""
+    drawn = random.Random(7)
+    text = []
+    for number in range(lines):
+        place = drawn.choice((number % 300 * 16, drawn.randrange(64) * 512, 0x9000 + drawn.randrange(40)))
+        text.append(f"{drawn.choice('0012')} {place:x}")
+        if flushes and drawn.random() < 0.003:
+            text.append("4 0")
+    return "\n".join(text).encode() + b"\n"
+
+
+class ThreeC(base.ToolTest):
+    def judge(self, text, words, trace, format="d", kind="u", stdin=b""):
+        """Compares each row with simulations of a cache, of a fully associative one, and with a count of first references."""
+        answer = self.good(self.run_tool("three-c", trace, *words, stdin=stdin))
+        events = base.references(text, format, kind)
+        rows = [{name: int(value) for name, value in row.items()} for row in csv.DictReader(answer.splitlines())]
+        for row in rows:
+            cache = row["bsize"], row["sets"], row["assoc"]
+            first, all_misses = first_references(events, row["bsize"]), misses(events, *cache)
+            unshared = misses(events, row["bsize"], 1, row["sets"] * row["assoc"])
+            counted = row["misses"], row["compulsory"], row["capacity"], row["conflict"]
+            self.assertEqual(counted, (all_misses, first, unshared - first, all_misses - unshared), cache)
+        return rows
+
+    def test_examples(self):
+        space = ["--bsize", "16-64", "--sets", "1-16", "--assoc", "1-3", "--size", "256-1k"]
+        for name, format, kind in (
+            ("transpose.lackey", "l", "d"),
+            ("blocks.lackey", "l", "d"),
+            ("sort.din", "d", "u"),
+            ("sort.din", "d", "i"),
+        ):
+            trace = base.EXAMPLES / name
+            words = ["--format", format, f"--kind={kind}"] if format == "l" else [f"--format={format}", "--kind", kind]
+            rows = self.judge(trace.read_bytes(), [*space, *words], trace, format, kind)
+            self.assertEqual({row["bsize"] for row in rows}, {16, 32, 64})
+            self.assertTrue(any(row["conflict"] > 0 for row in rows))
+
+    def test_less_than_nothing(self):
+        # three blocks in turn: one set of two lines always misses, and of two sets with a line each one holds its only block
+        words = "--bsize 1 --sets 1-2 --assoc 1-2 --size 2".split()
+        answer = self.good(self.run_tool("three-c", "-", *words, stdin=b"0 0\n0 1\n0 2\n" * 4))
+        self.assertEqual(answer, HEADER + "1,1,2,2,0,12,10,3,9,0\n1,2,1,2,3,9,7,3,9,-3\n")
+
+    def test_random_traces(self):
+        words = ["--bsize", "8-64", "--sets", "1-32", "--assoc", "1-4", "--size", "512-2k", "--pow2"]
+        for flushes in (False, True):
+            text = random_trace(4000, flushes)
+            rows = self.judge(text, words, "-", stdin=text)
+            self.assertTrue(any(row["capacity"] > 0 and row["conflict"] > 0 for row in rows))
+
+    def test_a_flush_begins_anew(self):
+        words = "--bsize 1 --sets 2 --assoc 1 --size 2".split()
+        answer = self.good(self.run_tool("three-c", "-", *words, stdin=b"0 0\n0 1\n4 0\n0 0\n0 0\n"))
+        self.assertEqual(answer, HEADER + "1,2,1,2,1,3,0,3,0,0\n")
+
+    def test_more_lines_than_a_set_has(self):
+        words = "--bsize 1 --sets 128k --assoc 1 --size 128k".split()
+        # 131,072 lines hold the three blocks; two of them share a set, so one of the four misses is conflict
+        answer = self.good(self.run_tool("three-c", "-", *words, stdin=b"0 0\n0 20000\n0 1\n0 0\n"))
+        self.assertEqual(answer, HEADER + "1,131072,1,131072,0,4,2,3,0,1\n")
+        # as many blocks as lines, and one more
+        text = "".join(f"0 {block:x}\n" for block in range(131072)).encode()
+        answer = self.good(self.run_tool("three-c", "-", *words, stdin=text))
+        self.assertEqual(answer, HEADER + "1,131072,1,131072,0,131072,0,131072,0,0\n")
+        answer = self.good(self.run_tool("three-c", "-", *words, stdin=text + b"0 20000\n"))
+        self.assertEqual(answer, HEADER + "1,131072,1,131072,0,131073,1,131073,,\n")
+
+    def test_too_many_blocks(self):
+        # 16,385 blocks that are alike in their lowest 8 bits
+        text = "".join(f"0 {block * 256:x}\n" for block in range(16385)).encode()
+        words = "--bsize 1-2 --sets 1 --assoc 1 --size 1-2".split()
+        self.refused(self.run_tool("three-c", "-", *words, stdin=text), 1, "three-c: -: too many different blocks of 1 bytes")
+        answer = self.good(self.run_tool("three-c", "-", *words, stdin=text.partition(b"\n")[2]))
+        self.assertEqual(answer, HEADER + "1,1,1,1,0,16384,16383,16384,0,0\n2,1,1,2,0,16384,16383,16384,0,0\n")
+
+    def test_empty(self):
+        words = "--bsize 16 --sets 1 --assoc 1 --size".split()
+        self.assertEqual(self.good(self.run_tool("three-c", "-", *words, "16")), HEADER + "16,1,1,16,0,0,0,0,0,0\n")
+        self.assertEqual(self.good(self.run_tool("three-c", "-", *words, "1")), HEADER)
+
+    def test_pages(self):
+        words = "--bsize 16-32 --sets 1-4 --assoc 1-2 --size 16-1k".split()
+        trace = base.EXAMPLES / "sort.din"
+        whole = self.good(self.run_tool("three-c", trace, *words))
+        first = self.good(self.run_tool("three-c", trace, *words, "--rows", "5"))
+        last_row = ",".join(first.split("\n")[5].split(",")[:3])
+        self.assertEqual(first + self.good(self.run_tool("three-c", trace, *words, "--after", last_row)), whole)
+
+    def test_names(self):
+        words = "--bsize 16 --sets 1-4 --assoc 1-2 --size 64".split()
+        text = (base.EXAMPLES / "sort.din").read_bytes()
+        expected = self.good(self.run_tool("three-c", "-", *words, stdin=text))
+        for name in ("a trace.din", "-trace.din", "./-trace.din"):
+            (self.folder / name).write_bytes(text)
+            self.assertEqual(self.good(self.run_tool("three-c", name, *words)), expected)
+        self.run_words("gzip", "a trace.din")
+        self.assertEqual(self.good(self.run_tool("three-c", "a trace.din.gz", *words)), expected)
+
+    @base.needs("xz-utils", "zstd")
+    def test_packed(self):
+        words = "--bsize 16 --sets 1-4 --assoc 1-2 --size 64".split()
+        trace = base.EXAMPLES / "sort.din"
+        (self.folder / "t.xz").write_bytes(self.run_words("xz", "-c", trace).stdout)
+        (self.folder / "t.zst").write_bytes(self.run_words("zstd", "-qc", trace).stdout)
+        for name in ("t.xz", "t.zst"):
+            packed = self.good(self.run_tool("three-c", name, *words))
+            self.assertEqual(packed, self.good(self.run_tool("three-c", trace, *words)))
+
+    def test_faults(self):
+        words = "--bsize 16 --sets 1-4 --assoc 1-2 --size 64".split()
+        (self.folder / "cut.gz").write_bytes(b"\x1f\x8b\x08\x00")
+        for stdin, given, status, fault in (
+            (b"0 10\n7 10\n", ["-", *words], 1, "cachesim: line 2: bad label\n"),
+            (b"", ["none", *words], 1, "three-c: none: no file that can be read\n"),
+            (b"", [".", *words], 1, "three-c: .: no file that can be read\n"),
+            (b"", ["cut.gz", *words], 1, "gzip: "),
+            (b"", ["-"], 2, "three-c: a trace and the options of a sweep are needed"),
+            (b"", ["-", *words, "-t", "x"], 2, "three-c: the trace is the first word"),
+            (b"", ["-", *words, "--sets", "1"], 2, "error: "),
+            (b"", ["-", "--bsize", "3", *words[2:]], 2, "cachesim: bsize: not a power of two\n"),
+        ):
+            self.refused(self.run_tool("three-c", *given, stdin=stdin), status, fault)
+        missing = {"CACHESIM": str(self.folder / "none")}
+        self.refused(self.run_tool("three-c", "-", *words, env=missing), 1, "none is no program that can be run")
+
+    def test_full_device(self):
+        words = "--bsize 16 --sets 1-4 --assoc 1-2 --size 64".split()
+        command = [base.TOOLS / "three-c", base.EXAMPLES / "sort.din", *words]
+        with open("/dev/full", "wb") as full:
+            ran = subprocess.run(command, stdout=full, stderr=subprocess.PIPE)
+        self.assertEqual((ran.returncode, ran.stderr), (1, b"three-c: standard output: write failed\n"))
+
+    def test_interrupt(self):
+        words = "--bsize 16 --sets 1-4 --assoc 1-2 --size 64".split()
+        command = ["env", f"TMPDIR={self.folder}", base.TOOLS / "three-c", "-", *words]
+        running = subprocess.Popen(command, stdin=subprocess.PIPE, stdout=subprocess.PIPE, stderr=subprocess.PIPE)
+        while running.poll() is None and not list(self.folder.glob("*/swept.pipe")):
+            time.sleep(0.001)
+        running.send_signal(signal.SIGTERM)
+        self.assertEqual((running.communicate(b"0 10\n", 20), running.returncode), ((b"", b""), 143))
+        self.assertEqual(list(self.folder.iterdir()), [])
+
+    def test_help(self):
+        self.assertIn("Hill", self.good(self.run_tool("three-c", "--help")))

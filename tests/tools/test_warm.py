@@ -1,0 +1,135 @@
+"""What follows the first lines of a trace, in caches warmed by them."""
+
+import csv
+import random
+import subprocess
+
+import base
+import table
+
+SPACE = "--bsize 8-32 --sets 1-8 --assoc 1-3 --size 64-512".split()
+LACKEY = b"""==7== Lackey, a Valgrind tool
+I  04016d80,3
+ L 1ffeffe7e,1
+ S 1ffeffe80,8
+
+ M 0421c7cc,4
+I  04016d83,5
+--7-- a message
+ M 1ffeffe80,4
+ L 0421c7c0,8
+ L 1ffeffe7e,1
+"""
+
+
+def counts(events, first, cache):
+    """Hits, misses and evictions behind the first events, by a simulation of them all."""
+    simulated = base.Lru(*cache)
+    for number, event in enumerate(events):
+        if number == first:
+            simulated.went.clear()
+        if event is base.model.FLUSH:
+            simulated.flush()
+        else:
+            simulated.access(event.addr)
+    return simulated.counts
+
+
+class Warm(base.ToolTest):
+    def judge(self, text, lines, format="d", kind="u"):
+        (self.folder / "trace").write_bytes(text)
+        words = [*SPACE, "--format", format, "--kind", kind]
+        answer = self.good(self.run_tool("warm", lines, "trace", *words))
+        rows = list(csv.DictReader(answer.splitlines()))
+        self.assertEqual(answer.split("\n")[0], table.HEADER)
+        self.assertGreater(len(rows), 5)
+        events = base.references(text, format, kind)
+        first = len(base.references(b"".join(text.splitlines(keepends=True)[:lines]), format, kind))
+        for row in rows:
+            cache = int(row["bsize"]), int(row["sets"]), int(row["assoc"])
+            counted = int(row["hits"]), int(row["misses"]), int(row["evictions"])
+            self.assertEqual(counted, counts(events, first, cache), (lines, cache))
+
+    def test_din(self):
+        text = (base.EXAMPLES / "sort.din").read_bytes()
+        for lines in (0, 1, 2500, 5845):
+            self.judge(text, lines)
+        self.judge(text, 1000, kind="d")
+
+    def test_lackey(self):
+        text = (base.EXAMPLES / "transpose.lackey").read_bytes()
+        self.judge(text, 3000, "l", "d")
+        # lines that are no references count, and a modify is never cut in two
+        for lines in range(10):
+            for kind in "ud":
+                self.judge(LACKEY, lines, "l", kind)
+
+    def test_lines_that_are_no_references(self):
+        drawn = random.Random(3)
+        ends = ["\n", " note\n", "\r\n"]
+        text = "".join(f"{drawn.choice('00112334')} {drawn.randrange(600):x}{drawn.choice(ends)}" for _ in range(400))
+        text += "\n\n0 10"
+        self.assertGreater(text.count("\n4 "), 20)
+        for lines in (0, 57, 200, 399, 402):
+            self.judge(text.encode(), lines)
+
+    def test_nothing_follows(self):
+        text = b"2 0\n0 10\n0 20\n3 0\n2 30"
+        for lines, kind in ((5, "u"), (6, "u"), (3, "d"), (10**17, "u")):
+            ran = self.run_tool("warm", lines, "-", *SPACE, "--kind", kind, stdin=text)
+            self.refused(ran, 1, f"warm: -: no reference behind the first {lines} lines\n")
+        self.refused(self.run_tool("warm", 0, "-", *SPACE), 1, "no reference behind")
+
+    def test_pages(self):
+        trace = base.EXAMPLES / "sort.din"
+        whole = self.good(self.run_tool("warm", 700, trace, *SPACE))
+        first = self.good(self.run_tool("warm", 700, trace, *SPACE, "--rows", "4"))
+        last_row = ",".join(first.split("\n")[4].split(",")[:3])
+        self.assertEqual(first + self.good(self.run_tool("warm", 700, trace, *SPACE, "--after", last_row)), whole)
+        self.assertEqual(self.good(self.run_tool("warm", 700, trace, *SPACE[:-1], "1")), table.HEADER + "\n")
+
+    def test_names(self):
+        text = (base.EXAMPLES / "sort.din").read_bytes()
+        expected = self.good(self.run_tool("warm", "0700", "-", *SPACE, stdin=text))
+        for name in ("a trace.din", "-trace.din"):
+            (self.folder / name).write_bytes(text)
+            self.assertEqual(self.good(self.run_tool("warm", 700, name, *SPACE)), expected)
+        self.run_words("gzip", "a trace.din")
+        self.assertEqual(self.good(self.run_tool("warm", 700, "a trace.din.gz", *SPACE)), expected)
+
+    @base.needs("xz-utils", "zstd")
+    def test_packed(self):
+        trace = base.EXAMPLES / "sort.din"
+        (self.folder / "t.xz").write_bytes(self.run_words("xz", "-c", trace).stdout)
+        (self.folder / "t.zst").write_bytes(self.run_words("zstd", "-qc", trace).stdout)
+        for name in ("t.xz", "t.zst"):
+            self.assertEqual(*(self.good(self.run_tool("warm", 700, packed, *SPACE)) for packed in (name, trace)))
+
+    def test_faults(self):
+        whole = self.run_words("gzip", "-c", base.EXAMPLES / "sort.din").stdout
+        (self.folder / "cut.gz").write_bytes(whole[: len(whole) // 2])
+        for stdin, words, status, fault in (
+            (b"0 10\n7 10\n0 10\n", ["1", "-", *SPACE], 1, "cachesim: line 2: bad label\n"),
+            (b"0 10\n7 10\n0 10\n", ["2", "-", *SPACE], 1, "cachesim: line 2: bad label\n"),
+            (b"", ["1", "none", *SPACE], 1, "warm: none: no file that can be read\n"),
+            (b"", ["1", "cut.gz", *SPACE], 1, "unexpected end of file"),
+            (b"", ["x", "-", *SPACE], 2, "warm: 'x' is no number of lines"),
+            (b"", ["-1", "-", *SPACE], 2, "warm: '-1' is no number of lines"),
+            (b"", ["1", "-"], 2, "warm: a number of lines, a trace and the options of a sweep are needed"),
+            (b"", ["1", "-", *SPACE, "-tx"], 2, "warm: the trace is the second word"),
+            (b"", ["1", "-", *SPACE[:-2]], 2, "error: "),
+        ):
+            self.refused(self.run_tool("warm", *words, stdin=stdin), status, fault)
+
+    def test_one_message(self):
+        ran = self.run_tool("warm", "2", "-", *SPACE, stdin=b"0 10\n7 10\n0 10\n")
+        self.assertEqual(ran.stderr, b"cachesim: line 2: bad label\n")
+
+    def test_full_device(self):
+        command = [base.TOOLS / "warm", "9", base.EXAMPLES / "sort.din", *SPACE]
+        with open("/dev/full", "wb") as full:
+            ran = subprocess.run(command, stdout=full, stderr=subprocess.PIPE)
+        self.assertEqual((ran.returncode, ran.stderr), (1, b"warm: standard output: write failed\n"))
+
+    def test_help(self):
+        self.assertIn("LINES counts lines", self.good(self.run_tool("warm", "--help")))

@@ -1,0 +1,89 @@
+// Stands for QEMU in tests where there is none: loads a plugin, and calls it for what the words behind the program say.
+//
+//     fake_qemu -plugin FILE,memory=FD .. -0 NAME PROGRAM STEP..
+//     fake_qemu --version     fake_qemu -h
+//
+// 0:ADDRESS, 1:ADDRESS and 2:ADDRESS are references as in din, 3:ADDRESS reads and writes at once; many:N are N reads from 0 on.
+// call is a system call, say:TEXT writes, exit:N ends, exec:N becomes another program that ends, kill is a death by SIGKILL, wait
+// waits for ever, and loop reads for ever. ignore lets SIGTERM do nothing.
+#include <dlfcn.h>
+#include <signal.h>
+#include <stdbool.h>
+#include <stdint.h>
+#include <stdio.h>
+#include <stdlib.h>
+#include <string.h>
+#include <unistd.h>
+
+typedef void translated(uint64_t, void *), executed(unsigned, void *), accessed(unsigned, uint32_t, uint64_t, void *), ended(uint64_t, void *);
+typedef void called(uint64_t, unsigned, int64_t, uint64_t, uint64_t, uint64_t, uint64_t, uint64_t, uint64_t, uint64_t, uint64_t);
+typedef int install(uint64_t, const void *, int, char **);
+
+static translated *on_translation;
+static executed *on_fetch;
+static accessed *on_data;
+static called *on_call;
+static ended *on_end;
+static void *fetch_word;
+static uint64_t address;
+
+void qemu_plugin_register_vcpu_tb_trans_cb(uint64_t id, translated *call) { (void)id, on_translation = call; }
+void qemu_plugin_register_vcpu_insn_exec_cb(void *at, executed *call, int flags, void *word) { (void)at, (void)flags, on_fetch = call, fetch_word = word; }
+void qemu_plugin_register_vcpu_mem_cb(void *at, accessed *call, int flags, int way, void *word) { (void)at, (void)flags, (void)way, (void)word, on_data = call; }
+void qemu_plugin_register_vcpu_syscall_cb(uint64_t id, called *call) { (void)id, on_call = call; }
+void qemu_plugin_register_atexit_cb(uint64_t id, ended *call, void *word) { (void)id, (void)word, on_end = call; }
+size_t qemu_plugin_tb_n_insns(const void *block) { return block != NULL; }
+void *qemu_plugin_tb_get_insn(void *block, size_t at) { return at ? NULL : block; }
+uint64_t qemu_plugin_insn_vaddr(const void *instruction) { return instruction ? address : 0; }
+bool qemu_plugin_mem_is_store(uint32_t access) { return access >> 16 & 2; }
+
+static void refer(char label) {
+    on_translation(1, &address);
+    if (label == '2' && on_fetch) on_fetch(0, fetch_word);
+    if (label != '2' && on_data) on_data(0, (label == '3' ? 3u : label - '0' + 1u) << 16, address, NULL);
+}
+
+static void refer_many(uint64_t count) {
+    for (address = 0; address < count; address++) refer('0');
+}
+
+static void call(void) { on_call(1, 0, 0, 0, 0, 0, 0, 0, 0, 0, 0); }
+
+static void step(const char *word) {
+    const char *value = strchr(word, ':') ? strchr(word, ':') + 1 : "";
+    address = strtoull(value, NULL, 16);
+    if (*word >= '0' && *word <= '3') refer(*word);
+    if (!strncmp(word, "many:", 5)) refer_many(strtoull(value, NULL, 10));
+    if (!strcmp(word, "call")) call();
+    if (!strncmp(word, "say:", 4)) puts(value), fflush(stdout);
+    if (!strcmp(word, "kill")) kill(getpid(), SIGKILL);
+    if (!strcmp(word, "ignore")) signal(SIGTERM, SIG_IGN);
+    if (!strcmp(word, "wait")) for (;;) pause();
+    if (!strcmp(word, "loop")) refer_many(UINT64_MAX);
+    if (!strncmp(word, "exit:", 5)) call(), on_end(1, NULL), exit(atoi(value));
+    if (!strncmp(word, "exec:", 5)) call(), execlp("sh", "sh", "-c", value, (char *)0);
+}
+
+// words: the plugin's file, in which a comma is written twice, a comma, and its argument
+static int load(char *words) {
+    char *word = strrchr(words, ',');
+    *word++ = 0;
+    for (char *comma = words; (comma = strstr(comma, ",,")); comma++) memmove(comma, comma + 1, strlen(comma));
+    void *plugin = dlopen(words, RTLD_NOW | RTLD_LOCAL);
+    if (!plugin) return fprintf(stderr, "fake_qemu: %s\n", dlerror());
+    int *version = dlsym(plugin, "qemu_plugin_version");
+    install *start = (install *)dlsym(plugin, "qemu_plugin_install");
+    return *version != 1 || start(1, NULL, 1, &word);
+}
+
+int main(int count, char **words) {
+    if (!strcmp(words[1], "--version")) return !printf("qemu-x86_64 version %s (Debian)\nCopyright\n", getenv("FAKE_VERSION"));
+    if (!strcmp(words[1], "-h")) return !printf("%s\n", getenv("FAKE_HELP"));
+    if (strcmp(words[1], "-plugin") || load(words[2])) return 1;
+    int at = 3;
+    while (at < count && words[at][0] == '-') at += 2;  // the program's name and others
+    for (at++; at < count; at++) step(words[at]);
+    call();
+    on_end(1, NULL);
+    return 0;
+}

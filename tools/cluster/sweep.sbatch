@@ -1,0 +1,16 @@
+#!/bin/bash
+#SBATCH --job-name=cachesim-page
+#SBATCH --cpus-per-task=1
+#SBATCH --output=page-%a.log
+# One task of an array job: it sweeps the page that one line of the file `pages` tells, in the folder that `submit` made.
+#
+#     sbatch --array=1-N --chdir=FOLDER sweep.sbatch TRACE PROGRAM TOOLS
+set -euo pipefail
+trace=$1 cachesim=$2 here=$3
+# shellcheck source=tools/lib.bash
+. "$here/lib.bash"
+
+part=part-$SLURM_ARRAY_TASK_ID
+read -ra words < <(sed -n "${SLURM_ARRAY_TASK_ID}p" pages)
+unpacked "$trace" | "$cachesim" sweep "${words[@]}" > "$part.tmp"
+mv -- "$part.tmp" "$part"           # a part that is there is whole

@@ -1,0 +1,138 @@
+"""The pages of a sweep's table: `pages` lists them, and `sweep-parallel` runs them."""
+
+import math
+import os
+import sys
+
+HERE = os.path.dirname(os.path.realpath(__file__))
+NAME = os.path.basename(sys.argv[0])
+
+
+def fail(text, status=1):
+    """Ends the tool with one line on standard error."""
+    print(f"{NAME}: {text}", file=sys.stderr)
+    sys.exit(status)
+
+
+def misused(text):
+    fail(f"{text}; '{NAME} --help' explains the arguments", 2)
+
+
+def look_for_help(words):
+    if "-h" in words or "--help" in words:
+        print(sys.modules["__main__"].__doc__.strip())
+        sys.exit()
+
+
+def number_of_jobs(word):
+    if word == "auto":
+        return len(os.sched_getaffinity(0))
+    if not (word.isascii() and word.isdigit() and int(word)):
+        misused(f"{word} is no number of jobs")
+    return int(word)
+
+
+def find_cachesim():
+    """The path of the program: $CACHESIM, else that of this checkout, else the one on the path."""
+    named = os.environ.get("CACHESIM")
+    if named:
+        if not os.access(named, os.X_OK):
+            fail(f"{named} is no program that can be run")
+        return named
+    places = [os.path.join(HERE, "../crates/cachesim/out"), *os.environ.get("PATH", "").split(":")]
+    for path in (os.path.join(place, "cachesim") for place in places):
+        if os.access(path, os.X_OK):
+            return path
+    fail("no program cachesim: build it by 'make', or set CACHESIM to its path")
+
+
+def start(words, stdin=0, stdout=1, stderr=2, **given):
+    """Starts a command with these descriptors as its first three, and answers the number of its process."""
+    ends = [(os.POSIX_SPAWN_DUP2, end, number) for number, end in enumerate((stdin, stdout, stderr))]
+    return os.posix_spawnp(words[0], words, os.environ, file_actions=ends, **given)
+
+
+class Pair:
+    """A block size and a number of sets: how many rows they have, the triple of the last one, and what they cost."""
+
+    def __init__(self, bsize, sets):
+        self.rows, self.way = 0, int(bsize) * int(sets)
+
+    def add(self, bsize, sets, assoc):
+        self.rows += 1
+        self.last, self.cost = f"{bsize},{sets},{assoc}", 1 + 8 * math.log2(1 + int(assoc)) / self.way ** (2 / 3)
+
+
+def pairs_of(program, options):
+    """The pairs of a table, in its order. Its rows are those of the empty trace. Where the program refuses the options, it has
+    told why, and this tool ends as it did."""
+    read, write = os.pipe()
+    lister = start([program, "sweep", "-t", "/dev/null", *options], stdout=write)
+    os.close(write)
+    pairs = {}
+    with open(read, encoding="ascii") as lines:
+        for line in lines:
+            bsize, sets, assoc, _ = line.split(",", 3)
+            if bsize != "bsize":
+                pairs.setdefault((bsize, sets), Pair(bsize, sets)).add(bsize, sets, assoc)
+    status = os.waitstatus_to_exitcode(os.waitpid(lister, 0)[1])
+    if status < 0:
+        fail(f"the list of the rows ended with signal {-status}")
+    if status:
+        sys.exit(status)
+    return list(pairs.values())
+
+
+def within(pairs, bound):
+    """Pages, each a list of pairs, of which none costs more than the bound, but a pair alone."""
+    pages, spent = [], math.inf
+    for pair in pairs:
+        if spent + pair.cost > bound:
+            pages.append([])
+            spent = 0
+        pages[-1].append(pair)
+        spent += pair.cost
+    return pages
+
+
+def cut(pairs, most):
+    """At most so many pages, the dearest of which costs as little as it can."""
+    least, enough = max(pair.cost for pair in pairs), sum(pair.cost for pair in pairs)
+    for _ in range(60):
+        bound = (least + enough) / 2
+        if len(within(pairs, bound)) > most:
+            least = bound
+        else:
+            enough = bound
+    return within(pairs, enough)
+
+
+def split(options):
+    """The words that are the same for each page, and the value of --after. The program has found the options good."""
+    words, after, left = [], None, list(options)
+    while left:
+        name, equals, value = left.pop(0).partition("=")
+        if name == "--":
+            continue
+        if name == "--pow2":
+            words.append(name)
+            continue
+        value = value if equals else left.pop(0)
+        if name == "--after":
+            after = value
+        elif name != "--rows":
+            words += [name, value]
+    return words, after
+
+
+def pages_of(program, most, options):
+    """For each page of a table, the words of a sweep that write it."""
+    if any(word.startswith("-t") for word in options):
+        misused("leave out -t: each page reads the same trace")
+    pairs = pairs_of(program, options)
+    words, after = split(options)
+    pages = []
+    for page in cut(pairs, most) if pairs else [[]]:
+        pages.append([*words, *(["--after", after] if after else []), "--rows", str(sum(pair.rows for pair in page))])
+        after = page[-1].last if page else None
+    return pages

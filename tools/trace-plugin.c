@@ -1,0 +1,152 @@
+// A plugin of QEMU's user-mode emulation: puts the references of a program into the memory that trace-run reads (trace-memory.h).
+//
+//     qemu-x86_64 -plugin out/trace-plugin.so,memory=FD PROGRAM ARGS..
+//
+// trace-run starts QEMU so, FD being the memory's descriptor; trace has the help. No descriptor is kept: the program may close those
+// that it doesn't know, and open its own files under their numbers.
+#include <pthread.h>
+#include <stddef.h>
+#include <stdio.h>
+#include <string.h>
+#include <sys/mman.h>
+#include <unistd.h>
+#include "trace-memory.h"
+
+// ---- What is used of the interface for plugins: Debian ships no header of it
+
+#define EXPORTED __attribute__((visibility("default")))
+
+struct qemu_plugin_tb;
+struct qemu_plugin_insn;
+typedef uint64_t plugin_id;
+enum registers { NO_REGISTERS };
+enum way { READ = 1, WRITE = 2, BOTH = 3 };
+struct qemu_info;
+
+void qemu_plugin_register_vcpu_tb_trans_cb(plugin_id, void (*)(plugin_id, struct qemu_plugin_tb *));
+void qemu_plugin_register_vcpu_insn_exec_cb(struct qemu_plugin_insn *, void (*)(unsigned cpu, void *), enum registers, void *);
+void qemu_plugin_register_vcpu_mem_cb(struct qemu_plugin_insn *, void (*)(unsigned cpu, uint32_t access, uint64_t address, void *),
+                                      enum registers, enum way, void *);
+void qemu_plugin_register_vcpu_syscall_cb(plugin_id, void (*)(plugin_id, unsigned cpu, int64_t number, uint64_t, uint64_t, uint64_t,
+                                                              uint64_t, uint64_t, uint64_t, uint64_t, uint64_t));
+void qemu_plugin_register_atexit_cb(plugin_id, void (*)(plugin_id, void *), void *);
+size_t qemu_plugin_tb_n_insns(const struct qemu_plugin_tb *);
+struct qemu_plugin_insn *qemu_plugin_tb_get_insn(const struct qemu_plugin_tb *, size_t);
+uint64_t qemu_plugin_insn_vaddr(const struct qemu_plugin_insn *);
+bool qemu_plugin_mem_is_store(uint32_t access);
+
+// QEMU 9 and later want a version from 2 on. What is used here is the same in them; they are known by a call that came with version 2.
+EXPORTED int qemu_plugin_version = 1;
+__attribute__((weak)) void *qemu_plugin_scoreboard_new(size_t);
+__attribute__((constructor)) static void choose_version(void) {
+    if (qemu_plugin_scoreboard_new) qemu_plugin_version = 2;
+}
+
+// ---- The blocks of a thread
+
+static struct memory *memory;
+static pthread_mutex_t lock = PTHREAD_MUTEX_INITIALIZER;
+static bool left_out;  // this is a forked child
+static __thread struct block *mine __attribute__((tls_model("initial-exec")));
+
+static void hand_over(void) {
+    if (!mine) return;
+    pthread_mutex_lock(&lock);
+    uint32_t number = atomic_load(&memory->handed_over);
+    memory->order[number % BLOCKS] = (uint8_t)(mine - memory->blocks);
+    atomic_store(&memory->handed_over, number + 1);
+    pthread_mutex_unlock(&lock);
+    sem_post(&memory->full);
+    mine = NULL;
+}
+
+static struct block *next_block(void) {
+    hand_over();
+    if (left_out) return NULL;
+    while (sem_wait(&memory->empty)) continue;  // a signal came
+    pthread_mutex_lock(&lock);
+    int number = __builtin_ctzll(atomic_load(&memory->empty_ones));
+    atomic_fetch_and(&memory->empty_ones, ~(UINT64_C(1) << number));
+    pthread_mutex_unlock(&lock);
+    return mine = &memory->blocks[number];
+}
+
+static inline void put(char label, uint64_t address) {
+    struct block *block = mine;
+    if (!block || atomic_load_explicit(&block->used, memory_order_relaxed) == REFERENCES) block = next_block();
+    if (!block) return;
+    uint32_t at = atomic_load_explicit(&block->used, memory_order_relaxed);
+    block->label[at] = label;
+    block->address[at] = address;
+    atomic_store_explicit(&block->used, at + 1, memory_order_release);
+}
+
+// ---- What QEMU calls
+
+static void on_fetch(unsigned cpu, void *address) {
+    (void)cpu;
+    put('2', (uintptr_t)address);
+}
+
+// The way of an access stands above its lowest 16 bits. An atomic instruction is one access in both ways where there are several
+// threads, for which the interface has no call: it tells that it is a store, and not that it reads.
+static enum way way_of(uint32_t access) { return access >> 16 & BOTH; }
+
+static void on_data(unsigned cpu, uint32_t access, uint64_t address, void *own) {
+    (void)cpu, (void)own;
+    if (way_of(access) & READ) put('0', address);
+    if (way_of(access) & WRITE) put('1', address);
+}
+
+static void on_translation(plugin_id id, struct qemu_plugin_tb *block) {
+    (void)id;
+    if (left_out) return;
+    memory->ran = true;
+    size_t count = qemu_plugin_tb_n_insns(block);
+    for (size_t i = 0; i < count; i++) {
+        struct qemu_plugin_insn *instruction = qemu_plugin_tb_get_insn(block, i);
+        void *address = (void *)(uintptr_t)qemu_plugin_insn_vaddr(instruction);
+        if (memory->kind != 'd') qemu_plugin_register_vcpu_insn_exec_cb(instruction, on_fetch, NO_REGISTERS, address);
+        if (memory->kind != 'i') qemu_plugin_register_vcpu_mem_cb(instruction, on_data, NO_REGISTERS, BOTH, NULL);
+    }
+}
+
+// What a thread did before a system call stands before what others do after it, and nothing waits in a thread that sleeps or ends.
+static void on_system_call(plugin_id id, unsigned cpu, int64_t number, uint64_t a, uint64_t b, uint64_t c, uint64_t d, uint64_t e,
+                           uint64_t f, uint64_t g, uint64_t h) {
+    (void)id, (void)cpu, (void)number, (void)a, (void)b, (void)c, (void)d, (void)e, (void)f, (void)g, (void)h;
+    hand_over();
+}
+
+static void on_exit_of_program(plugin_id id, void *own) {
+    (void)id, (void)own;
+    if (!left_out) memory->exited = true;
+}
+
+// A trace is of one address space, so a forked child has no part in it.
+static void in_forked_child(void) {
+    left_out = true;
+    mine = NULL;
+}
+
+static int refuse(const char *why) {
+    fprintf(stderr, "trace-plugin.so: %s\n", why);
+    return 1;
+}
+
+EXPORTED int qemu_plugin_install(plugin_id id, const struct qemu_info *info, int count, char **words) {
+    (void)info;
+    int descriptor;
+    if (count != 1 || sscanf(words[0], "memory=%d", &descriptor) != 1) return refuse("memory=FD is wanted; tools/trace uses it");
+    memory = mmap(NULL, sizeof *memory, PROT_READ | PROT_WRITE, MAP_SHARED, descriptor, 0);
+    if (memory == MAP_FAILED) return refuse("no shared memory");
+    close(descriptor);
+    if (memory->layout != LAYOUT) return refuse("not compiled together with trace-run: remove both from the folder out");
+    if (!qemu_plugin_mem_is_store(WRITE << 16) || qemu_plugin_mem_is_store(~(WRITE << 16))) return refuse("this QEMU tells reads and writes in another way");
+    pthread_atfork(NULL, NULL, in_forked_child);
+    qemu_plugin_register_vcpu_tb_trans_cb(id, on_translation);
+    qemu_plugin_register_vcpu_syscall_cb(id, on_system_call);
+    qemu_plugin_register_atexit_cb(id, on_exit_of_program, NULL);
+    memory->loaded = true;
+    return 0;
+}

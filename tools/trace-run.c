@@ -1,0 +1,295 @@
+// Runs a program under a tracer and writes its references as din lines: the inner half of trace, which has the help.
+//
+//     trace-run FD NAME KIND SKIP COUNT qemu PLUGIN QEMU WORD..                 takes them from trace-plugin.c, by a memory that both share
+//     trace-run FD NAME KIND SKIP COUNT lines IN OUT CONVERTER TRACER WORD..    takes them as din lines from the descriptor IN
+//
+// The trace goes to the descriptor FD; NAME is for messages. SKIP references of the KIND are left out, and the program is ended after
+// COUNT more; a COUNT of 0 is none. OUT is a descriptor that only the tracer is to keep, for the child CONVERTER of this process, which
+// writes the lines. trace-run ends with the program's status, 128 and the number of the signal that ended it, or 125 or 126 for a fault.
+#define _GNU_SOURCE
+#include <err.h>
+#include <errno.h>
+#include <fcntl.h>
+#include <signal.h>
+#include <stdio.h>
+#include <stdlib.h>
+#include <string.h>
+#include <sys/mman.h>
+#include <sys/prctl.h>
+#include <sys/wait.h>
+#include <unistd.h>
+#include "trace-memory.h"
+
+enum { OWN_FAULT = 125, CANNOT_RUN = 126, TEXT = 1 << 20, LONGEST = sizeof "0 0123456789abcdef", PATIENCE = 2 };
+
+static struct memory *memory;   // where QEMU is the tracer
+static volatile pid_t program;  // 0 after its end
+static int status;              // of its end
+static bool ran;                // there was a reference
+static bool converter_failed;   // where lines come from another tracer
+
+// ---- The trace
+
+static int trace;
+static const char *trace_name;
+static char kind;
+static uint64_t skip, count;  // how many references are to be left out still, and how many to be written
+static char text[TEXT];
+static size_t used;
+static bool closed;           // nothing more is written, ..
+static int fault;             // .. for this reason; 0 where COUNT was reached
+
+// Ends the program: by a signal that it may handle, and after some seconds by one that it can't.
+static void end_program(void) {
+    if (!program) return;
+    kill(program, SIGTERM);
+    alarm(PATIENCE);
+}
+
+static void drain(void) {
+    for (size_t done = 0; done < used && !closed;) {
+        ssize_t wrote = write(trace, text + done, used - done);
+        if (wrote >= 0) {
+            done += (size_t)wrote;
+        } else if (errno != EINTR) {
+            fault = errno;
+            closed = true;
+            end_program();
+        }
+    }
+    used = 0;
+}
+
+static char three_digits[4096][4];  // of each number below 4096, and a byte of no use
+
+static void make_digits(void) {
+    for (unsigned i = 0; i < 4096; i++)
+        for (unsigned place = 0; place < 3; place++) three_digits[i][place] = "0123456789abcdef"[i >> (8 - 4 * place) & 15];
+}
+
+// Writes up to LONGEST bytes, of which those behind the line don't matter.
+static char *put_line(char *to, char label, uint64_t address) {
+    unsigned digits = (67 - (unsigned)__builtin_clzll(address | 1)) / 4;
+    address <<= 64 - 4 * digits;  // its first digit is now the topmost
+    *to++ = label;
+    *to++ = ' ';
+    memcpy(to, three_digits[address >> 52], 4);
+    memcpy(to + 3, three_digits[address >> 40 & 4095], 4);
+    memcpy(to + 6, three_digits[address >> 28 & 4095], 4);
+    memcpy(to + 9, three_digits[address >> 16 & 4095], 4);
+    if (digits > 12) {
+        memcpy(to + 12, three_digits[address >> 4 & 4095], 4);
+        to[15] = three_digits[address & 15][2];
+    }
+    to[digits] = '\n';
+    return to + digits + 1;
+}
+
+// Of some references that came, those from `from` to before `to` are to be written.
+static void choose(size_t came, size_t *from, size_t *to) {
+    *from = came < skip ? came : (size_t)skip;
+    *to = came - *from < count ? came : *from + (size_t)count;
+    skip -= *from;
+    count -= *to - *from;
+}
+
+static void end_at_count(void) {
+    if (count || closed) return;
+    drain();
+    closed = true;
+    end_program();
+}
+
+// ---- Blocks of references, from QEMU
+
+static void write_block(struct block *block) {
+    size_t from, to;
+    if (used > TEXT - REFERENCES * LONGEST) drain();
+    if (!closed) {
+        choose(atomic_load(&block->used), &from, &to);
+        char *at = text + used;
+        for (size_t i = from; i < to; i++) at = put_line(at, block->label[i], block->address[i]);
+        used = (size_t)(at - text);
+        end_at_count();
+    }
+    atomic_store(&block->used, 0);
+}
+
+static void empty_block(size_t number) {
+    write_block(&memory->blocks[number]);
+    atomic_fetch_or(&memory->empty_ones, UINT64_C(1) << number);
+    sem_post(&memory->empty);
+}
+
+static void follow_blocks(void) {
+    uint32_t taken = 0;
+    while (program) {
+        sem_wait(&memory->full);  // the program's end counts as a block
+        bool ended = waitpid(program, &status, WNOHANG) == program;
+        for (; taken != atomic_load(&memory->handed_over); taken++) empty_block(memory->order[taken % BLOCKS]);
+        drain();
+        if (ended) program = 0;
+    }
+    for (size_t i = 0; i < BLOCKS; i++) write_block(&memory->blocks[i]);  // what threads had begun when they were killed
+    drain();
+}
+
+static int share_memory(void) {
+    int descriptor = memfd_create("references", 0);
+    if (descriptor < 0 || ftruncate(descriptor, sizeof *memory)) err(OWN_FAULT, "no memory to share");
+    memory = mmap(NULL, sizeof *memory, PROT_READ | PROT_WRITE, MAP_SHARED, descriptor, 0);
+    if (memory == MAP_FAILED) err(OWN_FAULT, "no memory to share");
+    memory->layout = LAYOUT;
+    memory->kind = kind;
+    memory->empty_ones = UINT64_MAX;
+    sem_init(&memory->full, 1, 0);
+    sem_init(&memory->empty, 1, BLOCKS);
+    return descriptor;
+}
+
+// ---- Lines, from another tracer
+
+// What is no din line goes on as it came: a converter says by it that it failed.
+static void write_line(const char *line, size_t length) {
+    size_t from, to;
+    bool is_fetch = *line == '2', is_data = *line == '0' || *line == '1';
+    if (is_fetch || is_data) ran = true;
+    if ((kind == 'd' && is_fetch) || (kind == 'i' && is_data)) return;
+    choose(1, &from, &to);
+    if (closed || from == to) return;
+    if (used > TEXT - length) drain();
+    memcpy(text + used, line, length);
+    used += length;
+    end_at_count();
+}
+
+static void follow_lines(int in, pid_t converter) {
+    FILE *lines = fdopen(in, "r");
+    char *line = NULL;
+    size_t room = 0;
+    if (!lines) err(OWN_FAULT, "no lines");
+    for (ssize_t length; (length = getline(&line, &room, lines)) > 0;)
+        if (length < TEXT) write_line(line, (size_t)length);
+    drain();
+    int ended;
+    for (pid_t process; (process = wait(&ended)) > 0;) {
+        if (process == program) {
+            program = 0;
+            status = ended;
+        } else if (process == converter && ended) {
+            converter_failed = true;
+            end_program();
+        }
+    }
+}
+
+// ---- The program
+
+static const int passed_on[] = {SIGHUP, SIGINT, SIGQUIT, SIGTERM, SIGUSR1, SIGUSR2};
+
+// A signal from a terminal goes to the program as well; one that was sent to this process is passed on.
+static void on_signal(int number, siginfo_t *info, void *context) {
+    (void)context;
+    if (number == SIGCHLD) {
+        if (memory) sem_post(&memory->full);
+    } else if (program && number == SIGALRM) {
+        kill(program, SIGKILL);
+    } else if (program && info->si_code <= 0) {
+        kill(program, number);
+    }
+}
+
+static void watch_signals(void) {
+    struct sigaction action = {.sa_sigaction = on_signal, .sa_flags = SA_SIGINFO | SA_RESTART | SA_NOCLDSTOP};
+    sigfillset(&action.sa_mask);
+    sigaction(SIGCHLD, &action, NULL);
+    sigaction(SIGALRM, &action, NULL);
+    for (size_t i = 0; i < sizeof passed_on / sizeof *passed_on; i++) sigaction(passed_on[i], &action, NULL);
+    signal(SIGPIPE, SIG_IGN);  // a failing write tells it
+    signal(SIGXFSZ, SIG_IGN);
+}
+
+static void start(char **words) {
+    sigset_t all, before;
+    pid_t own = getpid();
+    sigfillset(&all);
+    sigprocmask(SIG_BLOCK, &all, &before);
+    program = fork();
+    if (program < 0) err(OWN_FAULT, "no process");
+    if (!program) {
+        prctl(PR_SET_PDEATHSIG, SIGKILL);
+        if (getppid() != own) _exit(OWN_FAULT);
+        sigprocmask(SIG_SETMASK, &before, NULL);
+        execvp(*words, words);
+        err(OWN_FAULT, "%s", *words);
+    }
+    watch_signals();
+    sigprocmask(SIG_SETMASK, &before, NULL);
+}
+
+// ---- The whole
+
+// Ends with a message. The trace ends in it too: as it is no din line, what reads the trace doesn't take it for a whole one.
+static _Noreturn void fail(int own_status, const char *message) {
+    warnx("%s", message);
+    if (!isatty(trace)) {
+        used = (size_t)snprintf(text, TEXT, "%s: %s\n", program_invocation_short_name, message);
+        drain();
+    }
+    exit(own_status);
+}
+
+static int judged(void) {
+    if (converter_failed) fail(OWN_FAULT, "the tracer's lines can't be converted");
+    if (!closed && !ran) fail(CANNOT_RUN, "the program can't be run: see the message of its tracer");
+    if (close(trace) && !fault) fault = errno;
+    if (fault == EPIPE) {
+        signal(SIGPIPE, SIG_DFL);
+        raise(SIGPIPE);
+        return 128 + SIGPIPE;
+    }
+    errno = fault;
+    if (fault) err(OWN_FAULT, "%s", trace_name);
+    if (closed) return 0;
+    if (WIFSIGNALED(status)) return 128 + WTERMSIG(status);
+    if (memory && !memory->exited) warnx("the program became another by exec, and what that did is not in the trace");
+    return WEXITSTATUS(status);
+}
+
+// words: qemu PLUGIN QEMU WORD..
+static void trace_by_qemu(char **words) {
+    int descriptor = share_memory();
+    char *plugin;
+    if (asprintf(&plugin, "%s,memory=%d", words[1], descriptor) < 0) err(OWN_FAULT, "no memory");
+    char *first[] = {words[2], "-plugin", plugin};
+    memcpy(words, first, sizeof first);
+    start(words);
+    close(descriptor);
+    make_digits();
+    follow_blocks();
+    if (!memory->loaded) fail(OWN_FAULT, "QEMU didn't take the plugin: see its message");
+    ran = memory->ran;
+}
+
+// words: lines IN OUT CONVERTER TRACER WORD..
+static void trace_by_lines(char **words) {
+    int in = atoi(words[1]), out = atoi(words[2]);
+    fcntl(in, F_SETFD, FD_CLOEXEC);
+    start(words + 4);
+    close(out);
+    follow_lines(in, atoi(words[3]));
+}
+
+int main(int words_count, char **words) {
+    if (words_count < 10) errx(OWN_FAULT, "this is the inner half of trace");
+    trace = atoi(words[1]);
+    trace_name = words[2];
+    kind = *words[3];
+    skip = strtoull(words[4], NULL, 10);
+    count = strtoull(words[5], NULL, 10);
+    if (!count) count = UINT64_MAX;
+    fcntl(trace, F_SETFD, FD_CLOEXEC);
+    if (!strcmp(words[6], "qemu")) trace_by_qemu(words + 6);
+    else trace_by_lines(words + 6);
+    return judged();
+}
