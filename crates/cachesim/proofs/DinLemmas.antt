@@ -1,9 +1,9 @@
 -- What `din` has read, stepped through and written when it ends.
-use Rattle.std.proofs.Common.{◌≡◌, ℕ, List, [], ◌∷◌, ◌++◌, false, true, Option, None, Some, map, sym, ap, ◌∙◌, subst, append_assoc}
+use Rattle.std.proofs.Common.{◌≡◌, ℕ, List, [], ◌∷◌, ◌++◌, None, Some, Result, Err, map, refl, sym, ap, ◌∙◌, subst, append_assoc}
 use Rattle.std.proofs.KnownBytes.{Appends-nil}
 use Rattle.std.specs.List.{filter, flat_map}
-use Rattle.std.specs.Option.{IfSome, option_to_list}
-use Rattle.std.specs.Io.KnownBytes.{Appends}
+use Rattle.std.specs.Option.{option_to_list}
+use Rattle.trace_core.specs.declared.events.Entry.{Entry}
 use Rattle.trace_core.specs.declared.events.Entry.TheVariants as entry
 use Rattle.trace_core.specs.declared.events.Item.{Item}
 use Rattle.trace_core.specs.declared.events.Ref.{Ref}
@@ -13,12 +13,13 @@ use Rattle.trace_core.specs.declared.events.Kind.TheVariants.{All}
 use Rattle.trace_core.specs.declared.line.Format.{Format}
 use Rattle.trace_core.specs.declared.fault.TraceFault.{TraceFault}
 use Rattle.trace_core.specs.declared.reader.ReaderState.TheVariants as state
-use Rattle.trace_core.specs.Device.{WritesPrefix, FlushesAfter}
+use Rattle.trace_core.specs.declared.fault.RunFault.{RunFault}
+use Rattle.trace_core.specs.declared.fault.RunFault.TheVariants.{Trace}
+use Rattle.trace_core.specs.Device.{SourceView, SinkView}
 use Rattle.trace_core.specs.Events.{events_of, keeps, references}
-use Rattle.trace_core.specs.Reading.{entries}
-use Rattle.trace_core.specs.Reader.{Progress, begun}
-use Rattle.trace_core.specs.Task.{Task, Completes, StopsAt, CutsOff, BreaksOff, entries_of, is_failed_read}
-use Rattle.trace_core.proofs.Tasks.{task_stops, task_cut, task_completes, task_breaks, task_flushes}
+use Rattle.trace_core.specs.Reader.{Progress, Reached, begun}
+use Rattle.trace_core.specs.Task.{Performs}
+use Rattle.trace_core.proofs.Performing.{ReadWhole, Performs-stopped}
 use Rattle.cache_core.specs.Levels.{Levels, IsPlan}
 use Rattle.cache_core.specs.Systems.{system_run}
 use Rattle.cache_core.specs.SystemSteps.{SystemValue, IsNewSystem, Steps, stats_of}
@@ -27,45 +28,35 @@ use Rattle.cache_core.proofs.SystemLaw.{new_law, step_law}
 use Rattle.cachesim.specs.DinPass.{StepsThrough}
 use Rattle.cachesim.specs.DinText.{din_task, report_of}
 
--- a reader that began with a format and a limit
-pub steps-from : (format : Format) (limit : ℕ) (start : Progress) (before told : Option (List ℕ)) (a b : ℕ) (p : Progress) (old new : SystemValue) → start ≡ begun format limit
-    → StepsThrough start.format start.limit before told a b p old new → StepsThrough format limit before told a b p old new
-steps-from format limit start before told a b p old new is run = subst (λ (q : Progress). StepsThrough q.format q.limit before told a b p old new) is run
+-- what a reader reached that began with a format and a limit
+reached-from : {format : Format} {limit : ℕ} {start : Progress} {source source' : SourceView} {p : Progress} {xs : List (ℕ × Entry)} → start ≡ begun format limit
+    → Reached start.format start.limit source.remaining source'.remaining source.failures source'.failures xs p
+    → Reached format limit source.remaining source'.remaining source.failures source'.failures xs p
+reached-from {source = source} {source' = source'} {p = p} {xs = xs} is reached =
+    subst (λ (q : Progress). Reached q.format q.limit source.remaining source'.remaining source.failures source'.failures xs p) is reached
 
-module _ (plan : Levels) (seed : ℕ) (format : Format) (limit : ℕ) (before told : Option (List ℕ)) (a b : ℕ) (p : Progress) (old new : SystemValue)
-    (good : IsPlan plan) (fresh : IsNewSystem plan seed old) (run : StepsThrough format limit before told a b p old new) where
-  abbrev task : Task
-  task = din_task plan seed format limit
+-- nothing stands written before the report
+pub din-stopped : {T S K : Type 0} (plan : Levels) (seed : ℕ) (format : Format) (limit : ℕ) {result : Result T RunFault} {told : S → SourceView} {source source' : S}
+    {held : K → SinkView} {sink : K} {start p : Progress} {old new : SystemValue} (x : TraceFault) → result ≡ Err (Trace x) → p.state ≡ state.Failed x → start ≡ begun format limit
+    → StepsThrough start.format start.limit (told source).remaining (told source').remaining (told source).failures (told source').failures p old new
+    → Performs (din_task plan seed format limit) result told source source' held sink sink
+unfolding din_task
+din-stopped plan seed format limit {told = told} {source = source} {source' = source'} x is failed starts run =
+    Performs-stopped x is failed (reached-from {source = told source} {source' = told source'} starts run.reached) (Appends-nil _) refl refl (λ late. refl)
 
-  -- nothing stands written before the report
-  pub din-stops : (x : TraceFault) (w : Option (List ℕ)) → p.state ≡ state.Failed x → is_failed_read x ≡ false → IfSome before (λ text. StopsAt task x text w w)
-  unfolding din_task
-  din-stops x w failed own = task_stops task before told w w a b run.read p x failed own run.reached (Appends-nil w)
-
-  pub din-cut : (x : TraceFault) (w : Option (List ℕ)) → p.state ≡ state.Failed x → is_failed_read x ≡ true
-      → IfSome before (λ text. IfSome told (λ rest. CutsOff task x text rest w w))
-  unfolding din_task
-  din-cut x w failed own = task_cut task before told w w a b run.read p x failed own run.reached (Appends-nil w)
-
-  -- the report of the system is that of the text that it was stepped through
-  report_is : (text : List ℕ) → entries_of run.read ≡ entries format text → report_of (stats_of new) ≡ task.whole text
-  unfolding din_task
-  report_is text all = ap report_of ((run.stands plan seed [] good (new_law plan seed old fresh)).stats ∙ ap (λ es. system_run plan seed (flat_map (events_of All) es)) all)
-
-  pub din-completes : (w w' : Option (List ℕ)) → p.state ≡ state.Ended → Appends w w' (report_of (stats_of new)) → IfSome before (λ text. Completes task text told w w')
-  unfolding din_task
-  din-completes w w' ended wrote =
-      task_completes task before told w w' a b run.read p ended run.reached (λ text all. subst (Appends w w') (report_is text all) wrote)
-
-  pub din-breaks : (w w' : Option (List ℕ)) → p.state ≡ state.Ended → WritesPrefix w w' (report_of (stats_of new)) → IfSome before (λ text. BreaksOff task text told w w')
-  unfolding din_task
-  din-breaks w w' ended part =
-      task_breaks task before told w w' a b run.read p ended run.reached (λ text all. subst (WritesPrefix w w') (report_is text all) part)
-
-  pub din-flushes : (j k : ℕ) (w w' : Option (List ℕ)) → p.state ≡ state.Ended → FlushesAfter (report_of (stats_of new)) j k w w' → IfSome before (λ text. FlushesAfter (task.whole text) j k w w')
-  unfolding din_task
-  din-flushes j k w w' ended flushed =
-      task_flushes task before told w w' a b j k run.read p ended run.reached (λ text all. subst (λ t. FlushesAfter t j k w w') (report_is text all) flushed)
+-- at the end the report of the system is the output
+pub din-whole : (plan : Levels) (seed : ℕ) (format : Format) (limit : ℕ) {source source' : SourceView} {start p : Progress} {old new : SystemValue} {bytes : List ℕ}
+    → IsPlan plan → IsNewSystem plan seed old → p.state ≡ state.Ended → start ≡ begun format limit
+    → StepsThrough start.format start.limit source.remaining source'.remaining source.failures source'.failures p old new
+    → bytes ≡ report_of (stats_of new) → ReadWhole (din_task plan seed format limit) source source' bytes
+unfolding din_task
+din-whole plan seed format limit {p = p} {old = old} good fresh ended starts run is = record {
+  read = run.read;
+  at = p;
+  reached = reached-from starts run.reached;
+  ended = ended;
+  output = λ text all. sym (is ∙ ap report_of ((run.stands plan seed [] good (new_law plan seed old fresh)).stats ∙ ap (λ es. system_run plan seed (flat_map (events_of All) es)) all));
+}
 
 -- all the references of an item
 pub both_events : (item : Item) (first second : Ref) → references item ≡ (first, Some second) → events_of All (entry.Item item) ≡ event.Reference first ∷ event.Reference second ∷ []

@@ -1,21 +1,24 @@
 -- What a sweep has read, fed and written when it ends.
-use Rattle.std.proofs.Common.{◌≡◌, ℕ, ◌+◌, ◌≤◌, List, [], false, true, Option, None, Some, sym, ap, ◌∙◌, subst, arith, get_or}
+use Rattle.std.proofs.Common.{◌≡◌, ℕ, ◌+◌, ◌≤◌, List, [], Option, None, Some, Result, Err, refl, sym, ap, ◌∙◌, subst, arith, get_or}
 use Rattle.std.specs.Prelude.{All, flat_map, sum_by}
 use Rattle.std.specs.Option.{IfSome}
-use Rattle.std.specs.Io.KnownBytes.{Appends}
 use Rattle.std.proofs.KnownBytes.{Appends-nil}
 use Rattle.std.proofs.lemmas.List.Elements.{All-map}
 use Rattle.std.proofs.lemmas.List.Folds.{sum_by-replicate}
 use Rattle.trace_core.specs.declared.events.Event.{Event}
 use Rattle.trace_core.specs.declared.fault.TraceFault.{TraceFault}
+use Rattle.trace_core.specs.declared.line.Format.{Format}
 use Rattle.trace_core.specs.declared.reader.ReaderState.TheVariants as state
-use Rattle.trace_core.specs.Device.{WritesPrefix, FlushesAfter}
+use Rattle.trace_core.specs.declared.events.Entry.{Entry}
+use Rattle.trace_core.specs.declared.fault.RunFault.{RunFault}
+use Rattle.trace_core.specs.declared.fault.RunFault.TheVariants.{Trace}
+use Rattle.trace_core.specs.Device.{SourceView, SinkView}
 use Rattle.trace_core.specs.Events.{events_of}
-use Rattle.trace_core.specs.Reader.{Progress, begun}
-use Rattle.trace_core.specs.Task.{StopsAt, CutsOff, BreaksOff, Completes, entries_of, is_failed_read}
+use Rattle.trace_core.specs.Reader.{Progress, Reached, begun}
+use Rattle.trace_core.specs.Task.{Performs, entries_of}
 use Rattle.trace_core.proofs.Entries.{entries-reading}
 use Rattle.trace_core.proofs.Runs.{Reached-end}
-use Rattle.trace_core.proofs.Tasks.{task_stops, task_cut, task_breaks, task_completes, task_flushes}
+use Rattle.trace_core.proofs.Performing.{ReadWhole, Performs-stopped}
 use Rattle.cache_core.specs.Geometry.{Shape}
 use Rattle.profile_core.specs.State.{empty, fed_of}
 use Rattle.sweep_core.specs.declared.request.Request.{Request}
@@ -36,67 +39,55 @@ unfed r xs swept =
     subst (All (λ x. fed_of x.profile ≤ 0)) (sym (swept.fed ∙ all_after-nil (made_for all (rows_of r))))
     (All-map (λ x. fed_of x.profile ≤ 0) (begun_for all) (pairs (rows_of r)) (λ k d h. empty-fed (shape_of_pair all (get_or (pairs (rows_of r)) k d))))
 
--- a reader that began with a request's format and limit
-pub feeds-from : (r : Request) (start : Progress) (before told : Option (List ℕ)) (a b : ℕ) (p : Progress) (xs ys : List PairProfile) → start ≡ begun r.format r.max_lines
-    → Feeds r.kind start.format start.limit before told a b p xs ys → Feeds r.kind r.format r.max_lines before told a b p xs ys
-feeds-from r start before told a b p xs ys is run = subst (λ (q : Progress). Feeds r.kind q.format q.limit before told a b p xs ys) is run
-
 -- the events of what was read
-abbrev pub fed_events : (r : Request) (before told : Option (List ℕ)) (a b : ℕ) (p : Progress) (xs ys : List PairProfile) → Feeds r.kind r.format r.max_lines before told a b p xs ys → List Event
-fed_events r before told a b p xs ys run = flat_map (events_of r.kind) (entries_of run.read)
+abbrev pub fed_events : Request → List (ℕ × Entry) → List Event
+fed_events r xs = flat_map (events_of r.kind) (entries_of xs)
 
-module _ (r : Request) (before told : Option (List ℕ)) (a b : ℕ) (p : Progress) (xs ys : List PairProfile) (run : Feeds r.kind r.format r.max_lines before told a b p xs ys) where
-  -- the profiles after what was read
-  pub swept-on : Swept r [] xs → Swept r (fed_events r before told a b p xs ys run) ys
-  swept-on start = record {
-    space = start.space;
-    sound = start.sound;
-    fed = run.fed ∙ ap (all_after (fed_events r before told a b p xs ys run)) (start.fed ∙ all_after-nil (made_for (all_of r) (rows_of r)));
-  }
+-- a request's new profiles, as slices, after what was read
+pub swept-after : {r : Request} {format : Format} {limit a b : ℕ} {before told : Option (List ℕ)} {p : Progress} {made xs ys zs : List PairProfile}
+    → Swept r [] made → xs ≡ made → (run : Feeds r.kind format limit before told a b p xs ys) → zs ≡ ys → Swept r (fed_events r run.read) zs
+swept-after {r = r} start same run end = record {
+  space = start.space;
+  sound = start.sound;
+  fed = end ∙ run.fed ∙ ap (all_after (fed_events r run.read)) (same ∙ start.fed ∙ all_after-nil (made_for (all_of r) (rows_of r)));
+}
 
-  pub sweep-stops : (x : TraceFault) (w : Option (List ℕ)) → p.state ≡ state.Failed x → is_failed_read x ≡ false → IfSome before (λ text. StopsAt (sweep_task r) x text w w)
-  unfolding sweep_task
-  sweep-stops x w failed own = task_stops (sweep_task r) before told w w a b run.read p x failed own run.reached (Appends-nil w)
+-- what a reader reached that began with a request's format and limit
+reached-from : (r : Request) {start : Progress} {source source' : SourceView} {p : Progress} {xs : List (ℕ × Entry)} → start ≡ begun r.format r.max_lines
+    → Reached start.format start.limit source.remaining source'.remaining source.failures source'.failures xs p
+    → Reached r.format r.max_lines source.remaining source'.remaining source.failures source'.failures xs p
+reached-from r {source = source} {source' = source'} {p = p} {xs = xs} is reached =
+    subst (λ (q : Progress). Reached q.format q.limit source.remaining source'.remaining source.failures source'.failures xs p) is reached
 
-  pub sweep-cut : (x : TraceFault) (w : Option (List ℕ)) → p.state ≡ state.Failed x → is_failed_read x ≡ true
-      → IfSome before (λ text. IfSome told (λ rest. CutsOff (sweep_task r) x text rest w w))
-  unfolding sweep_task
-  sweep-cut x w failed own = task_cut (sweep_task r) before told w w a b run.read p x failed own run.reached (Appends-nil w)
+-- a sweep that stopped at a fault has written nothing
+pub sweep-stopped : {T S K : Type 0} (r : Request) {result : Result T RunFault} {told : S → SourceView} {source source' : S} {held : K → SinkView} {sink : K}
+    {start p : Progress} {xs ys : List PairProfile} (x : TraceFault) → result ≡ Err (Trace x) → p.state ≡ state.Failed x → start ≡ begun r.format r.max_lines
+    → Feeds r.kind start.format start.limit (told source).remaining (told source').remaining (told source).failures (told source').failures p xs ys
+    → Performs (sweep_task r) result told source source' held sink sink
+unfolding sweep_task
+sweep-stopped r {told = told} {source = source} {source' = source'} x is failed starts run =
+    Performs-stopped x is failed (reached-from r {source = told source} {source' = told source'} starts run.reached) (Appends-nil _) refl refl (λ late. refl)
 
-  pub sweep-breaks : (w0 w : Option (List ℕ)) → p.state ≡ state.Ended → Swept r [] xs
-      → ((es : List Event) → Swept r es ys → WritesPrefix w0 w (table_text r es))
-      → IfSome before (λ text. BreaksOff (sweep_task r) text told w0 w)
-  unfolding sweep_task sweep_text
-  sweep-breaks w0 w ended start wrote =
-      task_breaks (sweep_task r) before told w0 w a b run.read p ended run.reached
-      (λ text same. subst (λ es. WritesPrefix w0 w (table_text r (flat_map (events_of r.kind) es))) same (wrote (fed_events r before told a b p xs ys run) (swept-on start)))
+-- a sweep that has read a whole text whole its table
+pub sweep-whole : (r : Request) {source source' : SourceView} {start p : Progress} {xs ys : List PairProfile} → p.state ≡ state.Ended → start ≡ begun r.format r.max_lines
+    → (run : Feeds r.kind start.format start.limit source.remaining source'.remaining source.failures source'.failures p xs ys)
+    → ReadWhole (sweep_task r) source source' (table_text r (fed_events r run.read))
+unfolding sweep_task sweep_text
+sweep-whole r {p = p} ended starts run = record {
+  read = run.read;
+  at = p;
+  reached = reached-from r starts run.reached;
+  ended = ended;
+  output = λ text same. ap (λ es. table_text r (flat_map (events_of r.kind) es)) (sym same);
+}
 
-  pub sweep-flushes : (j k : ℕ) (w0 w : Option (List ℕ)) → p.state ≡ state.Ended → Swept r [] xs
-      → ((es : List Event) → Swept r es ys → FlushesAfter (table_text r es) j k w0 w)
-      → IfSome before (λ text. FlushesAfter ((sweep_task r).whole text) j k w0 w)
-  unfolding sweep_task sweep_text
-  sweep-flushes j k w0 w ended start flushed =
-      task_flushes (sweep_task r) before told w0 w a b j k run.read p ended run.reached
-      (λ text same. subst (λ es. FlushesAfter (table_text r (flat_map (events_of r.kind) es)) j k w0 w) same (flushed (fed_events r before told a b p xs ys run) (swept-on start)))
-
-  pub sweep-completes : (w0 w : Option (List ℕ)) → p.state ≡ state.Ended → Swept r [] xs
-      → ((es : List Event) → Swept r es ys → Appends w0 w (table_text r es))
-      → IfSome before (λ text. Completes (sweep_task r) text told w0 w)
-  unfolding sweep_task sweep_text
-  sweep-completes w0 w ended start wrote =
-      task_completes (sweep_task r) before told w0 w a b run.read p ended run.reached
-      (λ text same. subst (λ es. Appends w0 w (table_text r (flat_map (events_of r.kind) es))) same (wrote (fed_events r before told a b p xs ys run) (swept-on start)))
-
-  -- the comparisons are those of the events that were read
-  compared-read : (n : ℕ) → Swept r [] xs → n ≡ sum_by (λ x. x.profile.probes) ys → n ≡ work (fed_events r before told a b p xs ys run) (all_of r) (rows_of r)
-  compared-read n start is =
-      let now = swept-on start in
-      is ∙ ap (sum_by (λ x. x.profile.probes)) now.fed ∙ work-is (all_of r) (rows_of r) (fed_events r before told a b p xs ys run) now.sound
-
-pub sweep-works : (r : Request) (before told : Option (List ℕ)) (a b : ℕ) (p : Progress) (xs ys : List PairProfile) (run : Feeds r.kind r.format r.max_lines before told a b p xs ys)
-    (n : ℕ) → p.state ≡ state.Ended → Swept r [] xs → n ≡ sum_by (λ x. x.profile.probes) ys → IfSome before (λ text. n ≡ sweep_work r text)
+-- the comparisons are those of the events that were read
+pub sweep-works : (r : Request) {start p : Progress} {a b : ℕ} {before told : Option (List ℕ)} {xs ys zs : List PairProfile} (n : ℕ) → p.state ≡ state.Ended → start ≡ begun r.format r.max_lines
+    → (run : Feeds r.kind start.format start.limit before told a b p xs ys)
+    → Swept r (fed_events r run.read) zs → n ≡ sum_by (λ x. x.profile.probes) zs → IfSome before (λ text. n ≡ sweep_work r text)
 unfolding sweep_work
-sweep-works r None told a b p xs ys run n ended start is = tt
-sweep-works r (Some text) told a b p xs ys run n ended start is =
-    compared-read r (Some text) told a b p xs ys run n start is
-    ∙ ap (λ es. work (flat_map (events_of r.kind) es) (all_of r) (rows_of r)) (entries-reading r.format r.max_lines text run.read (Reached-end r.format r.max_lines text told a b run.read p ended run.reached))
+sweep-works r {before = None} n ended starts run now is = tt
+sweep-works r {p = p} {a = a} {b = b} {before = Some text} {told = told} n ended starts run now is =
+    let reached = subst (λ (q : Progress). Reached q.format q.limit (Some text) told a b run.read p) starts run.reached in
+    is ∙ ap (sum_by (λ x. x.profile.probes)) now.fed ∙ work-is (all_of r) (rows_of r) (fed_events r run.read) now.sound
+    ∙ ap (λ es. work (flat_map (events_of r.kind) es) (all_of r) (rows_of r)) (entries-reading r.format r.max_lines text run.read (Reached-end r.format r.max_lines text told a b run.read p ended reached))

@@ -14,4 +14,5 @@ pub mod Advancing
 pub mod Searches
 pub mod Numbers
 pub mod Tasks
+pub mod Performing
 pub mod Judging
