@@ -1,6 +1,5 @@
 -- What `din` has read, stepped through and written when it ends.
-use Rattle.std.proofs.Common.{◌≡◌, ℕ, List, [], ◌∷◌, ◌++◌, None, Some, Result, Err, map, refl, sym, ap, ◌∙◌, subst, append_assoc}
-use Rattle.std.proofs.KnownBytes.{Appends-nil}
+use Rattle.std.proofs.Common.{◌≡◌, ℕ, List, [], ◌∷◌, ◌++◌, None, Some, map, refl, sym, ap, ◌∙◌, subst, append_assoc}
 use Rattle.std.specs.List.{filter, flat_map}
 use Rattle.std.specs.Option.{option_to_list}
 use Rattle.trace_core.specs.declared.events.Entry.{Entry}
@@ -13,13 +12,13 @@ use Rattle.trace_core.specs.declared.events.Kind.TheVariants.{All}
 use Rattle.trace_core.specs.declared.line.Format.{Format}
 use Rattle.trace_core.specs.declared.fault.TraceFault.{TraceFault}
 use Rattle.trace_core.specs.declared.reader.ReaderState.TheVariants as state
-use Rattle.trace_core.specs.declared.fault.RunFault.{RunFault}
-use Rattle.trace_core.specs.declared.fault.RunFault.TheVariants.{Trace}
 use Rattle.trace_core.specs.Device.{SourceView, SinkView}
 use Rattle.trace_core.specs.Events.{events_of, keeps, references}
 use Rattle.trace_core.specs.Reader.{Progress, Reached, begun}
-use Rattle.trace_core.specs.Task.{Performs}
-use Rattle.trace_core.proofs.Performing.{ReadWhole, Performs-stopped}
+use Rattle.trace_core.specs.Task.{Stopped}
+use Rattle.trace_core.proofs.Tasks.{ReadWhole}
+use Rattle.trace_core.proofs.Performing.{Stopped-at}
+use Rattle.trace_core.proofs.Written.{Wrote-none}
 use Rattle.cache_core.specs.Levels.{Levels, IsPlan}
 use Rattle.cache_core.specs.Systems.{system_run}
 use Rattle.cache_core.specs.SystemSteps.{SystemValue, IsNewSystem, Steps, stats_of}
@@ -28,35 +27,30 @@ use Rattle.cache_core.proofs.SystemLaw.{new_law, step_law}
 use Rattle.cachesim.specs.DinPass.{StepsThrough}
 use Rattle.cachesim.specs.DinText.{din_task, report_of}
 
--- what a reader reached that began with a format and a limit
-reached-from : {format : Format} {limit : ℕ} {start : Progress} {source source' : SourceView} {p : Progress} {xs : List (ℕ × Entry)} → start ≡ begun format limit
-    → Reached start.format start.limit source.remaining source'.remaining source.failures source'.failures xs p
-    → Reached format limit source.remaining source'.remaining source.failures source'.failures xs p
-reached-from {source = source} {source' = source'} {p = p} {xs = xs} is reached =
-    subst (λ (q : Progress). Reached q.format q.limit source.remaining source'.remaining source.failures source'.failures xs p) is reached
+module _ (plan : Levels) (seed : ℕ) (format : Format) (limit : ℕ) {start now : SourceView} {first p : Progress} {old new : SystemValue}
+    (begins : first ≡ begun format limit) (run : StepsThrough first.format first.limit start now p old new) where
+  -- what a reader reached that began with a format and a limit
+  reached-from : Reached format limit start now run.read p
+  reached-from = subst (λ (q : Progress). Reached q.format q.limit start now run.read p) begins run.reached
 
--- nothing stands written before the report
-pub din-stopped : {T S K : Type 0} (plan : Levels) (seed : ℕ) (format : Format) (limit : ℕ) {result : Result T RunFault} {told : S → SourceView} {source source' : S}
-    {held : K → SinkView} {sink : K} {start p : Progress} {old new : SystemValue} (x : TraceFault) → result ≡ Err (Trace x) → p.state ≡ state.Failed x → start ≡ begun format limit
-    → StepsThrough start.format start.limit (told source).remaining (told source').remaining (told source).failures (told source').failures p old new
-    → Performs (din_task plan seed format limit) result told source source' held sink sink
-unfolding din_task
-din-stopped plan seed format limit {told = told} {source = source} {source' = source'} x is failed starts run =
-    Performs-stopped x is failed (reached-from {source = told source} {source' = told source'} starts run.reached) (Appends-nil _) refl refl (λ late. refl)
+  -- nothing stands written before the report
+  pub din-stopped : (sink : SinkView) (x : TraceFault) → p.state ≡ state.Failed x → Stopped (din_task plan seed format limit) x start now sink sink
+  unfolding din_task
+  din-stopped sink x failed = Stopped-at x failed reached-from (Wrote-none sink)
 
--- at the end the report of the system is the output
-pub din-whole : (plan : Levels) (seed : ℕ) (format : Format) (limit : ℕ) {source source' : SourceView} {start p : Progress} {old new : SystemValue} {bytes : List ℕ}
-    → IsPlan plan → IsNewSystem plan seed old → p.state ≡ state.Ended → start ≡ begun format limit
-    → StepsThrough start.format start.limit source.remaining source'.remaining source.failures source'.failures p old new
-    → bytes ≡ report_of (stats_of new) → ReadWhole (din_task plan seed format limit) source source' bytes
-unfolding din_task
-din-whole plan seed format limit {p = p} {old = old} good fresh ended starts run is = record {
-  read = run.read;
-  at = p;
-  reached = reached-from starts run.reached;
-  ended = ended;
-  output = λ text all. sym (is ∙ ap report_of ((run.stands plan seed [] good (new_law plan seed old fresh)).stats ∙ ap (λ es. system_run plan seed (flat_map (events_of All) es)) all));
-}
+  -- at the end the report of the system is what has to be written
+  pub din-whole : {bytes : List ℕ} → IsPlan plan → IsNewSystem plan seed old → p.state ≡ state.Ended → bytes ≡ report_of (stats_of new)
+      → ReadWhole (din_task plan seed format limit) start now bytes
+  unfolding din_task
+  din-whole good fresh ended is = record {
+    read = run.read;
+    at = p;
+    reached = reached-from;
+    ended = ended;
+    output = λ text all.
+        let stats = (run.stands plan seed [] good (new_law plan seed old fresh)).stats in
+        sym (is ∙ ap report_of (stats ∙ ap (λ es. system_run plan seed (flat_map (events_of All) es)) all));
+  }
 
 -- all the references of an item
 pub both_events : (item : Item) (first second : Ref) → references item ≡ (first, Some second) → events_of All (entry.Item item) ≡ event.Reference first ∷ event.Reference second ∷ []

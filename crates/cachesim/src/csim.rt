@@ -1,6 +1,5 @@
 //! The command `csim`.
 ghost use Rattle.std.specs.Prelude.{◌≤◌};
-ghost use Rattle.trace_core.specs.Device.{source_view, sink_view};
 ghost use Rattle.trace_core.specs.Task.{Performs};
 ghost use Rattle.cachesim.specs.CsimText.{csim_task};
 
@@ -30,8 +29,8 @@ pub fn csim<S: Source, K: Sink>(
 ) -> Result<(), RunFault>
     requires some { 1 ≤ max_lines }
     requires most { max_lines ≤ MAX_LINES }
-    ensures { Performs (csim_task geometry verbose max_lines) result (source_view S.remaining S.failures) source.old source.new
-        (sink_view K.written K.failures K.flushes) sink.old sink.new }
+    ensures { Performs (csim_task geometry verbose max_lines) result
+        S.view source.old source.new K.view sink.old sink.new }
 {
     let mut lines = Lines::new(alloc, Format::Lackey, max_lines)?;
     let mut simulation = Simulation::new(alloc, geometry)?;

@@ -1,6 +1,5 @@
 //! The command `din`.
 ghost use Rattle.std.specs.Prelude.{◌≡◌, ◌≤◌, ◌+◌, ◌^◌, ◌++◌, ℕ, List, IfOk, MatchResult};
-ghost use Rattle.trace_core.specs.Device.{source_view, sink_view};
 ghost use Rattle.trace_core.specs.Events.{events_of};
 ghost use Rattle.trace_core.specs.Reader.{begun};
 ghost use Rattle.trace_core.specs.Task.{Performs};
@@ -51,8 +50,8 @@ fn step_through<S: Source>(
     requires begun { lines.old ≡ begun lines.old.format lines.old.limit }
     requires limited { lines.old.limit ≤ 2 ^ 40 }
     requires new { system.old.steps ≡ 0 }
-    ensures stepped { StepsThrough lines.old.format lines.old.limit (S.remaining source.old) (S.remaining source.new)
-        (S.failures source.old) (S.failures source.new) lines.new system.old system.new }
+    ensures stepped { StepsThrough lines.old.format lines.old.limit (S.view source.old) (S.view source.new)
+        lines.new system.old system.new }
     ensures tells { MatchResult result (λ _. lines.new.state ≡ ReaderState.Ended)
         (λ fault. lines.new.state ≡ ReaderState.Failed fault) }
 {
@@ -71,8 +70,8 @@ fn stats_after<S: Source>(
     requires begun { lines.old ≡ begun lines.old.format lines.old.limit }
     requires limited { lines.old.limit ≤ 2 ^ 40 }
     requires new { system.steps ≡ 0 }
-    ensures stepped { (end : SystemValue) × StepsThrough lines.old.format lines.old.limit (S.remaining source.old)
-        (S.remaining source.new) (S.failures source.old) (S.failures source.new) lines.new system end
+    ensures stepped { (end : SystemValue) × StepsThrough lines.old.format lines.old.limit
+        (S.view source.old) (S.view source.new) lines.new system end
         × IfOk result (λ stats. stats ≡ stats_of end) }
     ensures tells { MatchResult result (λ _. lines.new.state ≡ ReaderState.Ended)
         (λ fault. lines.new.state ≡ ReaderState.Failed fault) }
@@ -98,8 +97,8 @@ pub fn din<S: Source, K: Sink>(
 ) -> Result<(), RunFault>
     requires some { 1 ≤ max_lines }
     requires most { max_lines ≤ MAX_LINES }
-    ensures { Performs (din_task plan seed format max_lines) result (source_view S.remaining S.failures) source.old source.new
-        (sink_view K.written K.failures K.flushes) sink.old sink.new }
+    ensures { Performs (din_task plan seed format max_lines) result
+        S.view source.old source.new K.view sink.old sink.new }
 {
     plan.limits();
     let mut lines = Lines::new(alloc, format, max_lines)?;

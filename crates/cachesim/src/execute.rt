@@ -1,6 +1,5 @@
 //! How jobs are done.
 ghost use Rattle.std.specs.Prelude.{◌≤◌};
-ghost use Rattle.trace_core.specs.Device.{source_view, sink_view};
 ghost use Rattle.trace_core.specs.Task.{Performs};
 ghost use Rattle.cachesim.specs.Job.{task_of, max_lines_of};
 
@@ -24,8 +23,8 @@ pub fn execute<S: Source, K: Sink>(
 ) -> Result<(), RunFault>
     requires some { 1 ≤ max_lines_of job.now }
     requires most { max_lines_of job.now ≤ MAX_LINES }
-    ensures { Performs (task_of job.now) result (source_view S.remaining S.failures) source.old source.new
-        (sink_view K.written K.failures K.flushes) sink.old sink.new }
+    ensures { Performs (task_of job.now) result
+        S.view source.old source.new K.view sink.old sink.new }
 {
     match *job {
         Job::Csim {

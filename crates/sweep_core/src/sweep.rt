@@ -1,6 +1,5 @@
 //! The sweep.
 ghost use Rattle.std.specs.Prelude.{◌≡◌, ◌≤◌, IfOk, IfSome};
-ghost use Rattle.trace_core.specs.Device.{source_view, sink_view};
 ghost use Rattle.trace_core.specs.Task.{Performs};
 ghost use Rattle.sweep_core.specs.SweepText.{sweep_task};
 ghost use Rattle.sweep_core.specs.Work.{sweep_work};
@@ -37,9 +36,9 @@ pub fn sweep<S: Source, K: Sink>(
 ) -> Result<u128, SweepFault>
     requires some { 1 ≤ request.now.max_lines }
     requires most { request.now.max_lines ≤ MAX_LINES }
-    ensures performs { Performs (sweep_task request.now) result (source_view S.remaining S.failures) source.old source.new
-        (sink_view K.written K.failures K.flushes) sink.old sink.new }
-    ensures work { IfOk result (λ compared. IfSome (S.remaining source.old) (λ text.
+    ensures performs { Performs (sweep_task request.now) result
+        S.view source.old source.new K.view sink.old sink.new }
+    ensures work { IfOk result (λ compared. IfSome (S.view source.old).remaining (λ text.
         compared ≡ sweep_work request.now text)) }
 {
     let mut lines = Lines::new(alloc, request.format, request.max_lines)?;

@@ -1,5 +1,5 @@
 -- What a run of a task did to its devices, by how it ended.
-use Rattle.std.proofs.Common.{◌≡◌, ◌≢◌, ℕ, List, true, false, Option, None, Some, Result, Ok, Err, inl, refl, sym, ap, ◌∙◌, subst}
+use Rattle.std.proofs.Common.{◌≡◌, ◌≢◌, ℕ, List, true, false, None, Some, Result, Ok, Err, inl, refl, sym, ap, ◌∙◌, subst}
 use Rattle.std.specs.Prelude.{OnOk, IsErrAnd}
 use Rattle.std.specs.Option.{IfSome}
 use Rattle.std.specs.Io.KnownBytes.{Appends}
@@ -9,149 +9,129 @@ use Rattle.trace_core.specs.declared.fault.RunFault.TheVariants.{Memory, Trace, 
 use Rattle.trace_core.specs.declared.fault.TraceFault.{TraceFault}
 use Rattle.trace_core.specs.declared.reader.ReaderState.{ReaderState}
 use Rattle.trace_core.specs.declared.reader.ReaderState.TheVariants as state
-use Rattle.trace_core.specs.Device.{SourceView, SinkView, WritesPrefix, FlushesAfter, FlushesAtMostOnce, one_more}
-use Rattle.trace_core.specs.Reading.{entries}
+use Rattle.trace_core.specs.Device.{SourceView, SinkView, WritesPrefix, FlushesAfter, Wrote, WrotePart, WroteLast, WroteLastPart}
+use Rattle.trace_core.specs.Reading.{reading}
 use Rattle.trace_core.specs.Reader.{Progress, Reached}
-use Rattle.trace_core.specs.Task.{Task, BreaksOff, Finished, Stopped, WriteFailed, Performs, entries_of, output}
-use Rattle.trace_core.proofs.Tasks.{WritesAlong, task_stops, task_cut, task_completes, task_breaks, task_flushes, task_fails, task_unflushed, BreaksOff-output}
+use Rattle.trace_core.specs.Task.{Task, Completes, BreaksOff, Finished, Stopped, WriteFailed, Performs, entries_of, entries_in, output, output_for}
+use Rattle.trace_core.proofs.Tasks.{ReadWhole, ReadWhole-read, WritesAlong, if_told, task_stops, task_cut, task_fails}
 
--- A run has read a whole text, and whole these bytes for it.
-pub record ReadWhole (task : Task) (source source' : SourceView) (bytes : List ℕ) : Type 0 where
-  pub read : List (ℕ × Entry)
-  pub at : Progress
-  pub reached : Reached task.format task.limit source.remaining source'.remaining source.failures source'.failures read at
-  pub ended : at.state ≡ state.Ended
-  pub output : (text : List ℕ) → entries_of read ≡ entries task.format text → task.whole text ≡ bytes
-
--- an answer that is an error, which is this fault
-pub err_is : {T : Type 0} {result : Result T RunFault} {e : RunFault} → IsErrAnd result (λ x. x ≡ e) → result ≡ Err e
-err_is {result = Ok x} given = absurd given
-err_is {result = Err x} given = ap (λ y. Err y) given
-
--- Without memory nothing was touched.
-pub Performs-memory : {T S K : Type 0} {task : Task} {result : Result T RunFault} {told : S → SourceView} {source : S} {held : K → SinkView} {sink : K}
-    → result ≡ Err Memory → Performs task result told source source held sink sink
-Performs-memory {task = task} {told = told} {source = source} {held = held} {sink = sink} is = record {
-  ok = subst (λ r. OnOk r (Finished task (told source) (told source) (held sink) (held sink))) (sym is) tt;
-  trace = λ f given. absurd cc;
-  silent = λ f given late. absurd cc;
-  write = λ given. absurd cc;
-  memory = λ given. (refl, refl);
+-- All was read, written and flushed.
+pub Finished-written : {task : Task} {source source' : SourceView} {sink sink' : SinkView} {bytes : List ℕ}
+    → ReadWhole task source source' bytes → WroteLast sink sink' bytes → Finished task source source' sink sink'
+Finished-written {task = task} {source = source} {source' = source'} {sink = sink} {sink' = sink'} whole wrote = record {
+  completes = if_told source.remaining (λ text. Completes task text source'.remaining sink.written sink'.written) (λ text told.
+      let is = ReadWhole-read whole text told in
+      record { faultless = is.faultless; read = is.left; wrote = subst (Appends sink.written sink'.written) (sym is.output) wrote.took });
+  at_end = whole.reached.at_end whole.ended;
+  read_failures = rw whole.ended at whole.reached.counted;
+  write_failures = wrote.unfailed;
+  flushes = wrote.flushed;
 }
 
 -- A fault of the trace, or a failure of the source.
-pub Performs-stopped : {T S K : Type 0} {task : Task} {result : Result T RunFault} {told : S → SourceView} {source source' : S} {held : K → SinkView} {sink sink' : K}
-    {xs : List (ℕ × Entry)} {p : Progress} (x : TraceFault) → result ≡ Err (Trace x) → p.state ≡ state.Failed x
-    → Reached task.format task.limit (told source).remaining (told source').remaining (told source).failures (told source').failures xs p
-    → Appends (held sink).written (held sink').written (task.partial (entries_of xs))
-    → (held sink').failures ≡ (held sink).failures → (held sink').flushes ≡ (held sink).flushes → (task.writes_early ≡ false → sink' ≡ sink)
-    → Performs task result told source source' held sink sink'
-Performs-stopped {task = task} {told = told} {source = source} {source' = source'} {held = held} {sink = sink} {sink' = sink'} {xs = xs} {p = p} x is failed reached wrote unfailed unflushed still =
-    let stopped : Stopped task x (told source) (told source') (held sink) (held sink') = record {
-      fault = λ own. task_stops task _ _ _ _ _ _ xs p x failed own reached wrote;
-      cut = λ own. task_cut task _ _ _ _ _ _ xs p x failed own reached wrote;
-      read_failures = rw failed at reached.counted;
-      write_failures = unfailed;
-      flushes = unflushed;
-    } in record {
-      ok = subst (λ r. OnOk r (Finished task (told source) (told source') (held sink) (held sink'))) (sym is) tt;
-      trace = λ f given. let same : x ≡ f = cc in subst (λ (y : TraceFault). Stopped task y (told source) (told source') (held sink) (held sink')) same stopped;
-      silent = λ f given late. still late;
-      write = λ given. absurd cc;
-      memory = λ given. absurd cc;
-    }
-
--- All was read, written and flushed.
-pub Performs-finished : {T S K : Type 0} {task : Task} {result : Result T RunFault} {told : S → SourceView} {source source' : S} {held : K → SinkView} {sink sink' : K}
-    {bytes : List ℕ} (y : T) → result ≡ Ok y → ReadWhole task (told source) (told source') bytes → Appends (held sink).written (held sink').written bytes
-    → (held sink').failures ≡ (held sink).failures → (held sink').flushes ≡ one_more (held sink).flushes
-    → Performs task result told source source' held sink sink'
-Performs-finished {task = task} {told = told} {source = source} {source' = source'} {held = held} {sink = sink} {sink' = sink'} y is whole wrote unfailed flushed =
-    let completed : Finished task (told source) (told source') (held sink) (held sink') = record {
-      completes = task_completes task _ _ _ _ _ _ whole.read whole.at whole.ended whole.reached
-          (λ text same. subst (Appends (held sink).written (held sink').written) (sym (whole.output text same)) wrote);
-      at_end = whole.reached.at_end whole.ended;
-      read_failures = rw whole.ended at whole.reached.counted;
-      write_failures = unfailed;
-      flushes = flushed;
-    } in record {
-      ok = subst (λ r. OnOk r (Finished task (told source) (told source') (held sink) (held sink'))) (sym is) completed;
-      trace = λ f given. absurd cc;
-      silent = λ f given late. absurd cc;
-      write = λ given. absurd cc;
-      memory = λ given. absurd cc;
-    }
-
--- The sink failed, and took some part of the output of a text without a fault.
-part_of : (task : Task) (before told w0 w : Option (List ℕ)) → IfSome before (λ text. BreaksOff task text told w0 w) → IfSome before (λ text. WritesPrefix w0 w (output task text))
-part_of task None told w0 w broken = tt
-part_of task (Some text) told w0 w broken = BreaksOff-output task text told w0 w broken
+pub Stopped-at : {task : Task} {source source' : SourceView} {sink sink' : SinkView} {xs : List (ℕ × Entry)} {p : Progress} (x : TraceFault)
+    → p.state ≡ state.Failed x → Reached task.format task.limit source source' xs p → Wrote sink sink' (task.partial (entries_of xs))
+    → Stopped task x source source' sink sink'
+Stopped-at {task = task} {source = source} {source' = source'} {xs = xs} {p = p} x failed reached wrote = record {
+  fault = λ own. task_stops task source source' xs p reached _ _ x failed own wrote.took;
+  cut = λ own. task_cut task source source' xs p reached _ _ x failed own wrote.took;
+  read_failures = rw failed at reached.counted;
+  write_failures = wrote.unfailed;
+  flushes = wrote.unflushed;
+}
 
 -- The sink failed after the whole text was read.
-pub Performs-failed_late : {T S K : Type 0} {task : Task} {result : Result T RunFault} {told : S → SourceView} {source source' : S} {held : K → SinkView} {sink sink' : K}
-    {bytes : List ℕ} → result ≡ Err Write → ReadWhole task (told source) (told source') bytes → WritesPrefix (held sink).written (held sink').written bytes
-    → FlushesAfter bytes (held sink).flushes (held sink').flushes (held sink).written (held sink').written
-    → (held sink').failures ≡ one_more (held sink).failures → FlushesAtMostOnce (held sink).flushes (held sink').flushes
-    → Performs task result told source source' held sink sink'
-Performs-failed_late {task = task} {told = told} {source = source} {source' = source'} {held = held} {sink = sink} {sink' = sink'} is whole part last failed flushes =
-    let broke : IfSome (told source).remaining (λ text. BreaksOff task text (told source').remaining (held sink).written (held sink').written) =
-    task_breaks task _ _ _ _ _ _ whole.read whole.at whole.ended whole.reached
-    (λ text same. subst (WritesPrefix (held sink).written (held sink').written) (sym (whole.output text same)) part) in
-    let broken : WriteFailed task (told source) (told source') (held sink) (held sink') = record {
-      part = part_of task _ _ _ _ broke;
-      late = λ late. broke;
-      at_end = λ late. whole.reached.at_end whole.ended;
-      read_failures = rw whole.ended at whole.reached.counted;
-      write_failures = failed;
-      flushes = flushes;
-      last = task_flushes task _ _ _ _ _ _ _ _ whole.read whole.at whole.ended whole.reached
-          (λ text same. subst (λ t. FlushesAfter t (held sink).flushes (held sink').flushes (held sink).written (held sink').written) (sym (whole.output text same)) last);
-    } in record {
-      ok = subst (λ r. OnOk r (Finished task (told source) (told source') (held sink) (held sink'))) (sym is) tt;
-      trace = λ f given. absurd cc;
-      silent = λ f given late. absurd cc;
-      write = λ given. broken;
-      memory = λ given. absurd cc;
-    }
+pub WriteFailed-late : {task : Task} {source source' : SourceView} {sink sink' : SinkView} {bytes : List ℕ}
+    → ReadWhole task source source' bytes → WroteLastPart sink sink' bytes → WriteFailed task source source' sink sink'
+WriteFailed-late {task = task} {source = source} {source' = source'} {sink = sink} {sink' = sink'} whole wrote = record {
+  part = if_told source.remaining (λ text. WritesPrefix sink.written sink'.written (output task text)) (λ text told.
+      let is = ReadWhole-read whole text told in
+      let in_part = subst (WritesPrefix sink.written sink'.written) (sym is.output) wrote.part in
+      subst (λ o. WritesPrefix sink.written sink'.written (output_for task text (entries_in (reading task.format task.limit text)) o))
+      (sym is.faultless) in_part);
+  late = λ late. if_told source.remaining (λ text. BreaksOff task text source'.remaining sink.written sink'.written) (λ text told.
+      let is = ReadWhole-read whole text told in
+      record { faultless = is.faultless; read = is.left; wrote = subst (WritesPrefix sink.written sink'.written) (sym is.output) wrote.part });
+  at_end = λ late. whole.reached.at_end whole.ended;
+  read_failures = rw whole.ended at whole.reached.counted;
+  write_failures = wrote.failed;
+  flushes = wrote.flushes;
+  last = if_told source.remaining (λ text. FlushesAfter (task.whole text) sink sink') (λ text told.
+      subst (λ t. FlushesAfter t sink sink') (sym (ReadWhole-read whole text told).output) wrote.last);
+}
 
 -- The sink failed while a run that writes early was reading.
-pub Performs-failed_early : {T S K : Type 0} {task : Task} {result : Result T RunFault} {told : S → SourceView} {source source' : S} {held : K → SinkView} {sink sink' : K}
-    {xs : List (ℕ × Entry)} {p : Progress} → result ≡ Err Write → task.writes_early ≡ true → WritesAlong task → ((f : TraceFault) → p.state ≢ state.Failed f)
-    → Reached task.format task.limit (told source).remaining (told source').remaining (told source).failures (told source').failures xs p
-    → WritesPrefix (held sink).written (held sink').written (task.partial (entries_of xs))
-    → (held sink').failures ≡ one_more (held sink).failures → (held sink').flushes ≡ (held sink).flushes
-    → Performs task result told source source' held sink sink'
-Performs-failed_early {task = task} {told = told} {source = source} {source' = source'} {held = held} {sink = sink} {sink' = sink'} {xs = xs} {p = p} is early along well reached part failed unflushed =
-    let broken : WriteFailed task (told source) (told source') (held sink) (held sink') = record {
-      part = task_fails task along _ _ _ _ _ _ xs p well reached part;
+pub WriteFailed-early : {task : Task} {source source' : SourceView} {sink sink' : SinkView} {xs : List (ℕ × Entry)} {p : Progress}
+    → task.writes_early ≡ true → WritesAlong task → Reached task.format task.limit source source' xs p → ((f : TraceFault) → p.state ≢ state.Failed f)
+    → WrotePart sink sink' (task.partial (entries_of xs)) → WriteFailed task source source' sink sink'
+WriteFailed-early {task = task} {source = source} {source' = source'} {sink = sink} {sink' = sink'} {xs = xs} {p = p} early along reached well wrote =
+    record {
+      part = task_fails task along source source' xs p sink.written sink'.written reached well wrote.part;
       late = λ late. absurd cc;
       at_end = λ late. absurd cc;
       read_failures = unfailed p.state refl;
-      write_failures = failed;
-      flushes = inl unflushed;
-      last = task_unflushed task _ _ _ _ _ unflushed;
-    } in record {
-      ok = subst (λ r. OnOk r (Finished task (told source) (told source') (held sink) (held sink'))) (sym is) tt;
-      trace = λ f given. absurd cc;
-      silent = λ f given late. absurd cc;
-      write = λ given. broken;
-      memory = λ given. absurd cc;
+      write_failures = wrote.failed;
+      flushes = inl wrote.unflushed;
+      last = if_told source.remaining (λ text. FlushesAfter (task.whole text) sink sink') (λ text told. inl wrote.unflushed);
     }
   where
-    unfailed : (s : ReaderState) → p.state ≡ s → (told source').failures ≡ (told source).failures
+    unfailed : (s : ReaderState) → p.state ≡ s → source'.failures ≡ source.failures
     unfailed state.Open is = rw is at reached.counted
     unfailed state.Ended is = rw is at reached.counted
     unfailed (state.Failed f) is = absurd (well f is)
 
+-- a result that is an error, which is this fault
+pub err_is : {T : Type 0} {result : Result T RunFault} {e : RunFault} → IsErrAnd result (λ x. x ≡ e) → result ≡ Err e
+err_is {result = Ok x} given = absurd given
+err_is {result = Err x} given = ap (λ y. Err y) given
+
 fault_is : {U : Type 0} {x y : RunFault} → (let r : Result U RunFault = Err x in r ≡ Err y) → x ≡ y
 fault_is same = cc
 
+module _ {T S K : Type 0} {task : Task} {result : Result T RunFault} {source_view : S → SourceView} {source source' : S}
+    {sink_view : K → SinkView} {sink sink' : K} where
+  -- a run that finished
+  pub Performs-ok : (y : T) → result ≡ Ok y → Finished task (source_view source) (source_view source') (sink_view sink) (sink_view sink')
+      → Performs task result source_view source source' sink_view sink sink'
+  Performs-ok y is finished = record {
+    ok = subst (λ r. OnOk r (Finished task (source_view source) (source_view source') (sink_view sink) (sink_view sink'))) (sym is) finished;
+    trace = λ f given. absurd cc;
+    silent = λ f given late. absurd cc;
+    write = λ given. absurd cc;
+    memory = λ given. absurd cc;
+  }
+
+  -- a run that stopped at a fault
+  pub Performs-trace : (x : TraceFault) → result ≡ Err (Trace x)
+      → Stopped task x (source_view source) (source_view source') (sink_view sink) (sink_view sink') → (task.writes_early ≡ false → sink' ≡ sink)
+      → Performs task result source_view source source' sink_view sink sink'
+  Performs-trace x is stopped silent = record {
+    ok = subst (λ r. OnOk r (Finished task (source_view source) (source_view source') (sink_view sink) (sink_view sink'))) (sym is) tt;
+    trace = λ f given. let same : x ≡ f = cc in
+        subst (λ (y : TraceFault). Stopped task y (source_view source) (source_view source') (sink_view sink) (sink_view sink')) same stopped;
+    silent = λ f given late. silent late;
+    write = λ given. absurd cc;
+    memory = λ given. absurd cc;
+  }
+
+  -- a run whose sink failed
+  pub Performs-write : result ≡ Err Write → WriteFailed task (source_view source) (source_view source') (sink_view sink) (sink_view sink')
+      → Performs task result source_view source source' sink_view sink sink'
+  Performs-write is failed = record {
+    ok = subst (λ r. OnOk r (Finished task (source_view source) (source_view source') (sink_view sink) (sink_view sink'))) (sym is) tt;
+    trace = λ f given. absurd cc;
+    silent = λ f given late. absurd cc;
+    write = λ given. failed;
+    memory = λ given. absurd cc;
+  }
+
 -- A run that passes on the fault of another did what that did.
-pub Performs-passed_on : {T U S K : Type 0} {task : Task} {result : Result U RunFault} {told : S → SourceView} {source source' : S} {held : K → SinkView} {sink sink' : K}
-    (e : RunFault) → result ≡ Err e → (let below : Result T RunFault = Err e in Performs task below told source source' held sink sink')
-    → Performs task result told source source' held sink sink'
-Performs-passed_on {task = task} {told = told} {source = source} {source' = source'} {held = held} {sink = sink} {sink' = sink'} e is run = record {
-  ok = subst (λ r. OnOk r (Finished task (told source) (told source') (held sink) (held sink'))) (sym is) tt;
+pub Performs-passed_on : {T U S K : Type 0} {task : Task} {result : Result U RunFault} {source_view : S → SourceView} {source source' : S}
+    {sink_view : K → SinkView} {sink sink' : K} (e : RunFault) → result ≡ Err e
+    → (let below : Result T RunFault = Err e in Performs task below source_view source source' sink_view sink sink')
+    → Performs task result source_view source source' sink_view sink sink'
+Performs-passed_on {task = task} {source_view = v} {source = source} {source' = source'} {sink_view = w} {sink = sink} {sink' = sink'} e is run = record {
+  ok = subst (λ r. OnOk r (Finished task (v source) (v source') (w sink) (w sink'))) (sym is) tt;
   trace = λ f given. run.trace f (ap (λ x. Err x) (fault_is (sym is ∙ given)));
   silent = λ f given late. run.silent f (ap (λ x. Err x) (fault_is (sym is ∙ given))) late;
   write = λ given. run.write (ap (λ x. Err x) (fault_is (sym is ∙ given)));

@@ -112,18 +112,19 @@ pub record WriteFailed (task : Task) (source source' : SourceView) (sink sink' :
   -- the sink was flushed once or not at all
   pub flushes : FlushesAtMostOnce sink.flushes sink'.flushes
   -- a sink that was flushed had taken the whole output
-  pub last : IfSome source.remaining (λ text. FlushesAfter (task.whole text) sink.flushes sink'.flushes sink.written sink'.written)
+  pub last : IfSome source.remaining (λ text. FlushesAfter (task.whole text) sink sink')
 
--- What a run of a task did, by its result, to a source and a sink that it found and left so. `told` and `held` are their views.
-pub record Performs {T S K : Type 0} (task : Task) (result : Result T RunFault) (told : S → SourceView) (source source' : S)
-    (held : K → SinkView) (sink sink' : K) : Type 0 where
+-- What a run of a task did to a source and a sink, by its result. Each device is seen through its view.
+pub record Performs {T S K : Type 0} (task : Task) (result : Result T RunFault) (source_view : S → SourceView) (source source' : S)
+    (sink_view : K → SinkView) (sink sink' : K) : Type 0 where
   -- it finished
-  pub ok : OnOk result (Finished task (told source) (told source') (held sink) (held sink'))
-  -- it stopped at a fault of the trace or at a failure of its source
-  pub trace : (f : TraceFault) → result ≡ Err (Trace f) → Stopped task f (told source) (told source') (held sink) (held sink')
-  -- there a run that does not write early has not touched its sink
+  pub ok : OnOk result (Finished task (source_view source) (source_view source') (sink_view sink) (sink_view sink'))
+  -- it stopped at a fault of the trace, or at a failure of its source
+  pub trace : (f : TraceFault) → result ≡ Err (Trace f) →
+      Stopped task f (source_view source) (source_view source') (sink_view sink) (sink_view sink')
+  -- there, a run that does not write early has not touched its sink
   pub silent : (f : TraceFault) → result ≡ Err (Trace f) → task.writes_early ≡ false → sink' ≡ sink
   -- its sink failed
-  pub write : result ≡ Err Write → WriteFailed task (told source) (told source') (held sink) (held sink')
-  -- without memory it has touched neither device
+  pub write : result ≡ Err Write → WriteFailed task (source_view source) (source_view source') (sink_view sink) (sink_view sink')
+  -- for want of memory it has touched neither device
   pub memory : result ≡ Err Memory → (source' ≡ source) × (sink' ≡ sink)

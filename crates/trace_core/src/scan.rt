@@ -34,12 +34,11 @@ impl Scan {
     /// Reads on to the next entry. Without one, the state says why.
     #[inline(always)]
     pub(crate) fn next<S: Source>(&mut self, source: &mut S) -> Option<(u64, Entry)>
-        ensures advances { Reads (S.remaining source.old) (S.remaining source.new)
-            self.old self.new result }
+        ensures advances { Reads (S.view source.old) (S.view source.new) self.old self.new result }
         ensures at_end { self.old.state ≡ ReaderState.Open → self.new.state ≡ ReaderState.Ended →
-            IsAtEnd (S.remaining source.new) }
-        ensures counted { self.old.state ≡ ReaderState.Open → S.failures source.new
-            ≡ failures_after (device_failed self.new.state) (S.failures source.old) }
+            IsAtEnd (S.view source.new).remaining }
+        ensures counted { self.old.state ≡ ReaderState.Open → (S.view source.new).failures
+            ≡ failures_after (device_failed self.new.state) (S.view source.old).failures }
         ensures stopped { self.old.state ≢ ReaderState.Open → (source.new ≡ source.old)
             × (self.new ≡ self.old) × (result ≡ None) }
         ensures same { KeepsTask self.old self.new }
@@ -59,11 +58,10 @@ impl Scan {
     #[inline(always)]
     fn step<S: Source>(&mut self, source: &mut S) -> Option<(u64, Entry)>
         requires { self.old.state ≡ ReaderState.Open }
-        ensures advances { Reads (S.remaining source.old) (S.remaining source.new)
-            self.old self.new result }
-        ensures at_end { self.new.state ≡ ReaderState.Ended → IsAtEnd (S.remaining source.new) }
-        ensures counted { S.failures source.new
-            ≡ failures_after (device_failed self.new.state) (S.failures source.old) }
+        ensures advances { Reads (S.view source.old) (S.view source.new) self.old self.new result }
+        ensures at_end { self.new.state ≡ ReaderState.Ended → IsAtEnd (S.view source.new).remaining }
+        ensures counted { (S.view source.new).failures
+            ≡ failures_after (device_failed self.new.state) (S.view source.old).failures }
         ensures same { KeepsTask self.old self.new }
         ensures entry { BearsLine self.old self.new result }
         ensures lines { self.old.lines ≤ self.new.lines }
@@ -88,11 +86,10 @@ impl Scan {
     fn step_any<S: Source>(&mut self, source: &mut S) -> Option<(u64, Entry)>
         requires open { self.old.state ≡ ReaderState.Open }
         requires below { 0 < length self.old.buffer → self.old.lines < self.old.limit }
-        ensures advances { Reads (S.remaining source.old) (S.remaining source.new)
-            self.old self.new result }
-        ensures at_end { self.new.state ≡ ReaderState.Ended → IsAtEnd (S.remaining source.new) }
-        ensures counted { S.failures source.new
-            ≡ failures_after (device_failed self.new.state) (S.failures source.old) }
+        ensures advances { Reads (S.view source.old) (S.view source.new) self.old self.new result }
+        ensures at_end { self.new.state ≡ ReaderState.Ended → IsAtEnd (S.view source.new).remaining }
+        ensures counted { (S.view source.new).failures
+            ≡ failures_after (device_failed self.new.state) (S.view source.old).failures }
         ensures same { KeepsTask self.old self.new }
         ensures entry { BearsLine self.old self.new result }
         ensures lines { self.old.lines ≤ self.new.lines }
@@ -157,11 +154,10 @@ impl Scan {
         requires open { self.old.state ≡ ReaderState.Open }
         requires no_line { IsFirstByte (is_byte 10) self.old.buffer None }
         requires below { 0 < length self.old.buffer → self.old.lines < self.old.limit }
-        ensures advances { Reads (S.remaining source.old) (S.remaining source.new)
-            self.old self.new result }
-        ensures at_end { self.new.state ≡ ReaderState.Ended → IsAtEnd (S.remaining source.new) }
-        ensures counted { S.failures source.new
-            ≡ failures_after (device_failed self.new.state) (S.failures source.old) }
+        ensures advances { Reads (S.view source.old) (S.view source.new) self.old self.new result }
+        ensures at_end { self.new.state ≡ ReaderState.Ended → IsAtEnd (S.view source.new).remaining }
+        ensures counted { (S.view source.new).failures
+            ≡ failures_after (device_failed self.new.state) (S.view source.old).failures }
         ensures same { KeepsTask self.old self.new }
         ensures entry { BearsLine self.old self.new result }
         ensures lines { self.old.lines ≤ self.new.lines }

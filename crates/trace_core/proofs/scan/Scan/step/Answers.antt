@@ -20,7 +20,7 @@ pub returns-in-Some-clause-advances : goal.returns-in-Some-clause-advances
 returns-in-Some-clause-advances g c =
     let s = c.args.self.now in
     let at = c.in-Some.at in
-    let told = g.S.Source.remaining c.args.source.now in
+    let told = (g.S.Source.view c.args.source.now).remaining in
     let unread = c.as_slice-unread.ensures.value in
     let found : IsFirstByte (is_byte 10) s.buffer (Some at) = subst (λ u. IsFirstByte (is_byte 10) u (Some at)) unread c.in-Some.ensures.line in
     let means : meaning s.format (take at s.buffer) ≡ Ok (Some (entry.Item c.in-Some.item)) = subst (λ u. meaning s.format (take at u) ≡ Ok (Some (entry.Item c.in-Some.item))) unread c.in-Some.ensures.item in
