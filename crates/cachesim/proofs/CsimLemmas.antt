@@ -1,5 +1,6 @@
 -- How far `csim` has come, and what stands written then.
-use Rattle.std.proofs.Common.{◌≡◌, ◌≢◌, ℕ, ◌+◌, ◌*◌, ◌^◌, ◌<◌, ◌≤◌, List, [], ◌∷◌, ◌++◌, Bool, true, false, cond, refl, sym, ap, ◌∙◌, subst, arith, append-nil, append_assoc}
+use Rattle.std.proofs.Common.{◌≡◌, ◌≢◌, ℕ, ◌+◌, ◌*◌, ◌^◌, ◌<◌, ◌≤◌, List, [], ◌∷◌, ◌++◌, Bool, true, false, cond}
+use Rattle.std.proofs.Common.{refl, sym, ap, ◌∙◌, subst, arith, append-nil, append_assoc}
 use Rattle.std.proofs.lemmas.List.{map_push}
 use Rattle.std.specs.List.{flat_map}
 use Rattle.trace_core.specs.declared.events.Entry.{Entry}
@@ -29,7 +30,8 @@ use Rattle.cachesim.specs.Simulation.{Simulates, AreFew}
 abbrev pub data_of : List Entry → List Event
 data_of es = flat_map (events_of DataOnly) es
 
-lines_after-append : (g : Shape) (before : List Event) (xs ys : List Entry) → lines_after g before (xs ++ ys) ≡ lines_after g before xs ++ lines_after g (before ++ data_of xs) ys
+lines_after-append : (g : Shape) (before : List Event) (xs ys : List Entry)
+    → lines_after g before (xs ++ ys) ≡ lines_after g before xs ++ lines_after g (before ++ data_of xs) ys
 unfolding lines_after
 lines_after-append g before [] ys = ap (λ b. lines_after g b ys) (sym (append-nil before))
 lines_after-append g before (e ∷ xs) ys =

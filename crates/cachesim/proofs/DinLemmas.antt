@@ -53,13 +53,15 @@ module _ (plan : Levels) (seed : ℕ) (format : Format) (limit : ℕ) {start now
   }
 
 -- all the references of an item
-pub both_events : (item : Item) (first second : Ref) → references item ≡ (first, Some second) → events_of All (entry.Item item) ≡ event.Reference first ∷ event.Reference second ∷ []
+pub both_events : (item : Item) (first second : Ref) → references item ≡ (first, Some second)
+    → events_of All (entry.Item item) ≡ event.Reference first ∷ event.Reference second ∷ []
 both_events item first second is = ap (λ p. map event.Reference (filter (λ r. keeps All r.access) (p.0 ∷ option_to_list p.1))) is
 
 pub one_event : (item : Item) (first : Ref) → references item ≡ (first, None) → events_of All (entry.Item item) ≡ event.Reference first ∷ []
 one_event item first is = ap (λ p. map event.Reference (filter (λ r. keeps All r.access) (p.0 ∷ option_to_list p.1))) is
 
-pub stands_both : (plan : Levels) (seed : ℕ) (events more : List Event) (v mid v' : SystemValue) (first second : Ref) → more ≡ event.Reference first ∷ event.Reference second ∷ []
+pub stands_both : (plan : Levels) (seed : ℕ) (events more : List Event) (v mid v' : SystemValue) (first second : Ref)
+    → more ≡ event.Reference first ∷ event.Reference second ∷ []
     → Steps v first mid → Steps mid second v' → IsPlan plan → SystemStands plan seed events v → SystemStands plan seed (events ++ more) v'
 stands_both plan seed events more v mid v' first second is one two p stands =
     subst (λ es. SystemStands plan seed es v') (append_assoc events (event.Reference first ∷ []) (event.Reference second ∷ []) ∙ ap (λ l. events ++ l) (sym is))
@@ -67,4 +69,5 @@ stands_both plan seed events more v mid v' first second is one two p stands =
 
 pub stands_one : (plan : Levels) (seed : ℕ) (events more : List Event) (v v' : SystemValue) (first : Ref) → more ≡ event.Reference first ∷ []
     → Steps v first v' → IsPlan plan → SystemStands plan seed events v → SystemStands plan seed (events ++ more) v'
-stands_one plan seed events more v v' first is one p stands = subst (λ es. SystemStands plan seed (events ++ es) v') (sym is) (step_law plan seed events v first v' p stands one)
+stands_one plan seed events more v v' first is one p stands =
+    subst (λ es. SystemStands plan seed (events ++ es) v') (sym is) (step_law plan seed events v first v' p stands one)

@@ -50,8 +50,8 @@ fn step_through<S: Source>(
     requires begun { lines.old ≡ begun lines.old.format lines.old.limit }
     requires limited { lines.old.limit ≤ 2 ^ 40 }
     requires new { system.old.steps ≡ 0 }
-    ensures stepped { StepsThrough lines.old.format lines.old.limit (S.view source.old) (S.view source.new)
-        lines.new system.old system.new }
+    ensures stepped { StepsThrough lines.old.format lines.old.limit
+        (S.view source.old) (S.view source.new) lines.new system.old system.new }
     ensures tells { MatchResult result (λ _. lines.new.state ≡ ReaderState.Ended)
         (λ fault. lines.new.state ≡ ReaderState.Failed fault) }
 {

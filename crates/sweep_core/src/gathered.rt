@@ -42,7 +42,8 @@ impl Gathered {
     /// Adds a piece. Where there is no room for it, what waits is written first.
     pub(crate) fn put<K: Sink>(&mut self, sink: &mut K, piece: &[u8]) -> Result<(), DeviceFault>
         requires { length piece.now ≤ ROOM }
-        ensures { PassesOn (K.view sink.old) (K.view sink.new) result self.old self.new piece.now self.old }
+        ensures { PassesOn (K.view sink.old) (K.view sink.new) result
+            self.old self.new piece.now self.old }
     {
         self.make_room(sink, piece.len())?;
         self.push(piece);
@@ -62,7 +63,8 @@ impl Gathered {
     /// Sees to it that so many bytes more have room.
     fn make_room<K: Sink>(&mut self, sink: &mut K, count: usize) -> Result<(), DeviceFault>
         requires { count ≤ ROOM }
-        ensures passes { PassesOn (K.view sink.old) (K.view sink.new) result self.old self.new [] self.old }
+        ensures passes { PassesOn (K.view sink.old) (K.view sink.new) result
+            self.old self.new [] self.old }
         ensures room { OnOk result (length self.new + count ≤ ROOM) }
     {
         if self.len + count <= ROOM {

@@ -46,10 +46,11 @@ module _ (f : Format) (limit : ℕ) where
   -- an open reader reads on
   pub Reached-then : (start mid now : SourceView) (xs ys : List (ℕ × Entry)) (p q : Progress) → p.state ≡ state.Open → Reached f limit start mid xs p
       → (bytes : List ℕ) × Delivers mid.remaining now.remaining (device_failed q.state) bytes × Advances now.remaining p q bytes ys
-      → (q.state ≡ state.Ended → IsAtEnd now.remaining) → now.failures ≡ failures_after (device_failed q.state) mid.failures → Reached f limit start now (xs ++ ys) q
+      → (q.state ≡ state.Ended → IsAtEnd now.remaining) → now.failures ≡ failures_after (device_failed q.state) mid.failures
+      → Reached f limit start now (xs ++ ys) q
   Reached-then start mid now xs ys p q opened so_far step over counted =
-      let consumes : Delivers start.remaining mid.remaining false so_far.bytes = subst (λ s. Delivers start.remaining mid.remaining (device_failed s) so_far.bytes) opened so_far.delivers in
-      record {
+      let consumes : Delivers start.remaining mid.remaining false so_far.bytes =
+      subst (λ s. Delivers start.remaining mid.remaining (device_failed s) so_far.bytes) opened so_far.delivers in record {
         bytes = so_far.bytes ++ step.0;
         delivers = Delivers-then start.remaining mid.remaining now.remaining (device_failed q.state) so_far.bytes step.0 consumes step.1;
         reads = Advances-then now.remaining mid.remaining (begun f limit) p q so_far.bytes step.0 xs ys opened so_far.reads step.2;

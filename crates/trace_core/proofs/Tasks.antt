@@ -1,6 +1,6 @@
 -- What a run has read and has to write, by how its reader ended.
-use Rattle.std.proofs.Common.{◌≡◌, ◌≢◌, ℕ, ◌≤◌, List, [], ◌++◌, true, false, Option, None, Some, refl, sym, ap, ◌∙◌, subst, arith, take, length, append_assoc, length-append}
-use Rattle.std.proofs.lemmas.List.{take-append-le, map-append}
+use Rattle.std.proofs.Common.{◌≡◌, ◌≢◌, ℕ, List, [], ◌++◌, true, false, Option, None, Some, refl, sym, ap, ◌∙◌, subst, append_assoc}
+use Rattle.std.proofs.lemmas.List.{map-append}
 use Rattle.std.specs.Option.{IfSome}
 use Rattle.std.specs.Io.KnownBytes.{Appends}
 use Rattle.trace_core.specs.declared.events.Entry.{Entry}
@@ -12,6 +12,7 @@ use Rattle.trace_core.specs.Reading.{Reading, reading, entries}
 use Rattle.trace_core.specs.Reader.{Progress, Reached, entries_then, device_failed}
 use Rattle.trace_core.specs.Task.{Task, StopsAt, CutsOff, entries_of, entries_in, output, output_for}
 use Rattle.trace_core.proofs.Entries.{entries-reading}
+use Rattle.trace_core.proofs.Written.{part_of_first}
 use Rattle.trace_core.proofs.Runs.{Reached-end, Reached-left, Reached-fault, Reached-cut, Reached-prefix}
 
 -- what holds where a device tells its bytes
@@ -107,14 +108,4 @@ module _ (task : Task) (along : WritesAlong task) where
   task_fails source source' xs p w0 w run well part = if_told source.remaining (λ text. WritesPrefix w0 w (output task text)) (λ text told.
       let prefix = Reached-prefix task.format task.limit text source source' xs p told run well in
       let begins = output-begins text xs prefix.0 prefix.1 in
-      longer text w0 w begins.0 part begins.1)
-    where
-      longer : (text : List ℕ) (u v : Option (List ℕ)) (more : List ℕ) → WritesPrefix u v (task.partial (entries_of xs))
-          → output task text ≡ task.partial (entries_of xs) ++ more → WritesPrefix u v (output task text)
-      longer text None v more part is = tt
-      longer text (Some x) None more part is = tt
-      longer text (Some x) (Some y) more part is = (
-        part.0,
-        rw is (omega (arith, part.1, length-append (task.partial (entries_of xs)) more)),
-        part.2 ∙ ap (λ l. x ++ l) (sym (take-append-le part.0 (task.partial (entries_of xs)) more part.1) ∙ ap (take part.0) (sym is)),
-      )
+      subst (WritesPrefix w0 w) (sym begins.1) (part_of_first w0 w (task.partial (entries_of xs)) begins.0 part))

@@ -1,10 +1,12 @@
 -- What a sink took over several calls.
-use Rattle.std.proofs.Common.{◌≡◌, ℕ, ◌+◌, ◌≤◌, List, [], ◌++◌, Option, None, Some, Result, Ok, Err, inl, inr, refl, sym, ap, ◌∙◌, arith, take, length, append_assoc, length-append, subst}
+use Rattle.std.proofs.Common.{ℕ, ◌+◌, List, [], ◌++◌, Option, None, Some, Result, Ok, Err, inl, inr, take, length}
+use Rattle.std.proofs.Common.{refl, sym, ap, ◌∙◌, arith, append_assoc, length-append, subst}
 use Rattle.std.proofs.Math.Seq.{take-append-add, take-length}
 use Rattle.std.proofs.KnownBytes.{Appends-trans, Appends-nil}
 use Rattle.std.proofs.lemmas.List.{take-append-le}
 use Rattle.std.specs.Io.KnownBytes.{Appends, Keeps}
-use Rattle.trace_core.specs.Device.{SinkView, Takes, Flushes, StaysOrUntold, WritesPrefix, TookAll, FlushesAfter, FlushesAtMostOnce, Wrote, WrotePart, WroteLast, WroteLastPart, WritesLast, one_more}
+use Rattle.trace_core.specs.Device.{SinkView, Takes, Flushes, StaysOrUntold, WritesPrefix, TookAll, FlushesAfter, FlushesAtMostOnce, one_more}
+use Rattle.trace_core.specs.Device.{Wrote, WrotePart, WroteLast, WroteLastPart, WritesLast}
 
 -- nothing was written
 pub Wrote-none : (v : SinkView) → Wrote v v []

@@ -68,7 +68,8 @@ impl Buffer {
         ensures fits { length self.new ≤ CAPACITY }
         ensures fault { OnErr result ((self.new ≡ self.old)
             × StaysOrUntold (S.view source.old).remaining (S.view source.new).remaining) }
-        ensures counted { CountsFailure (S.view source.old).failures (S.view source.new).failures result }
+        ensures counted { CountsFailure
+            (S.view source.old).failures (S.view source.new).failures result }
     {
         let held = self.end - self.start;
         shift(&mut self.bytes, self.start, self.end);

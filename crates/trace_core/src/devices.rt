@@ -81,7 +81,8 @@ impl<'a> TapeSource<'a> {
     /// fails (0: none). It goes on with the text after a failure.
     pub fn new(text: &'a [u8], most: usize, fails_at: u64) -> TapeSource<'a>
         requires { 0 < most }
-        ensures view { ⟦<TapeSource<'a> as Source>⟧.view result ≡ record { remaining = Some text.entry.now; failures = 0 } }
+        ensures view { ⟦<TapeSource<'a> as Source>⟧.view result
+            ≡ record { remaining = Some text.entry.now; failures = 0 } }
         ensures calls { (result.calls ≡ 0) × (result.fails_at ≡ fails_at) }
         ensures most { result.most ≡ most }
     {
@@ -106,7 +107,8 @@ impl<'a> Source for TapeSource<'a> {
     fn read(&mut self, into: &mut [u8]) -> Result<usize, DeviceFault>
         // The source's clauses.
         ensures bound { IfOk result (λ n. n ≤ length into.new) }
-        ensures gives { Gives (⟦<TapeSource<'a> as Source>⟧.view self.old) (⟦<TapeSource<'a> as Source>⟧.view self.new) result into.new }
+        ensures gives { let view = ⟦<TapeSource<'a> as Source>⟧.view in
+            Gives (view self.old) (view self.new) result into.new }
 
         // Each is a call, and just the one with the number `fails_at` fails.
         ensures one_call { self.new.calls ≡ one_more self.old.calls }
@@ -161,7 +163,8 @@ impl<'a> Source for LoopSource<'a> {
     fn read(&mut self, into: &mut [u8]) -> Result<usize, DeviceFault>
         // The source's clauses, which say little where nothing is told.
         ensures bound { IfOk result (λ n. n ≤ length into.new) }
-        ensures gives { Gives (⟦<LoopSource<'a> as Source>⟧.view self.old) (⟦<LoopSource<'a> as Source>⟧.view self.new) result into.new }
+        ensures gives { let view = ⟦<LoopSource<'a> as Source>⟧.view in
+            Gives (view self.old) (view self.new) result into.new }
 
         // It gives the first bytes of its round, and these come last in the next one.
         ensures ok { IsOk result }
@@ -219,7 +222,8 @@ impl ArraySink {
     /// it is full.
     pub fn new(most: usize, fails_at: u64) -> ArraySink
         requires { 0 < most }
-        ensures view { ⟦<ArraySink as Sink>⟧.view result ≡ record { written = Some []; failures = 0; flushes = 0 } }
+        ensures view { ⟦<ArraySink as Sink>⟧.view result
+            ≡ record { written = Some []; failures = 0; flushes = 0 } }
         ensures calls { (result.calls ≡ 0) × (result.fails_at ≡ fails_at) }
         ensures most { result.most ≡ most }
     {
@@ -248,13 +252,18 @@ impl ArraySink {
 }
 
 impl Sink for ArraySink {
-    ghost view = { λ s. record { written = Some s.bytes; failures = s.failures; flushes = s.flushes } };
+    ghost view = { λ s. record {
+      written = Some s.bytes;
+      failures = s.failures;
+      flushes = s.flushes;
+    } };
 
     fn write(&mut self, from: &[u8]) -> Result<usize, DeviceFault>
         // The sink's clauses.
         ensures bound { IfOk result (λ n. n ≤ length from.now) }
         ensures some { IfOk result (λ n. 0 < length from.now → 0 < n) }
-        ensures takes { Takes (⟦<ArraySink as Sink>⟧.view self.old) (⟦<ArraySink as Sink>⟧.view self.new) result from.now }
+        ensures takes { let view = ⟦<ArraySink as Sink>⟧.view in
+            Takes (view self.old) (view self.new) result from.now }
 
         // Each is a call. It fails just where it has the number `fails_at`, or bytes and no room.
         ensures one_call { self.new.calls ≡ one_more self.old.calls }

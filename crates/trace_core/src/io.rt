@@ -49,7 +49,8 @@ pub struct FromRead<R: Drop> {
 impl<R: Read + Drop> FromRead<R> {
     /// A source over this reader, of which no call failed yet.
     pub fn new(reader: R) -> FromRead<R>
-        ensures { ⟦<FromRead<R> as Source>⟧.view result ≡ record { remaining = R.remaining reader; failures = 0 } }
+        ensures { ⟦<FromRead<R> as Source>⟧.view result
+            ≡ record { remaining = R.remaining reader; failures = 0 } }
     {
         FromRead {
             reader,
@@ -67,7 +68,8 @@ impl<R: Read + Drop> Source for FromRead<R> {
     fn read(&mut self, into: &mut [u8]) -> Result<usize, DeviceFault>
         // The source's clauses.
         ensures bound { IfOk result (λ n. n ≤ length into.new) }
-        ensures gives { Gives (⟦<FromRead<R> as Source>⟧.view self.old) (⟦<FromRead<R> as Source>⟧.view self.new) result into.new }
+        ensures gives { let view = ⟦<FromRead<R> as Source>⟧.view in
+            Gives (view self.old) (view self.new) result into.new }
 
         // What it answers was read of the reader, and nothing was at a fault, also after one.
         ensures passed { ReadConsumes (R.remaining self.old.reader) (R.remaining self.new.reader) result into.new }
@@ -116,7 +118,8 @@ impl<W: Write + Drop> Sink for ToWrite<W> {
         // The sink's clauses.
         ensures bound { IfOk result (λ n. n ≤ length from.now) }
         ensures some { IfOk result (λ n. 0 < length from.now → 0 < n) }
-        ensures takes { Takes (⟦<ToWrite<W> as Sink>⟧.view self.old) (⟦<ToWrite<W> as Sink>⟧.view self.new) result from.now }
+        ensures takes { let view = ⟦<ToWrite<W> as Sink>⟧.view in
+            Takes (view self.old) (view self.new) result from.now }
 
         // What it answers was written to the writer, and nothing was at a fault, also after one.
         ensures passed { WriteAppends (W.contents self.old.writer) (W.contents self.new.writer) result from.now }

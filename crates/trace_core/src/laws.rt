@@ -99,7 +99,8 @@ pub fn failed_reader_met_the_first_fault()
 pub fn cut_reader_has_read_what_was_delivered()
     ensures { (format : Format) (limit : ℕ) (text rest : List ℕ) (start now : SourceView)
         (given : List (ℕ × Entry)) (reader : Progress) (line : ℕ) →
-        start.remaining ≡ Some text → now.remaining ≡ Some rest → Reached format limit start now given reader →
+        start.remaining ≡ Some text → now.remaining ≡ Some rest →
+        Reached format limit start now given reader →
         reader.state ≡ ReaderState.Failed (TraceFault.Read line) →
         (delivered : List ℕ) × (text ≡ delivered ++ rest)
         × (cut_reading format limit delivered ≡ record { entries = given; fault = Some (TraceFault.Read line) }) }

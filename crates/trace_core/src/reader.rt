@@ -71,8 +71,8 @@ impl Lines {
     #[inline(always)]
     pub fn next<S: Source>(&mut self, source: &mut S) -> Result<Option<(u64, Entry)>, TraceFault>
         // What was read of a source is read on.
-        ensures reached { (format : Format) (limit : ℕ) (start : SourceView) (xs : List (ℕ × Entry)) →
-            Reached format limit start (S.view source.old) xs self.old →
+        ensures reached { (format : Format) (limit : ℕ) (start : SourceView)
+            (xs : List (ℕ × Entry)) → Reached format limit start (S.view source.old) xs self.old →
             Reached format limit start (S.view source.new) (xs ++ answered result) self.new }
 
         // The state tells what was answered, and after the end and after a fault it is answered

@@ -28,7 +28,8 @@ pub(crate) struct Scan {
 }
 
 impl Scan {
-    ghost use Rattle.trace_core.specs.Scan.{progress, left_to_limit, Reads, KeepsTask, BearsLine};
+    ghost use Rattle.trace_core.specs.Scan.{progress, left_to_limit, Reads, Steps, Judges};
+    ghost use Rattle.trace_core.specs.Scan.{KeepsTask, BearsLine};
     ghost use Rattle.trace_core.specs.Reader.{Advances, device_failed};
 
     /// Reads on to the next entry. Without one, the state says why.
@@ -59,14 +60,7 @@ impl Scan {
     fn step<S: Source>(&mut self, source: &mut S) -> Option<(u64, Entry)>
         requires { self.old.state ≡ ReaderState.Open }
         ensures advances { Reads (S.view source.old) (S.view source.new) self.old self.new result }
-        ensures at_end { self.new.state ≡ ReaderState.Ended → IsAtEnd (S.view source.new).remaining }
-        ensures counted { (S.view source.new).failures
-            ≡ failures_after (device_failed self.new.state) (S.view source.old).failures }
-        ensures same { KeepsTask self.old self.new }
-        ensures entry { BearsLine self.old self.new result }
-        ensures lines { self.old.lines ≤ self.new.lines }
-        ensures goes_on { OnSome result ((f : TraceFault) → self.new.state ≢ ReaderState.Failed f) }
-        ensures nearer { self.new.state ≡ ReaderState.Open → left_to_limit self.new < left_to_limit self.old }
+        ensures steps { Steps (S.view source.old) (S.view source.new) self.old self.new result }
     {
         let unread = self.buffer.as_slice();
         if self.lines == self.limit && !unread.is_empty() {
@@ -87,14 +81,7 @@ impl Scan {
         requires open { self.old.state ≡ ReaderState.Open }
         requires below { 0 < length self.old.buffer → self.old.lines < self.old.limit }
         ensures advances { Reads (S.view source.old) (S.view source.new) self.old self.new result }
-        ensures at_end { self.new.state ≡ ReaderState.Ended → IsAtEnd (S.view source.new).remaining }
-        ensures counted { (S.view source.new).failures
-            ≡ failures_after (device_failed self.new.state) (S.view source.old).failures }
-        ensures same { KeepsTask self.old self.new }
-        ensures entry { BearsLine self.old self.new result }
-        ensures lines { self.old.lines ≤ self.new.lines }
-        ensures goes_on { OnSome result ((f : TraceFault) → self.new.state ≢ ReaderState.Failed f) }
-        ensures nearer { self.new.state ≡ ReaderState.Open → left_to_limit self.new < left_to_limit self.old }
+        ensures steps { Steps (S.view source.old) (S.view source.new) self.old self.new result }
     {
         match memchr(b'\n', self.buffer.as_slice()) {
             Some(at) => self.take_line(at),
@@ -127,10 +114,7 @@ impl Scan {
         ensures advances { (told : Option (List ℕ)) →
             Advances told (progress self.old) (progress self.new) [] (option_to_list result) }
         ensures state { self.new.state ≢ ReaderState.Ended }
-        ensures device { device_failed self.new.state ≡ device_failed ReaderState.Open }
-        ensures same { KeepsTask self.old self.new }
-        ensures entry { BearsLine self.old self.new result }
-        ensures lines { self.old.lines ≤ self.new.lines }
+        ensures judges { Judges self.old self.new result }
         ensures goes_on { OnSome result (self.new.state ≡ ReaderState.Open) }
         ensures nearer { self.new.state ≡ ReaderState.Open → left_to_limit self.new < left_to_limit self.old }
     {
@@ -155,14 +139,8 @@ impl Scan {
         requires no_line { IsFirstByte (is_byte 10) self.old.buffer None }
         requires below { 0 < length self.old.buffer → self.old.lines < self.old.limit }
         ensures advances { Reads (S.view source.old) (S.view source.new) self.old self.new result }
-        ensures at_end { self.new.state ≡ ReaderState.Ended → IsAtEnd (S.view source.new).remaining }
-        ensures counted { (S.view source.new).failures
-            ≡ failures_after (device_failed self.new.state) (S.view source.old).failures }
-        ensures same { KeepsTask self.old self.new }
-        ensures entry { BearsLine self.old self.new result }
-        ensures lines { self.old.lines ≤ self.new.lines }
-        ensures goes_on { OnSome result (self.new.state ≡ ReaderState.Ended) }
-        ensures nearer { self.new.state ≡ ReaderState.Open → left_to_limit self.new < left_to_limit self.old }
+        ensures steps { Steps (S.view source.old) (S.view source.new) self.old self.new result }
+        ensures ends { OnSome result (self.new.state ≡ ReaderState.Ended) }
     {
         let line = self.lines + 1;
         if self.buffer.as_slice().len() > MAX_LINE {
@@ -190,10 +168,7 @@ impl Scan {
         ensures advances { (told : Option (List ℕ)) → IsAtEnd told →
             Advances told (progress self.old) (progress self.new) [] (option_to_list result) }
         ensures state { self.new.state ≢ ReaderState.Open }
-        ensures device { device_failed self.new.state ≡ device_failed ReaderState.Open }
-        ensures same { KeepsTask self.old self.new }
-        ensures entry { BearsLine self.old self.new result }
-        ensures lines { self.old.lines ≤ self.new.lines }
+        ensures judges { Judges self.old self.new result }
         ensures goes_on { OnSome result (self.new.state ≡ ReaderState.Ended) }
     {
         let unread = self.buffer.as_slice();
