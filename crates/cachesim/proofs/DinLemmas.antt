@@ -1,8 +1,7 @@
 -- What `din` has read, stepped through and written when it ends.
-use Rattle.std.proofs.Common.{◌≡◌, ℕ, List, [], ◌∷◌, ◌++◌, None, Some, map, refl, sym, ap, ◌∙◌, subst, append_assoc}
+use Rattle.std.proofs.Common.{◌≡◌, ℕ, List, [], ◌∷◌, ◌++◌, None, Some, map, sym, ap, ◌∙◌, subst, append_assoc}
 use Rattle.std.specs.List.{filter, flat_map}
 use Rattle.std.specs.Option.{option_to_list}
-use Rattle.trace_core.specs.declared.events.Entry.{Entry}
 use Rattle.trace_core.specs.declared.events.Entry.TheVariants as entry
 use Rattle.trace_core.specs.declared.events.Item.{Item}
 use Rattle.trace_core.specs.declared.events.Ref.{Ref}
@@ -16,6 +15,7 @@ use Rattle.trace_core.specs.Device.{SourceView, SinkView}
 use Rattle.trace_core.specs.Events.{events_of, keeps, references}
 use Rattle.trace_core.specs.Reader.{Progress, Reached, begun}
 use Rattle.trace_core.specs.Task.{Stopped}
+use Rattle.trace_core.proofs.Runs.{Reached-from}
 use Rattle.trace_core.proofs.Tasks.{ReadWhole}
 use Rattle.trace_core.proofs.Performing.{Stopped-at}
 use Rattle.trace_core.proofs.Written.{Wrote-none}
@@ -30,13 +30,13 @@ use Rattle.cachesim.specs.DinText.{din_task, report_of}
 module _ (plan : Levels) (seed : ℕ) (format : Format) (limit : ℕ) {start now : SourceView} {first p : Progress} {old new : SystemValue}
     (begins : first ≡ begun format limit) (run : StepsThrough first.format first.limit start now p old new) where
   -- what a reader reached that began with a format and a limit
-  reached-from : Reached format limit start now run.read p
-  reached-from = subst (λ (q : Progress). Reached q.format q.limit start now run.read p) begins run.reached
+  reached : Reached format limit start now run.read p
+  reached = Reached-from begins run.reached
 
   -- nothing stands written before the report
   pub din-stopped : (sink : SinkView) (x : TraceFault) → p.state ≡ state.Failed x → Stopped (din_task plan seed format limit) x start now sink sink
   unfolding din_task
-  din-stopped sink x failed = Stopped-at x failed reached-from (Wrote-none sink)
+  din-stopped sink x failed = Stopped-at x failed reached (Wrote-none sink)
 
   -- at the end the report of the system is what has to be written
   pub din-whole : {bytes : List ℕ} → IsPlan plan → IsNewSystem plan seed old → p.state ≡ state.Ended → bytes ≡ report_of (stats_of new)
@@ -45,7 +45,7 @@ module _ (plan : Levels) (seed : ℕ) (format : Format) (limit : ℕ) {start now
   din-whole good fresh ended is = record {
     read = run.read;
     at = p;
-    reached = reached-from;
+    reached = reached;
     ended = ended;
     output = λ text all.
         let stats = (run.stands plan seed [] good (new_law plan seed old fresh)).stats in

@@ -1,5 +1,5 @@
 -- Bytes that wait for their sink, one piece after another.
-use Rattle.std.proofs.Common.{ℕ, List, [], ◌++◌, refl, sym, ap, ◌∙◌, append-nil, append_assoc, subst}
+use Rattle.std.proofs.Common.{ℕ, List, [], ◌++◌, sym, ap, ◌∙◌, append-nil, append_assoc, subst}
 use Rattle.trace_core.specs.Device.{SinkView, Wrote, WrotePart}
 use Rattle.trace_core.proofs.Written.{Wrote-none, Wrote-more, WrotePart-after, WrotePart-more}
 use Rattle.sweep_core.specs.Gathering.{Passes}

@@ -1,5 +1,5 @@
 -- What a sweep has read, fed and written when it ends.
-use Rattle.std.proofs.Common.{◌≡◌, ℕ, ◌+◌, ◌≤◌, List, [], refl, sym, ap, ◌∙◌, subst, arith, get_or}
+use Rattle.std.proofs.Common.{◌≡◌, ℕ, ◌+◌, ◌≤◌, List, [], sym, ap, ◌∙◌, subst, arith, get_or}
 use Rattle.std.specs.Prelude.{All, flat_map, sum_by}
 use Rattle.std.specs.Option.{IfSome}
 use Rattle.std.proofs.lemmas.List.Elements.{All-map}
@@ -14,8 +14,8 @@ use Rattle.trace_core.specs.Events.{events_of}
 use Rattle.trace_core.specs.Reader.{Progress, Reached, begun}
 use Rattle.trace_core.specs.Task.{Stopped, entries_of}
 use Rattle.trace_core.proofs.Entries.{entries-reading}
-use Rattle.trace_core.proofs.Runs.{Reached-end}
-use Rattle.trace_core.proofs.Tasks.{ReadWhole, if_told}
+use Rattle.trace_core.proofs.Runs.{Reached-end, Reached-from}
+use Rattle.trace_core.proofs.Tasks.{ReadWhole, if_known}
 use Rattle.trace_core.proofs.Performing.{Stopped-at}
 use Rattle.trace_core.proofs.Written.{Wrote-none}
 use Rattle.cache_core.specs.Geometry.{Shape}
@@ -54,13 +54,13 @@ swept-after {r = r} begin same run end = record {
 module _ (r : Request) {start now : SourceView} {new p : Progress} {xs ys : List PairProfile} (begins : new ≡ begun r.format r.max_lines)
     (run : Feeds r.kind new.format new.limit start now p xs ys) where
   -- what a reader reached that began with a request's format and limit
-  reached-from : Reached r.format r.max_lines start now run.read p
-  reached-from = subst (λ (q : Progress). Reached q.format q.limit start now run.read p) begins run.reached
+  reached : Reached r.format r.max_lines start now run.read p
+  reached = Reached-from begins run.reached
 
   -- a sweep that stopped at a fault has written nothing
   pub sweep-stopped : (sink : SinkView) (x : TraceFault) → p.state ≡ state.Failed x → Stopped (sweep_task r) x start now sink sink
   unfolding sweep_task
-  sweep-stopped sink x failed = Stopped-at x failed reached-from (Wrote-none sink)
+  sweep-stopped sink x failed = Stopped-at x failed reached (Wrote-none sink)
 
   -- a sweep that has read a whole text has its table to write
   pub sweep-whole : p.state ≡ state.Ended → ReadWhole (sweep_task r) start now (table_text r (fed_events r run.read))
@@ -68,7 +68,7 @@ module _ (r : Request) {start now : SourceView} {new p : Progress} {xs ys : List
   sweep-whole ended = record {
     read = run.read;
     at = p;
-    reached = reached-from;
+    reached = reached;
     ended = ended;
     output = λ text same. ap (λ es. table_text r (flat_map (events_of r.kind) es)) (sym same);
   }
@@ -77,7 +77,7 @@ module _ (r : Request) {start now : SourceView} {new p : Progress} {xs ys : List
   pub sweep-works : {zs : List PairProfile} (n : ℕ) → p.state ≡ state.Ended → Swept r (fed_events r run.read) zs
       → n ≡ sum_by (λ x. x.profile.probes) zs → IfSome start.remaining (λ text. n ≡ sweep_work r text)
   unfolding sweep_work
-  sweep-works n ended swept is = if_told start.remaining (λ text. n ≡ sweep_work r text) (λ text told.
-      let end = Reached-end r.format r.max_lines text start now run.read p told reached-from ended in
+  sweep-works n ended swept is = if_known start.remaining (λ text. n ≡ sweep_work r text) (λ text told.
+      let end = Reached-end r.format r.max_lines text start now run.read p told reached ended in
       is ∙ ap (sum_by (λ x. x.profile.probes)) swept.fed ∙ work-is (all_of r) (rows_of r) (fed_events r run.read) swept.sound
       ∙ ap (λ es. work (flat_map (events_of r.kind) es) (all_of r) (rows_of r)) (entries-reading r.format r.max_lines text run.read end))

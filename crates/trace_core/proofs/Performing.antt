@@ -1,11 +1,10 @@
 -- What a run of a task did to its devices, by how it ended.
-use Rattle.std.proofs.Common.{◌≡◌, ◌≢◌, ℕ, List, true, false, None, Some, Result, Ok, Err, inl, refl, sym, ap, ◌∙◌, subst}
+use Rattle.std.proofs.Common.{◌≡◌, ◌≢◌, ℕ, List, true, false, Result, Ok, Err, inl, refl, sym, ap, ◌∙◌, subst}
 use Rattle.std.specs.Prelude.{OnOk, IsErrAnd}
-use Rattle.std.specs.Option.{IfSome}
 use Rattle.std.specs.Io.KnownBytes.{Appends}
 use Rattle.trace_core.specs.declared.events.Entry.{Entry}
 use Rattle.trace_core.specs.declared.fault.RunFault.{RunFault}
-use Rattle.trace_core.specs.declared.fault.RunFault.TheVariants.{Memory, Trace, Write}
+use Rattle.trace_core.specs.declared.fault.RunFault.TheVariants.{Trace, Write}
 use Rattle.trace_core.specs.declared.fault.TraceFault.{TraceFault}
 use Rattle.trace_core.specs.declared.reader.ReaderState.{ReaderState}
 use Rattle.trace_core.specs.declared.reader.ReaderState.TheVariants as state
@@ -13,13 +12,13 @@ use Rattle.trace_core.specs.Device.{SourceView, SinkView, WritesPrefix, FlushesA
 use Rattle.trace_core.specs.Reading.{reading}
 use Rattle.trace_core.specs.Reader.{Progress, Reached}
 use Rattle.trace_core.specs.Task.{Task, Completes, BreaksOff, Finished, Stopped, WriteFailed, Performs, entries_of, entries_in, output, output_for}
-use Rattle.trace_core.proofs.Tasks.{ReadWhole, ReadWhole-read, WritesAlong, if_told, task_stops, task_cut, task_fails}
+use Rattle.trace_core.proofs.Tasks.{ReadWhole, ReadWhole-read, WritesAlong, if_known, task_stops, task_cut, task_fails}
 
 -- All was read, written and flushed.
 pub Finished-written : {task : Task} {source source' : SourceView} {sink sink' : SinkView} {bytes : List ℕ}
     → ReadWhole task source source' bytes → WroteLast sink sink' bytes → Finished task source source' sink sink'
 Finished-written {task = task} {source = source} {source' = source'} {sink = sink} {sink' = sink'} whole wrote = record {
-  completes = if_told source.remaining (λ text. Completes task text source'.remaining sink.written sink'.written) (λ text told.
+  completes = if_known source.remaining (λ text. Completes task text source' sink sink') (λ text told.
       let is = ReadWhole-read whole text told in
       record { faultless = is.faultless; read = is.left; wrote = subst (Appends sink.written sink'.written) (sym is.output) wrote.took });
   at_end = whole.reached.at_end whole.ended;
@@ -32,9 +31,9 @@ Finished-written {task = task} {source = source} {source' = source'} {sink = sin
 pub Stopped-at : {task : Task} {source source' : SourceView} {sink sink' : SinkView} {xs : List (ℕ × Entry)} {p : Progress} (x : TraceFault)
     → p.state ≡ state.Failed x → Reached task.format task.limit source source' xs p → Wrote sink sink' (task.partial (entries_of xs))
     → Stopped task x source source' sink sink'
-Stopped-at {task = task} {source = source} {source' = source'} {xs = xs} {p = p} x failed reached wrote = record {
-  fault = λ own. task_stops task source source' xs p reached _ _ x failed own wrote.took;
-  cut = λ own. task_cut task source source' xs p reached _ _ x failed own wrote.took;
+Stopped-at {task = task} {source = source} {source' = source'} {sink = sink} {sink' = sink'} {xs = xs} {p = p} x failed reached wrote = record {
+  fault = λ own. task_stops task source source' xs p reached sink sink' x failed own wrote;
+  cut = λ own. task_cut task source source' xs p reached sink sink' x failed own wrote;
   read_failures = rw failed at reached.counted;
   write_failures = wrote.unfailed;
   flushes = wrote.unflushed;
@@ -44,25 +43,26 @@ Stopped-at {task = task} {source = source} {source' = source'} {xs = xs} {p = p}
 pub WriteFailed-late : {task : Task} {source source' : SourceView} {sink sink' : SinkView} {bytes : List ℕ}
     → ReadWhole task source source' bytes → WroteLastPart sink sink' bytes → WriteFailed task source source' sink sink'
 WriteFailed-late {task = task} {source = source} {source' = source'} {sink = sink} {sink' = sink'} whole wrote = record {
-  part = if_told source.remaining (λ text. WritesPrefix sink.written sink'.written (output task text)) (λ text told.
+  part = if_known source.remaining (λ text. WritesPrefix sink.written sink'.written (output task text)) (λ text told.
       let is = ReadWhole-read whole text told in
       let in_part = subst (WritesPrefix sink.written sink'.written) (sym is.output) wrote.part in
       subst (λ o. WritesPrefix sink.written sink'.written (output_for task text (entries_in (reading task.format task.limit text)) o))
       (sym is.faultless) in_part);
-  late = λ late. if_told source.remaining (λ text. BreaksOff task text source'.remaining sink.written sink'.written) (λ text told.
+  late = λ late. if_known source.remaining (λ text. BreaksOff task text source' sink sink') (λ text told.
       let is = ReadWhole-read whole text told in
       record { faultless = is.faultless; read = is.left; wrote = subst (WritesPrefix sink.written sink'.written) (sym is.output) wrote.part });
   at_end = λ late. whole.reached.at_end whole.ended;
   read_failures = rw whole.ended at whole.reached.counted;
   write_failures = wrote.failed;
   flushes = wrote.flushes;
-  last = if_told source.remaining (λ text. FlushesAfter (task.whole text) sink sink') (λ text told.
+  last = if_known source.remaining (λ text. FlushesAfter (task.whole text) sink sink') (λ text told.
       subst (λ t. FlushesAfter t sink sink') (sym (ReadWhole-read whole text told).output) wrote.last);
 }
 
 -- The sink failed while a run that writes early was reading.
 pub WriteFailed-early : {task : Task} {source source' : SourceView} {sink sink' : SinkView} {xs : List (ℕ × Entry)} {p : Progress}
-    → task.writes_early ≡ true → WritesAlong task → Reached task.format task.limit source source' xs p → ((f : TraceFault) → p.state ≢ state.Failed f)
+    → task.writes_early ≡ true → WritesAlong task → Reached task.format task.limit source source' xs p
+    → ((f : TraceFault) → p.state ≢ state.Failed f)
     → WrotePart sink sink' (task.partial (entries_of xs)) → WriteFailed task source source' sink sink'
 WriteFailed-early {task = task} {source = source} {source' = source'} {sink = sink} {sink' = sink'} {xs = xs} {p = p} early along reached well wrote =
     record {
@@ -72,7 +72,7 @@ WriteFailed-early {task = task} {source = source} {source' = source'} {sink = si
       read_failures = unfailed p.state refl;
       write_failures = wrote.failed;
       flushes = inl wrote.unflushed;
-      last = if_told source.remaining (λ text. FlushesAfter (task.whole text) sink sink') (λ text told. inl wrote.unflushed);
+      last = if_known source.remaining (λ text. FlushesAfter (task.whole text) sink sink') (λ text told. inl wrote.unflushed);
     }
   where
     unfailed : (s : ReaderState) → p.state ≡ s → source'.failures ≡ source.failures

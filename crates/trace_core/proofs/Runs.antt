@@ -142,3 +142,13 @@ module _ (f : Format) (limit : ℕ) where
       by_state state.Ended is =
           (ends None, Reached-end text start now xs p told run is ∙ ap (λ ys. record { entries = ys; fault = None }) (sym (append-nil xs)))
       by_state (state.Failed x) is = absurd (well x is)
+
+-- a reader that was just begun has read nothing
+pub Reached-begun : {p : Progress} (v : SourceView) → p ≡ begun p.format p.limit → Reached p.format p.limit v v [] p
+Reached-begun {p} v is = subst (λ (q : Progress). Reached p.format p.limit v v [] q) (sym is) (Reached-start p.format p.limit v)
+
+-- what a reader reached that was begun so
+pub Reached-from : {f : Format} {limit : ℕ} {start now : SourceView} {first p : Progress} {xs : List (ℕ × Entry)} → first ≡ begun f limit
+    → Reached first.format first.limit start now xs p → Reached f limit start now xs p
+Reached-from {start = start} {now = now} {p = p} {xs = xs} is run =
+    subst (λ (q : Progress). Reached q.format q.limit start now xs p) is run

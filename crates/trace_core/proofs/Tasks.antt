@@ -7,7 +7,7 @@ use Rattle.trace_core.specs.declared.events.Entry.{Entry}
 use Rattle.trace_core.specs.declared.fault.TraceFault.{TraceFault}
 use Rattle.trace_core.specs.declared.fault.TraceFault.TheVariants as fault
 use Rattle.trace_core.specs.declared.reader.ReaderState.TheVariants as state
-use Rattle.trace_core.specs.Device.{SourceView, WritesPrefix}
+use Rattle.trace_core.specs.Device.{SourceView, SinkView, WritesPrefix, Wrote}
 use Rattle.trace_core.specs.Reading.{Reading, reading, entries}
 use Rattle.trace_core.specs.Reader.{Progress, Reached, entries_then, device_failed}
 use Rattle.trace_core.specs.Task.{Task, StopsAt, CutsOff, entries_of, entries_in, output, output_for}
@@ -15,10 +15,10 @@ use Rattle.trace_core.proofs.Entries.{entries-reading}
 use Rattle.trace_core.proofs.Written.{part_of_first}
 use Rattle.trace_core.proofs.Runs.{Reached-end, Reached-left, Reached-fault, Reached-cut, Reached-prefix}
 
--- what holds where a device tells its bytes
-pub if_told : (o : Option (List ℕ)) (P : List ℕ → Type 0) → ((bytes : List ℕ) → o ≡ Some bytes → P bytes) → IfSome o P
-if_told None P holds = tt
-if_told (Some bytes) P holds = holds bytes refl
+-- what holds where the bytes of a device are known
+pub if_known : (o : Option (List ℕ)) (P : List ℕ → Type 0) → ((bytes : List ℕ) → o ≡ Some bytes → P bytes) → IfSome o P
+if_known None P holds = tt
+if_known (Some bytes) P holds = holds bytes refl
 
 -- A run has read a whole text, and these bytes are its output.
 pub record ReadWhole (task : Task) (source source' : SourceView) (bytes : List ℕ) : Type 0 where
@@ -45,25 +45,25 @@ ReadWhole-read {task = task} {source = source} {source' = source'} whole text to
     }
 
 module _ (task : Task) (source source' : SourceView) (xs : List (ℕ × Entry)) (p : Progress) (run : Reached task.format task.limit source source' xs p)
-    (w0 w : Option (List ℕ)) where
+    (sink sink' : SinkView) where
   -- at a fault of the trace, what comes of the entries before it was written
-  pub task_stops : (x : TraceFault) → p.state ≡ state.Failed x → device_failed (state.Failed x) ≡ false → Appends w0 w (task.partial (entries_of xs))
-      → IfSome source.remaining (λ text. StopsAt task x text w0 w)
-  task_stops x failed own wrote = if_told source.remaining (λ text. StopsAt task x text w0 w) (λ text told.
+  pub task_stops : (x : TraceFault) → p.state ≡ state.Failed x → device_failed (state.Failed x) ≡ false → Wrote sink sink' (task.partial (entries_of xs))
+      → IfSome source.remaining (λ text. StopsAt task x text sink sink')
+  task_stops x failed own wrote = if_known source.remaining (λ text. StopsAt task x text sink sink') (λ text told.
       let is = Reached-fault task.format task.limit text source source' xs p x told run failed own in
-      record { first = ap (λ r. r.fault) is; wrote = subst (λ r. Appends w0 w (task.partial (entries_in r))) (sym is) wrote })
+      record { first = ap (λ r. r.fault) is; wrote = subst (λ r. Appends sink.written sink'.written (task.partial (entries_in r))) (sym is) wrote.took })
 
   -- at a failure of the source, what comes of the entries of the delivered bytes was written
-  pub task_cut : (x : TraceFault) → p.state ≡ state.Failed x → device_failed (state.Failed x) ≡ true → Appends w0 w (task.partial (entries_of xs))
-      → IfSome source.remaining (λ text. IfSome source'.remaining (λ rest. CutsOff task x text rest w0 w))
+  pub task_cut : (x : TraceFault) → p.state ≡ state.Failed x → device_failed (state.Failed x) ≡ true → Wrote sink sink' (task.partial (entries_of xs))
+      → IfSome source.remaining (λ text. IfSome source'.remaining (λ rest. CutsOff task x text rest sink sink'))
   task_cut (fault.Read n) failed own wrote =
-      if_told source.remaining (λ text. IfSome source'.remaining (λ rest. CutsOff task (fault.Read n) text rest w0 w)) (λ text told.
-      if_told source'.remaining (λ rest. CutsOff task (fault.Read n) text rest w0 w) (λ rest left.
+      if_known source.remaining (λ text. IfSome source'.remaining (λ rest. CutsOff task (fault.Read n) text rest sink sink')) (λ text told.
+      if_known source'.remaining (λ rest. CutsOff task (fault.Read n) text rest sink sink') (λ rest left.
       let cut = Reached-cut task.format task.limit text rest source source' xs p n told left run failed in record {
         delivered = run.bytes;
         delivers = cut.0;
         first = ap (λ r. r.fault) cut.1;
-        wrote = subst (λ r. Appends w0 w (task.partial (entries_in r))) (sym cut.1) wrote;
+        wrote = subst (λ r. Appends sink.written sink'.written (task.partial (entries_in r))) (sym cut.1) wrote.took;
       }))
   task_cut (fault.TooLong n) failed own wrote = absurd cc
   task_cut (fault.TooManyLines n) failed own wrote = absurd cc
@@ -105,7 +105,7 @@ module _ (task : Task) (along : WritesAlong task) where
   pub task_fails : (source source' : SourceView) (xs : List (ℕ × Entry)) (p : Progress) (w0 w : Option (List ℕ))
       → Reached task.format task.limit source source' xs p → ((x : TraceFault) → p.state ≢ state.Failed x)
       → WritesPrefix w0 w (task.partial (entries_of xs)) → IfSome source.remaining (λ text. WritesPrefix w0 w (output task text))
-  task_fails source source' xs p w0 w run well part = if_told source.remaining (λ text. WritesPrefix w0 w (output task text)) (λ text told.
+  task_fails source source' xs p w0 w run well part = if_known source.remaining (λ text. WritesPrefix w0 w (output task text)) (λ text told.
       let prefix = Reached-prefix task.format task.limit text source source' xs p told run well in
       let begins = output-begins text xs prefix.0 prefix.1 in
       subst (WritesPrefix w0 w) (sym begins.1) (part_of_first w0 w (task.partial (entries_of xs)) begins.0 part))

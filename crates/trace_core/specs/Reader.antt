@@ -88,9 +88,9 @@ stopped_answer (state.Failed f) = Err f
 pub record Reached (format : Format) (limit : ℕ) (start now : SourceView) (xs : List (ℕ × Entry)) (p : Progress) : Type 0 where
   -- the bytes that the source delivered
   pub bytes : List ℕ
-  -- it told of them before
+  -- they were the first of what it had to give
   pub delivers : Delivers start.remaining now.remaining (device_failed p.state) bytes
-  -- whatever may follow them, their reading is these entries and then what the reader still gives
+  -- whatever may follow them, they read as these entries and then what the reader still gives
   pub reads : Advances now.remaining (begun format limit) p bytes xs
   -- a reader at its end has left no byte
   pub at_end : p.state ≡ state.Ended → IsAtEnd now.remaining

@@ -1,5 +1,5 @@
 -- What a run over a trace reads, and what it owes its sink.
-use Rattle.std.specs.Prelude.{◌≡◌, ℕ, List, [], ◌++◌, map, Option, None, Some, Bool, true, false, Result, Ok, Err, IfSome, OnOk}
+use Rattle.std.specs.Prelude.{◌≡◌, ℕ, List, [], ◌++◌, map, Option, None, Some, Bool, true, false, Result, Err, IfSome, OnOk}
 use Rattle.std.specs.Io.KnownBytes.{Appends, IsAtEnd}
 use Rattle.trace_core.specs.Device.{SourceView, SinkView, WritesPrefix, one_more, failures_after, FlushesAfter, FlushesAtMostOnce}
 use Rattle.trace_core.specs.Reading.{Reading, reading, cut_reading}
@@ -41,39 +41,49 @@ output_for task text before (Some f) = task.partial before
 abbrev pub output : Task → List ℕ → List ℕ
 output task text = let r = reading task.format task.limit text in output_for task text (entries_in r) r.fault
 
--- The text has no fault. It was read to its end, and all of its output was written.
-pub record Completes (task : Task) (text : List ℕ) (told written-before written : Option (List ℕ)) : Type 0 where
+-- A run has read this text to its end and written all of its output. Devices are seen before and after the run, here and below.
+pub record Completes (task : Task) (text : List ℕ) (source' : SourceView) (sink sink' : SinkView) : Type 0 where
+  -- the text has no fault
   pub faultless : (reading task.format task.limit text).fault ≡ None
-  pub read : told ≡ Some []
-  pub wrote : Appends written-before written (task.whole text)
+  -- no byte is left to read
+  pub read : source'.remaining ≡ Some []
+  -- the output was written
+  pub wrote : Appends sink.written sink'.written (task.whole text)
 
--- This is the first fault of the text. What comes of the entries before it was written, and no more.
-pub record StopsAt (task : Task) (f : TraceFault) (text : List ℕ) (written-before written : Option (List ℕ)) : Type 0 where
+-- A run has met this fault of the text.
+pub record StopsAt (task : Task) (f : TraceFault) (text : List ℕ) (sink sink' : SinkView) : Type 0 where
+  -- it is the first fault
   pub first : (reading task.format task.limit text).fault ≡ Some f
-  pub wrote : Appends written-before written (task.partial (entries_in (reading task.format task.limit text)))
+  -- what comes of the entries before it was written, and no more
+  pub wrote : Appends sink.written sink'.written (task.partial (entries_in (reading task.format task.limit text)))
 
--- The source failed after it delivered some bytes, and this is their fault. What comes of the entries before it was written, and
--- no more.
-pub record CutsOff (task : Task) (f : TraceFault) (text rest : List ℕ) (written-before written : Option (List ℕ)) : Type 0 where
+-- The source of a run failed within this text, and left the rest.
+pub record CutsOff (task : Task) (f : TraceFault) (text rest : List ℕ) (sink sink' : SinkView) : Type 0 where
+  -- the bytes that it delivered before
   pub delivered : List ℕ
   pub delivers : text ≡ delivered ++ rest
+  -- this is their first fault
   pub first : (cut_reading task.format task.limit delivered).fault ≡ Some f
-  pub wrote : Appends written-before written (task.partial (entries_in (cut_reading task.format task.limit delivered)))
+  -- what comes of the entries before it was written, and no more
+  pub wrote : Appends sink.written sink'.written (task.partial (entries_in (cut_reading task.format task.limit delivered)))
 
--- The text has no fault. It was read to its end, and the sink failed after some part of the output.
-pub record BreaksOff (task : Task) (text : List ℕ) (told written-before written : Option (List ℕ)) : Type 0 where
+-- A run has read this text to its end, and the sink failed within its output.
+pub record BreaksOff (task : Task) (text : List ℕ) (source' : SourceView) (sink sink' : SinkView) : Type 0 where
+  -- the text has no fault
   pub faultless : (reading task.format task.limit text).fault ≡ None
-  pub read : told ≡ Some []
-  pub wrote : WritesPrefix written-before written (task.whole text)
+  -- no byte is left to read
+  pub read : source'.remaining ≡ Some []
+  -- some part of the output was written
+  pub wrote : WritesPrefix sink.written sink'.written (task.whole text)
 
 -- whether a fault of the trace is its source's failure
 abbrev pub is_failed_read : TraceFault → Bool
 is_failed_read f = device_failed (state.Failed f)
 
--- What a run did that returned `Ok`. Source and sink are seen before and after it, here and below.
+-- What a run did that returned `Ok`.
 pub record Finished (task : Task) (source source' : SourceView) (sink sink' : SinkView) : Type 0 where
   -- the text has no fault, was read to its end, and its whole output was written
-  pub completes : IfSome source.remaining (λ text. Completes task text source'.remaining sink.written sink'.written)
+  pub completes : IfSome source.remaining (λ text. Completes task text source' sink sink')
   -- no byte is left to read
   pub at_end : IsAtEnd source'.remaining
   -- no read failed
@@ -86,10 +96,9 @@ pub record Finished (task : Task) (source source' : SourceView) (sink sink' : Si
 -- What a run did that returned this fault of the trace, or this failure of its source.
 pub record Stopped (task : Task) (f : TraceFault) (source source' : SourceView) (sink sink' : SinkView) : Type 0 where
   -- a fault of the trace is the first of the text, and what comes of the entries before it was written
-  pub fault : is_failed_read f ≡ false → IfSome source.remaining (λ text. StopsAt task f text sink.written sink'.written)
+  pub fault : is_failed_read f ≡ false → IfSome source.remaining (λ text. StopsAt task f text sink sink')
   -- a failure of the source came after some bytes, and what comes of their entries was written
-  pub cut : is_failed_read f ≡ true → IfSome source.remaining (λ text. IfSome source'.remaining (λ rest.
-      CutsOff task f text rest sink.written sink'.written))
+  pub cut : is_failed_read f ≡ true → IfSome source.remaining (λ text. IfSome source'.remaining (λ rest. CutsOff task f text rest sink sink'))
   -- one read failed where the fault is the source's failure, and none otherwise
   pub read_failures : source'.failures ≡ failures_after (is_failed_read f) source.failures
   -- no write failed
@@ -102,7 +111,7 @@ pub record WriteFailed (task : Task) (source source' : SourceView) (sink sink' :
   -- the sink took some part of the output
   pub part : IfSome source.remaining (λ text. WritesPrefix sink.written sink'.written (output task text))
   -- a run that does not write early had read the whole text, which has no fault
-  pub late : task.writes_early ≡ false → IfSome source.remaining (λ text. BreaksOff task text source'.remaining sink.written sink'.written)
+  pub late : task.writes_early ≡ false → IfSome source.remaining (λ text. BreaksOff task text source' sink sink')
   -- a run that does not write early has left no byte to read
   pub at_end : task.writes_early ≡ false → IsAtEnd source'.remaining
   -- no read failed

@@ -1,7 +1,7 @@
-use Rattle.std.proofs.Common.{◌≡◌, ◌*◌, true, Ok, ap, refl, ◌∙◌, subst}
+use Rattle.std.proofs.Common.{◌*◌, Ok, ap, refl, ◌∙◌, subst}
 use Rattle.std.proofs.lemmas.List.{append-nil}
 use Rattle.trace_core.specs.Reader.{Tells}
-use Rattle.trace_core.specs.Task.{Task, entries_of}
+use Rattle.trace_core.specs.Task.{entries_of}
 use Rattle.trace_core.proofs.Performing.{err_is, Finished-written, WriteFailed-late, Performs-ok, Performs-trace, Performs-write}
 use Rattle.trace_core.proofs.Written.{WroteLast-after, WroteLastPart-after}
 use Rattle.cachesim.specs.CsimText.{csim_task}

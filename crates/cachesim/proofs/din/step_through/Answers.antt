@@ -2,26 +2,23 @@ use Rattle.std.proofs.Common.{◌++◌, [], Ok, sym, ap, ◌∙◌, subst, arith
 use Rattle.std.specs.List.{flat_map}
 use Rattle.trace_core.specs.declared.events.Kind.TheVariants.{All}
 use Rattle.trace_core.specs.Events.{events_of}
-use Rattle.trace_core.specs.Reader.{Progress, Reached, answered}
+use Rattle.trace_core.specs.Reader.{answered}
 use Rattle.trace_core.specs.Task.{entries_of}
 use Rattle.trace_core.proofs.Collecting.{collected-more}
-use Rattle.trace_core.proofs.Runs.{Reached-start}
+use Rattle.trace_core.proofs.Runs.{Reached-begun}
 use Rattle.cache_core.specs.SystemStands.{SystemStands}
 use Rattle.cachesim.proofs.din.step_through.Goals as goal
 
 pub loop-entry-init : goal.loop-entry-init
-loop-entry-init g c =
-    let start = c.args.lines.now in
-    let seen = g.S.Source.view c.args.source.now in (
-      record {
-        read = [];
-        reached = subst (λ (p : Progress). Reached start.format start.limit seen seen [] p) (sym c.requires.begun)
-            (Reached-start start.format start.limit seen);
-        stands = λ plan seed events good stands. subst (λ es. SystemStands plan seed es c.args.system.now) (sym (append-nil events)) stands;
-      },
-      omega (arith, c.requires.new),
-      c.requires.limited,
-    )
+loop-entry-init g c = (
+  record {
+    read = [];
+    reached = Reached-begun (g.S.Source.view c.args.source.now) c.requires.begun;
+    stands = λ plan seed events good stands. subst (λ es. SystemStands plan seed es c.args.system.now) (sym (append-nil events)) stands;
+  },
+  omega (arith, c.requires.new),
+  c.requires.limited,
+)
 
 pub loop-entry-preserved : goal.loop-entry-preserved
 loop-entry-preserved g c =

@@ -1,27 +1,24 @@
-use Rattle.std.proofs.Common.{◌≡◌, ◌++◌, [], Ok, sym, ap, ◌∙◌, subst, arith, ◌*◌}
+use Rattle.std.proofs.Common.{◌≡◌, ◌++◌, [], Ok, sym, ap, ◌∙◌, arith, ◌*◌}
 use Rattle.std.specs.List.{flat_map}
 use Rattle.trace_core.specs.Events.{events_of}
-use Rattle.trace_core.specs.Reader.{Progress, Reached, answered}
+use Rattle.trace_core.specs.Reader.{answered}
 use Rattle.trace_core.specs.Task.{entries_of}
-use Rattle.trace_core.proofs.Runs.{Reached-start}
+use Rattle.trace_core.proofs.Runs.{Reached-begun}
 use Rattle.trace_core.proofs.Collecting.{collected-more}
 use Rattle.sweep_core.specs.Pass.{all_after}
 use Rattle.sweep_core.proofs.Passes.{all_after-nil, all_after-append}
 use Rattle.sweep_core.proofs.pass.read_trace.Goals as goal
 
 pub loop-entry-init : goal.loop-entry-init
-loop-entry-init g c =
-    let start = c.args.lines.now in
-    let seen = g.S.Source.view c.args.source.now in (
-      record {
-        read = [];
-        reached = subst (λ (p : Progress). Reached start.format start.limit seen seen [] p) (sym c.requires.begun)
-            (Reached-start start.format start.limit seen);
-        fed = sym (all_after-nil c.args.profiles.now);
-      },
-      (λ k d h. omega (arith, c.requires.unfed k d h)),
-      c.requires.limited,
-    )
+loop-entry-init g c = (
+  record {
+    read = [];
+    reached = Reached-begun (g.S.Source.view c.args.source.now) c.requires.begun;
+    fed = sym (all_after-nil c.args.profiles.now);
+  },
+  (λ k d h. omega (arith, c.requires.unfed k d h)),
+  c.requires.limited,
+)
 
 pub loop-entry-preserved : goal.loop-entry-preserved
 loop-entry-preserved g c =

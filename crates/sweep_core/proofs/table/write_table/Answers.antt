@@ -1,8 +1,7 @@
-use Rattle.std.proofs.Common.{List, ℕ, [], ◌++◌, append-nil, subst}
+use Rattle.std.proofs.Common.{[], ◌++◌, append-nil, subst}
 use Rattle.std.proofs.lemmas.Result.{err_from_is_err_and}
 use Rattle.trace_core.specs.Device.{WrotePart}
 use Rattle.trace_core.proofs.Written.{WrotePart-more, WroteLastPart-unflushed, WritesLast-flushes}
-use Rattle.sweep_core.specs.Gathering.{Passes}
 use Rattle.sweep_core.specs.SweepText.{header_of, rows_text, rows_of}
 use Rattle.sweep_core.proofs.Gathers.{Passes-then, Passes-all, Passes-part, Passes-part_later}
 use Rattle.sweep_core.proofs.table.write_table.Goals as goal

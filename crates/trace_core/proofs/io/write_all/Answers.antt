@@ -1,4 +1,4 @@
-use Rattle.std.proofs.Common.{arith, ◌+◌, ap, ◌∙◌, take, drop, length}
+use Rattle.std.proofs.Common.{arith, ◌+◌, ap, ◌∙◌, drop, length}
 use Rattle.std.proofs.lemmas.List.{drop-drop, length-drop}
 use lib.Seq.{take-add}
 use Rattle.trace_core.proofs.Written.{Wrote-taken}
