@@ -8,4 +8,3 @@ pub mod OptionLemmas
 pub mod Rows
 pub mod Simulating
 mod TextRows
-pub mod TraceFaults

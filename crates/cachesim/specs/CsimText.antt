@@ -1,6 +1,6 @@
 -- What `csim` writes of a trace, in the form of the CS:APP cache lab handout: a line for each data item where lines are wanted, and
 -- a summary.
-use Rattle.std.specs.Prelude.{ℕ, Bool, List, [], ◌∷◌, ◌++◌, Option, None, Some, if◌then◌else◌, map, flat_map, codes}
+use Rattle.std.specs.Prelude.{ℕ, Bool, true, List, [], ◌∷◌, ◌++◌, Option, None, Some, if◌then◌else◌, map, flat_map, codes}
 use Rattle.std.specs.Fmt.{decimal}
 use Rattle.trace_core.specs.declared.events.Op.{Op}
 use Rattle.trace_core.specs.declared.events.Op.TheVariants.{Fetch, Load, Store, Modify}
@@ -71,4 +71,4 @@ csim_text g verbose text = csim_lines g verbose (entries Lackey text) ++ summary
 
 -- `csim` reads lackey lines. At a fault the lines of the entries before it stand written, and no summary.
 unfoldable pub csim_task : Shape → Bool → ℕ → Task
-csim_task g verbose limit = record { format = Lackey; limit = limit; whole = csim_text g verbose; partial = csim_lines g verbose }
+csim_task g verbose limit = record { format = Lackey; limit = limit; writes_early = true; whole = csim_text g verbose; partial = csim_lines g verbose }

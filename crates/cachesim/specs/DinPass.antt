@@ -1,9 +1,10 @@
 -- What `din` has stepped its caches through.
-use Rattle.std.specs.Prelude.{ℕ, List, ◌++◌, Option, flat_map}
+use Rattle.std.specs.Prelude.{ℕ, List, ◌++◌, flat_map}
 use Rattle.trace_core.specs.declared.events.Entry.{Entry}
 use Rattle.trace_core.specs.declared.events.Event.{Event}
 use Rattle.trace_core.specs.declared.events.Kind.TheVariants.{All}
 use Rattle.trace_core.specs.declared.line.Format.{Format}
+use Rattle.trace_core.specs.Device.{SourceView}
 use Rattle.trace_core.specs.Events.{events_of}
 use Rattle.trace_core.specs.Reader.{Progress, Reached}
 use Rattle.trace_core.specs.Task.{entries_of}
@@ -12,9 +13,11 @@ use Rattle.cache_core.specs.SystemSteps.{SystemValue}
 use Rattle.cache_core.specs.SystemStands.{SystemStands}
 
 -- These entries were read of a source, and a system that stood for some events stands for these and theirs.
-pub record StepsThrough (format : Format) (limit : ℕ) (before told : Option (List ℕ)) (failures-before failures : ℕ)
-    (p : Progress) (old new : SystemValue) : Type 0 where
+pub record StepsThrough (format : Format) (limit : ℕ) (start now : SourceView) (p : Progress) (old new : SystemValue) : Type 0 where
+  -- the entries, with the numbers of their lines
   pub read : List (ℕ × Entry)
-  pub reached : Reached format limit before told failures-before failures read p
+  -- the reader has come so far
+  pub reached : Reached format limit start now read p
+  -- what the system stands for
   pub stands : (plan : Levels) (seed : ℕ) (events : List Event) → IsPlan plan → SystemStands plan seed events old →
       SystemStands plan seed (events ++ flat_map (events_of All) (entries_of read)) new

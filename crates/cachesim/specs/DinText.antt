@@ -1,6 +1,6 @@
 -- What `din` writes of a trace: a line for each cache, one for memory and one for the references that no cache took. The layout is
 -- this project's; the words are Dinero IV's.
-use Rattle.std.specs.Prelude.{ℕ, List, [], ◌++◌, Option, None, Some, codes}
+use Rattle.std.specs.Prelude.{false, ℕ, List, [], ◌++◌, Option, None, Some, codes}
 use Rattle.std.specs.Fmt.{decimal}
 use Rattle.trace_core.specs.declared.events.Kind.TheVariants.{All}
 use Rattle.trace_core.specs.declared.line.Format.{Format}
@@ -38,4 +38,4 @@ din_text plan seed format text = report_of (system_run plan seed (events format 
 
 -- At a fault `din` has written nothing.
 unfoldable pub din_task : Levels → ℕ → Format → ℕ → Task
-din_task plan seed format limit = record { format = format; limit = limit; whole = din_text plan seed format; partial = λ es. [] }
+din_task plan seed format limit = record { format = format; limit = limit; writes_early = false; whole = din_text plan seed format; partial = λ es. [] }

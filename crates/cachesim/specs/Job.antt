@@ -1,5 +1,5 @@
 -- The work that a command line asks for.
-use Rattle.std.specs.Prelude.{ℕ, ◌^◌, Bool, true, false}
+use Rattle.std.specs.Prelude.{ℕ, ◌^◌}
 use Rattle.trace_core.specs.Task.{Task}
 use Rattle.sweep_core.specs.SweepText.{sweep_task}
 use Rattle.cachesim.specs.declared.job.Job.{Job}
@@ -22,9 +22,3 @@ abbrev pub task_of : Job → Task
 task_of (Csim geometry verbose max_lines) = csim_task geometry verbose max_lines
 task_of (Din plan seed format max_lines) = din_task plan seed format max_lines
 task_of (Sweep request) = sweep_task request
-
--- whether a job writes while it reads
-abbrev pub writes_early : Job → Bool
-writes_early (Csim geometry verbose max_lines) = true
-writes_early (Din plan seed format max_lines) = false
-writes_early (Sweep request) = false

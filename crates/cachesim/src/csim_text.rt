@@ -2,7 +2,7 @@
 ghost use Rattle.std.specs.Prelude.{◌≡◌, ◌+◌, ◌≤◌, [], ◌++◌, length, flat_map, OnOk, OnErr, if◌then◌else◌};
 ghost use Rattle.std.specs.Option.{option_to_list};
 ghost use Rattle.std.specs.Io.KnownBytes.{Appends};
-ghost use Rattle.trace_core.specs.Device.{CountsFailure, WritesPrefix};
+ghost use Rattle.trace_core.specs.Device.{Writes};
 ghost use Rattle.cachesim.specs.CsimText.{letter_of, words_of, item_line, line_of, summary};
 ghost use Rattle.cachesim.specs.Simulation.{lookups_of_pair};
 
@@ -70,12 +70,8 @@ pub(crate) fn write_line<K: Sink>(
     lookups: (Option<Lookup>, Option<Lookup>),
     sink: &mut K,
 ) -> Result<(), DeviceFault>
-    ensures ok { OnOk result (Appends (K.written sink.old) (K.written sink.new)
-        (if verbose then line_of entry (lookups_of_pair lookups) else [])) }
-    ensures fault { OnErr result (WritesPrefix (K.written sink.old) (K.written sink.new)
-        (if verbose then line_of entry (lookups_of_pair lookups) else [])) }
-    ensures counted { CountsFailure (K.failures sink.old) (K.failures sink.new) result }
-    ensures unflushed { K.flushes sink.new ≡ K.flushes sink.old }
+    ensures { Writes (K.view sink.old) (K.view sink.new) result
+        (if verbose then line_of entry (lookups_of_pair lookups) else []) }
 {
     if !verbose {
         return Ok(());

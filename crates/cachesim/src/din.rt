@@ -1,9 +1,8 @@
 //! The command `din`.
-ghost use Rattle.std.specs.Prelude.{◌≡◌, ◌≤◌, ◌+◌, ◌^◌, ◌++◌, ℕ, List, Err, false, true, IfSome, IfOk, MatchResult, OnOk};
-ghost use Rattle.trace_core.specs.Device.{failures_after, FlushesAfter};
+ghost use Rattle.std.specs.Prelude.{◌≡◌, ◌≤◌, ◌+◌, ◌^◌, ◌++◌, ℕ, List, IfOk, MatchResult};
 ghost use Rattle.trace_core.specs.Events.{events_of};
 ghost use Rattle.trace_core.specs.Reader.{begun};
-ghost use Rattle.trace_core.specs.Task.{BreaksOff, Completes, StopsAt, CutsOff, FlushesOnce, is_failed_read, source_failed, sink_failed};
+ghost use Rattle.trace_core.specs.Task.{Performs};
 ghost use Rattle.trace_core.specs.declared.events.Event.{Event};
 ghost use Rattle.cache_core.specs.Levels.{Levels, IsPlan};
 ghost use Rattle.cache_core.specs.SystemSteps.{SystemValue, stats_of};
@@ -51,8 +50,8 @@ fn step_through<S: Source>(
     requires begun { lines.old ≡ begun lines.old.format lines.old.limit }
     requires limited { lines.old.limit ≤ 2 ^ 40 }
     requires new { system.old.steps ≡ 0 }
-    ensures stepped { StepsThrough lines.old.format lines.old.limit (S.remaining source.old) (S.remaining source.new)
-        (S.failures source.old) (S.failures source.new) lines.new system.old system.new }
+    ensures stepped { StepsThrough lines.old.format lines.old.limit
+        (S.view source.old) (S.view source.new) lines.new system.old system.new }
     ensures tells { MatchResult result (λ _. lines.new.state ≡ ReaderState.Ended)
         (λ fault. lines.new.state ≡ ReaderState.Failed fault) }
 {
@@ -71,8 +70,8 @@ fn stats_after<S: Source>(
     requires begun { lines.old ≡ begun lines.old.format lines.old.limit }
     requires limited { lines.old.limit ≤ 2 ^ 40 }
     requires new { system.steps ≡ 0 }
-    ensures stepped { (end : SystemValue) × StepsThrough lines.old.format lines.old.limit (S.remaining source.old)
-        (S.remaining source.new) (S.failures source.old) (S.failures source.new) lines.new system end
+    ensures stepped { (end : SystemValue) × StepsThrough lines.old.format lines.old.limit
+        (S.view source.old) (S.view source.new) lines.new system end
         × IfOk result (λ stats. stats ≡ stats_of end) }
     ensures tells { MatchResult result (λ _. lines.new.state ≡ ReaderState.Ended)
         (λ fault. lines.new.state ≡ ReaderState.Failed fault) }
@@ -98,34 +97,8 @@ pub fn din<S: Source, K: Sink>(
 ) -> Result<(), RunFault>
     requires some { 1 ≤ max_lines }
     requires most { max_lines ≤ MAX_LINES }
-    ensures ok { OnOk result (IfSome (S.remaining source.old) (λ text. Completes (din_task plan seed format max_lines)
-        text (S.remaining source.new) (K.written sink.old) (K.written sink.new))) }
-
-    // Nothing was written at a fault of the trace or a failure of the source.
-    ensures fault { (f : TraceFault) → result ≡ Err (RunFault.Trace f) → is_failed_read f ≡ false →
-        IfSome (S.remaining source.old) (λ text. StopsAt (din_task plan seed format max_lines) f
-        text (K.written sink.old) (K.written sink.new)) }
-    ensures cut { (f : TraceFault) → result ≡ Err (RunFault.Trace f) → is_failed_read f ≡ true →
-        IfSome (S.remaining source.old) (λ text. IfSome (S.remaining source.new) (λ rest.
-        CutsOff (din_task plan seed format max_lines) f text rest (K.written sink.old) (K.written sink.new))) }
-    ensures silent { (f : TraceFault) → result ≡ Err (RunFault.Trace f) → sink.new ≡ sink.old }
-
-    // The sink failed after the whole text was read.
-    ensures write { result ≡ Err RunFault.Write → IfSome (S.remaining source.old) (λ text.
-        BreaksOff (din_task plan seed format max_lines) text (S.remaining source.new) (K.written sink.old) (K.written sink.new)) }
-    ensures memory { result ≡ Err RunFault.Memory → (source.new ≡ source.old) × (sink.new ≡ sink.old) }
-
-    // Each device failed exactly where the answer says so.
-    ensures reads { S.failures source.new ≡ failures_after (source_failed result) (S.failures source.old) }
-    ensures writes { K.failures sink.new ≡ failures_after (sink_failed result) (K.failures sink.old) }
-
-    // The sink is flushed once at the end of a whole text, and not at a fault of the trace.
-    ensures flushes { FlushesOnce (K.flushes sink.old) (K.flushes sink.new) result }
-
-    // The flush comes after the last byte: where it is what failed, the whole text stands written.
-    ensures last { result ≡ Err RunFault.Write → IfSome (S.remaining source.old) (λ text.
-        FlushesAfter ((din_task plan seed format max_lines).whole text)
-        (K.flushes sink.old) (K.flushes sink.new) (K.written sink.old) (K.written sink.new)) }
+    ensures { Performs (din_task plan seed format max_lines) result
+        S.view source.old source.new K.view sink.old sink.new }
 {
     plan.limits();
     let mut lines = Lines::new(alloc, format, max_lines)?;

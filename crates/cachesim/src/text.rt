@@ -1,7 +1,7 @@
 //! A text that is gathered in a buffer of fixed size.
 ghost use Rattle.std.specs.Prelude.{◌≡◌, ℕ, ◌+◌, ◌<◌, ◌≤◌, List, [], ◌++◌, length, take, drop, false, OnOk, OnErr};
 ghost use Rattle.std.specs.Io.KnownBytes.{Appends};
-ghost use Rattle.trace_core.specs.Device.{CountsFailure, FlushesAfter, FlushesLast, WritesPrefix};
+ghost use Rattle.trace_core.specs.Device.{WritesLast};
 ghost use Rattle.std.specs.Fmt.{decimal, digit_glyph};
 ghost use Rattle.cachesim.specs.Text.{hexadecimal};
 
@@ -114,12 +114,7 @@ fn write_hexadecimal(number: u64, digits: &mut [u8; 16]) -> usize
 
 /// Writes a text to a sink and then flushes it: a flush that fails leaves the whole text written.
 pub(crate) fn write_last<K: Sink>(text: &Text, sink: &mut K) -> Result<(), DeviceFault>
-    ensures ok { OnOk result (Appends (K.written sink.old) (K.written sink.new) text.now) }
-    ensures fault { OnErr result (WritesPrefix (K.written sink.old) (K.written sink.new) text.now) }
-    ensures counted { CountsFailure (K.failures sink.old) (K.failures sink.new) result }
-    ensures flushed { FlushesLast (K.flushes sink.old) (K.flushes sink.new) result }
-    ensures last { OnErr result (FlushesAfter text.now
-        (K.flushes sink.old) (K.flushes sink.new) (K.written sink.old) (K.written sink.new)) }
+    ensures { WritesLast (K.view sink.old) (K.view sink.new) result text.now }
 {
     write_all(sink, text.as_slice())?;
     sink.flush()

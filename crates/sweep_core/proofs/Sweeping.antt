@@ -1,21 +1,23 @@
 -- What a sweep has read, fed and written when it ends.
-use Rattle.std.proofs.Common.{◌≡◌, ℕ, ◌+◌, ◌≤◌, List, [], false, true, Option, None, Some, sym, ap, ◌∙◌, subst, arith, get_or}
+use Rattle.std.proofs.Common.{◌≡◌, ℕ, ◌+◌, ◌≤◌, List, [], sym, ap, ◌∙◌, subst, arith, get_or}
 use Rattle.std.specs.Prelude.{All, flat_map, sum_by}
 use Rattle.std.specs.Option.{IfSome}
-use Rattle.std.specs.Io.KnownBytes.{Appends}
-use Rattle.std.proofs.KnownBytes.{Appends-nil}
 use Rattle.std.proofs.lemmas.List.Elements.{All-map}
 use Rattle.std.proofs.lemmas.List.Folds.{sum_by-replicate}
 use Rattle.trace_core.specs.declared.events.Event.{Event}
 use Rattle.trace_core.specs.declared.fault.TraceFault.{TraceFault}
+use Rattle.trace_core.specs.declared.line.Format.{Format}
 use Rattle.trace_core.specs.declared.reader.ReaderState.TheVariants as state
-use Rattle.trace_core.specs.Device.{WritesPrefix, FlushesAfter}
+use Rattle.trace_core.specs.declared.events.Entry.{Entry}
+use Rattle.trace_core.specs.Device.{SourceView, SinkView}
 use Rattle.trace_core.specs.Events.{events_of}
-use Rattle.trace_core.specs.Reader.{Progress, begun}
-use Rattle.trace_core.specs.Task.{StopsAt, CutsOff, BreaksOff, Completes, entries_of, is_failed_read}
+use Rattle.trace_core.specs.Reader.{Progress, Reached, begun}
+use Rattle.trace_core.specs.Task.{Stopped, entries_of}
 use Rattle.trace_core.proofs.Entries.{entries-reading}
-use Rattle.trace_core.proofs.Runs.{Reached-end}
-use Rattle.trace_core.proofs.Tasks.{task_stops, task_cut, task_breaks, task_completes, task_flushes}
+use Rattle.trace_core.proofs.Runs.{Reached-end, Reached-from}
+use Rattle.trace_core.proofs.Tasks.{ReadWhole, if_known}
+use Rattle.trace_core.proofs.Performing.{Stopped-at}
+use Rattle.trace_core.proofs.Written.{Wrote-none}
 use Rattle.cache_core.specs.Geometry.{Shape}
 use Rattle.profile_core.specs.State.{empty, fed_of}
 use Rattle.sweep_core.specs.declared.request.Request.{Request}
@@ -36,67 +38,46 @@ unfed r xs swept =
     subst (All (λ x. fed_of x.profile ≤ 0)) (sym (swept.fed ∙ all_after-nil (made_for all (rows_of r))))
     (All-map (λ x. fed_of x.profile ≤ 0) (begun_for all) (pairs (rows_of r)) (λ k d h. empty-fed (shape_of_pair all (get_or (pairs (rows_of r)) k d))))
 
--- a reader that began with a request's format and limit
-pub feeds-from : (r : Request) (start : Progress) (before told : Option (List ℕ)) (a b : ℕ) (p : Progress) (xs ys : List PairProfile) → start ≡ begun r.format r.max_lines
-    → Feeds r.kind start.format start.limit before told a b p xs ys → Feeds r.kind r.format r.max_lines before told a b p xs ys
-feeds-from r start before told a b p xs ys is run = subst (λ (q : Progress). Feeds r.kind q.format q.limit before told a b p xs ys) is run
-
 -- the events of what was read
-abbrev pub fed_events : (r : Request) (before told : Option (List ℕ)) (a b : ℕ) (p : Progress) (xs ys : List PairProfile) → Feeds r.kind r.format r.max_lines before told a b p xs ys → List Event
-fed_events r before told a b p xs ys run = flat_map (events_of r.kind) (entries_of run.read)
+abbrev pub fed_events : Request → List (ℕ × Entry) → List Event
+fed_events r xs = flat_map (events_of r.kind) (entries_of xs)
 
-module _ (r : Request) (before told : Option (List ℕ)) (a b : ℕ) (p : Progress) (xs ys : List PairProfile) (run : Feeds r.kind r.format r.max_lines before told a b p xs ys) where
-  -- the profiles after what was read
-  pub swept-on : Swept r [] xs → Swept r (fed_events r before told a b p xs ys run) ys
-  swept-on start = record {
-    space = start.space;
-    sound = start.sound;
-    fed = run.fed ∙ ap (all_after (fed_events r before told a b p xs ys run)) (start.fed ∙ all_after-nil (made_for (all_of r) (rows_of r)));
+-- a request's new profiles, as slices, after what was read
+pub swept-after : {r : Request} {format : Format} {limit : ℕ} {start now : SourceView} {p : Progress} {made xs ys zs : List PairProfile}
+    → Swept r [] made → xs ≡ made → (run : Feeds r.kind format limit start now p xs ys) → zs ≡ ys → Swept r (fed_events r run.read) zs
+swept-after {r = r} begin same run end = record {
+  space = begin.space;
+  sound = begin.sound;
+  fed = end ∙ run.fed ∙ ap (all_after (fed_events r run.read)) (same ∙ begin.fed ∙ all_after-nil (made_for (all_of r) (rows_of r)));
+}
+
+module _ (r : Request) {start now : SourceView} {new p : Progress} {xs ys : List PairProfile} (begins : new ≡ begun r.format r.max_lines)
+    (run : Feeds r.kind new.format new.limit start now p xs ys) where
+  -- what a reader reached that began with a request's format and limit
+  reached : Reached r.format r.max_lines start now run.read p
+  reached = Reached-from begins run.reached
+
+  -- a sweep that stopped at a fault has written nothing
+  pub sweep-stopped : (sink : SinkView) (x : TraceFault) → p.state ≡ state.Failed x → Stopped (sweep_task r) x start now sink sink
+  unfolding sweep_task
+  sweep-stopped sink x failed = Stopped-at x failed reached (Wrote-none sink)
+
+  -- a sweep that has read a whole text has its table to write
+  pub sweep-whole : p.state ≡ state.Ended → ReadWhole (sweep_task r) start now (table_text r (fed_events r run.read))
+  unfolding sweep_task sweep_text
+  sweep-whole ended = record {
+    read = run.read;
+    at = p;
+    reached = reached;
+    ended = ended;
+    output = λ text same. ap (λ es. table_text r (flat_map (events_of r.kind) es)) (sym same);
   }
 
-  pub sweep-stops : (x : TraceFault) (w : Option (List ℕ)) → p.state ≡ state.Failed x → is_failed_read x ≡ false → IfSome before (λ text. StopsAt (sweep_task r) x text w w)
-  unfolding sweep_task
-  sweep-stops x w failed own = task_stops (sweep_task r) before told w w a b run.read p x failed own run.reached (Appends-nil w)
-
-  pub sweep-cut : (x : TraceFault) (w : Option (List ℕ)) → p.state ≡ state.Failed x → is_failed_read x ≡ true
-      → IfSome before (λ text. IfSome told (λ rest. CutsOff (sweep_task r) x text rest w w))
-  unfolding sweep_task
-  sweep-cut x w failed own = task_cut (sweep_task r) before told w w a b run.read p x failed own run.reached (Appends-nil w)
-
-  pub sweep-breaks : (w0 w : Option (List ℕ)) → p.state ≡ state.Ended → Swept r [] xs
-      → ((es : List Event) → Swept r es ys → WritesPrefix w0 w (table_text r es))
-      → IfSome before (λ text. BreaksOff (sweep_task r) text told w0 w)
-  unfolding sweep_task sweep_text
-  sweep-breaks w0 w ended start wrote =
-      task_breaks (sweep_task r) before told w0 w a b run.read p ended run.reached
-      (λ text same. subst (λ es. WritesPrefix w0 w (table_text r (flat_map (events_of r.kind) es))) same (wrote (fed_events r before told a b p xs ys run) (swept-on start)))
-
-  pub sweep-flushes : (j k : ℕ) (w0 w : Option (List ℕ)) → p.state ≡ state.Ended → Swept r [] xs
-      → ((es : List Event) → Swept r es ys → FlushesAfter (table_text r es) j k w0 w)
-      → IfSome before (λ text. FlushesAfter ((sweep_task r).whole text) j k w0 w)
-  unfolding sweep_task sweep_text
-  sweep-flushes j k w0 w ended start flushed =
-      task_flushes (sweep_task r) before told w0 w a b j k run.read p ended run.reached
-      (λ text same. subst (λ es. FlushesAfter (table_text r (flat_map (events_of r.kind) es)) j k w0 w) same (flushed (fed_events r before told a b p xs ys run) (swept-on start)))
-
-  pub sweep-completes : (w0 w : Option (List ℕ)) → p.state ≡ state.Ended → Swept r [] xs
-      → ((es : List Event) → Swept r es ys → Appends w0 w (table_text r es))
-      → IfSome before (λ text. Completes (sweep_task r) text told w0 w)
-  unfolding sweep_task sweep_text
-  sweep-completes w0 w ended start wrote =
-      task_completes (sweep_task r) before told w0 w a b run.read p ended run.reached
-      (λ text same. subst (λ es. Appends w0 w (table_text r (flat_map (events_of r.kind) es))) same (wrote (fed_events r before told a b p xs ys run) (swept-on start)))
-
   -- the comparisons are those of the events that were read
-  compared-read : (n : ℕ) → Swept r [] xs → n ≡ sum_by (λ x. x.profile.probes) ys → n ≡ work (fed_events r before told a b p xs ys run) (all_of r) (rows_of r)
-  compared-read n start is =
-      let now = swept-on start in
-      is ∙ ap (sum_by (λ x. x.profile.probes)) now.fed ∙ work-is (all_of r) (rows_of r) (fed_events r before told a b p xs ys run) now.sound
-
-pub sweep-works : (r : Request) (before told : Option (List ℕ)) (a b : ℕ) (p : Progress) (xs ys : List PairProfile) (run : Feeds r.kind r.format r.max_lines before told a b p xs ys)
-    (n : ℕ) → p.state ≡ state.Ended → Swept r [] xs → n ≡ sum_by (λ x. x.profile.probes) ys → IfSome before (λ text. n ≡ sweep_work r text)
-unfolding sweep_work
-sweep-works r None told a b p xs ys run n ended start is = tt
-sweep-works r (Some text) told a b p xs ys run n ended start is =
-    compared-read r (Some text) told a b p xs ys run n start is
-    ∙ ap (λ es. work (flat_map (events_of r.kind) es) (all_of r) (rows_of r)) (entries-reading r.format r.max_lines text run.read (Reached-end r.format r.max_lines text told a b run.read p ended run.reached))
+  pub sweep-works : {zs : List PairProfile} (n : ℕ) → p.state ≡ state.Ended → Swept r (fed_events r run.read) zs
+      → n ≡ sum_by (λ x. x.profile.probes) zs → IfSome start.remaining (λ text. n ≡ sweep_work r text)
+  unfolding sweep_work
+  sweep-works n ended swept is = if_known start.remaining (λ text. n ≡ sweep_work r text) (λ text told.
+      let end = Reached-end r.format r.max_lines text start now run.read p told reached ended in
+      is ∙ ap (sum_by (λ x. x.profile.probes)) swept.fed ∙ work-is (all_of r) (rows_of r) (fed_events r run.read) swept.sound
+      ∙ ap (λ es. work (flat_map (events_of r.kind) es) (all_of r) (rows_of r)) (entries-reading r.format r.max_lines text run.read end))

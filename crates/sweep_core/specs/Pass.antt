@@ -1,9 +1,10 @@
 -- What the profiles of a sweep hold.
-use Rattle.std.specs.Prelude.{◌≡◌, ℕ, Option, None, List, map, filter, flat_map, fold, Result, Ok, Err}
+use Rattle.std.specs.Prelude.{◌≡◌, ℕ, None, List, map, filter, flat_map, fold, Result, Ok, Err}
 use Rattle.std.specs.List.{AllByRecursion}
 use Rattle.trace_core.specs.declared.events.Ref.{Ref}
 use Rattle.trace_core.specs.declared.events.Event.{Event}
 use Rattle.trace_core.specs.declared.events.Event.TheVariants as event
+use Rattle.trace_core.specs.Device.{SourceView}
 use Rattle.trace_core.specs.Events.{events_of, keeps}
 use Rattle.trace_core.specs.Reader.{Progress, Reached}
 use Rattle.trace_core.specs.Task.{entries_of}
@@ -66,8 +67,11 @@ state_after (Ok done) = state.Ended
 state_after (Err fault) = state.Failed fault
 
 -- These entries were read of a source, and what they give a cache was fed to each profile.
-pub record Feeds (kind : Kind) (format : Format) (limit : ℕ) (before told : Option (List ℕ))
-    (failures-before failures : ℕ) (p : Progress) (old new : List PairProfile) : Type 0 where
+pub record Feeds (kind : Kind) (format : Format) (limit : ℕ) (start now : SourceView) (p : Progress)
+    (old new : List PairProfile) : Type 0 where
+  -- the entries, with the numbers of their lines
   pub read : List (ℕ × Entry)
-  pub reached : Reached format limit before told failures-before failures read p
+  -- the reader has come so far
+  pub reached : Reached format limit start now read p
+  -- the profiles after their events
   pub fed : new ≡ all_after (flat_map (events_of kind) (entries_of read)) old

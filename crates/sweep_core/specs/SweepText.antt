@@ -1,12 +1,10 @@
 -- What a sweep writes.
-use Rattle.std.specs.Prelude.{◌≡◌, ℕ, Bool, true, false, Result, Ok, Err, Option, None, Some, List, [], ◌∷◌, ◌++◌, map, flat_map, take, drop, decimal, codes}
+use Rattle.std.specs.Prelude.{◌≡◌, ℕ, false, Option, None, Some, List, [], ◌∷◌, ◌++◌, map, flat_map, take, drop, decimal, codes}
 use Rattle.std.specs.List.{join_with_byte}
 use Rattle.std.specs.Int.{w64, trailing_zeros}
 use Rattle.trace_core.specs.declared.events.Event.{Event}
 use Rattle.trace_core.specs.Reading.{events}
 use Rattle.trace_core.specs.Task.{Task}
-use Rattle.trace_core.specs.declared.fault.RunFault.{RunFault}
-use Rattle.trace_core.specs.declared.fault.RunFault.TheVariants.{Memory, Trace, Write}
 use Rattle.cache_core.specs.declared.outcome.Counts.{Counts}
 use Rattle.cache_core.specs.Geometry.{Shape, shape}
 use Rattle.cache_core.specs.Windows.{counts}
@@ -62,7 +60,7 @@ sweep_text r text = table_text r (events r.format r.kind text)
 
 -- a sweep writes nothing before it has read a whole text
 unfoldable pub sweep_task : Request → Task
-sweep_task r = record { format = r.format; limit = r.max_lines; whole = sweep_text r; partial = λ es. [] }
+sweep_task r = record { format = r.format; limit = r.max_lines; writes_early = false; whole = sweep_text r; partial = λ es. [] }
 
 -- A sweep in pages of n rows: the first page, and then those after its last row, until no configuration follows.
 abbrev pub ArePages : ℕ → Request → List Request → Type 0
@@ -72,10 +70,3 @@ ArePages n r (page ∷ next ∷ more) =
     (page ≡ record r { rows = Some n })
     × (front : List Config) × (last : Config) × (take n (all_of r) ≡ front ++ last ∷ [])
     × ArePages n (record r { after = Some last }) (next ∷ more)
-
--- whether an answer says that the trace was read to its end
-abbrev pub has_read : {T : Type 0} → Result T RunFault → Bool
-has_read (Ok x) = true
-has_read (Err Memory) = false
-has_read (Err (Trace f)) = false
-has_read (Err Write) = true

@@ -1,8 +1,8 @@
 //! Bytes on their way to a sink, gathered so that one call takes many rows.
 ghost use Rattle.std.specs.Prelude.{◌≡◌, ◌+◌, ◌≤◌, ◌++◌, [], length, IfOk, OnOk, OnErr};
 ghost use Rattle.std.specs.Io.KnownBytes.{Appends};
-ghost use Rattle.trace_core.specs.Device.{CountsFailure, WritesPrefix};
-ghost use Rattle.sweep_core.specs.Gathering.{Passes};
+ghost use Rattle.trace_core.specs.Device.{Writes};
+ghost use Rattle.sweep_core.specs.Gathering.{PassesOn};
 
 use std::alloc::{AllocError, Global};
 use std::marker::Model;
@@ -42,10 +42,8 @@ impl Gathered {
     /// Adds a piece. Where there is no room for it, what waits is written first.
     pub(crate) fn put<K: Sink>(&mut self, sink: &mut K, piece: &[u8]) -> Result<(), DeviceFault>
         requires { length piece.now ≤ ROOM }
-        ensures ok { OnOk result (Passes (K.written sink.old) (K.written sink.new) self.old self.new piece.now) }
-        ensures fault { OnErr result (WritesPrefix (K.written sink.old) (K.written sink.new) self.old) }
-        ensures counted { CountsFailure (K.failures sink.old) (K.failures sink.new) result }
-        ensures unflushed { K.flushes sink.new ≡ K.flushes sink.old }
+        ensures { PassesOn (K.view sink.old) (K.view sink.new) result
+            self.old self.new piece.now self.old }
     {
         self.make_room(sink, piece.len())?;
         self.push(piece);
@@ -54,11 +52,8 @@ impl Gathered {
 
     /// Writes what waits.
     pub(crate) fn write_out<K: Sink>(&mut self, sink: &mut K) -> Result<(), DeviceFault>
-        ensures ok { OnOk result (Appends (K.written sink.old) (K.written sink.new) self.old) }
+        ensures writes { Writes (K.view sink.old) (K.view sink.new) result self.old }
         ensures none { OnOk result (self.new ≡ []) }
-        ensures fault { OnErr result (WritesPrefix (K.written sink.old) (K.written sink.new) self.old) }
-        ensures counted { CountsFailure (K.failures sink.old) (K.failures sink.new) result }
-        ensures unflushed { K.flushes sink.new ≡ K.flushes sink.old }
     {
         write_all(sink, &self.bytes[..self.len])?;
         self.len = 0;
@@ -68,11 +63,9 @@ impl Gathered {
     /// Sees to it that so many bytes more have room.
     fn make_room<K: Sink>(&mut self, sink: &mut K, count: usize) -> Result<(), DeviceFault>
         requires { count ≤ ROOM }
-        ensures ok { OnOk result (Passes (K.written sink.old) (K.written sink.new) self.old self.new []) }
+        ensures passes { PassesOn (K.view sink.old) (K.view sink.new) result
+            self.old self.new [] self.old }
         ensures room { OnOk result (length self.new + count ≤ ROOM) }
-        ensures fault { OnErr result (WritesPrefix (K.written sink.old) (K.written sink.new) self.old) }
-        ensures counted { CountsFailure (K.failures sink.old) (K.failures sink.new) result }
-        ensures unflushed { K.flushes sink.new ≡ K.flushes sink.old }
     {
         if self.len + count <= ROOM {
             return Ok(());

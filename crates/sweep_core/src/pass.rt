@@ -76,8 +76,8 @@ pub(crate) fn read_trace<S: Source>(
     requires begun { lines.old ≡ begun lines.old.format lines.old.limit }
     requires limited { lines.old.limit ≤ 2 ^ 40 }
     requires unfed { All (λ x. fed_of x.profile ≤ 0) profiles.old }
-    ensures fed { Feeds kind lines.old.format lines.old.limit (S.remaining source.old) (S.remaining source.new)
-        (S.failures source.old) (S.failures source.new) lines.new profiles.old profiles.new }
+    ensures fed { Feeds kind lines.old.format lines.old.limit
+        (S.view source.old) (S.view source.new) lines.new profiles.old profiles.new }
     ensures tells { lines.new.state ≡ state_after result }
 {
     while let Some((_, entry)) = lines.next(source)? {

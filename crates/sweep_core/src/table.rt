@@ -1,10 +1,10 @@
 //! What a sweep writes once it has read a trace.
 ghost use Rattle.std.specs.Prelude.{◌≡◌, ◌∷◌, ◌++◌, [], List, OnOk, OnErr};
 ghost use Rattle.std.specs.Io.KnownBytes.{Appends};
-ghost use Rattle.trace_core.specs.Device.{CountsFailure, FlushesAfter, FlushesLast, WritesPrefix};
+ghost use Rattle.trace_core.specs.Device.{WritesLast};
 ghost use Rattle.trace_core.specs.declared.events.Event.{Event};
 ghost use Rattle.sweep_core.specs.SweepText.{header_of, table_text, rows_text, rows_of, row_counts};
-ghost use Rattle.sweep_core.specs.Gathering.{Passes};
+ghost use Rattle.sweep_core.specs.Gathering.{PassesOn};
 ghost use Rattle.sweep_core.specs.Pass.{Swept};
 ghost use Rattle.sweep_core.specs.Walk.{is_of, Walks, Ready};
 ghost use Rattle.sweep_core.specs.declared.config.Config.{Config};
@@ -30,15 +30,8 @@ pub(crate) fn write_table<K: Sink>(
 ) -> Result<(), DeviceFault>
     requires swept { (es : List Event) × Swept request.now es profiles.now }
     requires none { gathered ≡ [] }
-    ensures ok { (es : List Event) → Swept request.now es profiles.now →
-        OnOk result (Appends (K.written sink.old) (K.written sink.new) (table_text request.now es)) }
-    ensures fault { (es : List Event) → Swept request.now es profiles.now →
-        OnErr result (WritesPrefix (K.written sink.old) (K.written sink.new) (table_text request.now es)) }
-    ensures counted { CountsFailure (K.failures sink.old) (K.failures sink.new) result }
-    ensures flushed { FlushesLast (K.flushes sink.old) (K.flushes sink.new) result }
-    ensures last { (es : List Event) → Swept request.now es profiles.now →
-        OnErr result (FlushesAfter (table_text request.now es)
-        (K.flushes sink.old) (K.flushes sink.new) (K.written sink.old) (K.written sink.new)) }
+    ensures { (es : List Event) → Swept request.now es profiles.now →
+        WritesLast (K.view sink.old) (K.view sink.new) result (table_text request.now es) }
 {
     let mut gathered = gathered;
     write_header(sink, request.after, &mut gathered)?;
@@ -53,11 +46,8 @@ fn write_header<K: Sink>(
     after: Option<Config>,
     gathered: &mut Gathered,
 ) -> Result<(), DeviceFault>
-    ensures ok { OnOk result (Passes (K.written sink.old) (K.written sink.new)
-        gathered.old gathered.new (header_of after)) }
-    ensures fault { OnErr result (WritesPrefix (K.written sink.old) (K.written sink.new) gathered.old) }
-    ensures counted { CountsFailure (K.failures sink.old) (K.failures sink.new) result }
-    ensures unflushed { K.flushes sink.new ≡ K.flushes sink.old }
+    ensures { PassesOn (K.view sink.old) (K.view sink.new) result
+        gathered.old gathered.new (header_of after) gathered.old }
 {
     match after {
         None => gathered.put(sink, HEADER),
@@ -73,14 +63,9 @@ fn write_rows<K: Sink>(
     gathered: &mut Gathered,
 ) -> Result<(), DeviceFault>
     requires { (es : List Event) × Swept request.now es profiles.now }
-    ensures ok { (es : List Event) → Swept request.now es profiles.now →
-        OnOk result (Passes (K.written sink.old) (K.written sink.new)
-        gathered.old gathered.new (rows_text es (rows_of request.now))) }
-    ensures fault { (es : List Event) → Swept request.now es profiles.now →
-        OnErr result (WritesPrefix (K.written sink.old) (K.written sink.new)
-        (gathered.old ++ rows_text es (rows_of request.now))) }
-    ensures counted { CountsFailure (K.failures sink.old) (K.failures sink.new) result }
-    ensures unflushed { K.flushes sink.new ≡ K.flushes sink.old }
+    ensures { (es : List Event) → Swept request.now es profiles.now →
+        PassesOn (K.view sink.old) (K.view sink.new) result gathered.old gathered.new
+        (rows_text es (rows_of request.now)) (gathered.old ++ rows_text es (rows_of request.now)) }
 {
     let mut left = profiles;
     let Some(first) = left.first() else {

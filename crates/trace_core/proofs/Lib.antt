@@ -14,4 +14,6 @@ pub mod Advancing
 pub mod Searches
 pub mod Numbers
 pub mod Tasks
+pub mod Written
+pub mod Performing
 pub mod Judging

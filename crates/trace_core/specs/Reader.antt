@@ -3,7 +3,7 @@ use Rattle.std.specs.Prelude.{◌≡◌, ◌≢◌, ⊤, IfSome, Bool, true, fal
 use Rattle.std.specs.Io.KnownBytes.{Consumes, IsAtEnd}
 use Rattle.std.specs.Option.{option_to_list}
 use Rattle.trace_core.specs.Reading.{Reading, ends, Ending, reading_after, at_end, at_failure}
-use Rattle.trace_core.specs.Device.{failures_after}
+use Rattle.trace_core.specs.Device.{SourceView, failures_after}
 use Rattle.trace_core.specs.declared.events.Entry.{Entry}
 use Rattle.trace_core.specs.declared.line.Format.{Format}
 use Rattle.trace_core.specs.declared.fault.TraceFault.{TraceFault}
@@ -84,12 +84,15 @@ stopped_answer state.Open = Ok None
 stopped_answer state.Ended = Ok None
 stopped_answer (state.Failed f) = Err f
 
--- A reader was begun when a source told of `before` and had failed `failures-before` times, and has read these entries since: the
--- source delivered some bytes and tells of `told` now, and whatever may follow them, the reading of these bytes is these entries
--- and then what the reader still gives. The source failed since just where the state says so.
-pub record Reached (format : Format) (limit : ℕ) (before told : Option (List ℕ)) (failures-before failures : ℕ) (xs : List (ℕ × Entry)) (p : Progress) : Type 0 where
+-- A reader was begun on a source seen as `start`, which is seen as `now`, and has read these entries since.
+pub record Reached (format : Format) (limit : ℕ) (start now : SourceView) (xs : List (ℕ × Entry)) (p : Progress) : Type 0 where
+  -- the bytes that the source delivered
   pub bytes : List ℕ
-  pub delivers : Delivers before told (device_failed p.state) bytes
-  pub reads : Advances told (begun format limit) p bytes xs
-  pub at_end : p.state ≡ state.Ended → IsAtEnd told
-  pub counted : failures ≡ failures_after (device_failed p.state) failures-before
+  -- they were the first of what it had to give
+  pub delivers : Delivers start.remaining now.remaining (device_failed p.state) bytes
+  -- whatever may follow them, they read as these entries and then what the reader still gives
+  pub reads : Advances now.remaining (begun format limit) p bytes xs
+  -- a reader at its end has left no byte
+  pub at_end : p.state ≡ state.Ended → IsAtEnd now.remaining
+  -- a read failed just where the state says so
+  pub counted : now.failures ≡ failures_after (device_failed p.state) start.failures

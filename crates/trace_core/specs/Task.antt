@@ -1,7 +1,7 @@
 -- What a run over a trace reads, and what it owes its sink.
-use Rattle.std.specs.Prelude.{◌≡◌, ℕ, List, [], ◌++◌, map, Option, None, Some, Bool, true, false, Result, Ok, Err}
-use Rattle.std.specs.Io.KnownBytes.{Appends}
-use Rattle.trace_core.specs.Device.{WritesPrefix, one_more, FlushesAtMostOnce}
+use Rattle.std.specs.Prelude.{◌≡◌, ℕ, List, [], ◌++◌, map, Option, None, Some, Bool, true, false, Result, Err, IfSome, OnOk}
+use Rattle.std.specs.Io.KnownBytes.{Appends, IsAtEnd}
+use Rattle.trace_core.specs.Device.{SourceView, SinkView, WritesPrefix, one_more, failures_after, FlushesAfter, FlushesAtMostOnce}
 use Rattle.trace_core.specs.Reading.{Reading, reading, cut_reading}
 use Rattle.trace_core.specs.Reader.{device_failed}
 use Rattle.trace_core.specs.declared.events.Entry.{Entry}
@@ -11,12 +11,17 @@ use Rattle.trace_core.specs.declared.fault.RunFault.{RunFault}
 use Rattle.trace_core.specs.declared.fault.RunFault.TheVariants.{Memory, Trace, Write}
 use Rattle.trace_core.specs.declared.reader.ReaderState.TheVariants as state
 
--- A run reads a trace of a format, of which it takes at most so many lines. Of a text without a fault it writes `whole`, and of
--- one with a fault `partial` of the entries before it.
+-- What a run over a trace reads, and what it has to write.
 pub record Task : Type 0 where
+  -- the format of the trace
   pub format : Format
+  -- how many lines it takes at most
   pub limit : ℕ
+  -- whether it writes while it reads, and not only after the end of the trace
+  pub writes_early : Bool
+  -- what it writes of a text without a fault
   pub whole : List ℕ → List ℕ
+  -- what it writes of these entries before a fault
   pub partial : List Entry → List ℕ
 
 -- entries without the numbers of their lines
@@ -36,53 +41,99 @@ output_for task text before (Some f) = task.partial before
 abbrev pub output : Task → List ℕ → List ℕ
 output task text = let r = reading task.format task.limit text in output_for task text (entries_in r) r.fault
 
--- The text has no fault. It was read to its end, and all of its output was written.
-pub record Completes (task : Task) (text : List ℕ) (told written-before written : Option (List ℕ)) : Type 0 where
+-- A run has read this text to its end and written all of its output. Devices are seen before and after the run, here and below.
+pub record Completes (task : Task) (text : List ℕ) (source' : SourceView) (sink sink' : SinkView) : Type 0 where
+  -- the text has no fault
   pub faultless : (reading task.format task.limit text).fault ≡ None
-  pub read : told ≡ Some []
-  pub wrote : Appends written-before written (task.whole text)
+  -- no byte is left to read
+  pub read : source'.remaining ≡ Some []
+  -- the output was written
+  pub wrote : Appends sink.written sink'.written (task.whole text)
 
--- This is the first fault of the text. What comes of the entries before it was written, and no more.
-pub record StopsAt (task : Task) (f : TraceFault) (text : List ℕ) (written-before written : Option (List ℕ)) : Type 0 where
+-- A run has met this fault of the text.
+pub record StopsAt (task : Task) (f : TraceFault) (text : List ℕ) (sink sink' : SinkView) : Type 0 where
+  -- it is the first fault
   pub first : (reading task.format task.limit text).fault ≡ Some f
-  pub wrote : Appends written-before written (task.partial (entries_in (reading task.format task.limit text)))
+  -- what comes of the entries before it was written, and no more
+  pub wrote : Appends sink.written sink'.written (task.partial (entries_in (reading task.format task.limit text)))
 
--- The source failed after it delivered some bytes, and this is their fault. What comes of the entries before it was written, and
--- no more.
-pub record CutsOff (task : Task) (f : TraceFault) (text rest : List ℕ) (written-before written : Option (List ℕ)) : Type 0 where
+-- The source of a run failed within this text, and left the rest.
+pub record CutsOff (task : Task) (f : TraceFault) (text rest : List ℕ) (sink sink' : SinkView) : Type 0 where
+  -- the bytes that it delivered before
   pub delivered : List ℕ
   pub delivers : text ≡ delivered ++ rest
+  -- this is their first fault
   pub first : (cut_reading task.format task.limit delivered).fault ≡ Some f
-  pub wrote : Appends written-before written (task.partial (entries_in (cut_reading task.format task.limit delivered)))
+  -- what comes of the entries before it was written, and no more
+  pub wrote : Appends sink.written sink'.written (task.partial (entries_in (cut_reading task.format task.limit delivered)))
 
--- The text has no fault. It was read to its end, and the sink failed after some part of the output.
-pub record BreaksOff (task : Task) (text : List ℕ) (told written-before written : Option (List ℕ)) : Type 0 where
+-- A run has read this text to its end, and the sink failed within its output.
+pub record BreaksOff (task : Task) (text : List ℕ) (source' : SourceView) (sink sink' : SinkView) : Type 0 where
+  -- the text has no fault
   pub faultless : (reading task.format task.limit text).fault ≡ None
-  pub read : told ≡ Some []
-  pub wrote : WritesPrefix written-before written (task.whole text)
+  -- no byte is left to read
+  pub read : source'.remaining ≡ Some []
+  -- some part of the output was written
+  pub wrote : WritesPrefix sink.written sink'.written (task.whole text)
 
 -- whether a fault of the trace is its source's failure
 abbrev pub is_failed_read : TraceFault → Bool
 is_failed_read f = device_failed (state.Failed f)
 
--- whether an answer says that the source failed
-abbrev pub source_failed : {T : Type 0} → Result T RunFault → Bool
-source_failed (Ok x) = false
-source_failed (Err Memory) = false
-source_failed (Err (Trace f)) = is_failed_read f
-source_failed (Err Write) = false
+-- What a run did that returned `Ok`.
+pub record Finished (task : Task) (source source' : SourceView) (sink sink' : SinkView) : Type 0 where
+  -- the text has no fault, was read to its end, and its whole output was written
+  pub completes : IfSome source.remaining (λ text. Completes task text source' sink sink')
+  -- no byte is left to read
+  pub at_end : IsAtEnd source'.remaining
+  -- no read failed
+  pub read_failures : source'.failures ≡ source.failures
+  -- no write failed
+  pub write_failures : sink'.failures ≡ sink.failures
+  -- the sink was flushed once
+  pub flushes : sink'.flushes ≡ one_more sink.flushes
 
--- whether an answer says that the sink failed
-abbrev pub sink_failed : {T : Type 0} → Result T RunFault → Bool
-sink_failed (Ok x) = false
-sink_failed (Err Memory) = false
-sink_failed (Err (Trace f)) = false
-sink_failed (Err Write) = true
+-- What a run did that returned this fault of the trace, or this failure of its source.
+pub record Stopped (task : Task) (f : TraceFault) (source source' : SourceView) (sink sink' : SinkView) : Type 0 where
+  -- a fault of the trace is the first of the text, and what comes of the entries before it was written
+  pub fault : is_failed_read f ≡ false → IfSome source.remaining (λ text. StopsAt task f text sink sink')
+  -- a failure of the source came after some bytes, and what comes of their entries was written
+  pub cut : is_failed_read f ≡ true → IfSome source.remaining (λ text. IfSome source'.remaining (λ rest. CutsOff task f text rest sink sink'))
+  -- one read failed where the fault is the source's failure, and none otherwise
+  pub read_failures : source'.failures ≡ failures_after (is_failed_read f) source.failures
+  -- no write failed
+  pub write_failures : sink'.failures ≡ sink.failures
+  -- the sink was not flushed
+  pub flushes : sink'.flushes ≡ sink.flushes
 
--- A run flushes its sink once where it writes the output of a whole text, and not at a fault of the trace. Where the sink failed,
--- it was the flush that failed or something before it.
-abbrev pub FlushesOnce : {T : Type 0} → ℕ → ℕ → Result T RunFault → Type 0
-FlushesOnce old new (Ok x) = new ≡ one_more old
-FlushesOnce old new (Err Memory) = new ≡ old
-FlushesOnce old new (Err (Trace f)) = new ≡ old
-FlushesOnce old new (Err Write) = FlushesAtMostOnce old new
+-- What a run did that returned a failed write: a write or the flush failed.
+pub record WriteFailed (task : Task) (source source' : SourceView) (sink sink' : SinkView) : Type 0 where
+  -- the sink took some part of the output
+  pub part : IfSome source.remaining (λ text. WritesPrefix sink.written sink'.written (output task text))
+  -- a run that does not write early had read the whole text, which has no fault
+  pub late : task.writes_early ≡ false → IfSome source.remaining (λ text. BreaksOff task text source' sink sink')
+  -- a run that does not write early has left no byte to read
+  pub at_end : task.writes_early ≡ false → IsAtEnd source'.remaining
+  -- no read failed
+  pub read_failures : source'.failures ≡ source.failures
+  -- one write failed, or the flush
+  pub write_failures : sink'.failures ≡ one_more sink.failures
+  -- the sink was flushed once or not at all
+  pub flushes : FlushesAtMostOnce sink.flushes sink'.flushes
+  -- a sink that was flushed had taken the whole output
+  pub last : IfSome source.remaining (λ text. FlushesAfter (task.whole text) sink sink')
+
+-- What a run of a task did to a source and a sink, by its result. Each device is seen through its view.
+pub record Performs {T S K : Type 0} (task : Task) (result : Result T RunFault) (source_view : S → SourceView) (source source' : S)
+    (sink_view : K → SinkView) (sink sink' : K) : Type 0 where
+  -- it finished
+  pub ok : OnOk result (Finished task (source_view source) (source_view source') (sink_view sink) (sink_view sink'))
+  -- it stopped at a fault of the trace, or at a failure of its source
+  pub trace : (f : TraceFault) → result ≡ Err (Trace f) →
+      Stopped task f (source_view source) (source_view source') (sink_view sink) (sink_view sink')
+  -- there, a run that does not write early has not touched its sink
+  pub silent : (f : TraceFault) → result ≡ Err (Trace f) → task.writes_early ≡ false → sink' ≡ sink
+  -- its sink failed
+  pub write : result ≡ Err Write → WriteFailed task (source_view source) (source_view source') (sink_view sink) (sink_view sink')
+  -- for want of memory it has touched neither device
+  pub memory : result ≡ Err Memory → (source' ≡ source) × (sink' ≡ sink)

@@ -63,12 +63,13 @@ impl Buffer {
     pub(crate) fn fill<S: Source>(&mut self, source: &mut S) -> Result<usize, DeviceFault>
         requires { length self.old < CAPACITY }
         ensures more { IfOk result (λ n. (more : List ℕ) × (length more ≡ n) × (self.new ≡ self.old ++ more)
-            × Consumes (S.remaining source.old) (S.remaining source.new) more) }
-        ensures end { IfOk result (λ n. n ≡ 0 → IsAtEnd (S.remaining source.new)) }
+            × Consumes (S.view source.old).remaining (S.view source.new).remaining more) }
+        ensures end { IfOk result (λ n. n ≡ 0 → IsAtEnd (S.view source.new).remaining) }
         ensures fits { length self.new ≤ CAPACITY }
         ensures fault { OnErr result ((self.new ≡ self.old)
-            × StaysOrUntold (S.remaining source.old) (S.remaining source.new)) }
-        ensures counted { CountsFailure (S.failures source.old) (S.failures source.new) result }
+            × StaysOrUntold (S.view source.old).remaining (S.view source.new).remaining) }
+        ensures counted { CountsFailure
+            (S.view source.old).failures (S.view source.new).failures result }
     {
         let held = self.end - self.start;
         shift(&mut self.bytes, self.start, self.end);

@@ -81,8 +81,8 @@ impl<'a> TapeSource<'a> {
     /// fails (0: none). It goes on with the text after a failure.
     pub fn new(text: &'a [u8], most: usize, fails_at: u64) -> TapeSource<'a>
         requires { 0 < most }
-        ensures failures { ⟦<TapeSource<'a> as Source>⟧.failures result ≡ 0 }
-        ensures bytes { ⟦<TapeSource<'a> as Source>⟧.remaining result ≡ Some text.entry.now }
+        ensures view { ⟦<TapeSource<'a> as Source>⟧.view result
+            ≡ record { remaining = Some text.entry.now; failures = 0 } }
         ensures calls { (result.calls ≡ 0) × (result.fails_at ≡ fails_at) }
         ensures most { result.most ≡ most }
     {
@@ -102,15 +102,13 @@ impl<'a> TapeSource<'a> {
 }
 
 impl<'a> Source for TapeSource<'a> {
-    ghost failures = { λ s. s.failures };
-
-    ghost remaining = { λ s. Some s.rest };
+    ghost view = { λ s. record { remaining = Some s.rest; failures = s.failures } };
 
     fn read(&mut self, into: &mut [u8]) -> Result<usize, DeviceFault>
         // The source's clauses.
         ensures bound { IfOk result (λ n. n ≤ length into.new) }
-        ensures bytes { Gives (Some self.old.rest) (Some self.new.rest) result into.new }
-        ensures counted { CountsFailure self.old.failures self.new.failures result }
+        ensures gives { let view = ⟦<TapeSource<'a> as Source>⟧.view in
+            Gives (view self.old) (view self.new) result into.new }
 
         // Each is a call, and just the one with the number `fails_at` fails.
         ensures one_call { self.new.calls ≡ one_more self.old.calls }
@@ -160,15 +158,13 @@ impl<'a> LoopSource<'a> {
 }
 
 impl<'a> Source for LoopSource<'a> {
-    ghost failures = { λ _. 0 };
-
-    ghost remaining = { λ _. None };
+    ghost view = { λ _. record { remaining = None; failures = 0 } };
 
     fn read(&mut self, into: &mut [u8]) -> Result<usize, DeviceFault>
         // The source's clauses, which say little where nothing is told.
         ensures bound { IfOk result (λ n. n ≤ length into.new) }
-        ensures bytes { Gives None None result into.new }
-        ensures counted { CountsFailure 0 0 result }
+        ensures gives { let view = ⟦<LoopSource<'a> as Source>⟧.view in
+            Gives (view self.old) (view self.new) result into.new }
 
         // It gives the first bytes of its round, and these come last in the next one.
         ensures ok { IsOk result }
@@ -226,9 +222,8 @@ impl ArraySink {
     /// it is full.
     pub fn new(most: usize, fails_at: u64) -> ArraySink
         requires { 0 < most }
-        ensures failures { ⟦<ArraySink as Sink>⟧.failures result ≡ 0 }
-        ensures bytes { ⟦<ArraySink as Sink>⟧.written result ≡ Some [] }
-        ensures flushes { ⟦<ArraySink as Sink>⟧.flushes result ≡ 0 }
+        ensures view { ⟦<ArraySink as Sink>⟧.view result
+            ≡ record { written = Some []; failures = 0; flushes = 0 } }
         ensures calls { (result.calls ≡ 0) × (result.fails_at ≡ fails_at) }
         ensures most { result.most ≡ most }
     {
@@ -243,7 +238,7 @@ impl ArraySink {
 
     /// The bytes that were written.
     pub fn held(&self) -> &[u8]
-        ensures { ⟦<ArraySink as Sink>⟧.written self.now ≡ Some result.now }
+        ensures { (⟦<ArraySink as Sink>⟧.view self.now).written ≡ Some result.now }
     {
         &self.bytes[..self.filled]
     }
@@ -257,19 +252,18 @@ impl ArraySink {
 }
 
 impl Sink for ArraySink {
-    ghost failures = { λ s. s.failures };
-
-    ghost written = { λ s. Some s.bytes };
-
-    ghost flushes = { λ s. s.flushes };
+    ghost view = { λ s. record {
+      written = Some s.bytes;
+      failures = s.failures;
+      flushes = s.flushes;
+    } };
 
     fn write(&mut self, from: &[u8]) -> Result<usize, DeviceFault>
         // The sink's clauses.
         ensures bound { IfOk result (λ n. n ≤ length from.now) }
         ensures some { IfOk result (λ n. 0 < length from.now → 0 < n) }
-        ensures bytes { Takes (Some self.old.bytes) (Some self.new.bytes) result from.now }
-        ensures counted { CountsFailure self.old.failures self.new.failures result }
-        ensures unflushed { self.new.flushes ≡ self.old.flushes }
+        ensures takes { let view = ⟦<ArraySink as Sink>⟧.view in
+            Takes (view self.old) (view self.new) result from.now }
 
         // Each is a call. It fails just where it has the number `fails_at`, or bytes and no room.
         ensures one_call { self.new.calls ≡ one_more self.old.calls }

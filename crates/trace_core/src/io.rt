@@ -1,7 +1,7 @@
 //! Where bytes come from and go to, how often that failed, and how often a sink was flushed.
-ghost use Rattle.std.specs.Prelude.{◌≡◌, ℕ, ◌<◌, ◌≤◌, ◌==◌, List, Option, None, IfOk, OnOk, OnErr, MatchResult, length, if◌then◌else◌};
-ghost use Rattle.std.specs.Io.KnownBytes.{Keeps, Appends, ReadConsumes, WriteAppends};
-ghost use Rattle.trace_core.specs.Device.{CountsFailure, Gives, Takes, StaysOrUntold, WritesPrefix, one_more};
+ghost use Rattle.std.specs.Prelude.{◌≡◌, ◌<◌, ◌≤◌, ◌==◌, None, IfOk, length, if◌then◌else◌};
+ghost use Rattle.std.specs.Io.KnownBytes.{ReadConsumes, WriteAppends};
+ghost use Rattle.trace_core.specs.Device.{SourceView, SinkView, Gives, Takes, Flushes, Writes};
 
 use std::io::{Read, Write};
 
@@ -11,45 +11,31 @@ pub struct DeviceFault;
 
 /// Where bytes come from.
 pub trait Source {
-    /// How often calls failed so far, a stored `u64` that stays at its greatest value.
-    ghost failures: { Self → ℕ };
-
-    /// The bytes still to come; `None` where the device does not say.
-    ghost remaining: { Self → Option (List ℕ) };
+    /// What contracts see of a source: the bytes still to come, and how often calls failed so far.
+    ghost view: { Self → SourceView };
 
     /// Puts bytes into the front of `into`, and answers how many. 0 for a nonempty slice means the
     /// end.
     fn read(&mut self, into: &mut [u8]) -> Result<usize, DeviceFault>
         ensures bound { IfOk result (λ n. n ≤ length into.new) }
-        ensures bytes { Gives (remaining self.old) (remaining self.new) result into.new }
-        ensures counted { CountsFailure (failures self.old) (failures self.new) result };
+        ensures gives { Gives (view self.old) (view self.new) result into.new };
 }
 
 /// Where bytes go to.
 pub trait Sink {
-    /// How often calls failed so far, a stored `u64` that stays at its greatest value.
-    ghost failures: { Self → ℕ };
-
-    /// The bytes written; `None` where the device does not say.
-    ghost written: { Self → Option (List ℕ) };
-
-    /// How often `flush` was called so far, a stored `u64` that stays at its greatest value.
-    ghost flushes: { Self → ℕ };
+    /// What contracts see of a sink: the bytes written, and how often calls failed and `flush` was
+    /// called so far.
+    ghost view: { Self → SinkView };
 
     /// Takes bytes from the front of `from`, and answers how many.
     fn write(&mut self, from: &[u8]) -> Result<usize, DeviceFault>
         ensures bound { IfOk result (λ n. n ≤ length from.now) }
         ensures some { IfOk result (λ n. 0 < length from.now → 0 < n) }
-        ensures bytes { Takes (written self.old) (written self.new) result from.now }
-        ensures counted { CountsFailure (failures self.old) (failures self.new) result }
-        ensures unflushed { flushes self.new ≡ flushes self.old };
+        ensures takes { Takes (view self.old) (view self.new) result from.now };
 
     /// Passes on what a device below holds back. A call that fails is a flush too.
     fn flush(&mut self) -> Result<(), DeviceFault>
-        ensures bytes { MatchResult result (λ _. Keeps (written self.old) (written self.new))
-            (λ _. StaysOrUntold (written self.old) (written self.new)) }
-        ensures counted { CountsFailure (failures self.old) (failures self.new) result }
-        ensures flushed { flushes self.new ≡ one_more (flushes self.old) };
+        ensures { Flushes (view self.old) (view self.new) result };
 }
 
 /// A source over a reader. Every error of the reader, `Interrupted` included, is one failure, and
@@ -63,8 +49,8 @@ pub struct FromRead<R: Drop> {
 impl<R: Read + Drop> FromRead<R> {
     /// A source over this reader, of which no call failed yet.
     pub fn new(reader: R) -> FromRead<R>
-        ensures failures { ⟦<FromRead<R> as Source>⟧.failures result ≡ 0 }
-        ensures bytes { ⟦<FromRead<R> as Source>⟧.remaining result ≡ R.remaining reader }
+        ensures { ⟦<FromRead<R> as Source>⟧.view result
+            ≡ record { remaining = R.remaining reader; failures = 0 } }
     {
         FromRead {
             reader,
@@ -74,15 +60,16 @@ impl<R: Read + Drop> FromRead<R> {
 }
 
 impl<R: Read + Drop> Source for FromRead<R> {
-    ghost failures = { λ s. s.failures };
-
-    ghost remaining = { λ s. if s.failures == 0 then R.remaining s.reader else None };
+    ghost view = { λ s. record {
+      remaining = if s.failures == 0 then R.remaining s.reader else None;
+      failures = s.failures;
+    } };
 
     fn read(&mut self, into: &mut [u8]) -> Result<usize, DeviceFault>
         // The source's clauses.
         ensures bound { IfOk result (λ n. n ≤ length into.new) }
-        ensures bytes { Gives (⟦<FromRead<R> as Source>⟧.remaining self.old) (⟦<FromRead<R> as Source>⟧.remaining self.new) result into.new }
-        ensures counted { CountsFailure self.old.failures self.new.failures result }
+        ensures gives { let view = ⟦<FromRead<R> as Source>⟧.view in
+            Gives (view self.old) (view self.new) result into.new }
 
         // What it answers was read of the reader, and nothing was at a fault, also after one.
         ensures passed { ReadConsumes (R.remaining self.old.reader) (R.remaining self.new.reader) result into.new }
@@ -109,9 +96,8 @@ pub struct ToWrite<W: Drop> {
 impl<W: Write + Drop> ToWrite<W> {
     /// A sink over this writer, of which no call failed yet, and which was not flushed.
     pub fn new(writer: W) -> ToWrite<W>
-        ensures failures { ⟦<ToWrite<W> as Sink>⟧.failures result ≡ 0 }
-        ensures bytes { ⟦<ToWrite<W> as Sink>⟧.written result ≡ W.contents writer }
-        ensures flushes { ⟦<ToWrite<W> as Sink>⟧.flushes result ≡ 0 }
+        ensures { ⟦<ToWrite<W> as Sink>⟧.view result
+            ≡ record { written = W.contents writer; failures = 0; flushes = 0 } }
     {
         ToWrite {
             writer,
@@ -122,19 +108,18 @@ impl<W: Write + Drop> ToWrite<W> {
 }
 
 impl<W: Write + Drop> Sink for ToWrite<W> {
-    ghost failures = { λ s. s.failures };
-
-    ghost written = { λ s. if s.failures == 0 then W.contents s.writer else None };
-
-    ghost flushes = { λ s. s.flushes };
+    ghost view = { λ s. record {
+      written = if s.failures == 0 then W.contents s.writer else None;
+      failures = s.failures;
+      flushes = s.flushes;
+    } };
 
     fn write(&mut self, from: &[u8]) -> Result<usize, DeviceFault>
         // The sink's clauses.
         ensures bound { IfOk result (λ n. n ≤ length from.now) }
         ensures some { IfOk result (λ n. 0 < length from.now → 0 < n) }
-        ensures bytes { Takes (⟦<ToWrite<W> as Sink>⟧.written self.old) (⟦<ToWrite<W> as Sink>⟧.written self.new) result from.now }
-        ensures counted { CountsFailure self.old.failures self.new.failures result }
-        ensures unflushed { self.new.flushes ≡ self.old.flushes }
+        ensures takes { let view = ⟦<ToWrite<W> as Sink>⟧.view in
+            Takes (view self.old) (view self.new) result from.now }
 
         // What it answers was written to the writer, and nothing was at a fault, also after one.
         ensures passed { WriteAppends (W.contents self.old.writer) (W.contents self.new.writer) result from.now }
@@ -163,10 +148,7 @@ impl<W: Write + Drop> Sink for ToWrite<W> {
 /// Writes all the bytes, in as many calls as it takes. It doesn't flush, and stops at the first
 /// failure.
 pub fn write_all<S: Sink>(sink: &mut S, bytes: &[u8]) -> Result<(), DeviceFault>
-    ensures ok { OnOk result (Appends (S.written sink.old) (S.written sink.new) bytes.now) }
-    ensures counted { CountsFailure (S.failures sink.old) (S.failures sink.new) result }
-    ensures fault { OnErr result (WritesPrefix (S.written sink.old) (S.written sink.new) bytes.now) }
-    ensures unflushed { S.flushes sink.new ≡ S.flushes sink.old }
+    ensures { Writes (S.view sink.old) (S.view sink.new) result bytes.now }
 {
     let mut rest = bytes;
     while !rest.is_empty() {

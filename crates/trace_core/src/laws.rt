@@ -2,6 +2,7 @@
 //! proves it. Proofs above may cite the lemma behind it.
 ghost use Rattle.std.specs.Prelude.{◌≡◌, ℕ, List, [], ◌++◌, Option, None, Some, Err, false, ◌↔◌, All, IsOk, is_ok, slice_get, take, drop, ◌+◌, filter_map, flat_map};
 ghost use Rattle.std.specs.List.{enumerate_from, prefix_len, slice_split};
+ghost use Rattle.trace_core.specs.Device.{SourceView};
 ghost use Rattle.trace_core.specs.Events.{events_of};
 ghost use Rattle.trace_core.specs.Lines.{is_line_feed, lines, line_feeds, without_empty_last};
 ghost use Rattle.trace_core.specs.Reader.{Progress, Reached, begun, device_failed, entries_then};
@@ -65,30 +66,30 @@ pub fn faultless_reading_is_whole()
 
 /// A reader that began has read nothing.
 pub fn begun_reader_has_read_nothing()
-    ensures { (format : Format) (limit : ℕ) (told : Option (List ℕ)) (failures : ℕ) →
-        Reached format limit told told failures failures [] (begun format limit) }
+    ensures { (format : Format) (limit : ℕ) (start : SourceView) →
+        Reached format limit start start [] (begun format limit) }
 {}
 
 /// A reader at its end gave the entries of the whole text, which has no fault, and nothing is left
 /// of the text.
 pub fn ended_reader_has_read_all()
-    ensures reading { (format : Format) (limit : ℕ) (text : List ℕ) (told : Option (List ℕ))
-        (failures-before failures : ℕ) (given : List (ℕ × Entry)) (reader : Progress) →
-        Reached format limit (Some text) told failures-before failures given reader →
+    ensures reading { (format : Format) (limit : ℕ) (text : List ℕ) (start now : SourceView)
+        (given : List (ℕ × Entry)) (reader : Progress) →
+        start.remaining ≡ Some text → Reached format limit start now given reader →
         reader.state ≡ ReaderState.Ended →
         reading format limit text ≡ record { entries = given; fault = None } }
-    ensures left { (format : Format) (limit : ℕ) (text : List ℕ) (told : Option (List ℕ))
-        (failures-before failures : ℕ) (given : List (ℕ × Entry)) (reader : Progress) →
-        Reached format limit (Some text) told failures-before failures given reader →
-        reader.state ≡ ReaderState.Ended → told ≡ Some [] }
+    ensures left { (format : Format) (limit : ℕ) (text : List ℕ) (start now : SourceView)
+        (given : List (ℕ × Entry)) (reader : Progress) →
+        start.remaining ≡ Some text → Reached format limit start now given reader →
+        reader.state ≡ ReaderState.Ended → now.remaining ≡ Some [] }
 {}
 
 /// A reader that met a fault of the trace met the first fault of the text, and gave the entries
 /// before it.
 pub fn failed_reader_met_the_first_fault()
-    ensures { (format : Format) (limit : ℕ) (text : List ℕ) (told : Option (List ℕ))
-        (failures-before failures : ℕ) (given : List (ℕ × Entry)) (reader : Progress) (fault : TraceFault) →
-        Reached format limit (Some text) told failures-before failures given reader →
+    ensures { (format : Format) (limit : ℕ) (text : List ℕ) (start now : SourceView)
+        (given : List (ℕ × Entry)) (reader : Progress) (fault : TraceFault) →
+        start.remaining ≡ Some text → Reached format limit start now given reader →
         reader.state ≡ ReaderState.Failed fault → device_failed reader.state ≡ false →
         reading format limit text ≡ record { entries = given; fault = Some fault } }
 {}
@@ -96,9 +97,10 @@ pub fn failed_reader_met_the_first_fault()
 /// A reader whose source failed gave the entries of the bytes that the source delivered, and the
 /// failure is the first fault of these.
 pub fn cut_reader_has_read_what_was_delivered()
-    ensures { (format : Format) (limit : ℕ) (text rest : List ℕ) (failures-before failures : ℕ)
+    ensures { (format : Format) (limit : ℕ) (text rest : List ℕ) (start now : SourceView)
         (given : List (ℕ × Entry)) (reader : Progress) (line : ℕ) →
-        Reached format limit (Some text) (Some rest) failures-before failures given reader →
+        start.remaining ≡ Some text → now.remaining ≡ Some rest →
+        Reached format limit start now given reader →
         reader.state ≡ ReaderState.Failed (TraceFault.Read line) →
         (delivered : List ℕ) × (text ≡ delivered ++ rest)
         × (cut_reading format limit delivered ≡ record { entries = given; fault = Some (TraceFault.Read line) }) }
@@ -106,9 +108,9 @@ pub fn cut_reader_has_read_what_was_delivered()
 
 /// A reader that reads on gave the first entries of the text.
 pub fn open_reader_has_read_the_first_entries()
-    ensures { (format : Format) (limit : ℕ) (text : List ℕ) (told : Option (List ℕ))
-        (failures-before failures : ℕ) (given : List (ℕ × Entry)) (reader : Progress) →
-        Reached format limit (Some text) told failures-before failures given reader →
+    ensures { (format : Format) (limit : ℕ) (text : List ℕ) (start now : SourceView)
+        (given : List (ℕ × Entry)) (reader : Progress) →
+        start.remaining ≡ Some text → Reached format limit start now given reader →
         reader.state ≡ ReaderState.Open →
         (later : Reading) × (reading format limit text ≡ entries_then given later) }
 {}

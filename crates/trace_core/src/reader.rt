@@ -1,6 +1,6 @@
 //! Reading a trace.
 ghost use Rattle.std.specs.Prelude.{◌≡◌, ◌≢◌, ℕ, ◌<◌, ◌≤◌, List, ◌++◌, Option, IfOk, IfSome};
-ghost use Rattle.trace_core.specs.Device.{failures_after};
+ghost use Rattle.trace_core.specs.Device.{SourceView, failures_after};
 
 use crate::buffer::Buffer;
 use crate::events::Entry;
@@ -71,11 +71,9 @@ impl Lines {
     #[inline(always)]
     pub fn next<S: Source>(&mut self, source: &mut S) -> Result<Option<(u64, Entry)>, TraceFault>
         // What was read of a source is read on.
-        ensures reached { (format : Format) (limit : ℕ) (before : Option (List ℕ)) (failures : ℕ)
-            (xs : List (ℕ × Entry)) →
-            Reached format limit before (S.remaining source.old) failures (S.failures source.old) xs self.old →
-            Reached format limit before (S.remaining source.new) failures (S.failures source.new)
-            (xs ++ answered result) self.new }
+        ensures reached { (format : Format) (limit : ℕ) (start : SourceView)
+            (xs : List (ℕ × Entry)) → Reached format limit start (S.view source.old) xs self.old →
+            Reached format limit start (S.view source.new) (xs ++ answered result) self.new }
 
         // The state tells what was answered, and after the end and after a fault it is answered
         // again, without a read.
@@ -85,8 +83,8 @@ impl Lines {
             × (result ≡ stopped_answer self.old.state) }
 
         // The source failed in just the calls that go from an open reader to a failed device.
-        ensures counted { self.old.state ≡ ReaderState.Open → S.failures source.new
-            ≡ failures_after (device_failed self.new.state) (S.failures source.old) }
+        ensures counted { self.old.state ≡ ReaderState.Open → (S.view source.new).failures
+            ≡ failures_after (device_failed self.new.state) (S.view source.old).failures }
 
         // An entry bears the number of the last line that was read.
         ensures entry { IfOk result (λ found. IfSome found (λ x.

@@ -28,18 +28,18 @@ pub(crate) struct Scan {
 }
 
 impl Scan {
-    ghost use Rattle.trace_core.specs.Scan.{progress, left_to_limit, Reads, KeepsTask, BearsLine};
+    ghost use Rattle.trace_core.specs.Scan.{progress, left_to_limit, Reads, Steps, Judges};
+    ghost use Rattle.trace_core.specs.Scan.{KeepsTask, BearsLine};
     ghost use Rattle.trace_core.specs.Reader.{Advances, device_failed};
 
     /// Reads on to the next entry. Without one, the state says why.
     #[inline(always)]
     pub(crate) fn next<S: Source>(&mut self, source: &mut S) -> Option<(u64, Entry)>
-        ensures advances { Reads (S.remaining source.old) (S.remaining source.new)
-            self.old self.new result }
+        ensures advances { Reads (S.view source.old) (S.view source.new) self.old self.new result }
         ensures at_end { self.old.state ≡ ReaderState.Open → self.new.state ≡ ReaderState.Ended →
-            IsAtEnd (S.remaining source.new) }
-        ensures counted { self.old.state ≡ ReaderState.Open → S.failures source.new
-            ≡ failures_after (device_failed self.new.state) (S.failures source.old) }
+            IsAtEnd (S.view source.new).remaining }
+        ensures counted { self.old.state ≡ ReaderState.Open → (S.view source.new).failures
+            ≡ failures_after (device_failed self.new.state) (S.view source.old).failures }
         ensures stopped { self.old.state ≢ ReaderState.Open → (source.new ≡ source.old)
             × (self.new ≡ self.old) × (result ≡ None) }
         ensures same { KeepsTask self.old self.new }
@@ -59,16 +59,8 @@ impl Scan {
     #[inline(always)]
     fn step<S: Source>(&mut self, source: &mut S) -> Option<(u64, Entry)>
         requires { self.old.state ≡ ReaderState.Open }
-        ensures advances { Reads (S.remaining source.old) (S.remaining source.new)
-            self.old self.new result }
-        ensures at_end { self.new.state ≡ ReaderState.Ended → IsAtEnd (S.remaining source.new) }
-        ensures counted { S.failures source.new
-            ≡ failures_after (device_failed self.new.state) (S.failures source.old) }
-        ensures same { KeepsTask self.old self.new }
-        ensures entry { BearsLine self.old self.new result }
-        ensures lines { self.old.lines ≤ self.new.lines }
-        ensures goes_on { OnSome result ((f : TraceFault) → self.new.state ≢ ReaderState.Failed f) }
-        ensures nearer { self.new.state ≡ ReaderState.Open → left_to_limit self.new < left_to_limit self.old }
+        ensures advances { Reads (S.view source.old) (S.view source.new) self.old self.new result }
+        ensures steps { Steps (S.view source.old) (S.view source.new) self.old self.new result }
     {
         let unread = self.buffer.as_slice();
         if self.lines == self.limit && !unread.is_empty() {
@@ -88,16 +80,8 @@ impl Scan {
     fn step_any<S: Source>(&mut self, source: &mut S) -> Option<(u64, Entry)>
         requires open { self.old.state ≡ ReaderState.Open }
         requires below { 0 < length self.old.buffer → self.old.lines < self.old.limit }
-        ensures advances { Reads (S.remaining source.old) (S.remaining source.new)
-            self.old self.new result }
-        ensures at_end { self.new.state ≡ ReaderState.Ended → IsAtEnd (S.remaining source.new) }
-        ensures counted { S.failures source.new
-            ≡ failures_after (device_failed self.new.state) (S.failures source.old) }
-        ensures same { KeepsTask self.old self.new }
-        ensures entry { BearsLine self.old self.new result }
-        ensures lines { self.old.lines ≤ self.new.lines }
-        ensures goes_on { OnSome result ((f : TraceFault) → self.new.state ≢ ReaderState.Failed f) }
-        ensures nearer { self.new.state ≡ ReaderState.Open → left_to_limit self.new < left_to_limit self.old }
+        ensures advances { Reads (S.view source.old) (S.view source.new) self.old self.new result }
+        ensures steps { Steps (S.view source.old) (S.view source.new) self.old self.new result }
     {
         match memchr(b'\n', self.buffer.as_slice()) {
             Some(at) => self.take_line(at),
@@ -130,10 +114,7 @@ impl Scan {
         ensures advances { (told : Option (List ℕ)) →
             Advances told (progress self.old) (progress self.new) [] (option_to_list result) }
         ensures state { self.new.state ≢ ReaderState.Ended }
-        ensures device { device_failed self.new.state ≡ device_failed ReaderState.Open }
-        ensures same { KeepsTask self.old self.new }
-        ensures entry { BearsLine self.old self.new result }
-        ensures lines { self.old.lines ≤ self.new.lines }
+        ensures judges { Judges self.old self.new result }
         ensures goes_on { OnSome result (self.new.state ≡ ReaderState.Open) }
         ensures nearer { self.new.state ≡ ReaderState.Open → left_to_limit self.new < left_to_limit self.old }
     {
@@ -157,16 +138,9 @@ impl Scan {
         requires open { self.old.state ≡ ReaderState.Open }
         requires no_line { IsFirstByte (is_byte 10) self.old.buffer None }
         requires below { 0 < length self.old.buffer → self.old.lines < self.old.limit }
-        ensures advances { Reads (S.remaining source.old) (S.remaining source.new)
-            self.old self.new result }
-        ensures at_end { self.new.state ≡ ReaderState.Ended → IsAtEnd (S.remaining source.new) }
-        ensures counted { S.failures source.new
-            ≡ failures_after (device_failed self.new.state) (S.failures source.old) }
-        ensures same { KeepsTask self.old self.new }
-        ensures entry { BearsLine self.old self.new result }
-        ensures lines { self.old.lines ≤ self.new.lines }
-        ensures goes_on { OnSome result (self.new.state ≡ ReaderState.Ended) }
-        ensures nearer { self.new.state ≡ ReaderState.Open → left_to_limit self.new < left_to_limit self.old }
+        ensures advances { Reads (S.view source.old) (S.view source.new) self.old self.new result }
+        ensures steps { Steps (S.view source.old) (S.view source.new) self.old self.new result }
+        ensures ends { OnSome result (self.new.state ≡ ReaderState.Ended) }
     {
         let line = self.lines + 1;
         if self.buffer.as_slice().len() > MAX_LINE {
@@ -194,10 +168,7 @@ impl Scan {
         ensures advances { (told : Option (List ℕ)) → IsAtEnd told →
             Advances told (progress self.old) (progress self.new) [] (option_to_list result) }
         ensures state { self.new.state ≢ ReaderState.Open }
-        ensures device { device_failed self.new.state ≡ device_failed ReaderState.Open }
-        ensures same { KeepsTask self.old self.new }
-        ensures entry { BearsLine self.old self.new result }
-        ensures lines { self.old.lines ≤ self.new.lines }
+        ensures judges { Judges self.old self.new result }
         ensures goes_on { OnSome result (self.new.state ≡ ReaderState.Ended) }
     {
         let unread = self.buffer.as_slice();

@@ -33,9 +33,7 @@ impl<'a> Repeated<'a> {
 }
 
 impl<'a> Source for Repeated<'a> {
-    ghost failures = { λ _. 0 };
-
-    ghost remaining = { λ _. None };
+    ghost view = { λ _. record { remaining = None; failures = 0 } };
 
     fn read(&mut self, into: &mut [u8]) -> Result<usize, DeviceFault> {
         self.calls = self.calls.saturating_add(1);

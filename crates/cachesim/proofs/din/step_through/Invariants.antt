@@ -5,8 +5,7 @@ use Rattle.cachesim.proofs.din.step_through.Given as goal
 -- the system was stepped through the entries that were read, at most two references a line
 abbrev pub invariant-loop-entry : goal.invariant-loop-entry
 invariant-loop-entry g l =
-    StepsThrough l.fn.lines.format l.fn.lines.limit (g.S.Source.remaining l.initial.source) (g.S.Source.remaining l.source)
-    (g.S.Source.failures l.initial.source) (g.S.Source.failures l.source) l.lines l.fn.system l.system
+    StepsThrough l.fn.lines.format l.fn.lines.limit (g.S.Source.view l.initial.source) (g.S.Source.view l.source) l.lines l.fn.system l.system
     × (l.system.steps ≤ 2 * l.lines.lines)
     × (l.lines.limit ≤ 2 ^ 40)
 

@@ -7,7 +7,7 @@ use Rattle.sweep_core.proofs.pass.read_trace.Given as goal
 -- the entries that were read were fed, at most two references a line
 abbrev pub invariant-loop-entry : goal.invariant-loop-entry
 invariant-loop-entry g l =
-    Feeds l.kind l.fn.lines.format l.fn.lines.limit (g.S.Source.remaining l.initial.source) (g.S.Source.remaining l.source) (g.S.Source.failures l.initial.source) (g.S.Source.failures l.source) l.lines l.fn.profiles l.profiles
+    Feeds l.kind l.fn.lines.format l.fn.lines.limit (g.S.Source.view l.initial.source) (g.S.Source.view l.source) l.lines l.fn.profiles l.profiles
     × All (λ x. fed_of x.profile ≤ 2 * l.lines.lines) l.profiles
     × (l.lines.limit ≤ 2 ^ 40)
 

@@ -1,4 +1,4 @@
-use Rattle.std.proofs.Common.{◌≡◌, List}
+use Rattle.std.proofs.Common.{List}
 use Rattle.trace_core.specs.declared.events.Event.{Event}
 use Rattle.sweep_core.specs.SweepText.{rows_of}
 use Rattle.sweep_core.specs.Pass.{Swept}
@@ -9,7 +9,5 @@ use Rattle.sweep_core.proofs.table.write_rows.Given as goal
 -- the rows so far were passed on, and the profiles that are left serve the others
 abbrev pub invariant-loop-config : goal.invariant-loop-config
 invariant-loop-config g l =
-    ((es : List Event) → Swept l.request es l.profiles → Walks es l.left l.tally l.config-iterator
-    × Written (rows_of l.request) es (g.K.Sink.written l.initial.sink) (g.K.Sink.written l.sink) l.initial.gathered l.gathered l.config-iterator)
-    × (g.K.Sink.failures l.sink ≡ g.K.Sink.failures l.initial.sink)
-    × (g.K.Sink.flushes l.sink ≡ g.K.Sink.flushes l.initial.sink)
+    (es : List Event) → Swept l.request es l.profiles → Walks es l.left l.tally l.config-iterator
+    × Written (rows_of l.request) es (g.K.Sink.view l.initial.sink) (g.K.Sink.view l.sink) l.initial.gathered l.gathered l.config-iterator

@@ -5,7 +5,7 @@ use Rattle.trace_core.proofs.scan.Scan.next.Given as goal
 
 abbrev pub invariant-loop-self : goal.invariant-loop-self
 invariant-loop-self g l =
-    Skips (g.S.Source.remaining l.initial.source) (g.S.Source.remaining l.source) (g.S.Source.failures l.initial.source) (g.S.Source.failures l.source) l.initial.self l.self
+    Skips (g.S.Source.view l.initial.source) (g.S.Source.view l.source) l.initial.self l.self
     × (l.initial.self.state ≢ state.Open → (l.source ≡ l.initial.source) × (l.self ≡ l.initial.self))
 
 abbrev pub decreases-loop-self : goal.decreases-loop-self
