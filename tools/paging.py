@@ -2,6 +2,7 @@
 
 import math
 import os
+import signal
 import sys
 
 HERE = os.path.dirname(os.path.realpath(__file__))
@@ -35,46 +36,52 @@ def number_of_jobs(word):
 def find_cachesim():
     """The path of the program: $CACHESIM, else that of this checkout, else the one on the path."""
     named = os.environ.get("CACHESIM")
-    if named:
-        if not os.access(named, os.X_OK):
-            fail(f"{named} is no program that can be run")
-        return named
     places = [os.path.join(HERE, "../crates/cachesim/out"), *os.environ.get("PATH", "").split(":")]
-    for path in (os.path.join(place, "cachesim") for place in places):
-        if os.access(path, os.X_OK):
-            return path
-    fail("no program cachesim: build it by 'make', or set CACHESIM to its path")
+    for path in [named] if named else [os.path.join(place, "cachesim") for place in places]:
+        if os.path.isfile(path) and os.access(path, os.X_OK):
+            return os.path.join(".", path)
+    fail(f"{named} is no program that can be run" if named else "no program cachesim: build it by 'make', or set CACHESIM to its path")
 
 
 def start(words, stdin=0, stdout=1, stderr=2, **given):
     """Starts a command with these descriptors as its first three, and answers the number of its process."""
+    signal.signal(signal.SIGCHLD, signal.SIG_DFL)  # where it is ignored, the end of a process can't be waited for
     ends = [(os.POSIX_SPAWN_DUP2, end, number) for number, end in enumerate((stdin, stdout, stderr))]
     return os.posix_spawnp(words[0], words, os.environ, file_actions=ends, **given)
 
 
 class Pair:
-    """A block size and a number of sets: how many rows they have, the triple of the last one, and what they cost."""
+    """A block size and a number of sets: how many rows they have, and the greatest associativity."""
 
     def __init__(self, bsize, sets):
-        self.rows, self.way = 0, int(bsize) * int(sets)
+        self.bsize, self.sets, self.rows, self.assoc = bsize, sets, 0, "0"
 
-    def add(self, bsize, sets, assoc):
-        self.rows += 1
-        self.last, self.cost = f"{bsize},{sets},{assoc}", 1 + 8 * math.log2(1 + int(assoc)) / self.way ** (2 / 3)
+    @property
+    def last(self):
+        return f"{self.bsize},{self.sets},{self.assoc}"
+
+    @property
+    def cost(self):
+        return 1 + 8 * math.log2(1 + int(self.assoc)) / (int(self.bsize) * int(self.sets)) ** (2 / 3)
 
 
 def pairs_of(program, options):
     """The pairs of a table, in its order. Its rows are those of the empty trace. Where the program refuses the options, it has
     told why, and this tool ends as it did."""
     read, write = os.pipe()
-    lister = start([program, "sweep", "-t", "/dev/null", *options], stdout=write)
+    try:
+        lister = start([program, "sweep", "-t", "/dev/null", *options], stdout=write)
+    except OSError as fault:
+        fail(f"{program} can't be run: {fault.strerror}")
     os.close(write)
     pairs = {}
     with open(read, encoding="ascii") as lines:
         for line in lines:
             bsize, sets, assoc, _ = line.split(",", 3)
             if bsize != "bsize":
-                pairs.setdefault((bsize, sets), Pair(bsize, sets)).add(bsize, sets, assoc)
+                pair = pairs.setdefault((bsize, sets), Pair(bsize, sets))
+                pair.rows += 1
+                pair.assoc = assoc
     status = os.waitstatus_to_exitcode(os.waitpid(lister, 0)[1])
     if status < 0:
         fail(f"the list of the rows ended with signal {-status}")
