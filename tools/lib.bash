@@ -93,21 +93,25 @@ stop_jobs() {
 # side_by_side TRACE STEP..: runs functions side by side over one reading of a trace. Each has it as standard input and writes to
 # $folder/STEP. Where one fails, its message is told and the tool ends with its status.
 side_by_side() {
-    local step status=0 ended pipes=() jobs=()
+    local step status=0 ended ends pipes=() jobs=()
     trap 'stop_jobs; remove_private_folder' EXIT
     for step in "${@:2}"; do
         mkfifo -- "$folder/$step.pipe"
         "$step" < "$folder/$step.pipe" > "$folder/$step" 2> "$folder/$step.fault" &
         jobs+=($!) pipes+=("$folder/$step.pipe")
     done
-    unpacked "$1" | tee -p -- "${pipes[@]:1}" > "${pipes[0]}" || status=$?
+    unpacked "$1" | tee -p -- "${pipes[@]:1}" > "${pipes[0]}" || {
+        ends=("${PIPESTATUS[@]}")
+        [ "${ends[1]}" = 0 ] || exit 1 # a step may still wait for it
+        status=${ends[0]}
+    }
     for step in "${@:2}"; do
         ended=0
         wait "${jobs[0]}" || ended=$?
         [ $ended = 0 ] || { cat -- "$folder/$step.fault" >&2 && exit $ended; }
         jobs=("${jobs[@]:1}")
     done
-    [ $status = 0 ] || exit $status
+    [ "$status" = 0 ] || exit "$status"
 }
 
 # deliver FILE: writes a finished answer to standard output

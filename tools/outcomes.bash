@@ -77,7 +77,7 @@ one_cache() {
 # reading: if one reading served all, those who have to wait for each other could stop it
 two_caches() {
     local status=0 jobs=() words=() job
-    trap 'stop_jobs; [ $BASHPID != $$ ] || rm -rf -- "$folder"' EXIT
+    trap 'stop_jobs; [ $BASHPID != $$ ] || remove_private_folder' EXIT
     mkfifo -- "$folder/fetches" "$folder/data"
     geometry "$fetches" && words+=("$folder/fetches" "${shape[@]}")
     geometry "$data" && words+=("$folder/data" "${shape[@]}")
@@ -86,7 +86,7 @@ two_caches() {
     simulated LSIM "$data" > "$folder/data" 2> "$folder/data.fault" &
     jobs+=($!)
     as_lackey LSLM 2> "$folder/order.fault" | "$binary" "$name" "$1" "${words[@]}" || status=$?
-    [ $status -lt 128 ] || stop_jobs
+    [ $status -le 1 ] || stop_jobs # it may have ended before it opened the pipes, for which they would wait
     for job in "${jobs[@]}"; do wait "$job" || [ $status != 0 ] || status=$?; done
     [ $status = 0 ] || { grep -hm 1 . "$folder"/{order,fetches,data}.fault || :; } | head -n 1 >&2
     return $status

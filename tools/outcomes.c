@@ -175,7 +175,7 @@ static void take_outcome(struct cache *cache, enum job job, enum label label, co
 // Takes the simulator's line apart: 'L 4a8ffc,2 miss eviction', where the size is the label, or 'M 20,0 miss hit'.
 static void take_line(struct cache *cache, enum job job) {
     char *address = cache->text + 2, *comma = strchr(cache->text, ',');
-    bool is_known = comma > address && comma[1] >= '0' && comma[1] <= '2' && comma[2] == ' ';
+    bool is_known = comma && comma > address && comma[1] >= '0' && comma[1] <= '2' && comma[2] == ' ';
     if (!is_known) fail("the simulator writes what csim doesn't");
     enum label label = (enum label)(comma[1] - '0');
     char *outcome = comma + 3;
@@ -191,7 +191,7 @@ static void take_in_order(struct cache *caches, enum job job) {
     static const char other[] = "the trace is not the same at each reading";
     struct text line;
     while (read_line(&line)) {
-        if (!line.length || line.length > LONGEST || !memchr("LSM", *line.at, 3)) continue;
+        if (!line.length || !memchr("LSM", *line.at, 3)) continue;
         struct cache *cache = caches + (line.at[line.length - 1] != '0' + FETCH);
         if (!next(cache)) fail(other);
         take_line(cache, job);
@@ -201,7 +201,10 @@ static void take_in_order(struct cache *caches, enum job job) {
 
 static void open_cache(struct cache *cache, char **words) {
     cache->from = strcmp(words[0], "-") ? fopen(words[0], "r") : stdin;
-    if (!cache->from) fail("a pipe can't be opened");
+    if (!cache->from) {
+        fprintf(stderr, "%s: a pipe can't be opened\n", name);
+        exit(125); // whoever writes to it still waits for a reader
+    }
     cache->bits = (unsigned)strtoul(words[1], NULL, 10);
     cache->set_bits = (unsigned)strtoul(words[2], NULL, 10);
     cache->ways = strtoul(words[3], NULL, 10);
@@ -221,6 +224,5 @@ int main(int count, char **words) {
         open_cache(caches + 1, words + 7);
         take_in_order(caches, job);
     }
-    if (ferror(stdin)) fail("standard input: read failed");
     if (fflush(stdout) || ferror(stdout)) fail("standard output: write failed");
 }

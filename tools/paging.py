@@ -40,7 +40,9 @@ def find_cachesim():
     for path in [named] if named else [os.path.join(place, "cachesim") for place in places]:
         if os.path.isfile(path) and os.access(path, os.X_OK):
             return os.path.join(".", path)
-    fail(f"{named} is no program that can be run" if named else "no program cachesim: build it by 'make', or set CACHESIM to its path")
+    if named:
+        fail(f"{named} is no program that can be run")
+    fail("no program cachesim: build it by 'make', or set CACHESIM to its path")
 
 
 def start(words, stdin=0, stdout=1, stderr=2, **given):

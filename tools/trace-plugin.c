@@ -142,7 +142,8 @@ EXPORTED int qemu_plugin_install(plugin_id id, const struct qemu_info *info, int
     if (memory == MAP_FAILED) return refuse("no shared memory");
     close(descriptor);
     if (memory->layout != LAYOUT) return refuse("not compiled together with trace-run: remove both from the folder out");
-    if (!qemu_plugin_mem_is_store(WRITE << 16) || qemu_plugin_mem_is_store(~(WRITE << 16))) return refuse("this QEMU tells reads and writes in another way");
+    bool as_known = qemu_plugin_mem_is_store(WRITE << 16) && !qemu_plugin_mem_is_store(~(WRITE << 16));
+    if (!as_known) return refuse("this QEMU tells reads and writes in another way");
     pthread_atfork(NULL, NULL, in_forked_child);
     qemu_plugin_register_vcpu_tb_trans_cb(id, on_translation);
     qemu_plugin_register_vcpu_syscall_cb(id, on_system_call);

@@ -60,6 +60,16 @@ static void drain(void) {
     used = 0;
 }
 
+// Ends with a message. The trace ends in it too: as it is no din line, what reads the trace doesn't take it for a whole one.
+static _Noreturn void fail(int own_status, const char *message) {
+    warnx("%s", message);
+    if (!isatty(trace)) {
+        used = (size_t)snprintf(text, TEXT, "%s: %s\n", program_invocation_short_name, message);
+        drain();
+    }
+    exit(own_status);
+}
+
 static char three_digits[4096][4];  // of each number below 4096, and a byte of no use
 
 static void make_digits(void) {
@@ -125,10 +135,9 @@ static void follow_blocks(void) {
     uint32_t taken = 0;
     while (program) {
         sem_wait(&memory->full);  // the program's end counts as a block
-        bool ended = waitpid(program, &status, WNOHANG) == program;
+        if (waitpid(program, &status, WNOHANG) == program) program = 0;
         for (; taken != atomic_load(&memory->handed_over); taken++) empty_block(memory->order[taken % BLOCKS]);
         drain();
-        if (ended) program = 0;
     }
     for (size_t i = 0; i < BLOCKS; i++) write_block(&memory->blocks[i]);  // what threads had begun when they were killed
     drain();
@@ -136,9 +145,9 @@ static void follow_blocks(void) {
 
 static int share_memory(void) {
     int descriptor = memfd_create("references", 0);
-    if (descriptor < 0 || ftruncate(descriptor, sizeof *memory)) err(OWN_FAULT, "no memory to share");
+    if (descriptor < 0 || ftruncate(descriptor, sizeof *memory)) fail(OWN_FAULT, "no memory to share");
     memory = mmap(NULL, sizeof *memory, PROT_READ | PROT_WRITE, MAP_SHARED, descriptor, 0);
-    if (memory == MAP_FAILED) err(OWN_FAULT, "no memory to share");
+    if (memory == MAP_FAILED) fail(OWN_FAULT, "no memory to share");
     memory->layout = LAYOUT;
     memory->kind = kind;
     memory->empty_ones = UINT64_MAX;
@@ -167,7 +176,7 @@ static void follow_lines(int in, pid_t converter) {
     FILE *lines = fdopen(in, "r");
     char *line = NULL;
     size_t room = 0;
-    if (!lines) err(OWN_FAULT, "no lines");
+    if (!lines) fail(OWN_FAULT, "no lines to read");
     for (ssize_t length; (length = getline(&line, &room, lines)) > 0;)
         if (length < TEXT) write_line(line, (size_t)length);
     drain();
@@ -187,14 +196,17 @@ static void follow_lines(int in, pid_t converter) {
 
 static const int passed_on[] = {SIGHUP, SIGINT, SIGQUIT, SIGTERM, SIGUSR1, SIGUSR2};
 
-// A signal from a terminal goes to the program as well; one that was sent to this process is passed on.
+// A signal from a terminal goes to the program as well; one that was sent to this process is passed on. After the program's end it
+// ends this process, which may wait for a reader of the trace.
 static void on_signal(int number, siginfo_t *info, void *context) {
     (void)context;
     if (number == SIGCHLD) {
         if (memory) sem_post(&memory->full);
-    } else if (program && number == SIGALRM) {
-        kill(program, SIGKILL);
-    } else if (program && info->si_code <= 0) {
+    } else if (number == SIGALRM) {
+        if (program) kill(program, SIGKILL);
+    } else if (!program) {
+        _exit(128 + number);
+    } else if (info->si_code <= 0) {
         kill(program, number);
     }
 }
@@ -215,7 +227,7 @@ static void start(char **words) {
     sigfillset(&all);
     sigprocmask(SIG_BLOCK, &all, &before);
     program = fork();
-    if (program < 0) err(OWN_FAULT, "no process");
+    if (program < 0) fail(OWN_FAULT, "no process for the program");
     if (!program) {
         prctl(PR_SET_PDEATHSIG, SIGKILL);
         if (getppid() != own) _exit(OWN_FAULT);
@@ -228,16 +240,6 @@ static void start(char **words) {
 }
 
 // ---- The whole
-
-// Ends with a message. The trace ends in it too: as it is no din line, what reads the trace doesn't take it for a whole one.
-static _Noreturn void fail(int own_status, const char *message) {
-    warnx("%s", message);
-    if (!isatty(trace)) {
-        used = (size_t)snprintf(text, TEXT, "%s: %s\n", program_invocation_short_name, message);
-        drain();
-    }
-    exit(own_status);
-}
 
 static int judged(void) {
     if (converter_failed) fail(OWN_FAULT, "the tracer's lines can't be converted");
@@ -260,7 +262,7 @@ static int judged(void) {
 static void trace_by_qemu(char **words) {
     int descriptor = share_memory();
     char *plugin;
-    if (asprintf(&plugin, "%s,memory=%d", words[1], descriptor) < 0) err(OWN_FAULT, "no memory");
+    if (asprintf(&plugin, "%s,memory=%d", words[1], descriptor) < 0) fail(OWN_FAULT, "no memory");
     char *first[] = {words[2], "-plugin", plugin};
     memcpy(words, first, sizeof first);
     start(words);

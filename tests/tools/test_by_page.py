@@ -79,6 +79,7 @@ class ByPage(base.ToolTest):
             (b"", ["-", *cache, "--page", "2g"], 2, "by-page: '2g' is a page of more than 1g"),
             (b"", ["-", *cache, "--page", "536870912g"], 2, "by-page: '536870912g' is a page of more than 1g"),
             (b"", ["-", *cache, "--page", "x"], 2, "by-page: 'x' is no page size such as 4k"),
+            (b"", ["-", *cache, "--page", "9999999999g"], 2, "by-page: '9999999999g' is no page size such as 4k"),
         ):
             self.refused(self.run_tool("by-page", *words, stdin=text), status, fault)
 

@@ -2,6 +2,7 @@
 
 import os
 import random
+import shutil
 import subprocess
 
 import base
@@ -151,6 +152,46 @@ class Outcomes(base.ToolTest):
             self.assertEqual(ran.returncode, status, (words, ran.stderr))
             self.assertIn(fault, ran.stderr)
             self.assertEqual(len(ran.stderr.splitlines()), 1, ran.stderr)
+
+    def test_a_simulator_that_is_wrong(self):
+        (self.folder / "trace").write_bytes(SORT)
+        other, unknown = "the trace is not the same at each reading", "the simulator writes what csim doesn't"
+        for change, words, fault in (
+            ("100d", ["--fetches", "16,1,1", "--data", "16,1,1"], other),
+            ("100p", ["--fetches", "16,1,1", "--data", "16,1,1"], other),
+            ("100s/,/;/", ["--data", "16,1,1"], unknown),
+            ("100s/,./,7/", ["--data", "16,1,1"], unknown),
+            ("100s/miss/mess/;100s/hit/hat/", ["--data", "16,1,1"], unknown),
+        ):
+            program = self.folder / "wrong"
+            program.write_text(f"#!/bin/bash\nset -o pipefail\n'{base.PROGRAM}' \"$@\" | sed '{change}'\n")
+            program.chmod(0o755)
+            ran = self.run_tool("outcomes", "trace", *words, env={"CACHESIM": str(program)})
+            self.assertEqual((ran.returncode, ran.stderr.decode()), (1, f"outcomes: {fault}\n"), change)
+
+    def test_compiling(self):
+        copy, commands = self.folder / "a copy", self.folder / "commands"
+        copy.mkdir()
+        commands.mkdir()
+        for file in ("outcomes", "outcomes.bash", "outcomes.c", "lib.bash"):
+            shutil.copy(base.TOOLS / file, copy)
+        for command in "cat dirname getopt mkdir mktemp readlink rm".split():
+            (commands / command).symlink_to(shutil.which(command))
+        words = [copy / "outcomes", "-", "--data", "16,1,1"]
+        ran = self.run_words(*words, env={"PATH": str(commands)})
+        self.refused(ran, 1, "outcomes: cc is missing: apt-get install gcc\n")
+        self.assertEqual(self.good(self.run_words(copy / "outcomes", "--build")), "")
+        self.assertEqual([path.name for path in (copy / "out").iterdir()], ["outcomes"])
+        # what is installed has no C file, and needs no compiler
+        (copy / "outcomes.c").unlink()
+        (commands / "grep").symlink_to(shutil.which("grep"))
+        self.assertEqual(self.good(self.run_words(*words, stdin=b"0 10\n", env={"PATH": str(commands)})), "0 10 miss\n")
+
+        # a part that ends before it has opened the pipes of two caches stops those who write to them
+        (self.folder / "trace").write_bytes(SORT)
+        (copy / "out/outcomes").write_text("#!/bin/sh\n[ $2 != lines ] || exit 125\nsed 's/\\([0-9]*\\) .*/L 0,\\1/'\n")
+        ran = self.run_words(copy / "outcomes", "trace", "--fetches", "16,1,1", "--data", "16,1,1", seconds=20)
+        self.refused(ran, 125)
 
     def test_writing(self):
         (self.folder / "long").write_bytes(SORT * 100)

@@ -2,6 +2,7 @@
 
 import csv
 import random
+import shutil
 import signal
 import subprocess
 import time
@@ -159,6 +160,23 @@ class ThreeC(base.ToolTest):
             self.refused(self.run_tool("three-c", *given, stdin=stdin), status, fault)
         missing = {"CACHESIM": str(self.folder / "none")}
         self.refused(self.run_tool("three-c", "-", *words, env=missing), 1, "none is no program that can be run")
+
+    def test_missing_package(self):
+        words = "--bsize 16 --sets 1-4 --assoc 1-2 --size 64".split()
+        for command in "awk cat dirname grep head mkfifo mktemp readlink rm tee".split():
+            (self.folder / command).symlink_to(shutil.which(command))
+        (self.folder / "t.zst").write_bytes(b"")
+        ran = self.run_tool("three-c", "t.zst", *words, env={"PATH": str(self.folder)})
+        self.refused(ran, 1, "three-c: zstd is missing: apt-get install zstd\n")
+
+    def test_a_reader_that_fails(self):
+        """Those who wait for it are ended."""
+        fake = self.folder / "tee"
+        fake.write_text("#!/bin/sh\necho 'tee: failed' >&2; exit 1\n")
+        fake.chmod(0o755)
+        words = "--bsize 16 --sets 1-4 --assoc 1-2 --size 64".split()
+        env = {"PATH": f"{self.folder}:/usr/bin:/bin"}
+        self.refused(self.run_tool("three-c", base.EXAMPLES / "sort.din", *words, env=env, seconds=20), 1, "tee: failed\n")
 
     def test_full_device(self):
         words = "--bsize 16 --sets 1-4 --assoc 1-2 --size 64".split()

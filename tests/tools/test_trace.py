@@ -214,6 +214,12 @@ class StandIn(TraceTest):
             for name, text in files.items():
                 self.assertEqual((self.folder / name).read_text(), text)
 
+    def test_no_descriptor_is_left_to_the_program(self):
+        natively = self.run_words("sh", "-c", "ls /proc/self/fd").stdout
+        ran = self.steps("2:1", "exec:ls /proc/self/fd", options=("-o", "trace", "--program-output", "out"))
+        self.assertEqual(ran.returncode, 0)
+        self.assertEqual((self.folder / "out").read_bytes(), natively)
+
     def test_a_pipe_into_a_sweep(self):
         table = self.sweep(*SPACE, stdin="".join(f"0 {at:x}\n" for at in range(30000)).encode())
         ran = self.in_shell(f'trace "$PROGRAM" many:30000 | cachesim sweep {" ".join(SPACE)}')
@@ -245,6 +251,13 @@ class StandIn(TraceTest):
             started.send_signal(number)
             self.assertEqual(started.wait(60), 128 + number)
             self.assertEqual((self.folder / "trace.din").read_text().count("\n"), 9000)
+
+    def test_a_signal_while_the_last_lines_wait_for_a_reader(self):
+        words = [TOOLS / "trace", self.program, "many:30000"]
+        with subprocess.Popen(words, stdout=subprocess.PIPE, env={**os.environ, **self.told}, cwd=self.folder) as started:
+            self.wait_until(lambda: self.processes() == [started.pid], "the program doesn't end")
+            started.terminate()
+            self.assertEqual(started.wait(60), 143)
 
     def test_the_program_ends_with_the_tool(self):
         started = self.begin("many:9000", "say:begun", "loop")
@@ -511,6 +524,17 @@ class ByQemu(Both, TraceTest):
 @needs("valgrind")
 class ByLackey(Both, TraceTest):
     with_ = "lackey"
+
+    def test_lines_that_cannot_be_converted(self):
+        for name in ("trace", "lib.bash", "trace-run.c", "trace-memory.h"):
+            shutil.copy(TOOLS / name, self.folder)
+        converter = self.folder / "to-din"
+        for way, status in (("exit 1", 125), ("kill -9 $$", 125)):
+            converter.write_text(f"#!/bin/sh\nhead -n 1 > /dev/null\necho 2 401000\n{way}\n")
+            converter.chmod(0o755)
+            ran = self.run_words(self.folder / "trace", "--with", "lackey", "--program-output", "own", traced("ends"), "spin")
+            self.fault(ran, status, "the tracer's lines can't be converted")
+            self.assertTrue(ran.stdout.startswith(b"2 401000\n"))
 
 
 @needs("qemu-user", "valgrind")

@@ -64,11 +64,16 @@ static void step(const char *word) {
     if (!strncmp(word, "exec:", 5)) call(), execlp("sh", "sh", "-c", value, (char *)0);
 }
 
-// words: the plugin's file, in which a comma is written twice, a comma, and its argument
+// The argument behind a plugin's file, which a single comma ends; two commas are one of its name.
+static char *argument_of(char *file) {
+    char *to = file, *at = file;
+    while (*at && (*at != ',' || *++at == ',')) *to++ = *at++;
+    *to = 0;
+    return at;
+}
+
 static int load(char *words) {
-    char *word = strrchr(words, ',');
-    *word++ = 0;
-    for (char *comma = words; (comma = strstr(comma, ",,")); comma++) memmove(comma, comma + 1, strlen(comma));
+    char *word = argument_of(words);
     void *plugin = dlopen(words, RTLD_NOW | RTLD_LOCAL);
     if (!plugin) return fprintf(stderr, "fake_qemu: %s\n", dlerror());
     int *version = dlsym(plugin, "qemu_plugin_version");
