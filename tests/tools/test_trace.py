@@ -254,7 +254,8 @@ class StandIn(TraceTest):
 
     def test_a_signal_while_the_last_lines_wait_for_a_reader(self):
         words = [TOOLS / "trace", self.program, "many:30000"]
-        with subprocess.Popen(words, stdout=subprocess.PIPE, env={**os.environ, **self.told}, cwd=self.folder) as started:
+        with subprocess.Popen(words, stdout=subprocess.PIPE, bufsize=0, env={**os.environ, **self.told}) as started:
+            started.stdout.read(1)
             self.wait_until(lambda: self.processes() == [started.pid], "the program doesn't end")
             started.terminate()
             self.assertEqual(started.wait(60), 143)
