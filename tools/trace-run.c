@@ -22,11 +22,12 @@
 
 enum { OWN_FAULT = 125, CANNOT_RUN = 126, TEXT = 1 << 20, LONGEST = sizeof "0 0123456789abcdef", PATIENCE = 2 };
 
-static struct memory *memory;   // where QEMU is the tracer
-static volatile pid_t program;  // 0 after its end
-static int status;              // of its end
-static bool ran;                // there was a reference
-static bool converter_failed;   // where lines come from another tracer
+static struct memory *memory;               // where QEMU is the tracer
+static volatile pid_t program, converter;   // each 0 after its end; a converter is there where another is the tracer
+static volatile int status;                 // of the program's end
+static volatile bool converter_failed;
+static bool ran;                            // there was a reference
+static sem_t ends;                          // of these processes, for who waits for them
 
 // ---- The trace
 
@@ -133,9 +134,9 @@ static void empty_block(size_t number) {
 
 static void follow_blocks(void) {
     uint32_t taken = 0;
-    while (program) {
+    for (bool last = false; !last;) {
         sem_wait(&memory->full);  // the program's end counts as a block
-        if (waitpid(program, &status, WNOHANG) == program) program = 0;
+        last = !program;
         for (; taken != atomic_load(&memory->handed_over); taken++) empty_block(memory->order[taken % BLOCKS]);
         drain();
     }
@@ -172,7 +173,7 @@ static void write_line(const char *line, size_t length) {
     end_at_count();
 }
 
-static void follow_lines(int in, pid_t converter) {
+static void follow_lines(int in) {
     FILE *lines = fdopen(in, "r");
     char *line = NULL;
     size_t room = 0;
@@ -180,28 +181,35 @@ static void follow_lines(int in, pid_t converter) {
     for (ssize_t length; (length = getline(&line, &room, lines)) > 0;)
         if (length < TEXT) write_line(line, (size_t)length);
     drain();
-    int ended;
-    for (pid_t process; (process = wait(&ended)) > 0;) {
-        if (process == program) {
-            program = 0;
-            status = ended;
-        } else if (process == converter && ended) {
-            converter_failed = true;
-            end_program();
-        }
-    }
+    while (program || converter) sem_wait(&ends);
 }
 
 // ---- The program
 
 static const int passed_on[] = {SIGHUP, SIGINT, SIGQUIT, SIGTERM, SIGUSR1, SIGUSR2};
 
+static void take_ended(void) {
+    int how;
+    for (pid_t process; (process = waitpid(-1, &how, WNOHANG)) > 0;) {
+        if (process == program) {
+            status = how;
+            program = 0;
+        } else if (process == converter) {
+            converter_failed = how != 0;
+            converter = 0;
+            if (converter_failed) end_program();
+        }
+    }
+    sem_post(memory ? &memory->full : &ends);
+}
+
 // A signal from a terminal goes to the program as well; one that was sent to this process is passed on. After the program's end it
 // ends this process, which may wait for a reader of the trace.
 static void on_signal(int number, siginfo_t *info, void *context) {
     (void)context;
+    int before = errno;
     if (number == SIGCHLD) {
-        if (memory) sem_post(&memory->full);
+        take_ended();
     } else if (number == SIGALRM) {
         if (program) kill(program, SIGKILL);
     } else if (!program) {
@@ -209,6 +217,7 @@ static void on_signal(int number, siginfo_t *info, void *context) {
     } else if (info->si_code <= 0) {
         kill(program, number);
     }
+    errno = before;
 }
 
 static void watch_signals(void) {
@@ -236,6 +245,7 @@ static void start(char **words) {
         err(OWN_FAULT, "%s", *words);
     }
     watch_signals();
+    take_ended();  // a converter may have ended before
     sigprocmask(SIG_SETMASK, &before, NULL);
 }
 
@@ -277,9 +287,11 @@ static void trace_by_qemu(char **words) {
 static void trace_by_lines(char **words) {
     int in = atoi(words[1]), out = atoi(words[2]);
     fcntl(in, F_SETFD, FD_CLOEXEC);
+    converter = atoi(words[3]);
+    sem_init(&ends, 0, 0);
     start(words + 4);
     close(out);
-    follow_lines(in, atoi(words[3]));
+    follow_lines(in);
 }
 
 int main(int words_count, char **words) {
