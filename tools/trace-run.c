@@ -208,14 +208,12 @@ static void take_ended(void) {
 static void on_signal(int number, siginfo_t *info, void *context) {
     (void)context;
     int before = errno;
-    if (number == SIGCHLD) {
-        take_ended();
-    } else if (number == SIGALRM) {
+    if (number != SIGALRM) take_ended();  // the signal of the program's end may come after another one
+    if (number == SIGALRM) {
         if (program) kill(program, SIGKILL);
-    } else if (!program) {
-        _exit(128 + number);
-    } else if (info->si_code <= 0) {
-        kill(program, number);
+    } else if (number != SIGCHLD) {
+        if (!program) _exit(128 + number);
+        if (info->si_code <= 0) kill(program, number);
     }
     errno = before;
 }

@@ -52,7 +52,7 @@ class Tools(base.ToolTest):
                 self.assertRegex(ran.stdout.decode(), rf"\A({os.path.basename(tool)}: .*\n)?\Z")
 
     def test_small_files(self):
-        for folder, most in ((base.TOOLS, 420), (base.TOP / "tests/tools", 560)):
+        for folder, most in ((base.TOOLS, 420), (base.TOP / "tests/tools", 600)):
             for path in scripts():
                 if path.startswith(f"{folder}/"):
                     with open(path, "rb") as file:
