@@ -204,16 +204,23 @@ static void take_ended(void) {
 }
 
 // A signal from a terminal goes to the program as well; one that was sent to this process is passed on. After the program's end it
-// ends this process, which may wait for a reader of the trace.
+// ends this process, which may wait for a reader of the trace; but often the program has just ended by the same signal, so there is
+// time for its last lines.
 static void on_signal(int number, siginfo_t *info, void *context) {
+    static volatile sig_atomic_t late;
     (void)context;
     int before = errno;
-    if (number != SIGALRM) take_ended();  // the signal of the program's end may come after another one
     if (number == SIGALRM) {
         if (program) kill(program, SIGKILL);
-    } else if (number != SIGCHLD) {
-        if (!program) _exit(128 + number);
-        if (info->si_code <= 0) kill(program, number);
+        else if (late) _exit(128 + late);
+    } else {
+        take_ended();  // which may be told only after this signal
+        if (number != SIGCHLD && !program) {
+            late = number;
+            alarm(PATIENCE);
+        } else if (number != SIGCHLD && info->si_code <= 0) {
+            kill(program, number);
+        }
     }
     errno = before;
 }

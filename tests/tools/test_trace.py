@@ -260,6 +260,22 @@ class StandIn(TraceTest):
             started.terminate()
             self.assertEqual(started.wait(60), 143)
 
+    def test_a_signal_that_comes_with_the_programs_end(self):
+        started = self.begin("many:5000", "say:begun", "loop")
+        started.send_signal(signal.SIGSTOP)
+        program, = map(int, pathlib.Path(f"/proc/{started.pid}/task/{started.pid}/children").read_text().split())
+        stat = pathlib.Path(f"/proc/{program}/stat")
+        self.wait_until(lambda: ") S " in stat.read_text(), "the program doesn't wait for an empty block")
+        before = (self.folder / "trace.din").read_text().count("\n")
+        started.send_signal(signal.SIGINT)
+        os.kill(program, signal.SIGKILL)
+        self.wait_until(lambda: ") Z " in stat.read_text(), "the program doesn't end")
+        started.send_signal(signal.SIGCONT)
+        self.assertEqual(started.wait(60), 137)
+        lines = self.lines((self.folder / "trace.din").read_text())
+        self.assertGreaterEqual(len(lines), before + 63 * 4096)  # what the blocks held
+        self.assertEqual(lines, [("0", at) for at in (*range(5000), *range(len(lines) - 5000))])
+
     def test_the_program_ends_with_the_tool(self):
         started = self.begin("many:9000", "say:begun", "loop")
         started.kill()
