@@ -37,6 +37,7 @@ PACKAGES = {
     "pv": "pv",
     "qemu-user": "qemu-x86_64",
     "shellcheck": "shellcheck",
+    "slurm-client": "sbatch",
     "slurm-wlm": "slurmctld",
     "valgrind": "valgrind",
     "xz-utils": "xz",

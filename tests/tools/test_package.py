@@ -100,7 +100,9 @@ class Package(unittest.TestCase):
         named = set()
         for path in [*TOOLS.glob("*"), *TOOLS.glob("[!p]*/*")]:
             if path.is_file() and path.suffix not in (".c", ".h", ".md"):
-                named |= set(re.findall(r"apt-get install ([a-z][\w+.-]*\w)", path.read_text(errors="replace")))
+                text = path.read_text(errors="replace")
+                named |= set(re.findall(r"apt-get install ([a-z][\w+.-]*\w)", text))
+                named |= set(re.findall(r"^ *needs \S+ ([a-z][\w+.-]*\w)$", text, re.MULTILINE))
         there = set(re.findall(r"[a-z][\w+.-]*", self.field("Recommends") + ", " + self.field("Suggests")))
         self.assertEqual(named - there, set())
         self.assertEqual({"gnuplot-nox", "qemu-user", "valgrind"} - named, set())
