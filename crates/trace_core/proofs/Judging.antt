@@ -117,13 +117,13 @@ module _ (f : Format) (limit : ℕ) where
       let count : 0 + line_feeds text + 1 ≡ line_feeds text + 1 = omega arith in
       all-faultless 0 (take (line_feeds text) (lines text)) _ (rw same all) ∙ ap (λ n. Some (cut_off limit n (drop (line_feeds text) (lines text)))) count
 
-  -- the entries are those of the lines before the fault
-  pub entries-before : (n : ℕ) (ls : List (List ℕ)) → (read_lines f limit n ls (ends None)).entries
+  -- the entries are those of the lines before the fault, however the reading ends behind the lines
+  pub entries-before : (n : ℕ) (ls : List (List ℕ)) (last : Option TraceFault) → (read_lines f limit n ls (ends last)).entries
       ≡ filter_map (numbered_entry f) (take (prefix_len is_ok (judged (n + 1) ls)) (enumerate_from (n + 1) ls))
-  entries-before n [] = refl
-  entries-before n (line ∷ more) =
+  entries-before n [] last = refl
+  entries-before n (line ∷ more) last =
       by_case (judge f limit (n + 1) line) (λ o h. judged-ok (n + 1) (ltb limit (n + 1)) (ltb MAX_LINE (length line)) (fault.TooManyLines limit) (fault.TooLong (n + 1)) (meaning f line) o h)
-      (entries-before (n + 1) more)
+      (entries-before (n + 1) more last)
     where
       before : List (ℕ × List ℕ)
       before = take (prefix_len is_ok (judged (n + 1 + 1) more)) (enumerate_from (n + 1 + 1) more)
@@ -132,9 +132,18 @@ module _ (f : Format) (limit : ℕ) where
       more_before = omega arith
 
       by_case : (r : Judgement) → ((o : Option Entry) → r ≡ Ok o → entry_in (meaning f line) ≡ o)
-          → (read_lines f limit (n + 1) more (ends None)).entries ≡ filter_map (numbered_entry f) before
-          → (then_reads (n + 1) r (read_lines f limit (n + 1) more (ends None))).entries
+          → (read_lines f limit (n + 1) more (ends last)).entries ≡ filter_map (numbered_entry f) before
+          → (then_reads (n + 1) r (read_lines f limit (n + 1) more (ends last))).entries
           ≡ filter_map (numbered_entry f) (take (cond (is_ok r) (1 + prefix_len is_ok (judged (n + 1 + 1) more)) 0) ((n + 1, line) ∷ enumerate_from (n + 1 + 1) more))
       by_case (Ok None) means later = rw (more_before, means None refl) later
       by_case (Ok (Some entry)) means later = rw (more_before, means (Some entry) refl) (ap (λ es. (n + 1, entry) ∷ es) later)
       by_case (Err x) means later = refl
+
+  -- before a cut they are those of the lines whose LF came
+  pub entries-before_cut : (text : List ℕ) → (cut_reading f limit text).entries
+      ≡ filter_map (numbered_entry f)
+      (take (prefix_len is_ok (take (line_feeds text) (judged 1 (lines text)))) (enumerate_from 1 (take (line_feeds text) (lines text))))
+  entries-before_cut text =
+      let whole = take (line_feeds text) (lines text) in
+      entries-before 0 whole (Some (cut_off limit (0 + line_feeds text + 1) (drop (line_feeds text) (lines text))))
+      ∙ ap (λ rs. filter_map (numbered_entry f) (take (prefix_len is_ok rs) (enumerate_from 1 whole))) (judged-take 1 (line_feeds text) (lines text))

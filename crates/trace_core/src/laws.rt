@@ -54,6 +54,14 @@ pub fn entries_come_before_the_fault()
         (take (prefix_len is_ok (judgements format limit text)) (enumerate_from 1 (lines text))) }
 {}
 
+/// Where a source fails after some bytes, the entries are those of their whole lines before the
+/// first that is at fault, each with its line's number. The piece after their last LF gives none.
+pub fn entries_come_before_the_cut()
+    ensures { (format : Format) (limit : ℕ) (text : List ℕ) → (cut_reading format limit text).entries
+        ≡ filter_map (numbered_entry format)
+        (take (prefix_len is_ok (whole_judgements format limit text)) (enumerate_from 1 (take (line_feeds text) (lines text)))) }
+{}
+
 /// Where a text has no fault, its reading has all its entries, and gives a cache all its events.
 pub fn faultless_reading_is_whole()
     ensures entries { (format : Format) (limit : ℕ) (text : List ℕ) →
