@@ -15,4 +15,5 @@ pub mod Covering
 pub mod Gathers
 pub mod Writing
 pub mod Sweeping
+pub mod WorkLaws
 mod Examples

@@ -31,12 +31,12 @@ pub table-rises : (space : Ranges) (after : Option Config) → IsRising (table s
 unfolding table
 table-rises space after = Rising-filter (λ c. is_valid space c && is_after after c) (all_configs space.assoc) (all_configs-rise space.assoc)
 
-contains-of : (c : Config) (xs : List Config) → Member c xs → Contains xs c
+pub contains-of : {A : Type 0} (c : A) (xs : List A) → Member c xs → Contains xs c
 contains-of c [] m = absurd m
 contains-of c (x ∷ xs) (inl e) = (0, omega arith, e)
 contains-of c (x ∷ xs) (inr m) = let w = contains-of c xs m in (suc w.0, omega arith, w.2)
 
-pub kept-of : (p : Config → Bool) (c : Config) (xs : List Config) → p c ≡ true → Member c xs → Member c (filter p xs)
+pub kept-of : {A : Type 0} (p : A → Bool) (c : A) (xs : List A) → p c ≡ true → Member c xs → Member c (filter p xs)
 kept-of p c [] h m = absurd m
 kept-of p c (x ∷ xs) h (inl e) = subst (Member c) (sym (cond-true _ _ _ (ap p e ∙ h))) (inl e)
 kept-of p c (x ∷ xs) h (inr m) =
@@ -69,7 +69,7 @@ table-only space after c m =
     let p : Config → Bool = λ d. is_valid space d && is_after after d in
     and_parts _ _ (subst (λ (d : Config). p d ≡ true) m.2 (at (λ d. p d ≡ true) (filter p (all_configs space.assoc)) m.0 c m.1 (passes-all p (all_configs space.assoc))))
 
-member-of : (c : Config) (xs : List Config) → Contains xs c → Member c xs
+pub member-of : {A : Type 0} (c : A) (xs : List A) → Contains xs c → Member c xs
 member-of c [] (k, low, e) = absurd (omega arith)
 member-of c (x ∷ xs) (zero, low, e) = inl e
 member-of c (x ∷ xs) (suc k, low, e) = inr (member-of c xs (k, omega arith, e))

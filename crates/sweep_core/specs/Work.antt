@@ -1,12 +1,16 @@
 -- How many comparisons a sweep makes.
-use Rattle.std.specs.Prelude.{ℕ, ◌==◌, ◌&&◌, not, max, Bool, List, [], ◌∷◌, map, filter, fold, sum_by}
+use Rattle.std.specs.Prelude.{ℕ, ◌==◌, ◌&&◌, not, max, Bool, List, [], ◌∷◌, map, filter, fold, sum_by, count_by}
 use Rattle.trace_core.specs.declared.events.Event.{Event}
 use Rattle.trace_core.specs.Reading.{events}
 use Rattle.cache_core.specs.Geometry.{Shape, shape}
-use Rattle.cache_core.specs.Windows.{probes}
+use Rattle.cache_core.specs.Windows.{is_flush, probes}
 use Rattle.sweep_core.specs.declared.config.Config.{Config}
 use Rattle.sweep_core.specs.declared.request.Request.{Request}
 use Rattle.sweep_core.specs.SweepText.{log2, all_of, rows_of}
+
+-- the pair of block size and set count of a configuration
+abbrev pub pair_of : Config → ℕ × ℕ
+pair_of c = (c.bsize, c.sets)
 
 -- whether a configuration has these block size and set count
 abbrev pub has_pair : ℕ × ℕ → Config → Bool
@@ -15,7 +19,7 @@ has_pair p c = c.bsize == p.0 && c.sets == p.1
 -- the pairs of block size and set count that some configurations have, each once
 unfoldable pub pairs : List Config → List (ℕ × ℕ)
 pairs [] = []
-pairs (c ∷ cs) = (c.bsize, c.sets) ∷ filter (λ p. not (has_pair p c)) (pairs cs)
+pairs (c ∷ cs) = pair_of c ∷ filter (λ p. not (has_pair p c)) (pairs cs)
 
 -- the greatest associativity that some configurations of a pair have
 unfoldable pub depth : List Config → ℕ × ℕ → ℕ
@@ -32,3 +36,11 @@ work es all rows = sum_by (λ p. probes (shape_of_pair all p) es) (pairs rows)
 -- the comparisons that a sweep of a text makes
 unfoldable pub sweep_work : Request → List ℕ → ℕ
 sweep_work r text = work (events r.format r.kind text) (all_of r) (rows_of r)
+
+-- how many references some events have
+abbrev pub references_in : List Event → ℕ
+references_in es = count_by (λ e. not (is_flush e)) es
+
+-- the depths of the pairs of some rows, summed up
+abbrev pub total_depth : List Config → List Config → ℕ
+total_depth all rows = sum_by (depth all) (pairs rows)

@@ -1,14 +1,17 @@
 //! Laws over the definitions: each is the contract of a function with no code, so that the gate proves it. Proofs above
 //! may cite the lemma behind it.
-ghost use Rattle.std.specs.Prelude.{◌≡◌, ◌^◌, ℕ, List, [], ◌∷◌, ◌++◌, flat_map, true, Option, None, Some, ◌↔◌, IsTrue, Contains};
+ghost use Rattle.std.specs.Prelude.{◌≡◌, ◌≢◌, ◌≤◌, ◌*◌, ◌^◌, ℕ, List, [], ◌∷◌, ◌++◌, flat_map, true, Option, None, Some, ◌↔◌, IsTrue, Contains, AllPairs};
+ghost use Rattle.trace_core.specs.Reading.{events};
 ghost use Rattle.cache_core.specs.Geometry.{IsGeometry, size_of};
 ghost use Rattle.sweep_core.specs.declared.config.Config.{Config};
 ghost use Rattle.sweep_core.specs.declared.request.Request.{Request};
 ghost use Rattle.sweep_core.specs.Space.{Ranges, is_power, is_valid, fault_of, bytes_of};
 ghost use Rattle.sweep_core.specs.Table.{table, first_rows, more_rows, is_less, is_after, IsRising};
-ghost use Rattle.sweep_core.specs.SweepText.{log2, shape_of_config, sweep_text, ArePages};
+ghost use Rattle.sweep_core.specs.SweepText.{log2, shape_of_config, sweep_text, all_of, rows_of, ArePages};
+ghost use Rattle.sweep_core.specs.Work.{pair_of, pairs, depth, references_in, total_depth, sweep_work};
 
 use crate::config::Config;
+use profile_core::laws::probes_bounded;
 
 /// The table rises, its members are exactly the configurations of the space that are greater than `after`, and no other
 /// list does both.
@@ -55,3 +58,25 @@ pub fn all_pages()
     ensures { (n : ℕ) (r : Request) (pages : List Request) (text : List ℕ) → ArePages n r pages →
         flat_map (λ page. sweep_text page text) pages ≡ sweep_text (record r { rows = None }) text }
 {}
+
+/// The pairs of some rows: each stands once, and they are those that a row has.
+pub fn pairs_are()
+    ensures distinct { (rows : List Config) → AllPairs (λ p q. p ≢ q) (pairs rows) }
+    ensures members { (rows : List Config) (p : ℕ × ℕ) →
+        Contains (pairs rows) p ↔ ((c : Config) × Contains rows c × (pair_of c ≡ p)) }
+{}
+
+/// The depth of a pair is the greatest associativity of its rows: none has more ways, and one has as many.
+pub fn depth_is()
+    ensures most { (rows : List Config) (c : Config) → Contains rows c → c.assoc ≤ depth rows (pair_of c) }
+    ensures reached { (rows : List Config) (p : ℕ × ℕ) → Contains (pairs rows) p →
+        (c : Config) × Contains rows c × (pair_of c ≡ p) × (c.assoc ≡ depth rows p) }
+{}
+
+/// A sweep makes at most as many comparisons as its kept references times the depths of its pairs, summed up.
+pub fn work_is_bounded()
+    ensures { (r : Request) (text : List ℕ) → sweep_work r text
+        ≤ references_in (events r.format r.kind text) * total_depth (all_of r) (rows_of r) }
+{
+    probes_bounded();
+}
