@@ -12,7 +12,6 @@ pub mod Passes
 pub mod Standing
 pub mod Making
 pub mod Covering
-pub mod Gathers
 pub mod Writing
 pub mod Sweeping
 pub mod WorkLaws

@@ -1,6 +1,6 @@
 -- Profiles after some events, and then more.
-use Rattle.std.proofs.Common.{◌≡◌, ℕ, ◌+◌, ◌≤◌, ◌<◌, subst, inl, inr, List, [], ◌∷◌, ◌++◌, map, length, refl, sym, ap, ◌∙◌, arith, append_assoc, fold, Option, Some, true, false, cond}
-use Rattle.std.specs.Prelude.{decimal, filter}
+use Rattle.std.proofs.Common.{◌≡◌, ℕ, ◌+◌, ◌≤◌, ◌<◌, subst, inl, inr, List, [], ◌∷◌, ◌++◌, map, length, refl, sym, ap, ◌∙◌, arith, fold, Option, Some, true, false, cond}
+use Rattle.std.specs.Prelude.{filter}
 use Rattle.std.specs.Option.{option_to_list}
 use Rattle.trace_core.specs.Events.{events_of, keeps, references}
 use Rattle.trace_core.specs.declared.events.Event.TheVariants as event
@@ -10,16 +10,12 @@ use Rattle.trace_core.specs.declared.events.Item.{Item}
 use Rattle.trace_core.specs.declared.events.Ref.{Ref}
 use Rattle.trace_core.specs.declared.events.Kind.{Kind}
 use Rattle.trace_core.specs.declared.events.Event.{Event}
-use Rattle.cache_core.specs.declared.outcome.Counts.{Counts}
 use Rattle.profile_core.specs.State.{fed_of, after_event}
 use Rattle.std.proofs.lemmas.Bool.{cases_eq}
 use Rattle.std.proofs.lemmas.List.Sums.{fold-append}
 use Rattle.std.proofs.Math.ListN.{get_or, set}
 use Rattle.std.proofs.lemmas.List.{length-set, get_or-set_same, get_or-set_other}
-use Rattle.sweep_core.specs.declared.config.Config.{Config}
 use Rattle.sweep_core.specs.declared.profiles.PairProfile.{PairProfile}
-use Rattle.sweep_core.specs.Space.{bytes_of}
-use Rattle.sweep_core.specs.SweepText.{row_of}
 use Rattle.sweep_core.specs.Pass.{all_after, kept_events}
 
 pub all_after-nil : (xs : List PairProfile) → all_after [] xs ≡ xs
@@ -31,12 +27,6 @@ all_after-append es fs [] = refl
 all_after-append es fs (x ∷ xs) =
     ap (λ v. record x { profile = v } ∷ all_after (es ++ fs) xs) (fold-append after_event x.profile es fs)
     ∙ ap (λ l. record x { profile = fold after_event (fold after_event x.profile es) fs } ∷ l) (all_after-append es fs xs)
-
--- the bytes of a row, as they are put together
-pub row-pieces : (c : Config) (size : ℕ) (n : Counts) (l₀ l₁ l₂ l₃ l₄ l₅ l₆ l₇ : List ℕ) → size ≡ bytes_of c → l₀ ≡ []
-    → l₁ ≡ l₀ ++ decimal c.bsize ++ 44 ∷ [] → l₂ ≡ l₁ ++ decimal c.sets ++ 44 ∷ [] → l₃ ≡ l₂ ++ decimal c.assoc ++ 44 ∷ [] → l₄ ≡ l₃ ++ decimal size ++ 44 ∷ []
-    → l₅ ≡ l₄ ++ decimal n.hits ++ 44 ∷ [] → l₆ ≡ l₅ ++ decimal n.misses ++ 44 ∷ [] → l₇ ≡ l₆ ++ decimal n.evictions ++ 10 ∷ [] → l₇ ≡ row_of c n
-row-pieces c size n l₀ l₁ l₂ l₃ l₄ l₅ l₆ l₇ z y a b d e f g h = rw (h, g, f, e, d, b, a, y, z) (simp append_assoc)
 
 -- an item of two references
 pub entry-two : (kind : Kind) (e : Entry) (item : Item) (both : Ref × Option Ref) (second : Ref) (xs ys zs : List PairProfile)

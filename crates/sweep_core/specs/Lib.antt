@@ -5,4 +5,3 @@ pub mod SweepText
 pub mod Work
 pub mod Pass
 pub mod Walk
-pub mod Gathering

@@ -3,7 +3,6 @@
 
 pub mod config;
 pub mod configs;
-mod gathered;
 pub mod laws;
 mod pass;
 mod profiles;

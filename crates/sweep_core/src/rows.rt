@@ -1,5 +1,4 @@
 //! The text of a row.
-ghost use Rattle.std.specs.Prelude.{◌≡◌, ◌≤◌, length};
 ghost use Rattle.sweep_core.specs.Space.{bytes_of};
 ghost use Rattle.sweep_core.specs.SweepText.{row_of};
 
@@ -11,7 +10,7 @@ use std::marker::Model;
 /// The most bytes that a row has: seven numbers of up to twenty digits, and what stands after each.
 const CAPACITY: usize = 147;
 
-/// The text of a row, as far as it is put together.
+/// The text of a row, as far as it is put together. It takes no memory of the heap.
 #[derive(Drop)]
 pub(crate) struct RowText {
     bytes: [u8; CAPACITY],
@@ -20,19 +19,20 @@ pub(crate) struct RowText {
 
 impl Model for RowText {
     ghost use Rattle.std.specs.Prelude.{◌≤◌, List, ℕ, take};
+    ghost use Rattle.sweep_core.specs.declared.rows.TheConstants.{CAPACITY};
 
     ghost Value = { List ℕ };
 
     ghost view = { λ r. take r.len r.bytes };
 
-    ghost invariant = { λ r. r.len ≤ 147 };
+    ghost invariant = { λ r. r.len ≤ CAPACITY };
 }
 
 impl RowText {
     ghost use Rattle.std.specs.Prelude.{◌≡◌, ◌+◌, ◌≤◌, ◌∷◌, ◌++◌, [], length, decimal};
 
     /// No bytes yet.
-    fn new() -> RowText
+    pub(crate) fn new() -> RowText
         ensures { result ≡ [] }
     {
         RowText {
@@ -48,6 +48,28 @@ impl RowText {
         &self.bytes[..self.len]
     }
 
+    /// Puts the row of a configuration, whose size is `bytes`, in place of what it held.
+    pub(crate) fn set(&mut self, config: &Config, bytes: u64, counts: Counts)
+        requires { bytes ≡ bytes_of config.now }
+        ensures { self.new ≡ row_of config.now counts }
+    {
+        self.clear();
+        self.push(config.bsize, b',');
+        self.push(config.sets, b',');
+        self.push(config.assoc, b',');
+        self.push(bytes, b',');
+        self.push(counts.hits, b',');
+        self.push(counts.misses, b',');
+        self.push(counts.evictions, b'\n');
+    }
+
+    /// Drops its bytes.
+    fn clear(&mut self)
+        ensures { self.new ≡ [] }
+    {
+        self.len = 0;
+    }
+
     /// Adds a number and what stands after it.
     fn push(&mut self, number: u64, after: u8)
         requires { length self.old + 21 ≤ CAPACITY }
@@ -61,21 +83,4 @@ impl RowText {
         self.bytes[end] = after;
         self.len = end + 1;
     }
-}
-
-/// The row of a configuration, whose size is `bytes`.
-pub(crate) fn row_text(config: &Config, bytes: u64, counts: Counts) -> RowText
-    requires { bytes ≡ bytes_of config.now }
-    ensures row { result ≡ row_of config.now counts }
-    ensures short { length result ≤ CAPACITY }
-{
-    let mut row = RowText::new();
-    row.push(config.bsize, b',');
-    row.push(config.sets, b',');
-    row.push(config.assoc, b',');
-    row.push(bytes, b',');
-    row.push(counts.hits, b',');
-    row.push(counts.misses, b',');
-    row.push(counts.evictions, b'\n');
-    row
 }

@@ -4,7 +4,6 @@ ghost use Rattle.trace_core.specs.Task.{Performs};
 ghost use Rattle.sweep_core.specs.SweepText.{sweep_task};
 ghost use Rattle.sweep_core.specs.Work.{sweep_work};
 
-use crate::gathered::Gathered;
 use crate::pass::read_trace;
 use crate::profiles::{make_profiles, total_probes};
 use crate::request::Request;
@@ -21,6 +20,9 @@ pub type SweepFault = RunFault;
 /// Reads a whole trace, of at most `max_lines` lines, 1 to `MAX_LINES`. Then it writes the header, unless `after` is
 /// given, and then a row for each configuration of the request, rising, and flushes once. A failed sink is not called
 /// again.
+///
+/// Each row is written by itself, and none is held back. So a caller whose sink is slow to call, such as a file or a
+/// socket, brings a buffer of its own: `ToWrite` over a `BufWriter`.
 ///
 /// Each pair of block size and set count that has a row costs one profile, as deep as the pair's greatest associativity
 /// in the space, and every reference is fed to each of them as it is read. The answer is how many comparisons of a
@@ -43,8 +45,7 @@ pub fn sweep<S: Source, K: Sink>(
 {
     let mut lines = Lines::new(alloc, request.format, request.max_lines)?;
     let mut profiles = make_profiles(alloc, request)?;
-    let gathered = Gathered::new(alloc)?;
     read_trace(&mut lines, request.kind, source, &mut profiles)?;
-    write_table(sink, request, &profiles, gathered)?;
+    write_table(sink, request, &profiles)?;
     Ok(total_probes(&profiles))
 }

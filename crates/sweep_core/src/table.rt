@@ -1,57 +1,45 @@
 //! What a sweep writes once it has read a trace.
-ghost use Rattle.std.specs.Prelude.{◌≡◌, ◌∷◌, ◌++◌, [], List, OnOk, OnErr};
-ghost use Rattle.std.specs.Io.KnownBytes.{Appends};
-ghost use Rattle.trace_core.specs.Device.{WritesLast};
+ghost use Rattle.std.specs.Prelude.{◌≡◌, ◌∷◌, List};
+ghost use Rattle.trace_core.specs.Device.{Writes, WritesLast};
 ghost use Rattle.trace_core.specs.declared.events.Event.{Event};
 ghost use Rattle.sweep_core.specs.SweepText.{header_of, table_text, rows_text, rows_of, row_counts};
-ghost use Rattle.sweep_core.specs.Gathering.{PassesOn};
 ghost use Rattle.sweep_core.specs.Pass.{Swept};
 ghost use Rattle.sweep_core.specs.Walk.{is_of, Walks, Ready};
 ghost use Rattle.sweep_core.specs.declared.config.Config.{Config};
 
 use crate::config::Config;
-use crate::gathered::Gathered;
 use crate::profiles::PairProfile;
 use crate::request::Request;
-use crate::rows::row_text;
+use crate::rows::RowText;
 use cache_core::outcome::Counts;
 use profile_core::profile::Tally;
-use trace_core::io::{DeviceFault, Sink};
+use trace_core::io::{DeviceFault, Sink, write_all};
 
 /// The first line of a sweep that begins at the first configuration.
 const HEADER: &[u8] = b"bsize,sets,assoc,size,hits,misses,evictions\n";
 
-/// Writes the header and the rows, and flushes. They are gathered first, and so written in large pieces.
+/// Writes the header and the rows, and flushes.
 pub(crate) fn write_table<K: Sink>(
     sink: &mut K,
     request: &Request,
     profiles: &[PairProfile],
-    gathered: Gathered,
 ) -> Result<(), DeviceFault>
-    requires swept { (es : List Event) × Swept request.now es profiles.now }
-    requires none { gathered ≡ [] }
+    requires { (es : List Event) × Swept request.now es profiles.now }
     ensures { (es : List Event) → Swept request.now es profiles.now →
         WritesLast (K.view sink.old) (K.view sink.new) result (table_text request.now es) }
 {
-    let mut gathered = gathered;
-    write_header(sink, request.after, &mut gathered)?;
-    write_rows(sink, request, profiles, &mut gathered)?;
-    gathered.write_out(sink)?;
+    write_all(sink, header(request.after))?;
+    write_rows(sink, request, profiles)?;
     sink.flush()
 }
 
-/// Writes the header, where a sweep begins at the first configuration.
-fn write_header<K: Sink>(
-    sink: &mut K,
-    after: Option<Config>,
-    gathered: &mut Gathered,
-) -> Result<(), DeviceFault>
-    ensures { PassesOn (K.view sink.old) (K.view sink.new) result
-        gathered.old gathered.new (header_of after) gathered.old }
+/// The header, where a sweep begins at the first configuration, and else nothing.
+fn header(after: Option<Config>) -> &'static [u8]
+    ensures { result.now ≡ header_of after }
 {
     match after {
-        None => gathered.put(sink, HEADER),
-        Some(_) => Ok(()),
+        None => HEADER,
+        Some(_) => b"",
     }
 }
 
@@ -60,23 +48,22 @@ fn write_rows<K: Sink>(
     sink: &mut K,
     request: &Request,
     profiles: &[PairProfile],
-    gathered: &mut Gathered,
 ) -> Result<(), DeviceFault>
     requires { (es : List Event) × Swept request.now es profiles.now }
     ensures { (es : List Event) → Swept request.now es profiles.now →
-        PassesOn (K.view sink.old) (K.view sink.new) result gathered.old gathered.new
-        (rows_text es (rows_of request.now)) (gathered.old ++ rows_text es (rows_of request.now)) }
+        Writes (K.view sink.old) (K.view sink.new) result (rows_text es (rows_of request.now)) }
 {
     let mut left = profiles;
     let Some(first) = left.first() else {
         return Ok(());
     };
     let mut tally = first.profile.begin_tally();
+    let mut row = RowText::new();
     for config in request.rows() {
         left = from_pair(left, &mut tally, &config);
         let counts = next_counts(left, &mut tally, &config);
-        let row = row_text(&config, config.bytes(), counts);
-        gathered.put(sink, row.as_slice())?;
+        row.set(&config, config.bytes(), counts);
+        write_all(sink, row.as_slice())?;
     }
     Ok(())
 }

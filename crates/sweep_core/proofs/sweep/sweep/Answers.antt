@@ -19,8 +19,8 @@ returns-in_err-read_trace-clause-performs g c =
     c.in_err-read_trace.ensures.tells in
     Performs-trace fault (err_is c.from_residual-in_err-read_trace.ensures.1) stopped (λ late. refl)
 
-pub write_table-requires-clause-swept : goal.write_table-requires-clause-swept
-write_table-requires-clause-swept g c = (
+pub write_table-requires : goal.write_table-requires
+write_table-requires g c = (
   _,
   swept-after c.in_ok-profiles.ensures c.deref_mut.ensures.value c.read_trace.ensures.fed (c.deref.ensures.value ∙ take_at _ _ _ (omega arith)),
 )
