@@ -6,7 +6,7 @@ use Rattle.std.specs.Option.{option_map_or}
 use Rattle.std.specs.Char.{is_ascii_digit}
 use Rattle.clap.specs.Words.{Text}
 use Rattle.trace_core.specs.Line.{is_comma}
-use Rattle.sweep_core.specs.declared.config.Config.{Config}
+use Rattle.sweep_core.specs.declared.space.Config.{Config}
 
 -- the value of decimal digits: each times its power of ten
 abbrev pub value_of_digits : List ℕ → ℕ

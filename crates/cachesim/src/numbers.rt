@@ -4,7 +4,7 @@ ghost use Rattle.std.specs.List.{list_all};
 ghost use Rattle.std.specs.Char.{is_ascii_digit};
 ghost use Rattle.cachesim.specs.Numbers.{config_of, number_of, range_of, scale_of, scaled_of, triple_of};
 
-use sweep_core::config::Config;
+use sweep_core::space::Config;
 
 /// The number of one or more decimal digits, zeros in front allowed. `None` for any other text, and from 2^64 on.
 pub fn read_number(text: &str) -> Option<u64>

@@ -8,7 +8,7 @@ ghost use Rattle.cachesim.specs.Readings.{format_named, is_flagged, kind_named, 
 use crate::faults::WordsFault;
 use crate::numbers::{read_number, read_range, read_triple};
 use clap::ArgMatches;
-use sweep_core::config::Config;
+use sweep_core::space::Config;
 use trace_core::events::Kind;
 use trace_core::line::Format;
 

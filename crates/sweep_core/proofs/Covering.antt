@@ -6,7 +6,7 @@ use Rattle.std.proofs.lemmas.Bool.{cases_Bool, and_from, eq-eqb}
 use Rattle.trace_core.specs.declared.events.Event.{Event}
 use Rattle.cache_core.specs.Geometry.{Shape, shape}
 use Rattle.profile_core.specs.State.{TallyState, tally_at}
-use Rattle.sweep_core.specs.declared.config.Config.{Config}
+use Rattle.sweep_core.specs.declared.space.Config.{Config}
 use Rattle.sweep_core.specs.declared.request.Request.{Request}
 use Rattle.sweep_core.specs.declared.profiles.PairProfile.{PairProfile}
 use Rattle.sweep_core.specs.Space.{fault_of, bytes_of}

@@ -10,7 +10,7 @@ use Rattle.std.proofs.Math.Pow.{pow-lt}
 use Rattle.std.proofs.Math.Nat.{mul_comm}
 use Rattle.sweep_core.proofs.Powers.{power_of}
 use Rattle.cache_core.specs.Geometry.{IsGeometry, size_of}
-use Rattle.sweep_core.specs.declared.config.Config.{Config}
+use Rattle.sweep_core.specs.declared.space.Config.{Config}
 use Rattle.sweep_core.specs.Space.{Ranges, is_power, is_valid, bytes_of, config}
 use Rattle.sweep_core.specs.Table.{is_less, is_after, table, all_configs}
 use Rattle.sweep_core.specs.SweepText.{log2, shape_of_config}

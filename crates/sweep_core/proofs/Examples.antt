@@ -6,7 +6,7 @@ use Rattle.trace_core.specs.declared.events.Kind.{Kind}
 use Rattle.trace_core.specs.declared.events.Kind.TheVariants.{All, DataOnly, FetchOnly}
 use Rattle.trace_core.specs.declared.line.Format.TheVariants.{Din, Lackey}
 use Rattle.cache_core.specs.Windows.{window, counts, probes, places_after, distinct, distinct_of_set}
-use Rattle.sweep_core.specs.declared.config.Config.{Config}
+use Rattle.sweep_core.specs.declared.space.Config.{Config}
 use Rattle.sweep_core.specs.declared.request.Request.{Request}
 use Rattle.sweep_core.specs.declared.space.SpaceFault.{SpaceFault}
 use Rattle.sweep_core.specs.declared.space.Which.{Which}

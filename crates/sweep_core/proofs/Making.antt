@@ -2,7 +2,7 @@
 use Rattle.std.proofs.Common.{◌≡◌, ℕ, zero, suc, true, false, List, [], ◌∷◌, ◌++◌, map, take, refl, sym, ap, ◌∙◌, Option, None, Some, append-nil, append_assoc, subst}
 use Rattle.std.specs.List.{AllByRecursion as Each}
 use Rattle.cache_core.specs.Geometry.{IsGeometry}
-use Rattle.sweep_core.specs.declared.config.Config.{Config}
+use Rattle.sweep_core.specs.declared.space.Config.{Config}
 use Rattle.sweep_core.specs.declared.request.Request.{Request}
 use Rattle.sweep_core.specs.declared.profiles.PairProfile.{PairProfile}
 use Rattle.sweep_core.specs.Space.{is_valid, fault_of}

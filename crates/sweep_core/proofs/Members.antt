@@ -3,7 +3,7 @@ use Rattle.std.proofs.Common.{◌≡◌, ℕ, suc, zero, ◌<◌, Bool, true, �
 use Rattle.std.specs.Prelude.{◌↔◌, filter, Contains}
 use Rattle.std.specs.List.{AllByRecursion as Each}
 use Rattle.std.proofs.lemmas.Bool.{cases_Bool, cond-true, cond-false, and_parts, and_from, false≢true}
-use Rattle.sweep_core.specs.declared.config.Config.{Config}
+use Rattle.sweep_core.specs.declared.space.Config.{Config}
 use Rattle.sweep_core.specs.Space.{Ranges, is_valid}
 use Rattle.sweep_core.specs.Table.{is_less, is_after, table, all_configs, IsRising}
 use Rattle.sweep_core.proofs.Validity.{IsLimited}

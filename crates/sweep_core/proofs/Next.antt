@@ -1,7 +1,7 @@
 -- The table after a triple begins with the least configuration found.
 use Rattle.std.proofs.Common.{◌≡◌, ◌-◌, ◌^◌, ◌<◌, true, false, not, ◌&&◌, [], ◌∷◌, refl, sym, ap, ◌∙◌, arith, Option, None, Some, MatchOption, subst}
 use Rattle.std.proofs.lemmas.Bool.{and_parts, and_from, and_right, false≢true, not-true, not-false, not_from_false, not_from_true, false_from_ne_true}
-use Rattle.sweep_core.specs.declared.config.Config.{Config}
+use Rattle.sweep_core.specs.declared.space.Config.{Config}
 use Rattle.sweep_core.specs.Space.{Ranges, is_valid, config}
 use Rattle.sweep_core.specs.Table.{is_less, is_after, table, all_configs}
 use Rattle.sweep_core.specs.Least.{IsLeast, is_from}

@@ -3,7 +3,7 @@ use Rattle.std.proofs.Common.{◌≡◌, ℕ, Bool, true, false, not, List, [], 
 use Rattle.std.specs.Prelude.{filter, ◌==◌, ◌&&◌}
 use Rattle.std.specs.List.{AllByRecursion as Each}
 use Rattle.std.proofs.lemmas.Bool.{cond-true, cond-false, not_from_true, not_from_false, false≢true, false_from_ne_true, and_parts, and_from, eqb-true, eq-eqb}
-use Rattle.sweep_core.specs.declared.config.Config.{Config}
+use Rattle.sweep_core.specs.declared.space.Config.{Config}
 use Rattle.sweep_core.specs.Table.{is_less, IsRising}
 use Rattle.sweep_core.specs.Work.{pairs, has_pair}
 use Rattle.sweep_core.specs.Walk.{is_same_pair}

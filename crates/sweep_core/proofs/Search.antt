@@ -3,7 +3,7 @@ use Rattle.std.proofs.Common.{◌≡◌, ℕ, ◌+◌, ◌^◌, ◌<◌, ◌≤�
 use Rattle.std.proofs.lemmas.Bool.{and_parts, and_from, false≢true, not-true, not_from_false, eqb-true, eq-eqb, false_from_ne_true, cases_eq, cases_lt, ltb-false, le-ltb}
 use Rattle.std.proofs.Math.Pow.{pow_mono}
 use Rattle.std.proofs.lemmas.Nat.{pow_pos}
-use Rattle.sweep_core.specs.declared.config.Config.{Config}
+use Rattle.sweep_core.specs.declared.space.Config.{Config}
 use Rattle.sweep_core.specs.Space.{Ranges, is_power, is_in_range, is_valid, config}
 use Rattle.sweep_core.specs.Table.{is_less}
 use Rattle.sweep_core.specs.Least.{IsLeast, is_from, is_from_of_bsize, is_from_pair}

@@ -8,7 +8,7 @@ use Rattle.cache_core.specs.Windows.{probes}
 use Rattle.profile_core.specs.State.{empty}
 use Rattle.profile_core.specs.StandsFor.{StandsFor}
 use Rattle.profile_core.proofs.Runs.{stands_after, geometry_after}
-use Rattle.sweep_core.specs.declared.config.Config.{Config}
+use Rattle.sweep_core.specs.declared.space.Config.{Config}
 use Rattle.sweep_core.specs.declared.profiles.PairProfile.{PairProfile}
 use Rattle.sweep_core.specs.Work.{pairs, work, shape_of_pair}
 use Rattle.sweep_core.specs.Pass.{pair_after_events, begun_for, made_for, all_after, HasGeometry}

@@ -5,7 +5,7 @@ use Rattle.std.proofs.Common.{inl, inr}
 use Rattle.std.specs.List.{range_with_len, AllByRecursion as Each}
 use Rattle.std.proofs.lemmas.Bool.{cases_Bool, false≢true, cond-true, cond-false, cases_lt}
 use Rattle.std.proofs.Math.Pow.{pow-lt}
-use Rattle.sweep_core.specs.declared.config.Config.{Config}
+use Rattle.sweep_core.specs.declared.space.Config.{Config}
 use Rattle.sweep_core.specs.Table.{IsRising, is_less, powers_of_two, numbers, all_configs}
 use Rattle.sweep_core.specs.Space.{config}
 use Rattle.sweep_core.proofs.Orders.{is_less-asym, is_less-same, is_less-from}

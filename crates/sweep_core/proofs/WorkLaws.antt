@@ -9,7 +9,7 @@ use Rattle.trace_core.specs.declared.events.Event.{Event}
 use Rattle.trace_core.specs.declared.events.Event.TheVariants as event
 use Rattle.cache_core.specs.Geometry.{Shape}
 use Rattle.cache_core.specs.Windows.{places, places_after, probes, is_flush}
-use Rattle.sweep_core.specs.declared.config.Config.{Config}
+use Rattle.sweep_core.specs.declared.space.Config.{Config}
 use Rattle.sweep_core.specs.Work.{pair_of, has_pair, pairs, depth, shape_of_pair, work, references_in, total_depth}
 use Rattle.sweep_core.proofs.Tables.{Member}
 use Rattle.sweep_core.proofs.Members.{contains-of, member-of, kept-of}

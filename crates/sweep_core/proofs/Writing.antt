@@ -6,7 +6,7 @@ use Rattle.trace_core.specs.declared.events.Event.{Event}
 use Rattle.trace_core.specs.Device.{SinkView, Wrote, WrotePart}
 use Rattle.trace_core.proofs.Written.{Wrote-none, Wrote-more, WrotePart-after, WrotePart-more}
 use Rattle.cache_core.specs.declared.outcome.Counts.{Counts}
-use Rattle.sweep_core.specs.declared.config.Config.{Config}
+use Rattle.sweep_core.specs.declared.space.Config.{Config}
 use Rattle.sweep_core.specs.Space.{bytes_of}
 use Rattle.sweep_core.specs.SweepText.{rows_text, row_of, row_counts}
 

@@ -1,6 +1,6 @@
 -- The least configuration that passes a test.
 use Rattle.std.specs.Prelude.{ℕ, ◌≡◌, ◌≤◌, ◌==◌, ◌&&◌, not, Bool, true, false, Option, MatchOption}
-use Rattle.sweep_core.specs.declared.config.Config.{Config}
+use Rattle.sweep_core.specs.declared.space.Config.{Config}
 use Rattle.sweep_core.specs.Space.{Ranges, is_valid}
 use Rattle.sweep_core.specs.Table.{is_less}
 

@@ -8,7 +8,7 @@ use Rattle.trace_core.specs.Task.{Task}
 use Rattle.cache_core.specs.declared.outcome.Counts.{Counts}
 use Rattle.cache_core.specs.Geometry.{Shape, shape}
 use Rattle.cache_core.specs.Windows.{counts}
-use Rattle.sweep_core.specs.declared.config.Config.{Config}
+use Rattle.sweep_core.specs.declared.space.Config.{Config}
 use Rattle.sweep_core.specs.declared.request.Request.{Request}
 use Rattle.sweep_core.specs.Space.{bytes_of}
 use Rattle.sweep_core.specs.Table.{table, first_rows}

@@ -1,7 +1,7 @@
 -- The configurations of a space in order.
 use Rattle.std.specs.Prelude.{◌≡◌, ⊤, [], ◌∷◌, ℕ, ◌+◌, ◌-◌, ◌^◌, ◌==◌, ◌&&◌, ◌||◌, nat_lt, Bool, true, Option, None, Some, List, take, map, filter, flat_map}
 use Rattle.std.specs.List.{range_with_len, AllByRecursion}
-use Rattle.sweep_core.specs.declared.config.Config.{Config}
+use Rattle.sweep_core.specs.declared.space.Config.{Config}
 use Rattle.sweep_core.specs.Space.{Ranges, config, is_valid}
 
 -- the order: by block size, then by set count, then by associativity

@@ -5,7 +5,7 @@ use Rattle.trace_core.specs.declared.events.Event.{Event}
 use Rattle.cache_core.specs.Geometry.{shape}
 use Rattle.profile_core.specs.State.{TallyState, tally_at}
 use Rattle.profile_core.specs.StandsFor.{StandsFor}
-use Rattle.sweep_core.specs.declared.config.Config.{Config}
+use Rattle.sweep_core.specs.declared.space.Config.{Config}
 use Rattle.sweep_core.specs.declared.profiles.PairProfile.{PairProfile}
 use Rattle.sweep_core.specs.Space.{bytes_of}
 use Rattle.sweep_core.specs.SweepText.{log2}

@@ -4,7 +4,7 @@ use Rattle.trace_core.specs.declared.events.Event.{Event}
 use Rattle.trace_core.specs.Reading.{events}
 use Rattle.cache_core.specs.Geometry.{Shape, shape}
 use Rattle.cache_core.specs.Windows.{is_flush, probes}
-use Rattle.sweep_core.specs.declared.config.Config.{Config}
+use Rattle.sweep_core.specs.declared.space.Config.{Config}
 use Rattle.sweep_core.specs.declared.request.Request.{Request}
 use Rattle.sweep_core.specs.SweepText.{log2, all_of, rows_of}
 

@@ -3,14 +3,14 @@
 ghost use Rattle.std.specs.Prelude.{◌≡◌, ◌≢◌, ◌≤◌, ◌*◌, ◌^◌, ℕ, List, [], ◌∷◌, ◌++◌, flat_map, true, Option, None, Some, ◌↔◌, IsTrue, Contains, AllPairs};
 ghost use Rattle.trace_core.specs.Reading.{events};
 ghost use Rattle.cache_core.specs.Geometry.{IsGeometry, size_of};
-ghost use Rattle.sweep_core.specs.declared.config.Config.{Config};
+ghost use Rattle.sweep_core.specs.declared.space.Config.{Config};
 ghost use Rattle.sweep_core.specs.declared.request.Request.{Request};
 ghost use Rattle.sweep_core.specs.Space.{Ranges, is_power, is_valid, fault_of, bytes_of};
 ghost use Rattle.sweep_core.specs.Table.{table, first_rows, more_rows, is_less, is_after, IsRising};
 ghost use Rattle.sweep_core.specs.SweepText.{log2, shape_of_config, sweep_text, all_of, rows_of, ArePages};
 ghost use Rattle.sweep_core.specs.Work.{pair_of, pairs, depth, references_in, total_depth, sweep_work};
 
-use crate::config::Config;
+use crate::space::Config;
 use profile_core::laws::probes_bounded;
 
 /// The table rises, its members are exactly the configurations of the space that are greater than `after`, and no other

@@ -6,11 +6,10 @@ ghost use Rattle.sweep_core.specs.Table.{table, is_after};
 ghost use Rattle.sweep_core.specs.SweepText.{log2};
 ghost use Rattle.sweep_core.specs.Pass.{Swept, begun_for};
 ghost use Rattle.sweep_core.specs.Walk.{is_same_pair};
-ghost use Rattle.sweep_core.specs.declared.config.Config.{Config};
+ghost use Rattle.sweep_core.specs.declared.space.Config.{Config};
 
-use crate::config::Config;
 use crate::request::Request;
-use crate::space::Space;
+use crate::space::{Config, Space};
 use profile_core::profile::Profile;
 use std::alloc::{AllocError, Global};
 

@@ -3,9 +3,8 @@ ghost use Rattle.std.specs.Prelude.{◌≡◌};
 ghost use Rattle.std.specs.Iterator.{YieldsFirst, item_count};
 ghost use Rattle.sweep_core.specs.Table.{table, first_rows};
 
-use crate::config::Config;
-use crate::configs::Configs;
-use crate::space::Space;
+use crate::space::configs::Configs;
+use crate::space::{Config, Space};
 use std::marker::Model;
 use trace_core::events::Kind;
 use trace_core::line::Format;
@@ -49,7 +48,7 @@ pub(crate) struct Rows {
 
 impl Model for Rows {
     ghost use Rattle.std.specs.Prelude.{List};
-    ghost use Rattle.sweep_core.specs.declared.config.Config.{Config};
+    ghost use Rattle.sweep_core.specs.declared.space.Config.{Config};
     ghost use Rattle.sweep_core.specs.Table.{first_rows};
 
     ghost Value = { List Config };

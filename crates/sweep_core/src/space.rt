@@ -1,14 +1,35 @@
-//! The ranges of a sweep, and which configurations lie in them.
-mod search;
+//! The configurations of a cache, the ranges of a sweep, and which configurations lie in them.
+pub mod configs;
 
 ghost use Rattle.std.specs.Prelude.{◌≡◌, ◌<◌, ◌^◌, MatchResult, None, Some};
 ghost use Rattle.sweep_core.specs.Space.{is_power, is_in_range, order_cause, limit_cause, power_cause};
 
-use crate::config::Config;
 use cache_core::geometry::{MAX_BITS, MAX_CACHE_LINES, MAX_WAYS};
 use std::fmt;
 use std::marker::Model;
 use thiserror::Error;
+
+/// An LRU write-allocate cache of `sets` sets of `assoc` lines of `bsize` bytes.
+#[derive(Clone, Copy, Debug, PartialEq, Eq, PartialOrd, Ord)]
+pub struct Config {
+    pub bsize: u64,
+    pub sets: u64,
+    pub assoc: u64,
+}
+
+impl Config {
+    ghost use Rattle.sweep_core.specs.Space.{bytes_of};
+    ghost use Rattle.std.specs.Prelude.{◌≡◌, ◌<◌, ◌*◌, ◌^◌};
+
+    /// The bytes of all its lines.
+    pub(crate) fn bytes(&self) -> u64
+        requires pair { self.now.bsize * self.now.sets < 2 ^ 64 }
+        requires all { bytes_of self.now < 2 ^ 64 }
+        ensures { result ≡ bytes_of self.now }
+    {
+        self.bsize * self.sets * self.assoc
+    }
+}
 
 /// A range of a space.
 #[derive(Clone, Copy, Debug, PartialEq, Eq)]

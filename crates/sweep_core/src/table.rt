@@ -5,12 +5,12 @@ ghost use Rattle.trace_core.specs.declared.events.Event.{Event};
 ghost use Rattle.sweep_core.specs.SweepText.{header_of, table_text, rows_text, rows_of, row_counts};
 ghost use Rattle.sweep_core.specs.Pass.{Swept};
 ghost use Rattle.sweep_core.specs.Walk.{is_of, Walks, Ready};
-ghost use Rattle.sweep_core.specs.declared.config.Config.{Config};
+ghost use Rattle.sweep_core.specs.declared.space.Config.{Config};
 
-use crate::config::Config;
 use crate::profiles::PairProfile;
 use crate::request::Request;
-use crate::rows::RowText;
+use crate::row_text::RowText;
+use crate::space::Config;
 use cache_core::outcome::Counts;
 use profile_core::profile::Tally;
 use trace_core::io::{DeviceFault, Sink, write_all};

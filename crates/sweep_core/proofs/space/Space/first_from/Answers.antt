@@ -1,5 +1,5 @@
 use Rattle.std.proofs.Common.{◌≡◌, ℕ, ◌^◌, ◌≤◌, Some, true, false, subst, arith}
-use Rattle.sweep_core.specs.declared.config.Config.{Config}
+use Rattle.sweep_core.specs.declared.space.Config.{Config}
 use Rattle.sweep_core.specs.Least.{IsLeast, is_from, is_from_of_bsize}
 use Rattle.sweep_core.proofs.Validity.{limits_of}
 use Rattle.sweep_core.proofs.Search.{reached-first, reached-next, reached-found, reached-end, from-power, from-apart}

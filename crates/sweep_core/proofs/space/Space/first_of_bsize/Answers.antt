@@ -1,5 +1,5 @@
 use Rattle.std.proofs.Common.{◌≡◌, ℕ, ◌^◌, ◌≤◌, Some, true, false, subst, sym, ◌∙◌, arith}
-use Rattle.sweep_core.specs.declared.config.Config.{Config}
+use Rattle.sweep_core.specs.declared.space.Config.{Config}
 use Rattle.sweep_core.specs.Space.{Ranges, is_in_range}
 use Rattle.sweep_core.specs.Least.{IsLeast, is_from_of_bsize, is_from_pair}
 use Rattle.sweep_core.proofs.Validity.{limits_of}

@@ -1,6 +1,6 @@
 use Rattle.std.proofs.Common.{◌≡◌, ◌*◌, ◌^◌, ◌<◌, None, true, sym, ◌∙◌, arith}
 use Rattle.sweep_core.specs.Space.{Ranges, ranges, is_in_range, fault_of}
-use Rattle.sweep_core.specs.declared.config.Config.{Config}
+use Rattle.sweep_core.specs.declared.space.Config.{Config}
 use Rattle.sweep_core.proofs.Validity.{limits_of, within_of, products}
 use Rattle.sweep_core.proofs.space.Space.has.Goals as goal
 

@@ -1,5 +1,5 @@
 use Rattle.sweep_core.proofs.Powers.{next_power-least, is_power-of}
-use Rattle.sweep_core.proofs.space.search.least_assoc.Goals as goal
+use Rattle.sweep_core.proofs.space.configs.least_assoc.Goals as goal
 
 pub returns-then-powers-clause-power : goal.returns-then-powers-clause-power
 returns-then-powers-clause-power c _ = is_power-of _ c.next_power_of_two.ensures.power c.next_power_of_two.type_inv

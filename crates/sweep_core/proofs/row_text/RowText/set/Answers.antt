@@ -1,5 +1,5 @@
 use Rattle.sweep_core.proofs.Writing.{row-pieces}
-use Rattle.sweep_core.proofs.rows.RowText.set.Goals as goal
+use Rattle.sweep_core.proofs.row_text.RowText.set.Goals as goal
 
 pub returns : goal.returns
 returns c =

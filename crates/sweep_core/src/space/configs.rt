@@ -1,21 +1,65 @@
-//! The search for the configuration that comes next, and for the greatest associativity of a pair.
+//! The configurations of a space, one after another: the search for the one that comes next, and for the greatest
+//! associativity of a pair.
 ghost use Rattle.std.specs.Prelude.{◌≡◌, ◌<◌, ◌≤◌, ◌-◌, ◌^◌, ℕ, not, true, nat_lt, MatchOption};
+ghost use Rattle.std.specs.Iterator.{YieldsFirst, item_count};
 ghost use Rattle.sweep_core.specs.Table.{is_less, is_after};
-ghost use Rattle.sweep_core.specs.declared.config.Config.{Config};
+ghost use Rattle.sweep_core.specs.declared.space.Config.{Config};
 ghost use Rattle.sweep_core.specs.Space.{is_power, config};
 
-use super::{Space, is_in_range};
-use crate::config::Config;
+use super::{Config, Space, is_in_range};
 use cache_core::geometry::{MAX_BITS, MAX_CACHE_LINES};
+use std::marker::Model;
 
 /// How many powers of two there are up to the greatest block size and set count.
 const POWERS: u32 = MAX_BITS as u32 + 1;
+
+/// An iterator over the configurations of a space that are greater than a triple, rising.
+#[derive(Debug, Drop)]
+pub struct Configs {
+    space: Space,
+    after: Option<Config>,
+}
+
+impl Model for Configs {
+    ghost use Rattle.std.specs.Prelude.{List};
+    ghost use Rattle.sweep_core.specs.declared.space.Config.{Config};
+    ghost use Rattle.sweep_core.specs.Table.{table};
+
+    ghost Value = { List Config };
+
+    ghost view = { λ c. table c.space c.after };
+}
+
+impl Iterator for Configs {
+    type Item = Config;
+
+    ghost next_gives = { YieldsFirst (λ c. c) };
+
+    ghost remaining = { item_count (λ c. c) };
+
+    fn next(&mut self) -> Option<Config> {
+        let found = self.space.next_after(self.after)?;
+        self.after = Some(found);
+        Some(found)
+    }
+}
 
 impl Space {
     ghost use Rattle.std.specs.Prelude.{◌≡◌, ◌≤◌, ◌∷◌, [], ℕ, true, MatchOption, None, Some};
     ghost use Rattle.sweep_core.specs.Space.{is_valid, is_in_range, config};
     ghost use Rattle.sweep_core.specs.Table.{table};
     ghost use Rattle.sweep_core.specs.Least.{IsLeast, IsLeastFrom, is_from, is_from_of_bsize, is_from_pair};
+
+    /// Its configurations that are greater than `after`, which may be any triple, rising; without it, all. What stands
+    /// before `after` is not walked.
+    pub fn configs(&self, after: Option<Config>) -> Configs
+        ensures { result ≡ table self.now after }
+    {
+        Configs {
+            space: *self,
+            after,
+        }
+    }
 
     /// The least associativity from `least` on with which it has a configuration of a pair.
     fn first_assoc(&self, bsize: u64, sets: u64, least: u64) -> Option<u64>

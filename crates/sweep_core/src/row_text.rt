@@ -2,7 +2,7 @@
 ghost use Rattle.sweep_core.specs.Space.{bytes_of};
 ghost use Rattle.sweep_core.specs.SweepText.{row_of};
 
-use crate::config::Config;
+use crate::space::Config;
 use cache_core::outcome::Counts;
 use itoa::Buffer;
 use std::marker::Model;
@@ -19,7 +19,7 @@ pub(crate) struct RowText {
 
 impl Model for RowText {
     ghost use Rattle.std.specs.Prelude.{◌≤◌, List, ℕ, take};
-    ghost use Rattle.sweep_core.specs.declared.rows.TheConstants.{CAPACITY};
+    ghost use Rattle.sweep_core.specs.declared.row_text.TheConstants.{CAPACITY};
 
     ghost Value = { List ℕ };
 
