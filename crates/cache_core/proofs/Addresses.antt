@@ -7,13 +7,15 @@ use Rattle.cache_core.specs.declared.outcome.Slot.{Slot}
 use Rattle.cache_core.specs.Order.{TakesIn}
 use Rattle.cache_core.specs.Slab.{Addressable}
 
-pub victim_fits : (b word room : ℕ) (old : List Slot) (slot : Slot) (gone : Option Slot) (new : List Slot) → TakesIn None word room old slot gone new → Addressable b old → IfSome gone (λ x. x.block * 2 ^ b < 2 ^ 64)
+pub victim_fits : (b word room : ℕ) (old : List Slot) (slot : Slot) (gone : Option Slot) (new : List Slot) →
+    TakesIn None word room old slot gone new → Addressable b old → IfSome gone (λ x. x.block * 2 ^ b < 2 ^ 64)
 victim_fits b word room old slot None new p h = tt
 victim_fits b word room old slot (Some gone) new p h =
     let P : Slot → Type 0 = λ x. x.block * 2 ^ b < 2 ^ 64 in
     All-head P gone p.1.0 (All-permutation P old (gone ∷ p.1.0) p.1.1 h)
 
-pub placed_fits : (b word room : ℕ) (old : List Slot) (slot : Slot) (gone : Option Slot) (new : List Slot) → TakesIn None word room old slot gone new → slot.block * 2 ^ b < 2 ^ 64 → Addressable b old → Addressable b new
+pub placed_fits : (b word room : ℕ) (old : List Slot) (slot : Slot) (gone : Option Slot) (new : List Slot) →
+    TakesIn None word room old slot gone new → slot.block * 2 ^ b < 2 ^ 64 → Addressable b old → Addressable b new
 placed_fits b word room old slot None new p s h =
     let P : Slot → Type 0 = λ x. x.block * 2 ^ b < 2 ^ 64 in
     All-permutation P (slot ∷ old) new p.1 (All-cons P slot old s h)

@@ -26,26 +26,34 @@ within_more n m (Some stage) h w = record {
 enters_copied : (old : Stage) (ref : Ref) (outcome : Outcome) (new : Stage) → Enters old ref outcome new → old.stats.copybacks ≤ new.stats.copybacks
 enters_copied old ref outcome new e = let c = ap (λ (s : CacheStats). s.copybacks) e.counts in omega (arith, c)
 
-pub answers_copied : (old : Option Stage) (ref : Ref) (down : Option (List (Option Ref))) (new : Option Stage) → Answers old ref down new → copied old ≤ copied new
+pub answers_copied : (old : Option Stage) (ref : Ref) (down : Option (List (Option Ref))) (new : Option Stage) → Answers old ref down new →
+    copied old ≤ copied new
 answers_copied old ref None new a = rw (a.0, a.1) (omega arith)
 answers_copied old ref (Some down) new (a, b, o, p, q, r, e) = rw (p, q) (enters_copied a ref o b e)
 
-pub first_copied : (i d u : Option Stage) (ref : Ref) (down : Option (List (Option Ref))) (i' d' u' : Option Stage) → FirstAnswers i d u ref down i' d' u' → copied i + copied d + copied u ≤ copied i' + copied d' + copied u'
+pub first_copied : (i d u : Option Stage) (ref : Ref) (down : Option (List (Option Ref))) (i' d' u' : Option Stage) →
+    FirstAnswers i d u ref down i' d' u' → copied i + copied d + copied u ≤ copied i' + copied d' + copied u'
 first_copied i d u ref down i' d' u' f = by_unified (is_some u) f
   where
-    by_fetch : (b : Bool) → MatchBool b (Answers i ref down i' × (d' ≡ d) × (u' ≡ u)) (Answers d ref down d' × (i' ≡ i) × (u' ≡ u)) → copied i + copied d + copied u ≤ copied i' + copied d' + copied u'
+    by_fetch : (b : Bool) → MatchBool b (Answers i ref down i' × (d' ≡ d) × (u' ≡ u)) (Answers d ref down d' × (i' ≡ i) × (u' ≡ u)) →
+        copied i + copied d + copied u ≤ copied i' + copied d' + copied u'
     by_fetch true g = rw (g.1, g.2) (omega (arith, answers_copied i ref down i' g.0))
     by_fetch false g = rw (g.1, g.2) (omega (arith, answers_copied d ref down d' g.0))
 
-    by_unified : (b : Bool) → MatchBool b (Answers u ref down u' × (i' ≡ i) × (d' ≡ d)) (MatchBool (is_fetch ref.access) (Answers i ref down i' × (d' ≡ d) × (u' ≡ u)) (Answers d ref down d' × (i' ≡ i) × (u' ≡ u))) → copied i + copied d + copied u ≤ copied i' + copied d' + copied u'
+    by_unified : (b : Bool) →
+        MatchBool b (Answers u ref down u' × (i' ≡ i) × (d' ≡ d))
+        (MatchBool (is_fetch ref.access) (Answers i ref down i' × (d' ≡ d) × (u' ≡ u)) (Answers d ref down d' × (i' ≡ i) × (u' ≡ u))) →
+        copied i + copied d + copied u ≤ copied i' + copied d' + copied u'
     by_unified true g = rw (g.1, g.2) (omega (arith, answers_copied u ref down u' g.0))
     by_unified false g = by_fetch (is_fetch ref.access) g
 
-descends_copied : (ref : Ref) (second : Option Stage) (memory : Memory) (next : Option Stage) (after : Memory) → Descends ref second memory next after → copied second ≤ copied next
+descends_copied : (ref : Ref) (second : Option Stage) (memory : Memory) (next : Option Stage) (after : Memory) → Descends ref second memory next after →
+    copied second ≤ copied next
 descends_copied ref None memory next after d = omega arith
 descends_copied ref (Some stage) memory next after (o, n, e, s, m) = rw s (enters_copied stage ref o n e)
 
-pub all_copied : (refs : List Ref) (second : Option Stage) (memory : Memory) (next : Option Stage) (after : Memory) → AllDescend refs second memory next after → copied second ≤ copied next
+pub all_copied : (refs : List Ref) (second : Option Stage) (memory : Memory) (next : Option Stage) (after : Memory) →
+    AllDescend refs second memory next after → copied second ≤ copied next
 all_copied [] second memory next after d = rw d.0 (omega arith)
 all_copied (ref ∷ refs) second memory next after (mid, half, d, r) =
     omega (arith, descends_copied ref second memory mid half d, all_copied refs mid half next after r)

@@ -1,5 +1,6 @@
 -- Each dirty slot comes of a write.
-use Rattle.std.proofs.Common.{◌≡◌, ℕ, ◌+◌, ◌*◌, ◌^◌, ◌<◌, ◌≤◌, Bool, true, false, cond, List, [], ◌∷◌, length, get_or, set, Option, Some, None, sym, ap, refl, subst, arith, take, drop, ◌-◌}
+use Rattle.std.proofs.Common.{◌≡◌, ℕ, ◌+◌, ◌*◌, ◌^◌, ◌<◌, ◌≤◌, Bool, true, false, cond, List, [], ◌∷◌, length, get_or}
+use Rattle.std.proofs.Common.{set, Option, Some, None, sym, ap, refl, subst, arith, take, drop, ◌-◌}
 use Rattle.std.specs.Prelude.{MatchOption, MatchBool}
 use Rattle.std.proofs.lemmas.List.Quantifiers.{position-Some}
 use Rattle.std.proofs.lemmas.List.Sums.{sum_by-set, sum_by-cons}
@@ -34,7 +35,8 @@ dirty_marked true slots at h =
     let m = sum_by-set (λ (slot : Slot). cond slot.dirty 1 0) slots at (record (get_or slots at none) { dirty = true }) none h in
     omega (arith, m)
 
-fills_dirty : (rule : Option Repl) (word room : ℕ) (old : List Slot) (slot : Slot) (evicted : Option Slot) (new : List Slot) → 0 < room → TakesIn rule word room old slot evicted new → dirty_in new + one_if (is_dirty evicted) ≡ dirty_in old + one_if slot.dirty
+fills_dirty : (rule : Option Repl) (word room : ℕ) (old : List Slot) (slot : Slot) (evicted : Option Slot) (new : List Slot) → 0 < room →
+    TakesIn rule word room old slot evicted new → dirty_in new + one_if (is_dirty evicted) ≡ dirty_in old + one_if slot.dirty
 fills_dirty rule word room old slot None new r p =
     let q = sum_by-IsPermutation (λ (s : Slot). cond s.dirty 1 0) (slot ∷ old) new (lawful_insert rule old slot new p.1) in
     omega (arith, q, dirty_cons slot old)
@@ -44,14 +46,19 @@ fills_dirty rule word room old slot (Some gone) new r p =
     let b = sum_by-IsPermutation (λ (s : Slot). cond s.dirty 1 0) (slot ∷ x.0) new x.2 in
     omega (arith, a, b, dirty_cons gone x.0, dirty_cons slot x.0)
 
-miss_dirty : (d : Design) (rule : Option Repl) (words rest : ℕ → ℕ) (ref : Ref) (old : List Slot) (outcome : Outcome) (new : List Slot) (fills : Bool) → 0 < d.geometry.e → MatchBool fills (Fills d rule words ref old outcome new rest) (Passes words ref old outcome new rest) → dirty_in new + one_if (is_dirty outcome.evicted) ≤ dirty_in old + one_if (is_write ref.access)
+miss_dirty : (d : Design) (rule : Option Repl) (words rest : ℕ → ℕ) (ref : Ref) (old : List Slot) (outcome : Outcome) (new : List Slot) (fills : Bool)
+    →
+    0 < d.geometry.e → MatchBool fills (Fills d rule words ref old outcome new rest) (Passes words ref old outcome new rest) →
+    dirty_in new + one_if (is_dirty outcome.evicted) ≤ dirty_in old + one_if (is_write ref.access)
 miss_dirty d rule words rest ref old outcome new true e v =
     omega (arith, fills_dirty rule (words 0) d.geometry.e old _ outcome.evicted new e v.order, by_write d.write ref.access)
 miss_dirty d rule words rest ref old outcome new false e v =
     let none : outcome.evicted ≡ None = ap (λ (o : Outcome). o.evicted) v.answers in
     rw (none, v.order) (omega arith)
 
-hit_dirty : (d : Design) (rule : Option Repl) (words rest : ℕ → ℕ) (ref : Ref) (old : List Slot) (outcome : Outcome) (new : List Slot) (at : ℕ) → at < length old → Hits d rule words ref at old outcome new rest → dirty_in new + one_if (is_dirty outcome.evicted) ≤ dirty_in old + one_if (is_write ref.access)
+hit_dirty : (d : Design) (rule : Option Repl) (words rest : ℕ → ℕ) (ref : Ref) (old : List Slot) (outcome : Outcome) (new : List Slot) (at : ℕ) →
+    at < length old → Hits d rule words ref at old outcome new rest →
+    dirty_in new + one_if (is_dirty outcome.evicted) ≤ dirty_in old + one_if (is_write ref.access)
 hit_dirty d rule words rest ref old outcome new at h v =
     let none : outcome.evicted ≡ None = ap (λ (o : Outcome). o.evicted) v.answers in
     let m = dirty_marked (dirties d.write ref.access) old at h in
@@ -59,20 +66,31 @@ hit_dirty d rule words rest ref old outcome new at h v =
     let q = sum_by-IsPermutation (λ (s : Slot). cond s.dirty 1 0) (marked (dirties d.write ref.access) old at) new (lawful_touch rule _ at new l v.order) in
     rw none (omega (arith, m, q, by_write d.write ref.access))
 
-pub visit_dirty : (d : Design) (rule : Option Repl) (words rest : ℕ → ℕ) (ref : Ref) (old : List Slot) (outcome : Outcome) (new : List Slot) → 0 < d.geometry.e → Visits d rule words ref old outcome new rest → dirty_in new + one_if (is_dirty outcome.evicted) ≤ dirty_in old + one_if (is_write ref.access)
+pub visit_dirty : (d : Design) (rule : Option Repl) (words rest : ℕ → ℕ) (ref : Ref) (old : List Slot) (outcome : Outcome) (new : List Slot) →
+    0 < d.geometry.e → Visits d rule words ref old outcome new rest →
+    dirty_in new + one_if (is_dirty outcome.evicted) ≤ dirty_in old + one_if (is_write ref.access)
 visit_dirty d rule words rest ref old outcome new e v = by_place (position_of (block_of d.geometry ref.addr) old) refl v
   where
-    by_place : (o : Option ℕ) → position_of (block_of d.geometry ref.addr) old ≡ o → MatchOption o (MatchBool (allocates d.allocate ref.access) (Fills d rule words ref old outcome new rest) (Passes words ref old outcome new rest)) (λ at. Hits d rule words ref at old outcome new rest) → dirty_in new + one_if (is_dirty outcome.evicted) ≤ dirty_in old + one_if (is_write ref.access)
+    by_place : (o : Option ℕ) → position_of (block_of d.geometry ref.addr) old ≡ o →
+        MatchOption o (MatchBool (allocates d.allocate ref.access) (Fills d rule words ref old outcome new rest) (Passes words ref old outcome new rest))
+        (λ at. Hits d rule words ref at old outcome new rest) →
+        dirty_in new + one_if (is_dirty outcome.evicted) ≤ dirty_in old + one_if (is_write ref.access)
     by_place None q u = miss_dirty d rule words rest ref old outcome new (allocates d.allocate ref.access) e u
     by_place (Some at) q u = hit_dirty d rule words rest ref old outcome new at (position-Some _ old at (record { block = 0; dirty = false }) q).0 u
 
 -- over all sets, where one is written
-pub sets_dirty : (sets : List (List Slot)) (k : ℕ) (new : List Slot) (more less : ℕ) → k < length sets → dirty_in new + less ≤ dirty_in (get_or sets k []) + more → dirty_slots (set sets k new) + less ≤ dirty_slots sets + more
+pub sets_dirty : (sets : List (List Slot)) (k : ℕ) (new : List Slot) (more less : ℕ) → k < length sets →
+    dirty_in new + less ≤ dirty_in (get_or sets k []) + more → dirty_slots (set sets k new) + less ≤ dirty_slots sets + more
 sets_dirty sets k new more less h v =
     omega (arith, v, sum_by-set dirty_in sets k new [] h)
 
 -- one access to a slab
-pub slab_dirty : (d : Design) (rule : Option Repl) (words words' : ℕ → ℕ) (filled : List ℕ) (k n ways : ℕ) (slots room : List Slot) (ref : Ref) (outcome : Outcome) → IsSlab d slots filled → k < 2 ^ d.geometry.s → ways ≡ d.geometry.e → length room ≡ d.geometry.e → n ≤ d.geometry.e → Visits d rule words ref (take (get_or filled k 0) (take (k * ways + ways - k * ways) (drop (k * ways) slots))) outcome (take n room) words' → DirtiesByWrites (sets_of d.geometry.e slots filled) ref outcome (sets_of d.geometry.e (put_mid (k * ways) (k * ways + ways - k * ways) slots room) (set filled k n))
+pub slab_dirty : (d : Design) (rule : Option Repl) (words words' : ℕ → ℕ) (filled : List ℕ) (k n ways : ℕ) (slots room : List Slot) (ref : Ref)
+    (outcome : Outcome) →
+    IsSlab d slots filled → k < 2 ^ d.geometry.s → ways ≡ d.geometry.e → length room ≡ d.geometry.e → n ≤ d.geometry.e →
+    Visits d rule words ref (take (get_or filled k 0) (take (k * ways + ways - k * ways) (drop (k * ways) slots))) outcome (take n room) words' →
+    DirtiesByWrites (sets_of d.geometry.e slots filled) ref outcome
+    (sets_of d.geometry.e (put_mid (k * ways) (k * ways + ways - k * ways) slots room) (set filled k n))
 slab_dirty d rule words words' filled k n ways slots room ref outcome i h e r m v =
     let g = d.geometry in
     let in_filled : k < length filled = omega (arith, i.sets) in
@@ -83,4 +101,5 @@ slab_dirty d rule words words' filled k n ways slots room ref outcome i h e r m 
     let here = subst (λ xs. dirty_in (take n room) + one_if (is_dirty outcome.evicted) ≤ dirty_in xs + one_if (is_write ref.access)) read
     (visit_dirty d rule words words' ref _ outcome (take n room) (omega (arith, i.shape.some)) v) in
     subst (λ xs. DirtiesByWrites (sets_of g.e slots filled) ref outcome xs) (sym written)
-    (sets_dirty (sets_of g.e slots filled) k (take n room) (one_if (is_write ref.access)) (one_if (is_dirty outcome.evicted)) (omega (arith, length-sets_of g.e filled slots, i.sets)) here)
+    (sets_dirty (sets_of g.e slots filled) k (take n room) (one_if (is_write ref.access)) (one_if (is_dirty outcome.evicted))
+    (omega (arith, length-sets_of g.e filled slots, i.sets)) here)

@@ -4,7 +4,9 @@ use Rattle.std.specs.List.{remove, filter, list_any, before_first, position_or_l
 use Rattle.std.proofs.lemmas.Bool.{eqb-true, eq-eqb}
 use Rattle.cache_core.specs.Windows.{distinct, distinct_of_set, Place, has_last, distance}
 use Rattle.cache_core.specs.Geometry.{Shape, set_of_block}
-use Rattle.cache_core.proofs.Lists.{cases, other, is, IsOnce, IsOnce-filter, filter-cons_yes, filter-cons_no, filter_comm, filter_other_no, filter_passes, filter-before_first, before_first-cons, eqb_flip, IsOnce-take, remove_is, take_without, list_any-filter, length-before_first}
+use Rattle.cache_core.proofs.Lists.{cases, other, is, IsOnce, IsOnce-filter, filter-cons_yes, filter-cons_no, filter_comm, filter_other_no, filter_passes}
+use Rattle.cache_core.proofs.Lists.{filter-before_first, before_first-cons, eqb_flip, IsOnce-take, remove_is, take_without, list_any-filter}
+use Rattle.cache_core.proofs.Lists.{length-before_first}
 
 pub IsOnce-distinct : (w : List ℕ) → IsOnce (distinct w)
 unfolding distinct
@@ -20,14 +22,16 @@ unfolding distinct_of_set distinct
 distinct_of_set-nil g k = refl
 
 -- a reference brings its block to the front of its set
-pub distinct_of_set-same : (g : Shape) (k x : ℕ) (w : List ℕ) → set_of_block g x ≡ k → distinct_of_set g k (x ∷ w) ≡ x ∷ filter (other x) (distinct_of_set g k w)
+pub distinct_of_set-same : (g : Shape) (k x : ℕ) (w : List ℕ) → set_of_block g x ≡ k →
+    distinct_of_set g k (x ∷ w) ≡ x ∷ filter (other x) (distinct_of_set g k w)
 unfolding distinct_of_set distinct
 distinct_of_set-same g k x w e =
     filter-cons_yes (λ y. eqb (set_of_block g y) k) x (filter (other x) (distinct w)) (eq-eqb (set_of_block g x) k e)
     ∙ ap (λ r. x ∷ r) (filter_comm (λ y. eqb (set_of_block g y) k) (other x) (distinct w))
 
 -- and leaves the other sets
-pub distinct_of_set-other : (g : Shape) (k x : ℕ) (w : List ℕ) → eqb (set_of_block g x) k ≡ false → distinct_of_set g k (x ∷ w) ≡ distinct_of_set g k w
+pub distinct_of_set-other : (g : Shape) (k x : ℕ) (w : List ℕ) → eqb (set_of_block g x) k ≡ false →
+    distinct_of_set g k (x ∷ w) ≡ distinct_of_set g k w
 unfolding distinct_of_set distinct
 distinct_of_set-other g k x w e =
     filter-cons_no (λ y. eqb (set_of_block g y) k) x (filter (other x) (distinct w)) e
@@ -38,13 +42,17 @@ unfolding distinct
 distinct-before_first x [] = refl
 distinct-before_first x (y ∷ ys) =
     ap distinct (before_first-cons (is x) y ys)
-    ∙ cases (λ b. (b ≡ eqb y x) → distinct (cond b [] (y ∷ before_first (is x) ys)) ≡ cond b [] (y ∷ before_first (is x) (filter (other y) (distinct ys)))) (eqb y x)
+    ∙ cases
+    (λ b. (b ≡ eqb y x) → distinct (cond b [] (y ∷ before_first (is x) ys)) ≡ cond b [] (y ∷ before_first (is x) (filter (other y) (distinct ys))))
+    (eqb y x)
     (λ e k. refl)
-    (λ e k. ap (λ r. y ∷ r) (ap (λ r. filter (other y) r) (distinct-before_first x ys) ∙ filter-before_first (other y) x (distinct ys) (ap not (eqb_flip x y (sym k)))))
+    (λ e k. ap (λ r. y ∷ r)
+    (ap (λ r. filter (other y) r) (distinct-before_first x ys) ∙ filter-before_first (other y) x (distinct ys) (ap not (eqb_flip x y (sym k)))))
     refl
     ∙ sym (before_first-cons (is x) y (filter (other y) (distinct ys)))
 
-distinct_of_set-before_first : (g : Shape) (x : ℕ) (w : List ℕ) → distinct_of_set g (set_of_block g x) (before_first (is x) w) ≡ before_first (is x) (distinct_of_set g (set_of_block g x) w)
+distinct_of_set-before_first : (g : Shape) (x : ℕ) (w : List ℕ) →
+    distinct_of_set g (set_of_block g x) (before_first (is x) w) ≡ before_first (is x) (distinct_of_set g (set_of_block g x) w)
 unfolding distinct_of_set
 distinct_of_set-before_first g x w =
     ap (λ r. filter (λ y. eqb (set_of_block g y) (set_of_block g x)) r) (distinct-before_first x w)
@@ -52,7 +60,8 @@ distinct_of_set-before_first g x w =
 
 -- the distance is the block's place among them
 pub distance_is : (g : Shape) (p : Place) → distance g p ≡ position_or_len (is p.block) (distinct_of_set g (set_of_block g p.block) p.window)
-distance_is g p = ap length (distinct_of_set-before_first g p.block p.window) ∙ length-before_first (is p.block) (distinct_of_set g (set_of_block g p.block) p.window)
+distance_is g p =
+    ap length (distinct_of_set-before_first g p.block p.window) ∙ length-before_first (is p.block) (distinct_of_set g (set_of_block g p.block) p.window)
 
 list_any-distinct : (x : ℕ) (w : List ℕ) → list_any (is x) (distinct w) ≡ list_any (is x) w
 unfolding distinct
@@ -60,20 +69,24 @@ list_any-distinct x [] = refl
 list_any-distinct x (y ∷ ys) =
     cases (λ b. (b ≡ eqb y x) → (b || list_any (is x) (filter (other y) (distinct ys))) ≡ (b || list_any (is x) ys)) (eqb y x)
     (λ e k. refl)
-    (λ e k. list_any-filter (other y) (is x) (distinct ys) (λ z f. ap (λ v. not (eqb v y)) (eqb-true z x f) ∙ ap not (eqb_flip x y (sym k))) ∙ list_any-distinct x ys)
+    (λ e k. list_any-filter (other y) (is x) (distinct ys) (λ z f. ap (λ v. not (eqb v y)) (eqb-true z x f) ∙ ap not (eqb_flip x y (sym k)))
+    ∙ list_any-distinct x ys)
     refl
 
 pub has_last_is : (g : Shape) (p : Place) → has_last p ≡ list_any (is p.block) (distinct_of_set g (set_of_block g p.block) p.window)
 unfolding distinct_of_set
 has_last_is g p =
-    sym (list_any-filter (λ y. eqb (set_of_block g y) (set_of_block g p.block)) (is p.block) (distinct p.window) (λ z f. eq-eqb _ _ (ap (set_of_block g) (eqb-true z p.block f)))
+    sym (list_any-filter (λ y. eqb (set_of_block g y) (set_of_block g p.block)) (is p.block) (distinct p.window)
+    (λ z f. eq-eqb _ _ (ap (set_of_block g) (eqb-true z p.block f)))
     ∙ list_any-distinct p.block p.window)
 
 -- a reference moves the first n blocks of its set on by themselves
 pub take-distinct_of_set-same : (g : Shape) (n x : ℕ) (w : List ℕ) → 0 < n
-    → take n (x ∷ remove (take n (distinct_of_set g (set_of_block g x) w)) (position_or_len (is x) (take n (distinct_of_set g (set_of_block g x) w)))) ≡ take n (distinct_of_set g (set_of_block g x) (x ∷ w))
+    → take n (x ∷ remove (take n (distinct_of_set g (set_of_block g x) w)) (position_or_len (is x) (take n (distinct_of_set g (set_of_block g x) w))))
+    ≡ take n (distinct_of_set g (set_of_block g x) (x ∷ w))
 take-distinct_of_set-same g zero x w h = refl
 take-distinct_of_set-same g (suc m) x w h =
-    ap (λ r. x ∷ take m r) (remove_is x (take (suc m) (distinct_of_set g (set_of_block g x) w)) (IsOnce-take (suc m) (distinct_of_set g (set_of_block g x) w) (IsOnce-distinct_of_set g (set_of_block g x) w)))
+    ap (λ r. x ∷ take m r) (remove_is x (take (suc m) (distinct_of_set g (set_of_block g x) w))
+    (IsOnce-take (suc m) (distinct_of_set g (set_of_block g x) w) (IsOnce-distinct_of_set g (set_of_block g x) w)))
     ∙ ap (λ r. x ∷ r) (take_without x m (distinct_of_set g (set_of_block g x) w) (IsOnce-distinct_of_set g (set_of_block g x) w))
     ∙ sym (ap (λ r. take (suc m) r) (distinct_of_set-same g (set_of_block g x) x w refl))

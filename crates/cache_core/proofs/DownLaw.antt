@@ -1,5 +1,6 @@
 -- Never more than two references go down, whatever line leaves: a write-through cache holds no dirty line.
-use Rattle.std.proofs.Common.{◌≡◌, ℕ, zero, suc, ◌+◌, ◌<◌, ◌≤◌, ◌||◌, Bool, true, false, cond, ltb, List, [], ◌∷◌, ◌++◌, length, get_or, Option, Some, None, sym, ◌∙◌, ap, refl, arith, filter, find}
+use Rattle.std.proofs.Common.{◌≡◌, ℕ, zero, suc, ◌+◌, ◌<◌, ◌≤◌, ◌||◌, Bool, true, false, cond, ltb, List, [], ◌∷◌, ◌++◌}
+use Rattle.std.proofs.Common.{length, get_or, Option, Some, None, sym, ◌∙◌, ap, refl, arith, filter, find}
 use Rattle.std.specs.Prelude.{fold, count_by}
 use Rattle.std.proofs.lemmas.List.{length-append}
 use Rattle.std.proofs.lemmas.List.Sums.{sum_by-cons}
@@ -14,7 +15,8 @@ use Rattle.cache_core.specs.declared.outcome.WriteMode.{WriteMode}
 use Rattle.cache_core.specs.declared.outcome.WriteMode.TheVariants.{Back, Through}
 use Rattle.cache_core.specs.Geometry.{Shape, block_of, set_of, address_of}
 use Rattle.cache_core.specs.Outcomes.{is_write, dirties, allocates, writes_through, writes_back, fill_access, on_placing, on_passing}
-use Rattle.cache_core.specs.Machine.{Machine, MachineState, Line, option_slot, is_block, lines_of_set, exchange, least, lesser, victim, touch, with_block, leaves, placing, start, step, step_at, step_with, answer_at, answer_with, next, run, dirty_count}
+use Rattle.cache_core.specs.Machine.{Machine, MachineState, Line, option_slot, is_block, lines_of_set, exchange, least, lesser, victim, touch, with_block}
+use Rattle.cache_core.specs.Machine.{leaves, placing, start, step, step_at, step_with, answer_at, answer_with, next, run, dirty_count}
 use Rattle.cache_core.specs.Order.{one_if}
 use Rattle.cache_core.specs.Stands.{DownLaw}
 use Rattle.cache_core.specs.AnyPolicy.{MayLeave, needs_room}
@@ -41,7 +43,8 @@ count_clean (l ∷ ls) h =
 
 pub clean_filter : (p : Line → Bool) (ls : List Line) → Clean ls → Clean (filter p ls)
 clean_filter p [] h = tt
-clean_filter p (l ∷ ls) h = cases (λ b. Clean (cond b (l ∷ filter p ls) (filter p ls))) (p l) (λ _. (h.0, clean_filter p ls h.1)) (λ _. clean_filter p ls h.1)
+clean_filter p (l ∷ ls) h =
+    cases (λ b. Clean (cond b (l ∷ filter p ls) (filter p ls))) (p l) (λ _. (h.0, clean_filter p ls h.1)) (λ _. clean_filter p ls h.1)
 
 clean_append : (xs ys : List Line) → Clean xs → Clean ys → Clean (xs ++ ys)
 clean_append [] ys f h = h
@@ -49,7 +52,8 @@ clean_append (x ∷ xs) ys f h = (f.0, clean_append xs ys f.1 h)
 
 clean_exchange : (block : ℕ) (new : Line) (ls : List Line) → new.dirty ≡ false → Clean ls → Clean (exchange block new ls)
 clean_exchange block new [] e h = tt
-clean_exchange block new (l ∷ ls) e h = (cases (λ b. (cond b new l).dirty ≡ false) (is_block block l) (λ _. e) (λ _. h.0), clean_exchange block new ls e h.1)
+clean_exchange block new (l ∷ ls) e h =
+    (cases (λ b. (cond b new l).dirty ≡ false) (is_block block l) (λ _. e) (λ _. h.0), clean_exchange block new ls e h.1)
 
 clean_find : (p : Line → Bool) (ls : List Line) (line : Line) → Clean ls → find p ls ≡ Some line → line.dirty ≡ false
 clean_find p [] line h e = absurd cc
@@ -63,7 +67,8 @@ clean_at [] k d lt h = absurd (omega arith)
 clean_at (l ∷ ls) zero d lt h = h.0
 clean_at (l ∷ ls) (suc k) d lt h = clean_at ls k d (omega arith) h.1
 
-clean_lesser : (l : Line) (o : Option Line) → l.dirty ≡ false → ((line : Line) → o ≡ Some line → line.dirty ≡ false) → (lesser l o).dirty ≡ false
+clean_lesser : (l : Line) (o : Option Line) → l.dirty ≡ false → ((line : Line) → o ≡ Some line → line.dirty ≡ false) →
+    (lesser l o).dirty ≡ false
 clean_lesser l None e h = e
 clean_lesser l (Some other) e h = cases (λ b. (cond b l other).dirty ≡ false) (ltb l.key other.key) (λ _. e) (λ _. h other refl)
 
@@ -83,7 +88,8 @@ clean_touch Lru clock line ls e h = (e, clean_filter _ ls h)
 clean_touch Fifo clock line ls e h = clean_exchange line.block line ls e h
 clean_touch Random clock line ls e h = clean_exchange line.block line ls e h
 
-clean_place : (p : Repl) (clock count : ℕ) (new : Slot) (gone : Option Line) (ls : List Line) → new.dirty ≡ false → Clean ls → Clean (with_block p clock count new gone ls)
+clean_place : (p : Repl) (clock count : ℕ) (new : Slot) (gone : Option Line) (ls : List Line) → new.dirty ≡ false → Clean ls →
+    Clean (with_block p clock count new gone ls)
 clean_place Random clock count new None ls e h = clean_append ls _ h (e, tt)
 clean_place Random clock count new (Some gone) ls e h = clean_exchange gone.block _ ls e h
 clean_place Lru clock count new None ls e h = (e, h)
@@ -94,19 +100,23 @@ clean_place Fifo clock count new (Some gone) ls e h = (e, clean_filter _ ls h)
 through_clean : (w : WriteMode) (a : Access) → w ≡ Through → dirties w a ≡ false
 through_clean w a e = ap (λ x. dirties x a) e
 
-pub clean_step_at : (m : Machine) (ref : Ref) (block : ℕ) (leaving : Option Line) (st : MachineState) (o : Option Line) → m.design.write ≡ Through → find (is_block block) st.lines ≡ o → Clean st.lines → Clean (step_at m ref block leaving st o).lines
+pub clean_step_at : (m : Machine) (ref : Ref) (block : ℕ) (leaving : Option Line) (st : MachineState) (o : Option Line) → m.design.write ≡ Through →
+    find (is_block block) st.lines ≡ o → Clean st.lines → Clean (step_at m ref block leaving st o).lines
 clean_step_at m ref block leaving st (Some line) w f h =
     let d : dirties m.design.write ref.access ≡ false = through_clean m.design.write ref.access w in
     let e : (dirties m.design.write ref.access || line.dirty) ≡ false = ap (λ b. b || line.dirty) d ∙ clean_find (is_block block) st.lines line h f in
     clean_touch m.policy (st.clock + 1) (record line { dirty = dirties m.design.write ref.access || line.dirty }) st.lines e h
 clean_step_at m ref block leaving st None w f h =
     cases (λ b. Clean (cond b (placing m ref block leaving st) (record st { clock = st.clock + 1 })).lines) (allocates m.design.allocate ref.access)
-    (λ _. clean_place m.policy (st.clock + 1) _ (record { block = block; dirty = dirties m.design.write ref.access }) leaving st.lines (through_clean m.design.write ref.access w) h)
+    (λ _. clean_place m.policy (st.clock + 1) _ (record { block = block; dirty = dirties m.design.write ref.access }) leaving st.lines
+    (through_clean m.design.write ref.access w) h)
     (λ _. h)
 
 clean_fold : (m : Machine) (st : MachineState) (events : List Event) → m.design.write ≡ Through → Clean st.lines → Clean (fold (next m) st events).lines
 clean_fold m st [] w h = h
-clean_fold m st (event.Reference ref ∷ events) w h = clean_fold m (step m st ref) events w (clean_step_at m ref (block_of m.design.geometry ref.addr) (leaves m st (set_of m.design.geometry ref.addr)) st (find (is_block (block_of m.design.geometry ref.addr)) st.lines) w refl h)
+clean_fold m st (event.Reference ref ∷ events) w h =
+    clean_fold m (step m st ref) events w (clean_step_at m ref (block_of m.design.geometry ref.addr) (leaves m st (set_of m.design.geometry ref.addr)) st
+    (find (is_block (block_of m.design.geometry ref.addr)) st.lines) w refl h)
 clean_fold m st (event.Flush ∷ events) w h = clean_fold m (next m st event.Flush) events w tt
 
 -- what goes down
@@ -126,22 +136,37 @@ back_clean : (g : Shape) (o : Option Line) → ((line : Line) → o ≡ Some lin
 back_clean g None h = refl
 back_clean g (Some line) h = rw (h line refl) refl
 
-placing_most : (w : WriteMode) (g : Shape) (ref : Ref) (block : ℕ) (o : Option Line) → (w ≡ Through → (line : Line) → o ≡ Some line → line.dirty ≡ false) → length (on_placing g w ref block (option_slot o)).down ≤ 2
-placing_most Back g ref block o h = omega (arith, length-append (writes_back g (option_slot o)) (record { access = fill_access ref.access; addr = address_of g block } ∷ []), back_most g (option_slot o))
+placing_most : (w : WriteMode) (g : Shape) (ref : Ref) (block : ℕ) (o : Option Line) →
+    (w ≡ Through → (line : Line) → o ≡ Some line → line.dirty ≡ false) → length (on_placing g w ref block (option_slot o)).down ≤ 2
+placing_most Back g ref block o h =
+    omega (
+      arith,
+      length-append (writes_back g (option_slot o)) (record { access = fill_access ref.access; addr = address_of g block } ∷ []),
+      back_most g (option_slot o),
+    )
 placing_most Through g ref block o h =
-    omega (arith, length-append (writes_back g (option_slot o)) (record { access = fill_access ref.access; addr = address_of g block } ∷ writes_through Through ref), back_clean g o (h refl), through_most Through ref)
+    omega (
+      arith,
+      length-append (writes_back g (option_slot o)) (record { access = fill_access ref.access; addr = address_of g block } ∷ writes_through Through ref),
+      back_clean g o (h refl),
+      through_most Through ref,
+    )
 
 clean_leaves : (m : Machine) (st : MachineState) (set : ℕ) (line : Line) → Clean st.lines → leaves m st set ≡ Some line → line.dirty ≡ false
 clean_leaves m st set line h e =
     let here : List Line = lines_of_set m.design.geometry set st.lines in
-    cases (λ b. (cond b None (victim m.policy m.design.geometry.e (m.words st.drawn) here) ≡ Some line) → line.dirty ≡ false) (ltb (length here) m.design.geometry.e)
+    cases (λ b. (cond b None (victim m.policy m.design.geometry.e (m.words st.drawn) here) ≡ Some line) → line.dirty ≡ false)
+    (ltb (length here) m.design.geometry.e)
     (λ _ q. absurd cc)
     (λ _ q. clean_victim m.policy m.design.geometry.e (m.words st.drawn) here line (clean_filter _ st.lines h) q) e
 
-pub answer_most : (m : Machine) (ref : Ref) (block : ℕ) (leaving : Option Line) (o : Option Line) → (m.design.write ≡ Through → (line : Line) → leaving ≡ Some line → line.dirty ≡ false) → length (answer_at m ref block leaving o).down ≤ 2
+pub answer_most : (m : Machine) (ref : Ref) (block : ℕ) (leaving : Option Line) (o : Option Line) →
+    (m.design.write ≡ Through → (line : Line) → leaving ≡ Some line → line.dirty ≡ false) →
+    length (answer_at m ref block leaving o).down ≤ 2
 answer_most m ref block leaving (Some line) h = omega (arith, through_most m.design.write ref)
 answer_most m ref block leaving None h =
-    cases (λ b. length (cond b (on_placing m.design.geometry m.design.write ref block (option_slot leaving)) (on_passing ref)).down ≤ 2) (allocates m.design.allocate ref.access)
+    cases (λ b. length (cond b (on_placing m.design.geometry m.design.write ref block (option_slot leaving)) (on_passing ref)).down ≤ 2)
+    (allocates m.design.allocate ref.access)
     (λ _. placing_most m.design.write m.design.geometry ref block leaving h)
     (λ _. omega arith)
 
@@ -149,10 +174,12 @@ pub down_law : DownLaw
 down_law m events ref =
     let st = run m events in
     let set = set_of m.design.geometry ref.addr in
-    answer_most m ref (block_of m.design.geometry ref.addr) (leaves m st set) (find (is_block (block_of m.design.geometry ref.addr)) st.lines) (λ w line e. clean_leaves m st set line (clean_fold m start events w tt) e)
+    answer_most m ref (block_of m.design.geometry ref.addr) (leaves m st set) (find (is_block (block_of m.design.geometry ref.addr)) st.lines)
+    (λ w line e. clean_leaves m st set line (clean_fold m start events w tt) e)
 
 -- a line that may leave a clean cache
-may_clean : (needed : Bool) (here : List Line) (gone : Option Line) (line : Line) → Clean here → MayLeave needed here gone → gone ≡ Some line → line.dirty ≡ false
+may_clean : (needed : Bool) (here : List Line) (gone : Option Line) (line : Line) → Clean here → MayLeave needed here gone → gone ≡ Some line →
+    line.dirty ≡ false
 may_clean needed here None line h may e = absurd cc
 may_clean needed here (Some x) line h may e =
     let same : x ≡ line = cc in
@@ -160,14 +187,16 @@ may_clean needed here (Some x) line h may e =
     ap (λ (l : Line). l.dirty) (sym same ∙ sym at) ∙ clean_at here k x lt h
 
 -- under any lawful policy
-pub any_clean : (m : Machine) (st : MachineState) (ref : Ref) (gone : Option Line) → (m.design.write ≡ Through → dirty_count st ≡ 0) → m.design.write ≡ Through → dirty_count (step_with m ref gone st) ≡ 0
+pub any_clean : (m : Machine) (st : MachineState) (ref : Ref) (gone : Option Line) → (m.design.write ≡ Through → dirty_count st ≡ 0) →
+    m.design.write ≡ Through → dirty_count (step_with m ref gone st) ≡ 0
 any_clean m st ref gone h w =
     let block = block_of m.design.geometry ref.addr in
     let o = find (is_block block) st.lines in
     clean_count (step_at m ref block gone st o).lines (clean_step_at m ref block gone st o w refl (count_clean st.lines (h w)))
 
 pub any_few : (m : Machine) (st : MachineState) (ref : Ref) (gone : Option Line) → (m.design.write ≡ Through → dirty_count st ≡ 0) →
-    MayLeave (needs_room m st ref) (lines_of_set m.design.geometry (set_of m.design.geometry ref.addr) st.lines) gone → length (answer_with m ref gone st).down ≤ 2
+    MayLeave (needs_room m st ref) (lines_of_set m.design.geometry (set_of m.design.geometry ref.addr) st.lines) gone →
+    length (answer_with m ref gone st).down ≤ 2
 any_few m st ref gone h may =
     let block = block_of m.design.geometry ref.addr in
     let here = lines_of_set m.design.geometry (set_of m.design.geometry ref.addr) st.lines in

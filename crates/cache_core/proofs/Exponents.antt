@@ -1,5 +1,6 @@
 -- The power of two that a unit is multiplied by.
-use Rattle.std.proofs.Common.{◌≡◌, ◌≢◌, ℕ, zero, suc, ◌+◌, ◌*◌, ◌^◌, ◌%◌, ◌<◌, ◌≤◌, Bool, true, false, eqb, Some, None, ◌∙◌, ap, refl, arith, find}
+use Rattle.std.proofs.Common.{◌≡◌, ◌≢◌, ℕ, zero, suc, ◌+◌, ◌*◌, ◌^◌, ◌%◌, ◌<◌, ◌≤◌, Bool, true, false, eqb, Some}
+use Rattle.std.proofs.Common.{None, ◌∙◌, ap, refl, arith, find}
 use Rattle.std.specs.List.{range_with_len}
 use Rattle.std.proofs.Math.Pow.{pow_mono}
 use Rattle.std.proofs.Math.Nat.{mul-le-mul}
@@ -13,7 +14,8 @@ find_none p a (suc n) h =
     let first : p a ≡ false = ap p (omega arith) ∙ h 0 (omega arith) in
     rw first (find_none p (a + 1) n (λ k l. ap p (omega arith) ∙ h (k + 1) (omega arith)))
 
-find_some : (p : ℕ → Bool) (a n i : ℕ) → i < n → ((k : ℕ) → k < i → p (a + k) ≡ false) → p (a + i) ≡ true → find p (range_with_len a n) ≡ Some (a + i)
+find_some : (p : ℕ → Bool) (a n i : ℕ) → i < n → ((k : ℕ) → k < i → p (a + k) ≡ false) → p (a + i) ≡ true →
+    find p (range_with_len a n) ≡ Some (a + i)
 find_some p a zero i l h t = absurd (omega arith)
 find_some p a (suc n) zero l h t =
     let same : a ≡ a + 0 = omega arith in
@@ -21,9 +23,11 @@ find_some p a (suc n) zero l h t =
     rw first (ap Some same)
 find_some p a (suc n) (suc i) l h t =
     let first : p a ≡ false = ap p (omega arith) ∙ h 0 (omega arith) in
-    rw first (find_some p (a + 1) n i (omega arith) (λ k l. ap p (omega arith) ∙ h (k + 1) (omega arith)) (ap p (omega arith) ∙ t) ∙ ap Some (omega arith))
+    rw first
+    (find_some p (a + 1) n i (omega arith) (λ k l. ap p (omega arith) ∙ h (k + 1) (omega arith)) (ap p (omega arith) ∙ t) ∙ ap Some (omega arith))
 
-pub exponent_some : (unit number k : ℕ) → k < 21 → ((j : ℕ) → j < k → unit * 2 ^ j ≢ number) → unit * 2 ^ k ≡ number → exponent_of unit number ≡ Some k
+pub exponent_some : (unit number k : ℕ) → k < 21 → ((j : ℕ) → j < k → unit * 2 ^ j ≢ number) → unit * 2 ^ k ≡ number →
+    exponent_of unit number ≡ Some k
 unfolding exponent_of
 exponent_some unit number k l below here =
     find_some (λ j. eqb (unit * 2 ^ j) number) 0 21 k l

@@ -1,5 +1,6 @@
 -- One reference at the first level of a system, as its caches see it and as their machines see it.
-use Rattle.std.proofs.Common.{◌≡◌, ℕ, ◌≤◌, ◌&&◌, ◌||◌, not, Bool, true, false, cond, List, [], ◌∷◌, ◌++◌, length, Option, Some, None, refl, sym, ◌∙◌, ap, subst, arith, append-nil}
+use Rattle.std.proofs.Common.{◌≡◌, ℕ, ◌≤◌, ◌&&◌, ◌||◌, not, Bool, true, false, cond, List, [], ◌∷◌, ◌++◌, length, Option}
+use Rattle.std.proofs.Common.{Some, None, refl, sym, ◌∙◌, ap, subst, arith, append-nil}
 use Rattle.std.specs.Prelude.{is_some, is_none, MatchBool}
 use Rattle.std.proofs.lemmas.Bool.{MatchBool-at_true, MatchBool-at_false, true≢false}
 use Rattle.trace_core.specs.declared.events.Ref.{Ref}
@@ -37,7 +38,8 @@ pub record Entered (m : Machine) (events : List Event) (ref : Ref) (outcome : Ou
   pub kept : Kept m (events ++ event.Reference ref ∷ []) new
   pub sends : listed outcome.down ≡ (answer m (run m events) ref).down
 
-pub enters : (m : Machine) (events : List Event) (old : Stage) (ref : Ref) (outcome : Outcome) (new : Stage) → 1 ≤ m.design.geometry.e → Kept m events old → Enters old ref outcome new → Entered m events ref outcome new
+pub enters : (m : Machine) (events : List Event) (old : Stage) (ref : Ref) (outcome : Outcome) (new : Stage) → 1 ≤ m.design.geometry.e →
+    Kept m events old → Enters old ref outcome new → Entered m events ref outcome new
 enters m events old ref outcome new some k e =
     let r = access_run m events (contents_of_stage old) ref outcome (contents_of_stage new) some k.stands e.access in
     record {
@@ -53,18 +55,21 @@ abbrev pub KeptLevel : ℕ → Option Level → List Event → Option Stage → 
 KeptLevel seed None events stage = stage ≡ None
 KeptLevel seed (Some level) events stage = (there : Stage) × (stage ≡ Some there) × Kept (machine_of seed level) events there
 
-pub with_counts : (seed : ℕ) (level : Option Level) (events : List Event) (stage : Option Stage) → LevelStands seed level events stage → stage_counts stage ≡ level_counts seed level events → KeptLevel seed level events stage
+pub with_counts : (seed : ℕ) (level : Option Level) (events : List Event) (stage : Option Stage) → LevelStands seed level events stage →
+    stage_counts stage ≡ level_counts seed level events → KeptLevel seed level events stage
 with_counts seed None events stage s c = s
 with_counts seed (Some level) events stage s c =
     let both : Some s.0.stats ≡ Some (cache_stats (machine_of seed level) events) = ap stage_counts (sym s.1) ∙ c in
     let same : s.0.stats ≡ cache_stats (machine_of seed level) events = cc in
     (s.0, s.1, record { stands = s.2; counts = same })
 
-pub stands_of : (seed : ℕ) (level : Option Level) (events : List Event) (stage : Option Stage) → KeptLevel seed level events stage → LevelStands seed level events stage
+pub stands_of : (seed : ℕ) (level : Option Level) (events : List Event) (stage : Option Stage) → KeptLevel seed level events stage →
+    LevelStands seed level events stage
 stands_of seed None events stage k = k
 stands_of seed (Some level) events stage k = (k.0, k.1, k.2.stands)
 
-pub counts_is : (seed : ℕ) (level : Option Level) (events : List Event) (stage : Option Stage) → KeptLevel seed level events stage → stage_counts stage ≡ level_counts seed level events
+pub counts_is : (seed : ℕ) (level : Option Level) (events : List Event) (stage : Option Stage) → KeptLevel seed level events stage →
+    stage_counts stage ≡ level_counts seed level events
 counts_is seed None events stage k = ap stage_counts k
 counts_is seed (Some level) events stage k = ap stage_counts k.1 ∙ ap Some k.2.counts
 
@@ -81,7 +86,8 @@ pub record Answered (seed : ℕ) (level : Option Level) (events : List Event) (r
   pub sends : down_list down ≡ sends_of seed level events ref
   pub none : is_none down ≡ is_none level
 
-pub answers_keep : (seed : ℕ) (level : Option Level) (events : List Event) (stage : Option Stage) (ref : Ref) (down : Option (List (Option Ref))) (next : Option Stage) →
+pub answers_keep : (seed : ℕ) (level : Option Level) (events : List Event) (stage : Option Stage) (ref : Ref) (down : Option (List (Option Ref)))
+    (next : Option Stage) →
     IsLevel level → KeptLevel seed level events stage → Answers stage ref down next → Answered seed level events ref down next
 answers_keep seed None events stage ref None next l k a = record { kept = a.1; sends = refl; none = refl }
 answers_keep seed None events stage ref (Some down) next l k a = let both : None ≡ Some a.0 = sym k ∙ a.3 in absurd cc
@@ -94,13 +100,17 @@ answers_keep seed (Some level) events stage ref (Some down) next l k a =
     record { kept = (a.1, a.4, r.kept); sends = ap listed a.5 ∙ r.sends; none = refl }
 
 -- the first level
-pub sends_taken : (seed : ℕ) (name : CacheName) (level : Option Level) (events : List Event) (ref : Ref) → takes name ref ≡ true → sends seed name level events ref ≡ sends_of seed level (events_for name events) ref
+pub sends_taken : (seed : ℕ) (name : CacheName) (level : Option Level) (events : List Event) (ref : Ref) → takes name ref ≡ true →
+    sends seed name level events ref ≡ sends_of seed level (events_for name events) ref
 sends_taken seed name None events ref t = refl
-sends_taken seed name (Some level) events ref t = ap (λ b. cond b (answer (machine_of seed level) (run (machine_of seed level) (events_for name events)) ref).down []) t
+sends_taken seed name (Some level) events ref t =
+    ap (λ b. cond b (answer (machine_of seed level) (run (machine_of seed level) (events_for name events)) ref).down []) t
 
-pub sends_left : (seed : ℕ) (name : CacheName) (level : Option Level) (events : List Event) (ref : Ref) → takes name ref ≡ false → sends seed name level events ref ≡ []
+pub sends_left : (seed : ℕ) (name : CacheName) (level : Option Level) (events : List Event) (ref : Ref) → takes name ref ≡ false →
+    sends seed name level events ref ≡ []
 sends_left seed name None events ref t = refl
-sends_left seed name (Some level) events ref t = ap (λ b. cond b (answer (machine_of seed level) (run (machine_of seed level) (events_for name events)) ref).down []) t
+sends_left seed name (Some level) events ref t =
+    ap (λ b. cond b (answer (machine_of seed level) (run (machine_of seed level) (events_for name events)) ref).down []) t
 
 pub record FirstKept (seed : ℕ) (pi pd pu : Option Level) (events : List Event) (ref : Ref) (down : Option (List (Option Ref))) (i d u : Option Stage) : Type 0 where
   pub i_kept : KeptLevel seed pi (events_for L1I (events ++ event.Reference ref ∷ [])) i
@@ -110,13 +120,16 @@ pub record FirstKept (seed : ℕ) (pi pd pu : Option Level) (events : List Event
   pub untaken : is_none down ≡ not (is_some pu || (is_some pi && takes L1I ref) || (is_some pd && takes L1D ref))
 
 pub kept_taken : (seed : ℕ) (name : CacheName) (level : Option Level) (events : List Event) (ref : Ref) (stage : Option Stage) → takes name ref ≡ true →
-    KeptLevel seed level (events_for name events ++ event.Reference ref ∷ []) stage → KeptLevel seed level (events_for name (events ++ event.Reference ref ∷ [])) stage
+    KeptLevel seed level (events_for name events ++ event.Reference ref ∷ []) stage →
+    KeptLevel seed level (events_for name (events ++ event.Reference ref ∷ [])) stage
 kept_taken seed name level events ref stage t k = subst (λ (es : List Event). KeptLevel seed level es stage) (sym (events_taken name events ref t)) k
 
-pub kept_left : (seed : ℕ) (name : CacheName) (level : Option Level) (events : List Event) (ref : Ref) (stage next : Option Stage) → takes name ref ≡ false → next ≡ stage →
+pub kept_left : (seed : ℕ) (name : CacheName) (level : Option Level) (events : List Event) (ref : Ref) (stage next : Option Stage) →
+    takes name ref ≡ false → next ≡ stage →
     KeptLevel seed level (events_for name events) stage → KeptLevel seed level (events_for name (events ++ event.Reference ref ∷ [])) next
 kept_left seed name level events ref stage next t e k =
-    subst (λ (es : List Event). KeptLevel seed level es next) (sym (events_left name events ref t)) (subst (λ (s : Option Stage). KeptLevel seed level (events_for name events) s) (sym e) k)
+    subst (λ (es : List Event). KeptLevel seed level es next) (sym (events_left name events ref t))
+    (subst (λ (s : Option Stage). KeptLevel seed level (events_for name events) s) (sym e) k)
 
 pub none_first : (o p : Option Level) (a b : Bool) → a ≡ true → b ≡ false → is_none o ≡ not ((is_some o && a) || (is_some p && b))
 none_first None None a b s t = refl
@@ -135,7 +148,9 @@ pub unified : (seed : ℕ) (level : Level) (events : List Event) (ref : Ref) (do
     FirstAnswers i d u ref down i' d' u' → FirstKept seed None None (Some level) events ref down i' d' u'
 unified seed level events ref down i d u i' d' u' l ki kd ku f =
     let there : is_some u ≡ true = ap is_some ku.1 in
-    let g = MatchBool-at_true (Answers u ref down u' × (i' ≡ i) × (d' ≡ d)) (MatchBool (is_fetch ref.access) (Answers i ref down i' × (d' ≡ d) × (u' ≡ u)) (Answers d ref down d' × (i' ≡ i) × (u' ≡ u))) there f in
+    let g =
+    MatchBool-at_true (Answers u ref down u' × (i' ≡ i) × (d' ≡ d))
+    (MatchBool (is_fetch ref.access) (Answers i ref down i' × (d' ≡ d) × (u' ≡ u)) (Answers d ref down d' × (i' ≡ i) × (u' ≡ u))) there f in
     let a = answers_keep seed (Some level) (events_for L1U events) u ref down u' l ku g.0 in
     record {
       i_kept = g.1 ∙ ki;
@@ -145,9 +160,12 @@ unified seed level events ref down i d u i' d' u' l ki kd ku f =
       untaken = a.none;
     }
 
-pub split : (seed : ℕ) (pi pd : Option Level) (events : List Event) (ref : Ref) (down : Option (List (Option Ref))) (i d u i' d' u' : Option Stage) (fetch : Bool) → is_fetch ref.access ≡ fetch →
+pub split : (seed : ℕ) (pi pd : Option Level) (events : List Event) (ref : Ref) (down : Option (List (Option Ref))) (i d u i' d' u' : Option Stage)
+    (fetch : Bool) →
+    is_fetch ref.access ≡ fetch →
     IsLevel pi → IsLevel pd → KeptLevel seed pi (events_for L1I events) i → KeptLevel seed pd (events_for L1D events) d → u ≡ None →
-    MatchBool fetch (Answers i ref down i' × (d' ≡ d) × (u' ≡ u)) (Answers d ref down d' × (i' ≡ i) × (u' ≡ u)) → FirstKept seed pi pd None events ref down i' d' u'
+    MatchBool fetch (Answers i ref down i' × (d' ≡ d) × (u' ≡ u)) (Answers d ref down d' × (i' ≡ i) × (u' ≡ u)) →
+    FirstKept seed pi pd None events ref down i' d' u'
 split seed pi pd events ref down i d u i' d' u' true t li ld ki kd ku g =
     let n : not (is_fetch ref.access) ≡ false = ap not t in
     let a = answers_keep seed pi (events_for L1I events) i ref down i' li ki g.0 in
@@ -155,7 +173,9 @@ split seed pi pd events ref down i d u i' d' u' true t li ld ki kd ku g =
       i_kept = kept_taken seed L1I pi events ref i' t a.kept;
       d_kept = kept_left seed L1D pd events ref d d' n g.1 kd;
       u_kept = g.2 ∙ ku;
-      all_sent = a.sends ∙ sym (sends_taken seed L1I pi events ref t) ∙ sym (append-nil (sends seed L1I pi events ref)) ∙ ap (λ xs. sends seed L1I pi events ref ++ xs) (sym (sends_left seed L1D pd events ref n))
+      all_sent =
+          a.sends ∙ sym (sends_taken seed L1I pi events ref t) ∙ sym (append-nil (sends seed L1I pi events ref))
+          ∙ ap (λ xs. sends seed L1I pi events ref ++ xs) (sym (sends_left seed L1D pd events ref n))
           ∙ sym (append-nil (sends seed L1I pi events ref ++ sends seed L1D pd events ref));
       untaken = a.none ∙ none_first pi pd (is_fetch ref.access) (not (is_fetch ref.access)) t n;
     }
@@ -166,18 +186,23 @@ split seed pi pd events ref down i d u i' d' u' false t li ld ki kd ku g =
       i_kept = kept_left seed L1I pi events ref i i' t g.1 ki;
       d_kept = kept_taken seed L1D pd events ref d' n a.kept;
       u_kept = g.2 ∙ ku;
-      all_sent = a.sends ∙ sym (sends_taken seed L1D pd events ref n) ∙ ap (λ xs. xs ++ sends seed L1D pd events ref) (sym (sends_left seed L1I pi events ref t))
+      all_sent =
+          a.sends ∙ sym (sends_taken seed L1D pd events ref n)
+          ∙ ap (λ xs. xs ++ sends seed L1D pd events ref) (sym (sends_left seed L1I pi events ref t))
           ∙ sym (append-nil (sends seed L1I pi events ref ++ sends seed L1D pd events ref));
       untaken = a.none ∙ none_second pi pd (is_fetch ref.access) (not (is_fetch ref.access)) t n;
     }
 
-pub first_keeps : (seed : ℕ) (pi pd pu : Option Level) (events : List Event) (ref : Ref) (down : Option (List (Option Ref))) (i d u i' d' u' : Option Stage) →
+pub first_keeps : (seed : ℕ) (pi pd pu : Option Level) (events : List Event) (ref : Ref) (down : Option (List (Option Ref)))
+    (i d u i' d' u' : Option Stage) →
     IsLevel pi → IsLevel pd → IsLevel pu → (is_some pu && (is_some pi || is_some pd)) ≡ false →
     KeptLevel seed pi (events_for L1I events) i → KeptLevel seed pd (events_for L1D events) d → KeptLevel seed pu (events_for L1U events) u →
     FirstAnswers i d u ref down i' d' u' → FirstKept seed pi pd pu events ref down i' d' u'
 first_keeps seed pi pd None events ref down i d u i' d' u' li ld lu apart ki kd ku f =
     let none : is_some u ≡ false = ap is_some ku in
-    let g = MatchBool-at_false (Answers u ref down u' × (i' ≡ i) × (d' ≡ d)) (MatchBool (is_fetch ref.access) (Answers i ref down i' × (d' ≡ d) × (u' ≡ u)) (Answers d ref down d' × (i' ≡ i) × (u' ≡ u))) none f in
+    let g =
+    MatchBool-at_false (Answers u ref down u' × (i' ≡ i) × (d' ≡ d))
+    (MatchBool (is_fetch ref.access) (Answers i ref down i' × (d' ≡ d) × (u' ≡ u)) (Answers d ref down d' × (i' ≡ i) × (u' ≡ u))) none f in
     split seed pi pd events ref down i d u i' d' u' (is_fetch ref.access) refl li ld ki kd ku g
 first_keeps seed None None (Some pu) events ref down i d u i' d' u' li ld lu apart ki kd ku f = unified seed pu events ref down i d u i' d' u' lu ki kd ku f
 first_keeps seed None (Some pd) (Some pu) events ref down i d u i' d' u' li ld lu apart ki kd ku f = absurd (true≢false apart)

@@ -1,5 +1,6 @@
 -- A new cache and a flush, as the cache sees them and as the machine sees them.
-use Rattle.std.proofs.Common.{◌≡◌, ℕ, zero, suc, ◌+◌, ◌^◌, ◌<◌, cond, List, [], ◌∷◌, length, set, replicate, Some, sym, ◌∙◌, ap, refl, arith, ⊎_elim, map, zero-add, length-set, get_or-set_same, get_or-set_other}
+use Rattle.std.proofs.Common.{◌≡◌, ℕ, zero, suc, ◌+◌, ◌^◌, ◌<◌, cond, List, [], ◌∷◌, length, set, replicate, Some, sym, ◌∙◌}
+use Rattle.std.proofs.Common.{ap, refl, arith, ⊎_elim, map, zero-add, length-set, get_or-set_same, get_or-set_other}
 use Rattle.std.specs.Prelude.{count_by}
 use Rattle.std.proofs.lemmas.List.{length-replicate}
 use Rattle.std.proofs.lemmas.List.Sums.{sum_by-set, sum_by-cons}
@@ -31,7 +32,9 @@ none_dirty (x ∷ xs) h =
     let rest = none_dirty xs (λ k. h (suc k)) in
     omega (arith, sum_by-cons dirty_in x xs, here, rest)
 
-pub dirty_all : (g : Shape) (lines : List Line) (sets : List (List Slot)) → length sets ≡ 2 ^ g.s → ((k : ℕ) → dirty_in (slots_of sets k) ≡ dirty_in (map slot_of (lines_of_set g k lines))) → dirty_slots sets ≡ count_by (λ (line : Line). line.dirty) lines
+pub dirty_all : (g : Shape) (lines : List Line) (sets : List (List Slot)) → length sets ≡ 2 ^ g.s →
+    ((k : ℕ) → dirty_in (slots_of sets k) ≡ dirty_in (map slot_of (lines_of_set g k lines))) →
+    dirty_slots sets ≡ count_by (λ (line : Line). line.dirty) lines
 dirty_all g [] sets l h = none_dirty sets h
 dirty_all g (x ∷ lines) sets l h =
     let k = set_of_block g x.block in
@@ -61,7 +64,8 @@ empty_good m c = good m.policy
 pub start_sound : (m : Machine) → IsSound m start
 start_sound m k = empty_good m 0
 
-pub start_state : (m : Machine) (c : Contents) → c.design ≡ m.design → c.rule ≡ Some m.policy → c.words ≡ m.words → c.sets ≡ replicate (2 ^ m.design.geometry.s) [] → IsState m start c
+pub start_state : (m : Machine) (c : Contents) → c.design ≡ m.design → c.rule ≡ Some m.policy → c.words ≡ m.words →
+    c.sets ≡ replicate (2 ^ m.design.geometry.s) [] → IsState m start c
 start_state m c d r w e = record {
   design = d;
   rule = r;
@@ -76,7 +80,8 @@ pub record FlushFollows (m : Machine) (st : MachineState) (dirty : ℕ) (new : C
   pub told : dirty ≡ dirty_count st
   pub sound : IsSound m (record st { lines = [] })
 
-pub flush_law : (m : Machine) (st : MachineState) (old : Contents) (dirty : ℕ) (new : Contents) → IsState m st old → Flushes old dirty new → FlushFollows m st dirty new
+pub flush_law : (m : Machine) (st : MachineState) (old : Contents) (dirty : ℕ) (new : Contents) → IsState m st old → Flushes old dirty new →
+    FlushFollows m st dirty new
 flush_law m st old dirty new i f = record {
   state = record {
     design = f.design ∙ i.design;

@@ -1,5 +1,6 @@
 -- The three rules keep the law of a policy: slots are neither made nor lost, and one leaves a full set.
-use Rattle.std.proofs.Common.{◌≡◌, ℕ, ◌+◌, ◌-◌, ◌%◌, ◌<◌, Bool, true, false, List, [], ◌∷◌, ◌++◌, length, get_or, take, drop, Option, Some, None, sym, ◌∙◌, ap, refl, arith, length-take, add-one, suc, length-set, get_or-set_same}
+use Rattle.std.proofs.Common.{◌≡◌, ℕ, ◌+◌, ◌-◌, ◌%◌, ◌<◌, Bool, true, false, List, [], ◌∷◌, ◌++◌, length, get_or, take}
+use Rattle.std.proofs.Common.{drop, Option, Some, None, sym, ◌∙◌, ap, refl, arith, length-take, add-one, suc, length-set, get_or-set_same}
 use Rattle.std.specs.Prelude.{IsPermutation, slice_get, slice_set}
 use Rattle.std.specs.List.{remove}
 use Rattle.std.proofs.lemmas.List.{get_or-take, take_more, take_all, drop_at, take_at, set_split}
@@ -11,7 +12,9 @@ use Rattle.cache_core.specs.declared.outcome.Repl.TheVariants.{Lru, Fifo, Random
 use Rattle.cache_core.specs.Order.{Touches, TakesIn, Inserts, Exchanges, marked}
 
 -- a prefix that ends at a place, turned right by one, brings the slot there to the front
-pub to_front : (s : List Slot) (at : ℕ) (r : List Slot) (d : Slot) → at < length s → r ≡ drop (length (take (at + 1) s) - 1) (take (at + 1) s) ++ take (length (take (at + 1) s) - 1) (take (at + 1) s) → r ++ drop (at + 1) s ≡ get_or s at d ∷ remove s at
+pub to_front : (s : List Slot) (at : ℕ) (r : List Slot) (d : Slot) → at < length s →
+    r ≡ drop (length (take (at + 1) s) - 1) (take (at + 1) s) ++ take (length (take (at + 1) s) - 1) (take (at + 1) s) →
+    r ++ drop (at + 1) s ≡ get_or s at d ∷ remove s at
 to_front s at r d h e =
     let l : length (take at s) ≡ at = omega (arith, length-take at s) in
     let t = take_more s at d h in
@@ -40,11 +43,13 @@ lawful_insert (Some Fifo) old slot new t = rw t (IsPermutation-refl (slot ∷ ol
 lawful_insert (Some Random) old slot new t = rw t (IsPermutation-sym _ _ (IsPermutation-to_front old slot))
 
 -- one slot in the place of another
-exchanged : (old : List Slot) (way : ℕ) (gone slot : Slot) → way < length old → slice_get old way ≡ Some gone → IsPermutation (slot ∷ remove old way) (slice_set old way slot)
+exchanged : (old : List Slot) (way : ℕ) (gone slot : Slot) → way < length old → slice_get old way ≡ Some gone →
+    IsPermutation (slot ∷ remove old way) (slice_set old way slot)
 exchanged old way gone slot h g =
     rw (set_split old way slot h) (IsPermutation-sym _ _ (IsPermutation-middle (take way old) slot (drop (suc way) old)))
 
-pub lawful_exchange : (rule : Option Repl) (word v : ℕ) (old : List Slot) (slot gone : Slot) (new : List Slot) → 0 < length old → Exchanges rule word old slot gone new → Exchanges None v old slot gone new
+pub lawful_exchange : (rule : Option Repl) (word v : ℕ) (old : List Slot) (slot gone : Slot) (new : List Slot) → 0 < length old →
+    Exchanges rule word old slot gone new → Exchanges None v old slot gone new
 lawful_exchange None word v old slot gone new h t = t
 lawful_exchange (Some Lru) word v old slot gone new h t =
     (t.0, rw t.1 (IsPermutation-to_front t.0 gone), rw t.2 (IsPermutation-refl (slot ∷ t.0)))
@@ -58,17 +63,20 @@ lawful_exchange (Some Random) word v old slot gone new h t =
     )
 
 -- what each rule says of a placing, the law says
-pub lawful_place : (rule : Option Repl) (word v room : ℕ) (old : List Slot) (slot : Slot) (gone : Option Slot) (new : List Slot) → 0 < room → TakesIn rule word room old slot gone new → TakesIn None v room old slot gone new
+pub lawful_place : (rule : Option Repl) (word v room : ℕ) (old : List Slot) (slot : Slot) (gone : Option Slot) (new : List Slot) → 0 < room →
+    TakesIn rule word room old slot gone new → TakesIn None v room old slot gone new
 lawful_place rule word v room old slot None new h t = (t.0, lawful_insert rule old slot new t.1)
 lawful_place rule word v room old slot (Some gone) new h t =
     (t.0, lawful_exchange rule word v old slot gone new (omega (arith, t.0)) t.1)
 
 -- a slot written over one of a full set
-pub exchange_full : (s : List Slot) (n word w : ℕ) (slot d : Slot) → n ≡ length s → 0 < length s → word ≡ w → TakesIn (Some Random) w (length s) (take n s) slot (Some (get_or s (word % length s) d)) (take (n + 1) (slice_set s (word % length s) slot))
+pub exchange_full : (s : List Slot) (n word w : ℕ) (slot d : Slot) → n ≡ length s → 0 < length s → word ≡ w →
+    TakesIn (Some Random) w (length s) (take n s) slot (Some (get_or s (word % length s) d)) (take (n + 1) (slice_set s (word % length s) slot))
 exchange_full s n word w slot d e h i =
     let way : word % length s < length s = omega arith in
     let t : take n s ≡ s = take_all n s (omega arith) in
-    let u : take (n + 1) (slice_set s (word % length s) slot) ≡ slice_set s (word % length s) slot = take_all (n + 1) (slice_set s (word % length s) slot) (omega (arith, length-set s (word % length s) slot)) in
+    let u : take (n + 1) (slice_set s (word % length s) slot) ≡ slice_set s (word % length s) slot =
+    take_all (n + 1) (slice_set s (word % length s) slot) (omega (arith, length-set s (word % length s) slot)) in
     rw (u, t, ← i) (refl, (slice_get-get_or s (word % length s) d way, refl))
 
 -- what was written among the first n stands there

@@ -1,5 +1,6 @@
 -- Lists of lines: the line of a block, the lines of a set, and their order.
-use Rattle.std.proofs.Common.{◌≡◌, ◌≢◌, ℕ, ◌+◌, ◌<◌, ◌≤◌, ◌==◌, true, false, cond, eqb, ltb, List, [], ◌∷◌, ◌++◌, length, Some, None, sym, ◌∙◌, ap, refl, subst, arith, ⊎_elim, find}
+use Rattle.std.proofs.Common.{◌≡◌, ◌≢◌, ℕ, ◌+◌, ◌<◌, ◌≤◌, ◌==◌, true, false, cond, eqb, ltb, List, [], ◌∷◌, ◌++◌}
+use Rattle.std.proofs.Common.{length, Some, None, sym, ◌∙◌, ap, refl, subst, arith, ⊎_elim, find}
 use Rattle.std.proofs.lemmas.Bool.{eq-eqb, le-ltb}
 use Rattle.std.proofs.lemmas.Bool.Decides.{eqb_tells}
 use Rattle.cache_core.specs.Geometry.{Shape, set_of_block}
@@ -39,7 +40,8 @@ distinct_without (z ∷ xs) x ys d = (
 )
 
 -- another line in a place
-pub distinct_instead : (xs : List Line) (x : Line) (ys : List Line) → Distinct (xs ++ ys) → Absent x.block xs → Absent x.block ys → Distinct (xs ++ x ∷ ys)
+pub distinct_instead : (xs : List Line) (x : Line) (ys : List Line) → Distinct (xs ++ ys) → Absent x.block xs → Absent x.block ys →
+    Distinct (xs ++ x ∷ ys)
 distinct_instead [] x ys d f b = (b, d)
 distinct_instead (z ∷ xs) x ys d f b = (
   absent_append z.block xs (x ∷ ys) (absent_left z.block xs ys d.0) ((λ e. f.0 (sym e)), absent_right z.block xs ys d.0),
@@ -76,7 +78,8 @@ pub without_absent : (b : ℕ) (ls : List Line) → Absent b ls → without b ls
 without_absent b [] h = refl
 without_absent b (l ∷ ls) h = rw (ne-eqb l.block b h.0) (ap (λ xs. l ∷ xs) (without_absent b ls h.1))
 
-pub without_split : (b : ℕ) (xs : List Line) (x : Line) (ys : List Line) → x.block ≡ b → Absent b xs → Absent b ys → without b (xs ++ x ∷ ys) ≡ xs ++ ys
+pub without_split : (b : ℕ) (xs : List Line) (x : Line) (ys : List Line) → x.block ≡ b → Absent b xs → Absent b ys →
+    without b (xs ++ x ∷ ys) ≡ xs ++ ys
 without_split b [] x ys e f h = rw (eq-eqb x.block b e) (without_absent b ys h)
 without_split b (z ∷ xs) x ys e f h = rw (ne-eqb z.block b f.0) (ap (λ zs. z ∷ zs) (without_split b xs x ys e f.1 h))
 
@@ -84,7 +87,8 @@ pub exchange_absent : (b : ℕ) (new : Line) (ls : List Line) → Absent b ls �
 exchange_absent b new [] h = refl
 exchange_absent b new (l ∷ ls) h = rw (ne-eqb l.block b h.0) (ap (λ xs. l ∷ xs) (exchange_absent b new ls h.1))
 
-pub exchange_split : (b : ℕ) (new : Line) (xs : List Line) (x : Line) (ys : List Line) → x.block ≡ b → Absent b xs → Absent b ys → exchange b new (xs ++ x ∷ ys) ≡ xs ++ new ∷ ys
+pub exchange_split : (b : ℕ) (new : Line) (xs : List Line) (x : Line) (ys : List Line) → x.block ≡ b → Absent b xs → Absent b ys →
+    exchange b new (xs ++ x ∷ ys) ≡ xs ++ new ∷ ys
 exchange_split b new [] x ys e f h = rw (eq-eqb x.block b e) (ap (λ zs. new ∷ zs) (exchange_absent b new ys h))
 exchange_split b new (z ∷ xs) x ys e f h = rw (ne-eqb z.block b f.0) (ap (λ zs. z ∷ zs) (exchange_split b new xs x ys e f.1 h))
 
@@ -111,15 +115,19 @@ pub set_without : (g : Shape) (k b : ℕ) (ls : List Line) → lines_of_set g k 
 set_without g k b [] = refl
 set_without g k b (l ∷ ls) = ⊎_elim
     (λ t. rw t.0 (⊎_elim (λ s. rw (s.0, t.0) (set_without g k b ls)) (λ o. rw o.0 (set_without g k b ls)) (eqb_tells (set_of_block g l.block) k)))
-    (λ f. rw f.0 (⊎_elim (λ s. rw (s.0, f.0) (ap (λ xs. l ∷ xs) (set_without g k b ls))) (λ o. rw o.0 (set_without g k b ls)) (eqb_tells (set_of_block g l.block) k)))
+    (λ f. rw f.0 (⊎_elim (λ s. rw (s.0, f.0) (ap (λ xs. l ∷ xs) (set_without g k b ls))) (λ o. rw o.0 (set_without g k b ls))
+    (eqb_tells (set_of_block g l.block) k)))
     (eqb_tells l.block b)
 
-pub set_exchange : (g : Shape) (k b : ℕ) (new : Line) (ls : List Line) → set_of_block g new.block ≡ set_of_block g b → lines_of_set g k (exchange b new ls) ≡ exchange b new (lines_of_set g k ls)
+pub set_exchange : (g : Shape) (k b : ℕ) (new : Line) (ls : List Line) → set_of_block g new.block ≡ set_of_block g b →
+    lines_of_set g k (exchange b new ls) ≡ exchange b new (lines_of_set g k ls)
 set_exchange g k b new [] e = refl
 set_exchange g k b new (l ∷ ls) e = ⊎_elim
     (λ t. let q : set_of_block g new.block ≡ set_of_block g l.block = e ∙ ap (set_of_block g) (sym t.1) in
-    rw (t.0, q) (⊎_elim (λ s. rw (s.0, t.0) (ap (λ xs. new ∷ xs) (set_exchange g k b new ls e))) (λ o. rw o.0 (set_exchange g k b new ls e)) (eqb_tells (set_of_block g l.block) k)))
-    (λ f. rw f.0 (⊎_elim (λ s. rw (s.0, f.0) (ap (λ xs. l ∷ xs) (set_exchange g k b new ls e))) (λ o. rw o.0 (set_exchange g k b new ls e)) (eqb_tells (set_of_block g l.block) k)))
+    rw (t.0, q) (⊎_elim (λ s. rw (s.0, t.0) (ap (λ xs. new ∷ xs) (set_exchange g k b new ls e))) (λ o. rw o.0 (set_exchange g k b new ls e))
+    (eqb_tells (set_of_block g l.block) k)))
+    (λ f. rw f.0 (⊎_elim (λ s. rw (s.0, f.0) (ap (λ xs. l ∷ xs) (set_exchange g k b new ls e))) (λ o. rw o.0 (set_exchange g k b new ls e))
+    (eqb_tells (set_of_block g l.block) k)))
     (eqb_tells l.block b)
 
 -- keys in order
@@ -146,7 +154,8 @@ least_last n (z ∷ xs) x f =
     let t : ltb z.key x.key ≡ false = le-ltb z.key x.key (omega (arith, falls_last z.key xs x f.1)) in
     rw (i, t) refl
 
-pub counts_instead : (n : ℕ) (xs : List Line) (x y : Line) (ys : List Line) → y.key ≡ x.key → CountsUp n (xs ++ x ∷ ys) → CountsUp n (xs ++ y ∷ ys)
+pub counts_instead : (n : ℕ) (xs : List Line) (x y : Line) (ys : List Line) → y.key ≡ x.key → CountsUp n (xs ++ x ∷ ys) →
+    CountsUp n (xs ++ y ∷ ys)
 counts_instead n [] x y ys e f = (e ∙ f.0, f.1)
 counts_instead n (z ∷ xs) x y ys e f = (f.0, counts_instead (n + 1) xs x y ys e f.1)
 
@@ -154,6 +163,7 @@ pub counts_push : (n : ℕ) (xs : List Line) (x : Line) → CountsUp n xs → x.
 counts_push n [] x f e = (omega arith, tt)
 counts_push n (z ∷ xs) x f e = (f.0, counts_push (n + 1) xs x f.1 (omega arith))
 
-pub find_way : (n w : ℕ) (xs : List Line) (x : Line) (ys : List Line) → CountsUp n (xs ++ x ∷ ys) → w ≡ n + length xs → find (λ l. l.key == w) (xs ++ x ∷ ys) ≡ Some x
+pub find_way : (n w : ℕ) (xs : List Line) (x : Line) (ys : List Line) → CountsUp n (xs ++ x ∷ ys) → w ≡ n + length xs →
+    find (λ l. l.key == w) (xs ++ x ∷ ys) ≡ Some x
 find_way n w [] x ys f e = rw (eq-eqb x.key w (omega (arith, f.0))) refl
 find_way n w (z ∷ xs) x ys f e = rw (ne-eqb z.key w (λ q. absurd (omega (arith, f.0)))) (find_way (n + 1) w xs x ys f.1 (omega arith))

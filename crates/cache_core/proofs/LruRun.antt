@@ -1,5 +1,6 @@
 -- The LRU machine with write-allocate holds the fronts of the stacks, after every list of events.
-use Rattle.std.proofs.Common.{◌≡◌, ℕ, zero, suc, ◌+◌, ◌≤◌, Bool, true, not, cond, eqb, ltb, List, [], ◌∷◌, ◌++◌, take, map, append_assoc, append-nil, refl, sym, ◌∙◌, ap, subst, arith, ⊎_elim, find}
+use Rattle.std.proofs.Common.{◌≡◌, ℕ, zero, suc, ◌+◌, ◌≤◌, Bool, true, not, cond, eqb, ltb, List, [], ◌∷◌, ◌++◌, take, map}
+use Rattle.std.proofs.Common.{append_assoc, append-nil, refl, sym, ◌∙◌, ap, subst, arith, ⊎_elim, find}
 use Rattle.std.specs.Prelude.{is_some, fold}
 use Rattle.std.specs.List.{list_any, count_by}
 use Rattle.std.proofs.lemmas.List.Folds.{list_any_kept}
@@ -86,15 +87,18 @@ follows g write w st ref some h =
       evicts = ap (λ (o : Outcome). is_some o.evicted) (sym a.told) ∙ moved.evicts;
     }
 
-stacked_next : (g : Shape) (write : WriteMode) (w : List ℕ) (st : MachineState) (event : Event) → 1 ≤ g.e → IsStacked g write w st → IsStacked g write (window_after g w event) (next (lru_machine g write) st event)
+stacked_next : (g : Shape) (write : WriteMode) (w : List ℕ) (st : MachineState) (event : Event) → 1 ≤ g.e → IsStacked g write w st →
+    IsStacked g write (window_after g w event) (next (lru_machine g write) st event)
 stacked_next g write w st (event.Reference ref) some h = (follows g write w st ref some h).stacked
 stacked_next g write w st event.Flush some h =
     let after = sound_next (lru_machine g write) st event.Flush some h.sound h.few in
     record { sound = after.0; few = after.1; fronts = λ k. sym (take_nil g.e) ∙ ap (take g.e) (sym (distinct_of_set-nil g k)) }
 
-pub stacked_run : (g : Shape) (write : WriteMode) (w : List ℕ) (st : MachineState) (events : List Event) → 1 ≤ g.e → IsStacked g write w st → IsStacked g write (fold (window_after g) w events) (fold (next (lru_machine g write)) st events)
+pub stacked_run : (g : Shape) (write : WriteMode) (w : List ℕ) (st : MachineState) (events : List Event) → 1 ≤ g.e → IsStacked g write w st →
+    IsStacked g write (fold (window_after g) w events) (fold (next (lru_machine g write)) st events)
 stacked_run g write w st [] some h = h
-stacked_run g write w st (v ∷ events) some h = stacked_run g write (window_after g w v) (next (lru_machine g write) st v) events some (stacked_next g write w st v some h)
+stacked_run g write w st (v ∷ events) some h =
+    stacked_run g write (window_after g w v) (next (lru_machine g write) st v) events some (stacked_next g write w st v some h)
 
 pub hits_from : (g : Shape) (write : WriteMode) (w : List ℕ) (st : MachineState) (events : List Event) → 1 ≤ g.e → IsStacked g write w st →
     map (λ a. a.hit) (answers_from (lru_machine g write) st events) ≡ map (is_hit g) (places_from g w events)
@@ -104,8 +108,10 @@ hits_from g write w st (event.Reference ref ∷ events) some h =
     let f = follows g write w st ref some h in
     let m : Machine = lru_machine g write in
     ap (λ t. t ∷ map (λ a. a.hit) (answers_from m (step m st ref) events)) f.hits
-    ∙ ap (λ ts. is_hit g (record { block = block_of g ref.addr; window = w }) ∷ ts) (hits_from g write (block_of g ref.addr ∷ w) (step m st ref) events some f.stacked)
-hits_from g write w st (event.Flush ∷ events) some h = hits_from g write [] (next (lru_machine g write) st event.Flush) events some (stacked_next g write w st event.Flush some h)
+    ∙ ap (λ ts. is_hit g (record { block = block_of g ref.addr; window = w }) ∷ ts)
+    (hits_from g write (block_of g ref.addr ∷ w) (step m st ref) events some f.stacked)
+hits_from g write w st (event.Flush ∷ events) some h =
+    hits_from g write [] (next (lru_machine g write) st event.Flush) events some (stacked_next g write w st event.Flush some h)
 
 pub victims_from : (g : Shape) (write : WriteMode) (w : List ℕ) (st : MachineState) (events : List Event) → 1 ≤ g.e → IsStacked g write w st →
     map (λ a. is_some a.evicted) (answers_from (lru_machine g write) st events) ≡ map (is_evict g) (places_from g w events)
@@ -115,17 +121,22 @@ victims_from g write w st (event.Reference ref ∷ events) some h =
     let f = follows g write w st ref some h in
     let m : Machine = lru_machine g write in
     ap (λ t. t ∷ map (λ a. is_some a.evicted) (answers_from m (step m st ref) events)) f.evicts
-    ∙ ap (λ ts. is_evict g (record { block = block_of g ref.addr; window = w }) ∷ ts) (victims_from g write (block_of g ref.addr ∷ w) (step m st ref) events some f.stacked)
-victims_from g write w st (event.Flush ∷ events) some h = victims_from g write [] (next (lru_machine g write) st event.Flush) events some (stacked_next g write w st event.Flush some h)
+    ∙ ap (λ ts. is_evict g (record { block = block_of g ref.addr; window = w }) ∷ ts)
+    (victims_from g write (block_of g ref.addr ∷ w) (step m st ref) events some f.stacked)
+victims_from g write w st (event.Flush ∷ events) some h =
+    victims_from g write [] (next (lru_machine g write) st event.Flush) events some (stacked_next g write w st event.Flush some h)
 
 -- a count over a list is one over its tests' answers
 pub count_by-map : {X : Type 0} (p : X → Bool) (xs : List X) → count_by p xs ≡ count_by (λ b. b) (map p xs)
 count_by-map p [] = refl
-count_by-map p (x ∷ xs) = sum_by-cons (λ y. cond (p y) 1 0) x xs ∙ ap (λ n. cond (p x) 1 0 + n) (count_by-map p xs) ∙ sym (sum_by-cons (λ b. cond b 1 0) (p x) (map p xs))
+count_by-map p (x ∷ xs) =
+    sum_by-cons (λ y. cond (p y) 1 0) x xs ∙ ap (λ n. cond (p x) 1 0 + n) (count_by-map p xs) ∙ sym (sum_by-cons (λ b. cond b 1 0) (p x) (map p xs))
 
 pub count_by-not : {X : Type 0} (p : X → Bool) (xs : List X) → count_by (λ x. not (p x)) xs ≡ count_by not (map p xs)
 count_by-not p [] = refl
-count_by-not p (x ∷ xs) = sum_by-cons (λ y. cond (not (p y)) 1 0) x xs ∙ ap (λ n. cond (not (p x)) 1 0 + n) (count_by-not p xs) ∙ sym (sum_by-cons (λ b. cond (not b) 1 0) (p x) (map p xs))
+count_by-not p (x ∷ xs) =
+    sum_by-cons (λ y. cond (not (p y)) 1 0) x xs ∙ ap (λ n. cond (not (p x)) 1 0 + n) (count_by-not p xs)
+    ∙ sym (sum_by-cons (λ b. cond (not b) 1 0) (p x) (map p xs))
 
 -- a block is held if it is among the front of its set's stack
 any_set : (g : Shape) (x : ℕ) (lines : List Line) → list_any (is_block x) lines ≡ list_any (is x) (blocks_in (lines_of_set g (set_of_block g x) lines))
@@ -138,7 +149,8 @@ any_set g x (l ∷ ls) = ⊎_elim
     (eqb_tells (set_of_block g l.block) (set_of_block g x))))
     (eqb_tells l.block x)
 
-pub holds_is : (g : Shape) (write : WriteMode) (w : List ℕ) (st : MachineState) (x : ℕ) → IsStacked g write w st → holds st x ≡ list_any (is x) (take g.e (distinct_of_set g (set_of_block g x) w))
+pub holds_is : (g : Shape) (write : WriteMode) (w : List ℕ) (st : MachineState) (x : ℕ) → IsStacked g write w st →
+    holds st x ≡ list_any (is x) (take g.e (distinct_of_set g (set_of_block g x) w))
 holds_is g write w st x h = any_set g x st.lines ∙ ap (list_any (is x)) (h.fronts (set_of_block g x))
 
 -- the machine hits where the windows say so, and a block leaves there
@@ -155,18 +167,23 @@ count_law g write events some =
     let all = answers (lru_machine g write) events in
     let hits = count_by-map (λ a. a.hit) all ∙ ap (count_by (λ t. t)) (hit_law g write events some) ∙ sym (count_by-map (is_hit g) (places g events)) in
     let misses = count_by-not (λ a. a.hit) all ∙ ap (count_by not) (hit_law g write events some) ∙ sym (count_by-not (is_hit g) (places g events)) in
-    let evictions = count_by-map (λ a. is_some a.evicted) all ∙ ap (count_by (λ t. t)) (victim_law g write events some) ∙ sym (count_by-map (is_evict g) (places g events)) in
+    let evictions =
+    count_by-map (λ a. is_some a.evicted) all ∙ ap (count_by (λ t. t)) (victim_law g write events some)
+    ∙ sym (count_by-map (is_evict g) (places g events)) in
     cc (hits, misses, evictions)
 
 -- the window of a list, carried along
 window_folds : (g : Shape) (before es : List Event) → fold (window_after g) (window g before) es ≡ window g (before ++ es)
 window_folds g before [] = ap (window g) (sym (append-nil before))
-window_folds g before (e ∷ es) = ap (λ w. fold (window_after g) w es) (sym (window-push g before e)) ∙ window_folds g (before ++ e ∷ []) es ∙ ap (window g) (append_assoc before (e ∷ []) es)
+window_folds g before (e ∷ es) =
+    ap (λ w. fold (window_after g) w es) (sym (window-push g before e)) ∙ window_folds g (before ++ e ∷ []) es
+    ∙ ap (window g) (append_assoc before (e ∷ []) es)
 
 -- the state after a list holds the fronts of its window's stacks
 pub run_stacked : (g : Shape) (write : WriteMode) (events : List Event) → 1 ≤ g.e → IsStacked g write (window g events) (run (lru_machine g write) events)
 run_stacked g write events some =
-    subst (λ w. IsStacked g write w (run (lru_machine g write) events)) (ap (λ w. fold (window_after g) w events) (sym (window-nil g)) ∙ window_folds g [] events)
+    subst (λ w. IsStacked g write w (run (lru_machine g write) events))
+    (ap (λ w. fold (window_after g) w events) (sym (window-nil g)) ∙ window_folds g [] events)
     (stacked_run g write [] start events some (stacked_start g write))
 
 pub next_law : NextLaw

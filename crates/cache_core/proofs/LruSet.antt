@@ -1,5 +1,7 @@
 -- One visit of a set of an LRU cache. The stack of a set is its different blocks, the most recent first; the set holds its front again.
-use Rattle.std.proofs.Common.{◌≡◌, ℕ, zero, suc, ◌+◌, ◌<◌, ◌≤◌, Bool, true, false, not, ◌&&◌, ◌||◌, ◌==◌, cond, eqb, ltb, leb, min, List, [], ◌∷◌, ◌++◌, length, take, map, get_or, set, Option, Some, None, refl, sym, ◌∙◌, ap, arith, length-take, length-append, one-add}
+use Rattle.std.proofs.Common.{◌≡◌, ℕ, zero, suc, ◌+◌, ◌<◌, ◌≤◌, Bool, true, false, not, ◌&&◌, ◌||◌, ◌==◌, cond, eqb, ltb}
+use Rattle.std.proofs.Common.{leb, min, List, [], ◌∷◌, ◌++◌, length, take, map, get_or, set, Option, Some, None, refl, sym, ◌∙◌, ap, arith}
+use Rattle.std.proofs.Common.{length-take, length-append, one-add}
 use Rattle.std.specs.Prelude.{is_some, MatchOption, slice_get, remove}
 use Rattle.std.specs.List.{list_any, list_all, position_or_len}
 use Rattle.std.proofs.lemmas.Bool.{and_from, or_parts, ltb-true, eqb-true, false≢true}
@@ -28,7 +30,8 @@ len_blocks : (x : ℕ) (slots : List Slot) → position_or_len (λ (slot : Slot)
 len_blocks x [] = refl
 len_blocks x (slot ∷ slots) = ap (λ n. cond (not (eqb slot.block x)) (1 + n) 0) (len_blocks x slots)
 
-test_blocks : (x : ℕ) (slots : List Slot) → ltb (position_or_len (λ (slot : Slot). slot.block == x) slots) (length slots) ≡ list_any (is x) (blocks_of slots)
+test_blocks : (x : ℕ) (slots : List Slot) →
+    ltb (position_or_len (λ (slot : Slot). slot.block == x) slots) (length slots) ≡ list_any (is x) (blocks_of slots)
 test_blocks x slots =
     ap (λ n. ltb n (length slots)) (len_blocks x slots) ∙ ap (ltb (position_or_len (is x) (blocks_of slots))) (sym (length-map slots (λ slot. slot.block)))
     ∙ sym (list_any_is (is x) (blocks_of slots))
@@ -40,7 +43,8 @@ record FoundAt (x : ℕ) (slots : List Slot) (at : ℕ) : Type 0 where
 place_some : (x : ℕ) (slots : List Slot) (at : ℕ) → position_of x slots ≡ Some at → FoundAt x slots at
 place_some x slots at e = by_test (ltb (position_or_len (λ (slot : Slot). slot.block == x) slots) (length slots)) refl e
   where
-    by_test : (b : Bool) → ltb (position_or_len (λ (slot : Slot). slot.block == x) slots) (length slots) ≡ b → cond b (Some (position_or_len (λ (slot : Slot). slot.block == x) slots)) None ≡ Some at → FoundAt x slots at
+    by_test : (b : Bool) → ltb (position_or_len (λ (slot : Slot). slot.block == x) slots) (length slots) ≡ b →
+        cond b (Some (position_or_len (λ (slot : Slot). slot.block == x) slots)) None ≡ Some at → FoundAt x slots at
     by_test true t q =
         let same : position_or_len (λ (slot : Slot). slot.block == x) slots ≡ at = cc in
         record { there = sym (test_blocks x slots) ∙ t; place = sym same ∙ len_blocks x slots }
@@ -49,14 +53,17 @@ place_some x slots at e = by_test (ltb (position_or_len (λ (slot : Slot). slot.
 pub place_none : (x : ℕ) (slots : List Slot) → position_of x slots ≡ None → list_any (is x) (blocks_of slots) ≡ false
 place_none x slots e = by_test (ltb (position_or_len (λ (slot : Slot). slot.block == x) slots) (length slots)) refl e
   where
-    by_test : (b : Bool) → ltb (position_or_len (λ (slot : Slot). slot.block == x) slots) (length slots) ≡ b → cond b (Some (position_or_len (λ (slot : Slot). slot.block == x) slots)) None ≡ None → list_any (is x) (blocks_of slots) ≡ false
+    by_test : (b : Bool) → ltb (position_or_len (λ (slot : Slot). slot.block == x) slots) (length slots) ≡ b →
+        cond b (Some (position_or_len (λ (slot : Slot). slot.block == x) slots)) None ≡ None → list_any (is x) (blocks_of slots) ≡ false
     by_test true t q = absurd cc
     by_test false t q = sym (test_blocks x slots) ∙ t
 
 at_place : (x : ℕ) (xs : List ℕ) → list_any (is x) xs ≡ true → slice_get xs (position_or_len (is x) xs) ≡ Some x
 at_place x [] h = absurd (false≢true h)
 at_place x (y ∷ ys) h =
-    cases (λ b. (b ≡ eqb y x) → ((b || list_any (is x) ys) ≡ true) → slice_get (y ∷ ys) (cond (not b) (1 + position_or_len (is x) ys) 0) ≡ Some x) (eqb y x)
+    cases
+    (λ b. (b ≡ eqb y x) → ((b || list_any (is x) ys) ≡ true) → slice_get (y ∷ ys) (cond (not b) (1 + position_or_len (is x) ys) 0) ≡ Some x)
+    (eqb y x)
     (λ e k _. ap Some (eqb-true y x e))
     (λ e k t. rw one-add (at_place x ys t))
     refl h
@@ -111,7 +118,8 @@ pub record Moves (g : Shape) (p : Place) (outcome : Outcome) (new : List Slot) :
 
 -- a block that is held comes to the front
 hit_moves : (g : Shape) (p : Place) (d : Bool) (old new : List Slot) (at : ℕ) → 1 ≤ g.e →
-    blocks_of old ≡ take g.e (distinct_of_set g (set_of_block g p.block) p.window) → FoundAt p.block old at → Touches (Some Lru) (marked d old at) at new →
+    blocks_of old ≡ take g.e (distinct_of_set g (set_of_block g p.block) p.window) → FoundAt p.block old at →
+    Touches (Some Lru) (marked d old at) at new →
     blocks_of new ≡ take g.e (distinct_of_set g (set_of_block g p.block) (p.block ∷ p.window))
 hit_moves g p d old new at some h f t =
     let front : List ℕ = take g.e (distinct_of_set g (set_of_block g p.block) p.window) in
@@ -132,11 +140,13 @@ hit_moves g p d old new at some h f t =
 
 -- the stack's front after a block that it doesn't hold
 miss_front : (g : Shape) (p : Place) → 1 ≤ g.e → list_any (is p.block) (take g.e (distinct_of_set g (set_of_block g p.block) p.window)) ≡ false →
-    take g.e (p.block ∷ take g.e (distinct_of_set g (set_of_block g p.block) p.window)) ≡ take g.e (distinct_of_set g (set_of_block g p.block) (p.block ∷ p.window))
+    take g.e (p.block ∷ take g.e (distinct_of_set g (set_of_block g p.block) p.window))
+    ≡ take g.e (distinct_of_set g (set_of_block g p.block) (p.block ∷ p.window))
 miss_front g p some none =
     let st : List ℕ = distinct_of_set g (set_of_block g p.block) p.window in
     let same : remove (take g.e st) (position_or_len (is p.block) (take g.e st)) ≡ take g.e st =
-    remove_is p.block (take g.e st) (IsOnce-take g.e st (IsOnce-distinct_of_set g (set_of_block g p.block) p.window)) ∙ filter_all (other p.block) (take g.e st) (none_is p.block (take g.e st) none) in
+    remove_is p.block (take g.e st) (IsOnce-take g.e st (IsOnce-distinct_of_set g (set_of_block g p.block) p.window))
+    ∙ filter_all (other p.block) (take g.e st) (none_is p.block (take g.e st) none) in
     ap (λ xs. take g.e (p.block ∷ xs)) (sym same) ∙ take-distinct_of_set-same g g.e p.block p.window some
 
 no_room : (e n : ℕ) → min e n < e → leb e n ≡ false
@@ -156,9 +166,11 @@ fill_moves g word p d old new outcome None some h none places hit left =
     let missed : is_hit g p ≡ false = is_hit_is g p ∙ absent in
     let long : length (take g.e st) ≡ length old = ap length (sym h) ∙ length-map old (λ slot. slot.block) in
     record {
-      front = ap blocks_of places.1 ∙ ap (λ xs. p.block ∷ xs) h ∙ sym (take_all g.e (p.block ∷ take g.e st) (omega (arith, long, places.0))) ∙ miss_front g p some absent;
+      front = ap blocks_of places.1 ∙ ap (λ xs. p.block ∷ xs) h ∙ sym (take_all g.e (p.block ∷ take g.e st) (omega (arith, long, places.0)))
+          ∙ miss_front g p some absent;
       hits = hit ∙ sym missed;
-      evicts = ap is_some left ∙ sym (ap (λ t. not t && leb g.e (length st)) missed ∙ no_room g.e (length st) (omega (arith, long, places.0, length-take g.e st)));
+      evicts = ap is_some left
+          ∙ sym (ap (λ t. not t && leb g.e (length st)) missed ∙ no_room g.e (length st) (omega (arith, long, places.0, length-take g.e st)));
     }
 fill_moves g word p d old new outcome (Some gone) some h none places hit left =
     let st : List ℕ = distinct_of_set g (set_of_block g p.block) p.window in
@@ -166,27 +178,34 @@ fill_moves g word p d old new outcome (Some gone) some h none places hit left =
     let missed : is_hit g p ≡ false = is_hit_is g p ∙ absent in
     let long : length (take g.e st) ≡ length old = ap length (sym h) ∙ length-map old (λ slot. slot.block) in
     let keep : List Slot = places.1.0 in
-    let ends : take g.e st ≡ blocks_of keep ++ gone.block ∷ [] = sym h ∙ ap blocks_of places.1.1 ∙ map-append (λ (slot : Slot). slot.block) keep (gone ∷ []) in
+    let ends : take g.e st ≡ blocks_of keep ++ gone.block ∷ [] =
+    sym h ∙ ap blocks_of places.1.1 ∙ map-append (λ (slot : Slot). slot.block) keep (gone ∷ []) in
     let cut : take g.e (p.block ∷ (blocks_of keep ++ gone.block ∷ [])) ≡ p.block ∷ blocks_of keep =
-    take_at (p.block ∷ blocks_of keep) (gone.block ∷ []) g.e (omega (arith, long, places.0, ap length ends, length-append (blocks_of keep) (gone.block ∷ []))) in
+    take_at (p.block ∷ blocks_of keep) (gone.block ∷ []) g.e
+    (omega (arith, long, places.0, ap length ends, length-append (blocks_of keep) (gone.block ∷ []))) in
     record {
       front = ap blocks_of places.1.2 ∙ sym cut ∙ ap (λ xs. take g.e (p.block ∷ xs)) (sym ends) ∙ miss_front g p some absent;
       hits = hit ∙ sym missed;
-      evicts = ap is_some left ∙ sym (ap (λ t. not t && leb g.e (length st)) missed ∙ full g.e (length st) (omega (arith, long, places.0, length-take g.e st)));
+      evicts = ap is_some left
+          ∙ sym (ap (λ t. not t && leb g.e (length st)) missed ∙ full g.e (length st) (omega (arith, long, places.0, length-take g.e st)));
     }
 
 -- a visit of a set that holds the front of its stack
-pub visit_moves : (g : Shape) (write : WriteMode) (words : ℕ → ℕ) (ref : Ref) (w : List ℕ) (old : List Slot) (outcome : Outcome) (new : List Slot) (rest : ℕ → ℕ) → 1 ≤ g.e →
+pub visit_moves : (g : Shape) (write : WriteMode) (words : ℕ → ℕ) (ref : Ref) (w : List ℕ) (old : List Slot) (outcome : Outcome) (new : List Slot)
+    (rest : ℕ → ℕ) →
+    1 ≤ g.e →
     blocks_of old ≡ take g.e (distinct_of_set g (set_of_block g (block_of g ref.addr)) w) →
     Visits (record { geometry = g; write = write; allocate = Always }) (Some Lru) words ref old outcome new rest →
     Moves g (record { block = block_of g ref.addr; window = w }) outcome new
 visit_moves g write words ref w old outcome new rest some h v = by_place (position_of (block_of g ref.addr) old) refl v
   where
     by_place : (o : Option ℕ) → position_of (block_of g ref.addr) old ≡ o →
-        MatchOption o (Fills (record { geometry = g; write = write; allocate = Always }) (Some Lru) words ref old outcome new rest) (λ at. Hits (record { geometry = g; write = write; allocate = Always }) (Some Lru) words ref at old outcome new rest) →
+        MatchOption o (Fills (record { geometry = g; write = write; allocate = Always }) (Some Lru) words ref old outcome new rest)
+        (λ at. Hits (record { geometry = g; write = write; allocate = Always }) (Some Lru) words ref at old outcome new rest) →
         Moves g (record { block = block_of g ref.addr; window = w }) outcome new
     by_place None e x =
-        fill_moves g (words 0) (record { block = block_of g ref.addr; window = w }) (dirties write ref.access) old new outcome outcome.evicted some h (place_none (block_of g ref.addr) old e) x.order (ap (λ (o : Outcome). o.hit) x.answers) refl
+        fill_moves g (words 0) (record { block = block_of g ref.addr; window = w }) (dirties write ref.access) old new outcome outcome.evicted some h
+        (place_none (block_of g ref.addr) old e) x.order (ap (λ (o : Outcome). o.hit) x.answers) refl
     by_place (Some at) e x =
         let p : Place = record { block = block_of g ref.addr; window = w } in
         let f = place_some (block_of g ref.addr) old at e in

@@ -1,10 +1,12 @@
 -- Worked runs of the stamp machine under each policy and mode, computed.
-use Rattle.std.proofs.Common.{◌≡◌, ℕ, true, false, not, List, [], ◌∷◌, ◌++◌, map, Some, None, refl}
+use Rattle.std.proofs.Common.{◌≡◌, ℕ, Bool, true, false, not, List, [], ◌∷◌, ◌++◌, map, Option, Some, None, refl}
 use Rattle.std.specs.Prelude.{is_some, count_by as count}
 use Rattle.trace_core.specs.declared.events.Ref.{Ref}
 use Rattle.trace_core.specs.declared.events.Access.TheVariants.{Fetch, Read, Write}
 use Rattle.trace_core.specs.declared.events.Event.{Event}
 use Rattle.trace_core.specs.declared.events.Event.TheVariants as event
+use Rattle.trace_core.specs.Events.{at}
+use Rattle.cache_core.specs.declared.outcome.Slot.{Slot}
 use Rattle.cache_core.specs.declared.outcome.Repl.{Repl}
 use Rattle.cache_core.specs.declared.outcome.Repl.TheVariants.{Lru, Fifo, Random}
 use Rattle.cache_core.specs.declared.outcome.WriteMode.{WriteMode}
@@ -26,13 +28,16 @@ machine policy ways write alloc = record {
 }
 
 abbrev pub read : ℕ → Event
-read a = event.Reference (record { access = Read; addr = a })
+read a = event.Reference (at Read a)
 
 abbrev pub write : ℕ → Event
-write a = event.Reference (record { access = Write; addr = a })
+write a = event.Reference (at Write a)
 
 abbrev pub fetch : ℕ → Event
-fetch a = event.Reference (record { access = Fetch; addr = a })
+fetch a = event.Reference (at Fetch a)
+
+abbrev slot : ℕ → Bool → Slot
+slot block dirty = record { block = block; dirty = dirty }
 
 -- hits, misses and evictions
 abbrev counts : Machine → List Event → ℕ × ℕ × ℕ
@@ -74,31 +79,45 @@ clean_blocks_are_not_flushed : dirty_count (run (machine Random 2 Back Always) s
 unfolding state_after
 clean_blocks_are_not_flushed = refl
 
-third_word_takes_way_zero : (answer (machine Random 2 Back Always) (run (machine Random 2 Back Always) (six ++ event.Flush ∷ read 0x10 ∷ read 0x20 ∷ [])) (record { access = Read; addr = 0x30 })).evicted ≡ Some (record { block = 1; dirty = false })
+-- what one machine answers to a reference after a list of events
+abbrev answer_after : Machine → List Event → Ref → Answer
+answer_after m events ref = answer m (run m events) ref
+
+third_word_takes_way_zero :
+    (answer_after (machine Random 2 Back Always) (six ++ event.Flush ∷ read 0x10 ∷ read 0x20 ∷ []) (at Read 0x30)).evicted ≡ Some (slot 1 false)
 unfolding state_after
 third_word_takes_way_zero = refl
 
--- one reference after another one, in one line
+-- the same of a cache of one line
 abbrev after : WriteMode → AllocMode → List Event → Ref → Answer
-after w a events ref = answer (machine Lru 1 w a) (run (machine Lru 1 w a) events) ref
+after w a events ref = answer_after (machine Lru 1 w a) events ref
 
-dirty_victim_goes_down_first : after Back Always (write 0 ∷ []) (record { access = Read; addr = 0x1f }) ≡ record { hit = false; evicted = Some (record { block = 0; dirty = true }); placed = true; down = record { access = Write; addr = 0 } ∷ record { access = Read; addr = 0x10 } ∷ [] }
+abbrev hits : List Ref → Answer
+hits down = record { hit = true; evicted = None; placed = false; down = down }
+
+abbrev places : Option Slot → List Ref → Answer
+places evicted down = record { hit = false; evicted = evicted; placed = true; down = down }
+
+abbrev passes : List Ref → Answer
+passes down = record { hit = false; evicted = None; placed = false; down = down }
+
+dirty_victim_goes_down_first : after Back Always (write 0 ∷ []) (at Read 0x1f) ≡ places (Some (slot 0 true)) (at Write 0 ∷ at Read 0x10 ∷ [])
 dirty_victim_goes_down_first = refl
 
-write_miss_fills : after Back Always (read 0 ∷ []) (record { access = Write; addr = 0x1f }) ≡ record { hit = false; evicted = Some (record { block = 0; dirty = false }); placed = true; down = record { access = Read; addr = 0x10 } ∷ [] }
+write_miss_fills : after Back Always (read 0 ∷ []) (at Write 0x1f) ≡ places (Some (slot 0 false)) (at Read 0x10 ∷ [])
 write_miss_fills = refl
 
-write_goes_through_after_the_fill : after Through Always [] (record { access = Write; addr = 0x1f }) ≡ record { hit = false; evicted = None; placed = true; down = record { access = Read; addr = 0x10 } ∷ record { access = Write; addr = 0x1f } ∷ [] }
+write_goes_through_after_the_fill : after Through Always [] (at Write 0x1f) ≡ places None (at Read 0x10 ∷ at Write 0x1f ∷ [])
 write_goes_through_after_the_fill = refl
 
-write_hit_goes_through : after Through Always (read 0x10 ∷ []) (record { access = Write; addr = 0x1f }) ≡ record { hit = true; evicted = None; placed = false; down = record { access = Write; addr = 0x1f } ∷ [] }
+write_hit_goes_through : after Through Always (read 0x10 ∷ []) (at Write 0x1f) ≡ hits (at Write 0x1f ∷ [])
 write_hit_goes_through = refl
 
-write_miss_passes : after Back Never (read 0 ∷ []) (record { access = Write; addr = 0x1f }) ≡ record { hit = false; evicted = None; placed = false; down = record { access = Write; addr = 0x1f } ∷ [] }
+write_miss_passes : after Back Never (read 0 ∷ []) (at Write 0x1f) ≡ passes (at Write 0x1f ∷ [])
 write_miss_passes = refl
 
-write_hit_stays : after Back Never (read 0x10 ∷ []) (record { access = Write; addr = 0x1f }) ≡ record { hit = true; evicted = None; placed = false; down = [] }
+write_hit_stays : after Back Never (read 0x10 ∷ []) (at Write 0x1f) ≡ hits []
 write_hit_stays = refl
 
-fetch_fills_by_a_fetch : after Back Always [] (record { access = Fetch; addr = 0x1f }) ≡ record { hit = false; evicted = None; placed = true; down = record { access = Fetch; addr = 0x10 } ∷ [] }
+fetch_fills_by_a_fetch : after Back Always [] (at Fetch 0x1f) ≡ places None (at Fetch 0x10 ∷ [])
 fetch_fills_by_a_fetch = refl

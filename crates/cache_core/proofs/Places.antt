@@ -13,7 +13,8 @@ use Rattle.cache_core.specs.Windows.{window, window_after, places, places_after,
 
 pub window-push : (g : Shape) (es : List Event) (e : Event) → window g (es ++ e ∷ []) ≡ window_after g (window g es) e
 unfolding window
-window-push g es (event.Reference r) = ap (λ rs. filter_map (block_in g) (before_first is_flush rs)) (reverse-append es (event.Reference r ∷ [])) ∙ rw one-add refl
+window-push g es (event.Reference r) =
+    ap (λ rs. filter_map (block_in g) (before_first is_flush rs)) (reverse-append es (event.Reference r ∷ [])) ∙ rw one-add refl
 window-push g es event.Flush = ap (λ rs. filter_map (block_in g) (before_first is_flush rs)) (reverse-append es (event.Flush ∷ []))
 
 pub window-nil : (g : Shape) → window g [] ≡ []
@@ -40,7 +41,8 @@ pub places-from : (g : Shape) (es : List Event) → places g es ≡ places_from 
 places-from g es = places_after-from g [] es ∙ ap (λ w. places_from g w es) (window-nil g)
 
 -- a list and then another
-pub places_after-append : (g : Shape) (before es more : List Event) → places_after g before (es ++ more) ≡ places_after g before es ++ places_after g (before ++ es) more
+pub places_after-append : (g : Shape) (before es more : List Event) →
+    places_after g before (es ++ more) ≡ places_after g before es ++ places_after g (before ++ es) more
 unfolding places_after
 places_after-append g before [] more = ap (λ b. places_after g b more) (sym (append-nil before))
 places_after-append g before (event.Reference r ∷ es) more =
@@ -60,5 +62,6 @@ unfolding places_after
 places-flush g es = places_after-append g [] es (event.Flush ∷ []) ∙ append-nil (places g es)
 
 -- a sum over the places, with one more reference
-pub sum_by-reference : (f : Place → ℕ) (g : Shape) (es : List Event) (r : Ref) → sum_by f (places g (es ++ event.Reference r ∷ [])) ≡ sum_by f (places g es) + f (place_after g es r)
+pub sum_by-reference : (f : Place → ℕ) (g : Shape) (es : List Event) (r : Ref) →
+    sum_by f (places g (es ++ event.Reference r ∷ [])) ≡ sum_by f (places g es) + f (place_after g es r)
 sum_by-reference f g es r = ap (λ ps. sum_by f ps) (places-reference g es r) ∙ sum_by_push f (places g es) (place_after g es r)

@@ -44,7 +44,8 @@ smaller_blocks_below : plan_of (unified (spec 32 32 1)) (Some (spec 32 16 1)) �
 unfolding exponent_of
 smaller_blocks_below = refl
 
-equal_blocks_below : plan_of (unified (spec 32 32 1)) (Some (spec 64 32 1)) ≡ Ok (record { i = None; d = None; u = Some (level 0 1 5); second = Some (level 1 1 5) })
+equal_blocks_below : plan_of (unified (spec 32 32 1)) (Some (spec 64 32 1))
+    ≡ Ok (record { i = None; d = None; u = Some (level 0 1 5); second = Some (level 1 1 5) })
 unfolding exponent_of
 equal_blocks_below = refl
 

@@ -1,5 +1,6 @@
 -- One more event at the end of a list.
-use Rattle.std.proofs.Common.{◌≡◌, ℕ, ◌+◌, ◌≤◌, cond, not, Bool, true, false, arith, List, [], ◌∷◌, ◌++◌, map, take, refl, sym, ◌∙◌, ap, length, get_or, ◌<◌}
+use Rattle.std.proofs.Common.{◌≡◌, ℕ, ◌+◌, ◌≤◌, cond, not, Bool, true, false, arith, List, [], ◌∷◌, ◌++◌, map, take, refl, sym}
+use Rattle.std.proofs.Common.{◌∙◌, ap, length, get_or, ◌<◌}
 use Rattle.std.specs.Prelude.{fold, count_by, is_some}
 use Rattle.std.proofs.lemmas.List.{take_more, map-append}
 use Rattle.std.proofs.lemmas.List.Sums.{sum_by_push}
@@ -18,15 +19,18 @@ use Rattle.cache_core.proofs.RunLaw.{access_run}
 pub count_by_push : {X : Type 0} (p : X → Bool) (xs : List X) (x : X) → count_by p (xs ++ x ∷ []) ≡ count_by p xs + cond (p x) 1 0
 count_by_push p xs x = sum_by_push (λ y. cond (p y) 1 0) xs x
 
-answered_push_from : (m : Machine) (st : MachineState) (events : List Event) (ref : Ref) → answered_from m st (events ++ event.Reference ref ∷ []) ≡ answered_from m st events ++ (ref, answer m (fold (next m) st events) ref) ∷ []
+answered_push_from : (m : Machine) (st : MachineState) (events : List Event) (ref : Ref) →
+    answered_from m st (events ++ event.Reference ref ∷ []) ≡ answered_from m st events ++ (ref, answer m (fold (next m) st events) ref) ∷ []
 answered_push_from m st [] ref = refl
 answered_push_from m st (event.Reference r ∷ events) ref = ap (λ xs. (r, answer m st r) ∷ xs) (answered_push_from m (step m st r) events ref)
 answered_push_from m st (event.Flush ∷ events) ref = answered_push_from m (next m st event.Flush) events ref
 
-pub answered_push : (m : Machine) (events : List Event) (ref : Ref) → answered m (events ++ event.Reference ref ∷ []) ≡ answered m events ++ (ref, answer m (run m events) ref) ∷ []
+pub answered_push : (m : Machine) (events : List Event) (ref : Ref) →
+    answered m (events ++ event.Reference ref ∷ []) ≡ answered m events ++ (ref, answer m (run m events) ref) ∷ []
 answered_push m events ref = answered_push_from m start events ref
 
-answered_flush_from : (m : Machine) (st : MachineState) (events : List Event) → answered_from m st (events ++ event.Flush ∷ []) ≡ answered_from m st events
+answered_flush_from : (m : Machine) (st : MachineState) (events : List Event) →
+    answered_from m st (events ++ event.Flush ∷ []) ≡ answered_from m st events
 answered_flush_from m st [] = refl
 answered_flush_from m st (event.Reference r ∷ events) = ap (λ xs. (r, answer m st r) ∷ xs) (answered_flush_from m (step m st r) events)
 answered_flush_from m st (event.Flush ∷ events) = answered_flush_from m (next m st event.Flush) events
@@ -34,8 +38,11 @@ answered_flush_from m st (event.Flush ∷ events) = answered_flush_from m (next 
 pub answered_flush : (m : Machine) (events : List Event) → answered m (events ++ event.Flush ∷ []) ≡ answered m events
 answered_flush m events = answered_flush_from m start events
 
-pub answers_push : (m : Machine) (events : List Event) (ref : Ref) → answers m (events ++ event.Reference ref ∷ []) ≡ answers m events ++ answer m (run m events) ref ∷ []
-answers_push m events ref = ap (map (λ p. p.1)) (answered_push m events ref) ∙ map-append (λ (p : Ref × Answer). p.1) (answered m events) ((ref, answer m (run m events) ref) ∷ [])
+pub answers_push : (m : Machine) (events : List Event) (ref : Ref) →
+    answers m (events ++ event.Reference ref ∷ []) ≡ answers m events ++ answer m (run m events) ref ∷ []
+answers_push m events ref =
+    ap (map (λ p. p.1)) (answered_push m events ref)
+    ∙ map-append (λ (p : Ref × Answer). p.1) (answered m events) ((ref, answer m (run m events) ref) ∷ [])
 
 counts_in_push : (all : List Answer) (a : Answer) → counts_in (all ++ a ∷ []) ≡ counted (counts_in all) (outcome_of a)
 counts_in_push all a =
@@ -59,8 +66,10 @@ simulated_more m events c old new ref outcome some h a =
           ∙ sym (ap counts_in (answers_push m events ref) ∙ counts_in_push (answers m events) (answer m (run m events) ref));
     }
 
-pub taken_more : (refs : List Ref) (i : ℕ) (d : Ref) → i < length refs → map (λ x. event.Reference x) (take (i + 1) refs) ≡ map (λ x. event.Reference x) (take i refs) ++ event.Reference (get_or refs i d) ∷ []
-taken_more refs i d h = ap (map (λ x. event.Reference x)) (take_more refs i d h) ∙ map-append (λ x. event.Reference x) (take i refs) (get_or refs i d ∷ [])
+pub taken_more : (refs : List Ref) (i : ℕ) (d : Ref) → i < length refs →
+    map (λ x. event.Reference x) (take (i + 1) refs) ≡ map (λ x. event.Reference x) (take i refs) ++ event.Reference (get_or refs i d) ∷ []
+taken_more refs i d h =
+    ap (map (λ x. event.Reference x)) (take_more refs i d h) ∙ map-append (λ x. event.Reference x) (take i refs) (get_or refs i d ∷ [])
 
 one_both : (b : Bool) → one_if b + one_if (not b) ≡ 1
 one_both true = refl

@@ -1,5 +1,6 @@
 -- One access to one set, as the slots see it and as the lines see it.
-use Rattle.std.proofs.Common.{◌≡◌, ℕ, zero, suc, ◌+◌, ◌%◌, ◌==◌, ◌||◌, Bool, true, false, List, [], ◌∷◌, ◌++◌, length, Some, None, sym, ◌∙◌, ap, refl, subst, arith, map, find}
+use Rattle.std.proofs.Common.{◌≡◌, ℕ, zero, suc, ◌+◌, ◌%◌, ◌==◌, ◌||◌, Bool, true, false, List, [], ◌∷◌, ◌++◌, length}
+use Rattle.std.proofs.Common.{Some, None, sym, ◌∙◌, ap, refl, subst, arith, map, find}
 use Rattle.std.specs.Prelude.{slice_get, slice_set, remove}
 use Rattle.std.specs.List.{position_or_len}
 use Rattle.std.proofs.lemmas.List.{append-nil, length-append, map-append, length-map, set_at, get_or_at}
@@ -10,7 +11,9 @@ use Rattle.cache_core.specs.declared.outcome.Repl.TheVariants.{Lru, Fifo, Random
 use Rattle.cache_core.specs.Machine.{Line, slot_of, is_block, without, exchange, victim, touch, with_block}
 use Rattle.cache_core.specs.Order.{Touches, Inserts, Exchanges, marked, position_of}
 use Rattle.cache_core.specs.Stands.{Falls, Absent, Distinct, IsGood}
-use Rattle.cache_core.proofs.Lines.{ne-eqb, Found, found, absent_append, absent_left, absent_right, distinct_back, distinct_front, distinct_without, distinct_instead, without_split, exchange_split, falls_weaker, falls_without, falls_instead, least_last, counts_instead, counts_push, find_way}
+use Rattle.cache_core.proofs.Lines.{ne-eqb, Found, found, absent_append, absent_left, absent_right, distinct_back, distinct_front, distinct_without}
+use Rattle.cache_core.proofs.Lines.{distinct_instead, without_split, exchange_split, falls_weaker, falls_without, falls_instead, least_last, counts_instead}
+use Rattle.cache_core.proofs.Lines.{counts_push, find_way}
 
 -- where the block of a line stands
 len_absent : (b : ℕ) (ls : List Line) → Absent b ls → position_or_len (λ (x : Slot). x.block == b) (map slot_of ls) ≡ length (map slot_of ls)
@@ -23,11 +26,13 @@ place_absent b ls h =
     let t = le-ltb (length (map slot_of ls)) (length (map slot_of ls)) (omega arith) in
     rw (e, t) refl
 
-len_split : (b : ℕ) (xs : List Line) (x : Line) (ys : List Line) → Absent b xs → x.block ≡ b → position_or_len (λ (s : Slot). s.block == b) (map slot_of (xs ++ x ∷ ys)) ≡ length xs
+len_split : (b : ℕ) (xs : List Line) (x : Line) (ys : List Line) → Absent b xs → x.block ≡ b →
+    position_or_len (λ (s : Slot). s.block == b) (map slot_of (xs ++ x ∷ ys)) ≡ length xs
 len_split b [] x ys h e = rw (eq-eqb x.block b e) refl
 len_split b (z ∷ xs) x ys h e = rw (ne-eqb z.block b h.0) (omega (arith, len_split b xs x ys h.1 e))
 
-pub place_split : (b : ℕ) (xs : List Line) (x : Line) (ys : List Line) → Absent b xs → x.block ≡ b → position_of b (map slot_of (xs ++ x ∷ ys)) ≡ Some (length xs)
+pub place_split : (b : ℕ) (xs : List Line) (x : Line) (ys : List Line) → Absent b xs → x.block ≡ b →
+    position_of b (map slot_of (xs ++ x ∷ ys)) ≡ Some (length xs)
 place_split b xs x ys h e =
     let q = len_split b xs x ys h e in
     let t = lt-ltb (length xs) (length (map slot_of (xs ++ x ∷ ys))) (omega (arith, length-map (xs ++ x ∷ ys) slot_of, length-append xs (x ∷ ys))) in
@@ -49,7 +54,8 @@ remove_split (z ∷ xs) x ys n e = rw (sym e) (ap (λ s. z ∷ s) (remove_split 
 abbrev pub with_mark : Bool → Line → Line
 with_mark d line = record line { dirty = d || line.dirty }
 
-marked_split : (d : Bool) (xs : List Line) (x : Line) (ys : List Line) → marked d (map slot_of (xs ++ x ∷ ys)) (length xs) ≡ map slot_of (xs ++ with_mark d x ∷ ys)
+marked_split : (d : Bool) (xs : List Line) (x : Line) (ys : List Line) →
+    marked d (map slot_of (xs ++ x ∷ ys)) (length xs) ≡ map slot_of (xs ++ with_mark d x ∷ ys)
 marked_split false xs x ys = refl
 marked_split true xs x ys =
     let l = length-map xs slot_of in
@@ -59,7 +65,9 @@ marked_split true xs x ys =
     rw (slots_split xs x ys, g, s, slots_split xs (with_mark true x) ys) refl
 
 -- a hit
-touch_law : (policy : Repl) (clock : ℕ) (d : Bool) (b : ℕ) (xs : List Line) (x : Line) (ys : List Line) (new : List Slot) → x.block ≡ b → Absent b xs → Absent b ys → Touches (Some policy) (map slot_of (xs ++ with_mark d x ∷ ys)) (length xs) new → new ≡ map slot_of (touch policy clock (with_mark d x) (xs ++ x ∷ ys))
+touch_law : (policy : Repl) (clock : ℕ) (d : Bool) (b : ℕ) (xs : List Line) (x : Line) (ys : List Line) (new : List Slot) → x.block ≡ b →
+    Absent b xs → Absent b ys → Touches (Some policy) (map slot_of (xs ++ with_mark d x ∷ ys)) (length xs) new →
+    new ≡ map slot_of (touch policy clock (with_mark d x) (xs ++ x ∷ ys))
 touch_law Lru clock d b xs x ys new e f h t =
     let l = length-map xs slot_of in
     let y = with_mark d x in
@@ -76,17 +84,24 @@ touch_law Fifo clock d b xs x ys new e f h t =
 touch_law Random clock d b xs x ys new e f h t =
     rw (exchange_split x.block (with_mark d x) xs x ys refl (subst (λ n. Absent n xs) (sym e) f) (subst (λ n. Absent n ys) (sym e) h)) t
 
-touch_good : (policy : Repl) (clock : ℕ) (xs : List Line) (x y : Line) (ys : List Line) → y.block ≡ x.block → y.key ≡ x.key → IsGood policy clock (xs ++ x ∷ ys) → IsGood policy (clock + 1) (touch policy (clock + 1) y (xs ++ x ∷ ys))
+touch_good : (policy : Repl) (clock : ℕ) (xs : List Line) (x y : Line) (ys : List Line) → y.block ≡ x.block → y.key ≡ x.key →
+    IsGood policy clock (xs ++ x ∷ ys) → IsGood policy (clock + 1) (touch policy (clock + 1) y (xs ++ x ∷ ys))
 touch_good Lru clock xs x y ys e q i =
     let f = subst (λ n. Absent n xs) (sym e) (distinct_front xs x ys i.distinct) in
     let h = subst (λ n. Absent n ys) (sym e) (distinct_back xs x ys i.distinct) in
     rw (without_split y.block xs x ys (sym e) f h)
-    record { distinct = (absent_append y.block xs ys f h, distinct_without xs x ys i.distinct); order = (omega arith, falls_without (clock + 1) xs x ys i.order) }
+    record {
+      distinct = (absent_append y.block xs ys f h, distinct_without xs x ys i.distinct);
+      order = (omega arith, falls_without (clock + 1) xs x ys i.order);
+    }
 touch_good Fifo clock xs x y ys e q i =
     let f = subst (λ n. Absent n xs) (sym e) (distinct_front xs x ys i.distinct) in
     let h = subst (λ n. Absent n ys) (sym e) (distinct_back xs x ys i.distinct) in
     rw (exchange_split y.block y xs x ys (sym e) f h)
-    record { distinct = distinct_instead xs y ys (distinct_without xs x ys i.distinct) f h; order = falls_weaker (clock + 1) (clock + 1 + 1) (xs ++ y ∷ ys) (omega arith) (falls_instead (clock + 1) xs x y ys q i.order) }
+    record {
+      distinct = distinct_instead xs y ys (distinct_without xs x ys i.distinct) f h;
+      order = falls_weaker (clock + 1) (clock + 1 + 1) (xs ++ y ∷ ys) (omega arith) (falls_instead (clock + 1) xs x y ys q i.order);
+    }
 touch_good Random clock xs x y ys e q i =
     let f = subst (λ n. Absent n xs) (sym e) (distinct_front xs x ys i.distinct) in
     let h = subst (λ n. Absent n ys) (sym e) (distinct_back xs x ys i.distinct) in
@@ -97,10 +112,12 @@ touch_good Random clock xs x y ys e q i =
 pub record Touched (policy : Repl) (clock : ℕ) (b : ℕ) (line : Line) (d : Bool) (ls : List Line) : Type 0 where
   pub at : ℕ
   pub place : position_of b (map slot_of ls) ≡ Some at
-  pub slots : (new : List Slot) → Touches (Some policy) (marked d (map slot_of ls) at) at new → new ≡ map slot_of (touch policy (clock + 1) (with_mark d line) ls)
+  pub slots : (new : List Slot) → Touches (Some policy) (marked d (map slot_of ls) at) at new →
+      new ≡ map slot_of (touch policy (clock + 1) (with_mark d line) ls)
   pub good : IsGood policy (clock + 1) (touch policy (clock + 1) (with_mark d line) ls)
 
-pub touched : (policy : Repl) (clock b : ℕ) (line : Line) (d : Bool) (ls : List Line) → IsGood policy clock ls → find (is_block b) ls ≡ Some line → Touched policy clock b line d ls
+pub touched : (policy : Repl) (clock b : ℕ) (line : Line) (d : Bool) (ls : List Line) → IsGood policy clock ls →
+    find (is_block b) ls ≡ Some line → Touched policy clock b line d ls
 touched policy clock b line d ls i h =
     let r = found b ls line h in
     let j : IsGood policy clock (r.front ++ line ∷ r.back) = subst (IsGood policy clock) r.split i in
@@ -109,17 +126,20 @@ touched policy clock b line d ls i h =
     rw r.split record {
       at = length r.front;
       place = place_split b r.front line r.back f r.here;
-      slots = λ new t. touch_law policy (clock + 1) d b r.front line r.back new r.here f k (subst (λ s. Touches (Some policy) s (length r.front) new) (marked_split d r.front line r.back) t);
+      slots = λ new t. touch_law policy (clock + 1) d b r.front line r.back new r.here f k
+          (subst (λ s. Touches (Some policy) s (length r.front) new) (marked_split d r.front line r.back) t);
       good = touch_good policy clock r.front line (with_mark d line) r.back refl refl j;
     }
 
 -- a slot put into a set with room
-pub insert_law : (policy : Repl) (clock count : ℕ) (slot : Slot) (ls : List Line) (new : List Slot) → Inserts (Some policy) (map slot_of ls) slot new → new ≡ map slot_of (with_block policy clock count slot None ls)
+pub insert_law : (policy : Repl) (clock count : ℕ) (slot : Slot) (ls : List Line) (new : List Slot) →
+    Inserts (Some policy) (map slot_of ls) slot new → new ≡ map slot_of (with_block policy clock count slot None ls)
 insert_law Lru clock count slot ls new t = t
 insert_law Fifo clock count slot ls new t = t
 insert_law Random clock count slot ls new t = t ∙ sym (map-append slot_of ls (record { block = slot.block; key = count; dirty = slot.dirty } ∷ []))
 
-pub insert_good : (policy : Repl) (clock : ℕ) (slot : Slot) (ls : List Line) → IsGood policy clock ls → Absent slot.block ls → IsGood policy (clock + 1) (with_block policy (clock + 1) (length ls) slot None ls)
+pub insert_good : (policy : Repl) (clock : ℕ) (slot : Slot) (ls : List Line) → IsGood policy clock ls → Absent slot.block ls →
+    IsGood policy (clock + 1) (with_block policy (clock + 1) (length ls) slot None ls)
 insert_good Lru clock slot ls i h = record { distinct = (h, i.distinct); order = (omega arith, i.order) }
 insert_good Fifo clock slot ls i h = record { distinct = (h, i.distinct); order = (omega arith, i.order) }
 insert_good Random clock slot ls i h =
@@ -143,7 +163,13 @@ last_line (l ∷ ls) (y ∷ front) gone e =
     let q : map slot_of ls ≡ front ++ gone ∷ [] = cc in
     let h : y ≡ slot_of l = cc in
     let r = last_line ls front gone q in
-    record { xs = l ∷ r.xs; x = r.x; split = ap (λ s. l ∷ s) r.split; slots = ap (λ z. z ∷ front) h ∙ ap (λ zs. slot_of l ∷ zs) r.slots; slot = r.slot }
+    record {
+      xs = l ∷ r.xs;
+      x = r.x;
+      split = ap (λ s. l ∷ s) r.split;
+      slots = ap (λ z. z ∷ front) h ∙ ap (λ zs. slot_of l ∷ zs) r.slots;
+      slot = r.slot;
+    }
 
 -- the line whose slot stands at a place
 record Stands (ls : List Line) (n : ℕ) (gone : Slot) : Type 0 where
@@ -170,7 +196,8 @@ pub record Exchanged (policy : Repl) (clock ways word count : ℕ) (slot gone : 
   pub slots : new ≡ map slot_of (with_block policy (clock + 1) count slot (Some line) ls)
   pub good : IsGood policy (clock + 1) (with_block policy (clock + 1) count slot (Some line) ls)
 
-front_law : (clock ways word count : ℕ) (slot gone : Slot) (ls : List Line) (new front : List Slot) → map slot_of ls ≡ front ++ gone ∷ [] → new ≡ slot ∷ front → IsGood Lru clock ls → Absent slot.block ls → Exchanged Lru clock ways word count slot gone ls new
+front_law : (clock ways word count : ℕ) (slot gone : Slot) (ls : List Line) (new front : List Slot) → map slot_of ls ≡ front ++ gone ∷ [] →
+    new ≡ slot ∷ front → IsGood Lru clock ls → Absent slot.block ls → Exchanged Lru clock ways word count slot gone ls new
 front_law clock ways word count slot gone ls new front e n i h =
     let r = last_line ls front gone e in
     let j : IsGood Lru clock (r.xs ++ r.x ∷ []) = subst (IsGood Lru clock) r.split i in
@@ -189,7 +216,8 @@ front_law clock ways word count slot gone ls new front e n i h =
     }
 
 -- FIFO keeps a full set as LRU does
-fifo_from_lru : (clock ways word count : ℕ) (slot gone : Slot) (ls : List Line) (new : List Slot) → Exchanged Lru clock ways word count slot gone ls new → Exchanged Fifo clock ways word count slot gone ls new
+fifo_from_lru : (clock ways word count : ℕ) (slot gone : Slot) (ls : List Line) (new : List Slot) →
+    Exchanged Lru clock ways word count slot gone ls new → Exchanged Fifo clock ways word count slot gone ls new
 fifo_from_lru clock ways word count slot gone ls new x = record {
   line = x.line;
   leaves = x.leaves;
@@ -199,10 +227,13 @@ fifo_from_lru clock ways word count slot gone ls new x = record {
   good = record { distinct = x.good.distinct; order = x.good.order };
 }
 
-pub exchange_law : (policy : Repl) (clock ways word count : ℕ) (slot gone : Slot) (ls : List Line) (new : List Slot) → length (map slot_of ls) ≡ ways → Exchanges (Some policy) word (map slot_of ls) slot gone new → IsGood policy clock ls → Absent slot.block ls → Exchanged policy clock ways word count slot gone ls new
+pub exchange_law : (policy : Repl) (clock ways word count : ℕ) (slot gone : Slot) (ls : List Line) (new : List Slot) →
+    length (map slot_of ls) ≡ ways → Exchanges (Some policy) word (map slot_of ls) slot gone new → IsGood policy clock ls → Absent slot.block ls →
+    Exchanged policy clock ways word count slot gone ls new
 exchange_law Lru clock ways word count slot gone ls new l t i h = front_law clock ways word count slot gone ls new t.0 t.1 t.2 i h
 exchange_law Fifo clock ways word count slot gone ls new l t i h =
-    fifo_from_lru clock ways word count slot gone ls new (front_law clock ways word count slot gone ls new t.0 t.1 t.2 (record { distinct = i.distinct; order = i.order }) h)
+    fifo_from_lru clock ways word count slot gone ls new
+    (front_law clock ways word count slot gone ls new t.0 t.1 t.2 (record { distinct = i.distinct; order = i.order }) h)
 exchange_law Random clock ways word count slot gone ls new l t i h =
     let r = line_at ls (word % length (map slot_of ls)) gone t.0 in
     let j : IsGood Random clock (r.xs ++ r.x ∷ r.ys) = subst (IsGood Random clock) r.split i in
@@ -224,7 +255,8 @@ exchange_law Random clock ways word count slot gone ls new l t i h =
       among = record { front = r.xs; back = r.ys; split = refl; here = refl };
       slots = rw x written;
       good = rw x record {
-        distinct = distinct_instead r.xs y r.ys (distinct_without r.xs r.x r.ys j.distinct) (absent_left slot.block r.xs (r.x ∷ r.ys) k) (absent_right slot.block r.xs (r.x ∷ r.ys) k).1;
+        distinct = distinct_instead r.xs y r.ys (distinct_without r.xs r.x r.ys j.distinct) (absent_left slot.block r.xs (r.x ∷ r.ys) k)
+            (absent_right slot.block r.xs (r.x ∷ r.ys) k).1;
         order = counts_instead 0 r.xs r.x y r.ys refl j.order;
       };
     } in

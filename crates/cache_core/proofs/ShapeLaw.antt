@@ -1,5 +1,6 @@
 -- The shape of a cache is the one that its numbers tell.
-use Rattle.std.proofs.Common.{◌≡◌, ◌≢◌, ℕ, zero, suc, ◌+◌, ◌*◌, ◌^◌, ◌<◌, ◌≤◌, ◌&&◌, Bool, true, cond, eqb, leb, Option, Some, None, sym, ◌∙◌, ap, refl, subst, arith, find}
+use Rattle.std.proofs.Common.{◌≡◌, ◌≢◌, ℕ, zero, suc, ◌+◌, ◌*◌, ◌^◌, ◌<◌, ◌≤◌, ◌&&◌, Bool, true, cond, eqb, leb}
+use Rattle.std.proofs.Common.{Option, Some, None, sym, ◌∙◌, ap, refl, subst, arith, find}
 use Rattle.std.specs.Prelude.{option_and_then}
 use Rattle.std.specs.List.{range_with_len}
 use Rattle.std.proofs.Math.Pow.{pow-lt}
@@ -41,7 +42,13 @@ limits_of g t =
     let b = and_parts (leb g.s 20 && leb g.b 20 && leb 1 g.e) (leb g.e 65536) a.0 in
     let c = and_parts (leb g.s 20 && leb g.b 20) (leb 1 g.e) b.0 in
     let d = and_parts (leb g.s 20) (leb g.b 20) c.0 in
-    record { sets = leb-true g.s 20 d.0; blocks = leb-true g.b 20 d.1; some = leb-true 1 g.e c.1; ways = leb-true g.e 65536 b.1; lines = leb-true (g.e * 2 ^ g.s) (2 ^ 22) a.1 }
+    record {
+      sets = leb-true g.s 20 d.0;
+      blocks = leb-true g.b 20 d.1;
+      some = leb-true 1 g.e c.1;
+      ways = leb-true g.e 65536 b.1;
+      lines = leb-true (g.e * 2 ^ g.s) (2 ^ 22) a.1;
+    }
 
 pub within_of : (g : Shape) → IsGeometry g → is_geometry g ≡ true
 within_of g l =
@@ -50,7 +57,8 @@ within_of g l =
     (and_from (leb g.s 20 && leb g.b 20) (leb 1 g.e) (and_from (leb g.s 20) (leb g.b 20) (le-leb g.s 20 l.sets) (le-leb g.b 20 l.blocks)) (le-leb 1 g.e l.some))
     (le-leb g.e 65536 l.ways)) (le-leb (g.e * 2 ^ g.s) (2 ^ 22) l.lines)
 
-told : (spec : CacheSpec) (g h : Shape) → h.e ≡ spec.assoc → 1 * 2 ^ h.b ≡ spec.bsize → spec.assoc * spec.bsize * 2 ^ h.s ≡ spec.size → geometry_of h.s h.e h.b ≡ Some g → IsShapeOf spec g
+told : (spec : CacheSpec) (g h : Shape) → h.e ≡ spec.assoc → 1 * 2 ^ h.b ≡ spec.bsize → spec.assoc * spec.bsize * 2 ^ h.s ≡ spec.size →
+    geometry_of h.s h.e h.b ≡ Some g → IsShapeOf spec g
 told spec g h e b s w =
     cases (λ t. (is_geometry h ≡ t) → (cond t (Some h) None ≡ Some g) → IsShapeOf spec g) (is_geometry h)
     (λ t _ q. let same : h ≡ g = cc in subst (IsShapeOf spec) same (record { bsize = omega arith; assoc = sym e; size = sym s; limits = limits_of h t }))
@@ -63,7 +71,8 @@ by_sets spec g b None e h q = absurd cc
 by_sets spec g b (Some s) e h q = told spec g (record { s = s; e = spec.assoc; b = b }) refl h (exponent_sound (spec.assoc * spec.bsize) spec.size s e).0 q
 
 by_blocks : (spec : CacheSpec) (g : Shape) (o : Option ℕ) → exponent_of 1 spec.bsize ≡ o →
-    option_and_then (λ b. option_and_then (λ s. geometry_of s spec.assoc b) (exponent_of (spec.assoc * spec.bsize) spec.size)) o ≡ Some g → IsShapeOf spec g
+    option_and_then (λ b. option_and_then (λ s. geometry_of s spec.assoc b) (exponent_of (spec.assoc * spec.bsize) spec.size)) o ≡ Some g →
+    IsShapeOf spec g
 by_blocks spec g None e q = absurd cc
 by_blocks spec g (Some b) e q = by_sets spec g b (exponent_of (spec.assoc * spec.bsize) spec.size) refl (exponent_sound 1 spec.bsize b e).0 q
 
@@ -75,7 +84,8 @@ shape_from spec g h =
     let bytes : 1 ≤ spec.bsize = omega (arith, h.bsize) in
     let unit : 1 * 1 ≤ spec.assoc * spec.bsize = mul-le-mul ways bytes in
     let some : 1 ≤ spec.assoc * spec.bsize = omega arith in
-    let sets : exponent_of (spec.assoc * spec.bsize) spec.size ≡ Some g.s = ap (exponent_of (spec.assoc * spec.bsize)) h.size ∙ exponent_is (spec.assoc * spec.bsize) g.s some h.limits.sets in
+    let sets : exponent_of (spec.assoc * spec.bsize) spec.size ≡ Some g.s =
+    ap (exponent_of (spec.assoc * spec.bsize)) h.size ∙ exponent_is (spec.assoc * spec.bsize) g.s some h.limits.sets in
     ap (option_and_then (λ b. option_and_then (λ s. geometry_of s spec.assoc b) (exponent_of (spec.assoc * spec.bsize) spec.size))) blocks
     ∙ ap (option_and_then (λ s. geometry_of s spec.assoc g.b)) sets
     ∙ ap (λ e. geometry_of g.s e g.b) h.assoc ∙ ap (λ t. cond t (Some g) None) (within_of g h.limits)

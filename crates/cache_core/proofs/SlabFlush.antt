@@ -1,5 +1,6 @@
 -- The dirty slots of a slab, as its sets are emptied one by one.
-use Rattle.std.proofs.Common.{◌≡◌, ℕ, zero, suc, ◌+◌, ◌-◌, ◌*◌, ◌<◌, ◌≤◌, List, [], ◌∷◌, length, get_or, take, drop, set, replicate, sym, ◌∙◌, ap, refl, arith, drop-drop, length-take}
+use Rattle.std.proofs.Common.{◌≡◌, ℕ, zero, suc, ◌+◌, ◌-◌, ◌*◌, ◌<◌, ◌≤◌, List, [], ◌∷◌, length, get_or, take, drop}
+use Rattle.std.proofs.Common.{set, replicate, sym, ◌∙◌, ap, refl, arith, drop-drop, length-take}
 use Rattle.std.specs.Prelude.{All, count_by}
 use Rattle.std.proofs.Math.Nat.{suc-mul, zero-mul}
 use Rattle.std.proofs.lemmas.List.Elements.{All-tail}
@@ -11,7 +12,8 @@ use Rattle.cache_core.specs.Slab.{sets_of}
 use Rattle.cache_core.proofs.Slabs.{length-sets_of, get_or-sets_of, sets_of-empty}
 
 -- a set with another number of filled slots
-sets_of-set : (ways : ℕ) (filled : List ℕ) (k n start : ℕ) (slots : List Slot) → start ≡ k * ways → k < length filled → sets_of ways slots (set filled k n) ≡ set (sets_of ways slots filled) k (take n (drop start slots))
+sets_of-set : (ways : ℕ) (filled : List ℕ) (k n start : ℕ) (slots : List Slot) → start ≡ k * ways → k < length filled →
+    sets_of ways slots (set filled k n) ≡ set (sets_of ways slots filled) k (take n (drop start slots))
 sets_of-set ways [] k n start slots e h = absurd (omega arith)
 sets_of-set ways (f ∷ fs) zero n start slots e h =
     let z : start ≡ 0 = e ∙ zero-mul ways in
@@ -24,7 +26,8 @@ sets_of-set ways (f ∷ fs) (suc k) n start slots e h =
 
 -- the dirty slots of a set are no longer there once it is emptied
 pub dirty_emptied : (ways : ℕ) (filled : List ℕ) (k count : ℕ) (slots : List Slot) → k < length filled → count ≡ get_or filled k 0
-    → dirty_slots (sets_of ways slots (set filled k 0)) + count_by (λ slot. slot.dirty) (take (k * ways + count - k * ways) (drop (k * ways) slots)) ≡ dirty_slots (sets_of ways slots filled)
+    → dirty_slots (sets_of ways slots (set filled k 0)) + count_by (λ slot. slot.dirty) (take (k * ways + count - k * ways) (drop (k * ways) slots))
+    ≡ dirty_slots (sets_of ways slots filled)
 dirty_emptied ways filled k count slots lt is =
     let dirty : List Slot → ℕ = count_by (λ slot. slot.dirty) in
     let width : k * ways + count - k * ways ≡ get_or filled k 0 = omega arith in
@@ -33,13 +36,21 @@ dirty_emptied ways filled k count slots lt is =
     omega (arith, here, emptied, sum_by-set dirty (sets_of ways slots filled) k [] [] (omega (arith, length-sets_of ways filled slots)))
 
 -- no more slots are dirty than there are
-pub dirty_few : (ways : ℕ) (filled : List ℕ) (slots : List Slot) → All (λ n. n ≤ ways) filled → dirty_slots (sets_of ways slots filled) ≤ length filled * ways
+pub dirty_few : (ways : ℕ) (filled : List ℕ) (slots : List Slot) → All (λ n. n ≤ ways) filled →
+    dirty_slots (sets_of ways slots filled) ≤ length filled * ways
 dirty_few ways [] slots h = omega arith
 dirty_few ways (f ∷ fs) slots h =
     let dirty : List Slot → ℕ = count_by (λ slot. slot.dirty) in
     let first : f ≤ ways = h 0 0 (omega arith) in
     let rest = dirty_few ways fs (drop ways slots) (All-tail (λ n. n ≤ ways) f fs h) in
-    omega (arith, rest, sum_by-cons dirty (take f slots) (sets_of ways (drop ways slots) fs), count_by-le-length (λ (slot : Slot). slot.dirty) (take f slots), length-take f slots, suc-mul (length fs) ways)
+    omega (
+      arith,
+      rest,
+      sum_by-cons dirty (take f slots) (sets_of ways (drop ways slots) fs),
+      count_by-le-length (λ (slot : Slot). slot.dirty) (take f slots),
+      length-take f slots,
+      suc-mul (length fs) ways,
+    )
 
 -- no slot is dirty where none is filled
 pub dirty_none : (ways n : ℕ) (slots : List Slot) → dirty_slots (sets_of ways slots (replicate n 0)) ≡ 0

@@ -1,5 +1,7 @@
 -- The sets of a slab: how one is read and written.
-use Rattle.std.proofs.Common.{◌≡◌, ℕ, zero, suc, ◌+◌, ◌-◌, ◌*◌, ◌^◌, ◌<◌, ◌≤◌, List, [], ◌∷◌, ◌++◌, length, get_or, take, drop, set, replicate, sym, ◌∙◌, ap, refl, arith, length-take, length-take-le, length-set, take-take, drop-drop, get_or-set_same, get_or-set_other, length-drop, length-append, subst, Option}
+use Rattle.std.proofs.Common.{◌≡◌, ℕ, zero, suc, ◌+◌, ◌-◌, ◌*◌, ◌^◌, ◌<◌, ◌≤◌, List, [], ◌∷◌, ◌++◌, length}
+use Rattle.std.proofs.Common.{get_or, take, drop, set, replicate, sym, ◌∙◌, ap, refl, arith, length-take, length-take-le, length-set, take-take}
+use Rattle.std.proofs.Common.{drop-drop, get_or-set_same, get_or-set_other, length-drop, length-append, subst, Option}
 use Rattle.std.specs.Prelude.{All}
 use Rattle.std.proofs.lemmas.List.{take_at, length-replicate, drop_at, drop-take, take-append-le, drop-append-le}
 use Rattle.std.proofs.lemmas.List.Elements.{All-set, All-get_or, All-replicate}
@@ -18,7 +20,8 @@ pub length-sets_of : (ways : ℕ) (filled : List ℕ) (slots : List Slot) → le
 length-sets_of ways [] slots = refl
 length-sets_of ways (f ∷ fs) slots = ap suc (length-sets_of ways fs (drop ways slots))
 
-pub get_or-sets_of : (ways : ℕ) (filled : List ℕ) (k start : ℕ) (slots : List Slot) → start ≡ k * ways → k < length filled → get_or (sets_of ways slots filled) k [] ≡ take (get_or filled k 0) (drop start slots)
+pub get_or-sets_of : (ways : ℕ) (filled : List ℕ) (k start : ℕ) (slots : List Slot) → start ≡ k * ways → k < length filled →
+    get_or (sets_of ways slots filled) k [] ≡ take (get_or filled k 0) (drop start slots)
 get_or-sets_of ways [] k start slots e h = absurd (omega arith)
 get_or-sets_of ways (f ∷ fs) zero start slots e h =
     let z : start ≡ 0 = e ∙ zero-mul ways in
@@ -31,7 +34,9 @@ get_or-sets_of ways (f ∷ fs) (suc k) start slots e h =
 All-rest : {X : Type 0} (P : X → Type 0) (x : X) (xs : List X) → All P (x ∷ xs) → All P xs
 All-rest P x xs h k d l = h (suc k) d (omega arith)
 
-pub sets_of-put : (ways : ℕ) (filled : List ℕ) (k n start : ℕ) (slots room : List Slot) → start ≡ k * ways → start ≤ length slots → All (λ m. m ≤ ways) filled → k < length filled → length room ≡ ways → n ≤ ways → sets_of ways (put_mid start ways slots room) (set filled k n) ≡ set (sets_of ways slots filled) k (take n room)
+pub sets_of-put : (ways : ℕ) (filled : List ℕ) (k n start : ℕ) (slots room : List Slot) → start ≡ k * ways → start ≤ length slots →
+    All (λ m. m ≤ ways) filled → k < length filled → length room ≡ ways → n ≤ ways →
+    sets_of ways (put_mid start ways slots room) (set filled k n) ≡ set (sets_of ways slots filled) k (take n room)
 sets_of-put ways [] k n start slots room e l a h r m = absurd (omega arith)
 sets_of-put ways (f ∷ fs) zero n start slots room e l a h r m =
     let z : start ≡ 0 = e ∙ zero-mul ways in
@@ -48,11 +53,14 @@ sets_of-put ways (f ∷ fs) (suc k) n start slots room e l a h r m =
     let d = drop-append-le ways (take (ways + k * ways) slots) (room ++ rest) (omega arith) in
     let d' = drop-take ways (k * ways) slots in
     let d'' = sym (drop-drop (k * ways) ways slots) in
-    let i = sets_of-put ways fs k n (k * ways) (drop ways slots) room refl (omega (arith, length-drop ways slots)) (All-rest (λ x. x ≤ ways) f fs a) (omega arith) r m in
+    let i =
+    sets_of-put ways fs k n (k * ways) (drop ways slots) room refl (omega (arith, length-drop ways slots)) (All-rest (λ x. x ≤ ways) f fs a)
+    (omega arith) r m in
     rw (s, t, t', d, d', d'') (ap (λ (xs : List (List Slot)). take f slots ∷ xs) i)
 
 -- what a room holds, read as the code reads it
-pub slab_read : (ways : ℕ) (filled : List ℕ) (k : ℕ) (slots : List Slot) → k < length filled → All (λ m. m ≤ ways) filled → take (get_or filled k 0) (take (k * ways + ways - k * ways) (drop (k * ways) slots)) ≡ get_or (sets_of ways slots filled) k []
+pub slab_read : (ways : ℕ) (filled : List ℕ) (k : ℕ) (slots : List Slot) → k < length filled → All (λ m. m ≤ ways) filled →
+    take (get_or filled k 0) (take (k * ways + ways - k * ways) (drop (k * ways) slots)) ≡ get_or (sets_of ways slots filled) k []
 slab_read ways filled k slots h a =
     let w : k * ways + ways - k * ways ≡ ways = omega arith in
     let l : get_or filled k 0 ≤ ways = All-get_or (λ m. m ≤ ways) filled k 0 h a in
@@ -64,7 +72,9 @@ start_le k ways sets h =
     omega (arith, m)
 
 -- the sets after a write of a room
-pub slab_written : (ways sets : ℕ) (filled : List ℕ) (k n : ℕ) (slots room : List Slot) → length slots ≡ ways * sets → length filled ≡ sets → All (λ m. m ≤ ways) filled → k < sets → length room ≡ ways → n ≤ ways → sets_of ways (put_mid (k * ways) (k * ways + ways - k * ways) slots room) (set filled k n) ≡ set (sets_of ways slots filled) k (take n room)
+pub slab_written : (ways sets : ℕ) (filled : List ℕ) (k n : ℕ) (slots room : List Slot) → length slots ≡ ways * sets →
+    length filled ≡ sets → All (λ m. m ≤ ways) filled → k < sets → length room ≡ ways → n ≤ ways →
+    sets_of ways (put_mid (k * ways) (k * ways + ways - k * ways) slots room) (set filled k n) ≡ set (sets_of ways slots filled) k (take n room)
 slab_written ways sets filled k n slots room l f a h r m =
     let w : k * ways + ways - k * ways ≡ ways = omega arith in
     let b : k * ways + ways ≤ ways * sets = start_le k ways sets h in
@@ -72,9 +82,18 @@ slab_written ways sets filled k n slots room l f a h r m =
 
 length-put : (a w : ℕ) (slots room : List Slot) → a + w ≤ length slots → length room ≡ w → length (put_mid a w slots room) ≡ length slots
 length-put a w slots room h r =
-    omega (arith, length-append (take a slots) (room ++ drop w (drop a slots)), length-append room (drop w (drop a slots)), length-take a slots, length-drop w (drop a slots), length-drop a slots)
+    omega (
+      arith,
+      length-append (take a slots) (room ++ drop w (drop a slots)),
+      length-append room (drop w (drop a slots)),
+      length-take a slots,
+      length-drop w (drop a slots),
+      length-drop a slots,
+    )
 
-pub slab_kept : (d : Design) (filled : List ℕ) (k n ways : ℕ) (slots room : List Slot) → IsSlab d slots filled → ways ≡ d.geometry.e → k < 2 ^ d.geometry.s → length room ≡ d.geometry.e → n ≤ d.geometry.e → Addressable d.geometry.b (take n room) → IsSlab d (put_mid (k * ways) (k * ways + ways - k * ways) slots room) (set filled k n)
+pub slab_kept : (d : Design) (filled : List ℕ) (k n ways : ℕ) (slots room : List Slot) → IsSlab d slots filled → ways ≡ d.geometry.e →
+    k < 2 ^ d.geometry.s → length room ≡ d.geometry.e → n ≤ d.geometry.e → Addressable d.geometry.b (take n room) →
+    IsSlab d (put_mid (k * ways) (k * ways + ways - k * ways) slots room) (set filled k n)
 slab_kept d filled k n ways slots room i e h r m a =
     let w : k * ways + ways - k * ways ≡ ways = omega arith in
     let b : k * d.geometry.e + d.geometry.e ≤ d.geometry.e * 2 ^ d.geometry.s = start_le k d.geometry.e (2 ^ d.geometry.s) h in
@@ -89,11 +108,18 @@ slab_kept d filled k n ways slots room i e h r m a =
     }
 
 -- one access to a slab, by a visit of a room
-pub slab_access : (d : Design) (rule rule' : Option Repl) (words words' : ℕ → ℕ) (filled : List ℕ) (k n ways : ℕ) (slots room : List Slot) (ref : Ref) (outcome : Outcome) → IsSlab d slots filled → k ≡ set_of d.geometry ref.addr → k < 2 ^ d.geometry.s → ways ≡ d.geometry.e → length room ≡ d.geometry.e → n ≤ d.geometry.e → rule' ≡ rule → Visits d rule words ref (take (get_or filled k 0) (take (k * ways + ways - k * ways) (drop (k * ways) slots))) outcome (take n room) words' → Accesses (slab_contents d rule words slots filled) ref outcome (slab_contents d rule' words' (put_mid (k * ways) (k * ways + ways - k * ways) slots room) (set filled k n))
+pub slab_access : (d : Design) (rule rule' : Option Repl) (words words' : ℕ → ℕ) (filled : List ℕ) (k n ways : ℕ) (slots room : List Slot)
+    (ref : Ref) (outcome : Outcome) →
+    IsSlab d slots filled → k ≡ set_of d.geometry ref.addr → k < 2 ^ d.geometry.s → ways ≡ d.geometry.e → length room ≡ d.geometry.e →
+    n ≤ d.geometry.e → rule' ≡ rule →
+    Visits d rule words ref (take (get_or filled k 0) (take (k * ways + ways - k * ways) (drop (k * ways) slots))) outcome (take n room) words' →
+    Accesses (slab_contents d rule words slots filled) ref outcome
+    (slab_contents d rule' words' (put_mid (k * ways) (k * ways + ways - k * ways) slots room) (set filled k n))
 slab_access d rule rule' words words' filled k n ways slots room ref outcome i s h e r m u v =
     let g = d.geometry in
     let in_filled : k < length filled = omega (arith, i.sets) in
-    let read : take (get_or filled k 0) (take (k * ways + ways - k * ways) (drop (k * ways) slots)) ≡ slots_of (sets_of g.e slots filled) (set_of g ref.addr) =
+    let read : take (get_or filled k 0) (take (k * ways + ways - k * ways) (drop (k * ways) slots))
+    ≡ slots_of (sets_of g.e slots filled) (set_of g ref.addr) =
     rw (e, ← s) (slab_read g.e filled k slots in_filled i.within) in
     let new = sets_of g.e (put_mid (k * ways) (k * ways + ways - k * ways) slots room) (set filled k n) in
     let written : new ≡ set (sets_of g.e slots filled) k (take n room) =
@@ -104,7 +130,8 @@ slab_access d rule rule' words words' filled k n ways slots room ref outcome i s
     record {
       visit =
           subst (λ xs. Visits d rule words ref xs outcome (slots_of new (set_of g ref.addr)) words') read
-          (subst (λ xs. Visits d rule words ref (take (get_or filled k 0) (take (k * ways + ways - k * ways) (drop (k * ways) slots))) outcome xs words') here v);
+          (subst (λ xs. Visits d rule words ref (take (get_or filled k 0) (take (k * ways + ways - k * ways) (drop (k * ways) slots))) outcome xs words')
+          here v);
       others = λ j ne. ap (λ xs. slots_of xs j) written ∙ get_or-set_other (sets_of g.e slots filled) k j (take n room) [] (λ q. ne (q ∙ s));
       count = ap length written ∙ length-set (sets_of g.e slots filled) k (take n room);
       design = refl;
@@ -115,15 +142,18 @@ pub sets_of-empty : (ways n : ℕ) (slots : List Slot) → sets_of ways slots (r
 sets_of-empty ways zero slots = refl
 sets_of-empty ways (suc n) slots = ap (λ (xs : List (List Slot)). [] ∷ xs) (sets_of-empty ways n (drop ways slots))
 
-pub slab_made : (d : Design) (slots : List Slot) (filled : List ℕ) → IsGeometry d.geometry → length slots ≡ d.geometry.e * 2 ^ d.geometry.s → filled ≡ replicate (2 ^ d.geometry.s) 0 → IsSlab d slots filled
+pub slab_made : (d : Design) (slots : List Slot) (filled : List ℕ) → IsGeometry d.geometry → length slots ≡ d.geometry.e * 2 ^ d.geometry.s →
+    filled ≡ replicate (2 ^ d.geometry.s) 0 → IsSlab d slots filled
 slab_made d slots filled i l f = rw f record {
   shape = i;
   segments = l;
   sets = length-replicate (2 ^ d.geometry.s) 0;
   within = All-replicate (λ m. m ≤ d.geometry.e) (2 ^ d.geometry.s) 0 (omega arith);
-  addresses = rw (sets_of-empty d.geometry.e (2 ^ d.geometry.s) slots) (All-replicate (Addressable d.geometry.b) (2 ^ d.geometry.s) [] (λ k x h. absurd (omega arith)));
+  addresses = rw (sets_of-empty d.geometry.e (2 ^ d.geometry.s) slots)
+      (All-replicate (Addressable d.geometry.b) (2 ^ d.geometry.s) [] (λ k x h. absurd (omega arith)));
 }
 
 -- counts that are all set to 0
-pub none_filled : (new rest : List ℕ) (len n sets : ℕ) → length new ≡ len → new ≡ replicate n 0 → n ≡ sets → take len (new ++ rest) ≡ replicate sets 0
+pub none_filled : (new rest : List ℕ) (len n sets : ℕ) → length new ≡ len → new ≡ replicate n 0 → n ≡ sets →
+    take len (new ++ rest) ≡ replicate sets 0
 none_filled new rest len n sets l e s = take_at new rest len l ∙ e ∙ ap (λ m. replicate m 0) s

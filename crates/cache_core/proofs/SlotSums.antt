@@ -1,5 +1,6 @@
 -- Slots counted with repeats: lists with the same sums have the same slots, and what an edit of lines does to sums.
-use Rattle.std.proofs.Common.{◌≡◌, ℕ, ◌+◌, ◌≤◌, ◌&&◌, Bool, true, false, cond, eqb, List, [], ◌∷◌, ◌++◌, Some, None, sym, ◌∙◌, ap, refl, subst, arith, map}
+use Rattle.std.proofs.Common.{◌≡◌, ℕ, ◌+◌, ◌≤◌, ◌&&◌, Bool, true, false, cond, eqb, List, [], ◌∷◌, ◌++◌, Some, None, sym}
+use Rattle.std.proofs.Common.{◌∙◌, ap, refl, subst, arith, map}
 use Rattle.std.specs.Prelude.{sum_by, IsPermutation}
 use Rattle.std.proofs.lemmas.Bool.{and_parts, and_from, eqb-true, eq-eqb}
 use Rattle.std.proofs.lemmas.List.{append-nil, map-append}
@@ -68,9 +69,18 @@ by_sums [] (y ∷ ys) h = absurd (omega (arith, h (λ z. 1), sum_by-cons (λ (z 
 by_sums (x ∷ xs) ys h =
     let here = among x ys (omega (arith, h (one_for x), sum_by-cons (one_for x) x xs, one_self x)) in
     let rest : (f : Slot → ℕ) → sum_by f xs ≡ sum_by f (here.front ++ here.back) =
-    λ f. omega (arith, h f, sum_by-cons f x xs, ap (sum_by f) here.split, sum_by-append f here.front (x ∷ here.back), sum_by-cons f x here.back, sum_by-append f here.front here.back) in
+    λ f. omega (
+      arith,
+      h f,
+      sum_by-cons f x xs,
+      ap (sum_by f) here.split,
+      sum_by-append f here.front (x ∷ here.back),
+      sum_by-cons f x here.back,
+      sum_by-append f here.front here.back,
+    ) in
     subst (IsPermutation (x ∷ xs)) (sym here.split)
-    (IsPermutation-trans (x ∷ xs) (x ∷ (here.front ++ here.back)) (here.front ++ x ∷ here.back) (IsPermutation-cons x xs (here.front ++ here.back) (by_sums xs (here.front ++ here.back) rest))
+    (IsPermutation-trans (x ∷ xs) (x ∷ (here.front ++ here.back)) (here.front ++ x ∷ here.back)
+    (IsPermutation-cons x xs (here.front ++ here.back) (by_sums xs (here.front ++ here.back) rest))
     (IsPermutation-sym (here.front ++ x ∷ here.back) (x ∷ (here.front ++ here.back)) (IsPermutation-middle here.front x here.back)))
 
 -- a sum over the slots of lines
@@ -79,7 +89,14 @@ line_sum f ls = sum_by f (map slot_of ls)
 
 pub sum_split : (f : Slot → ℕ) (xs : List Line) (x : Line) (ys : List Line) → line_sum f (xs ++ x ∷ ys) ≡ line_sum f (xs ++ ys) + f (slot_of x)
 sum_split f xs x ys =
-    omega (arith, ap (sum_by f) (map-append slot_of xs (x ∷ ys)), ap (sum_by f) (map-append slot_of xs ys), sum_by-append f (map slot_of xs) (map slot_of (x ∷ ys)), sum_by-append f (map slot_of xs) (map slot_of ys), sum_by-cons f (slot_of x) (map slot_of ys))
+    omega (
+      arith,
+      ap (sum_by f) (map-append slot_of xs (x ∷ ys)),
+      ap (sum_by f) (map-append slot_of xs ys),
+      sum_by-append f (map slot_of xs) (map slot_of (x ∷ ys)),
+      sum_by-append f (map slot_of xs) (map slot_of ys),
+      sum_by-cons f (slot_of x) (map slot_of ys),
+    )
 
 pub absent_sum : (b : ℕ) (x : Slot) (ls : List Line) → Absent b ls → x.block ≡ b → line_sum (one_for x) ls ≡ 0
 absent_sum b x [] h e = refl
@@ -101,25 +118,31 @@ line_of x [] h = absurd (omega arith)
 line_of x (l ∷ ls) h =
     cases (λ b. (same x (slot_of l) ≡ b) → (1 ≤ cond b 1 0 + line_sum (one_for x) ls) → LineAt x (l ∷ ls)) (same x (slot_of l))
     (λ _ t _. record { front = []; line = l; back = ls; split = refl; slot = same_is x (slot_of l) t })
-    (λ _ t m. let r = line_of x ls (omega (arith, m)) in record { front = l ∷ r.front; line = r.line; back = r.back; split = ap (λ zs. l ∷ zs) r.split; slot = r.slot })
+    (λ _ t m. let r = line_of x ls (omega (arith, m)) in
+    record { front = l ∷ r.front; line = r.line; back = r.back; split = ap (λ zs. l ∷ zs) r.split; slot = r.slot })
     refl (omega (arith, h, sum_by-cons (one_for x) (slot_of l) (map slot_of ls)))
 
 -- a touch
-pub touch_sum : (p : Repl) (c : ℕ) (y : Line) (xs : List Line) (x : Line) (ys : List Line) (f : Slot → ℕ) → x.block ≡ y.block → Absent y.block xs → Absent y.block ys → line_sum f (touch p c y (xs ++ x ∷ ys)) ≡ line_sum f (xs ++ ys) + f (slot_of y)
+pub touch_sum : (p : Repl) (c : ℕ) (y : Line) (xs : List Line) (x : Line) (ys : List Line) (f : Slot → ℕ) → x.block ≡ y.block →
+    Absent y.block xs → Absent y.block ys → line_sum f (touch p c y (xs ++ x ∷ ys)) ≡ line_sum f (xs ++ ys) + f (slot_of y)
 touch_sum Lru c y xs x ys f e a h = rw (without_split y.block xs x ys e a h) (omega (arith, sum_by-cons f (slot_of y) (map slot_of (xs ++ ys))))
 touch_sum Fifo c y xs x ys f e a h = rw (exchange_split y.block y xs x ys e a h) (sum_split f xs y ys)
 touch_sum Random c y xs x ys f e a h = rw (exchange_split y.block y xs x ys e a h) (sum_split f xs y ys)
 
-pub touch_distinct : (p : Repl) (c : ℕ) (y : Line) (xs : List Line) (x : Line) (ys : List Line) → x.block ≡ y.block → Absent y.block xs → Absent y.block ys → Distinct (xs ++ x ∷ ys) → Distinct (touch p c y (xs ++ x ∷ ys))
+pub touch_distinct : (p : Repl) (c : ℕ) (y : Line) (xs : List Line) (x : Line) (ys : List Line) → x.block ≡ y.block → Absent y.block xs →
+    Absent y.block ys → Distinct (xs ++ x ∷ ys) → Distinct (touch p c y (xs ++ x ∷ ys))
 touch_distinct Lru c y xs x ys e a h d = rw (without_split y.block xs x ys e a h) (absent_append y.block xs ys a h, distinct_without xs x ys d)
 touch_distinct Fifo c y xs x ys e a h d = rw (exchange_split y.block y xs x ys e a h) (distinct_instead xs y ys (distinct_without xs x ys d) a h)
 touch_distinct Random c y xs x ys e a h d = rw (exchange_split y.block y xs x ys e a h) (distinct_instead xs y ys (distinct_without xs x ys d) a h)
 
 -- a new block in a set with room
 pub insert_sum : (p : Repl) (c n : ℕ) (new : Slot) (ls : List Line) (f : Slot → ℕ) → line_sum f (with_block p c n new None ls) ≡ line_sum f ls + f new
-insert_sum Lru c n new ls f = let step : line_sum f (with_block Lru c n new None ls) ≡ f new + line_sum f ls = sum_by-cons f new (map slot_of ls) in omega (arith, step)
-insert_sum Fifo c n new ls f = let step : line_sum f (with_block Fifo c n new None ls) ≡ f new + line_sum f ls = sum_by-cons f new (map slot_of ls) in omega (arith, step)
-insert_sum Random c n new ls f = sum_split f ls (record { block = new.block; key = n; dirty = new.dirty }) [] ∙ ap (λ xs. line_sum f xs + f new) (append-nil ls)
+insert_sum Lru c n new ls f =
+    let step : line_sum f (with_block Lru c n new None ls) ≡ f new + line_sum f ls = sum_by-cons f new (map slot_of ls) in omega (arith, step)
+insert_sum Fifo c n new ls f =
+    let step : line_sum f (with_block Fifo c n new None ls) ≡ f new + line_sum f ls = sum_by-cons f new (map slot_of ls) in omega (arith, step)
+insert_sum Random c n new ls f =
+    sum_split f ls (record { block = new.block; key = n; dirty = new.dirty }) [] ∙ ap (λ xs. line_sum f xs + f new) (append-nil ls)
 
 pub insert_distinct : (p : Repl) (c n : ℕ) (new : Slot) (ls : List Line) → Absent new.block ls → Distinct ls → Distinct (with_block p c n new None ls)
 insert_distinct Lru c n new ls a d = (a, d)
@@ -127,7 +150,8 @@ insert_distinct Fifo c n new ls a d = (a, d)
 insert_distinct Random c n new ls a d = distinct_instead ls (record { block = new.block; key = n; dirty = new.dirty }) [] (rw append-nil d) a tt
 
 -- a new block in the place of a line
-pub exchange_sum : (p : Repl) (c n : ℕ) (new : Slot) (xs : List Line) (x : Line) (ys : List Line) (f : Slot → ℕ) → Absent x.block xs → Absent x.block ys → line_sum f (with_block p c n new (Some x) (xs ++ x ∷ ys)) ≡ line_sum f (xs ++ ys) + f new
+pub exchange_sum : (p : Repl) (c n : ℕ) (new : Slot) (xs : List Line) (x : Line) (ys : List Line) (f : Slot → ℕ) → Absent x.block xs →
+    Absent x.block ys → line_sum f (with_block p c n new (Some x) (xs ++ x ∷ ys)) ≡ line_sum f (xs ++ ys) + f new
 exchange_sum Lru c n new xs x ys f a h =
     let step : sum_by f (new ∷ map slot_of (xs ++ ys)) ≡ f new + line_sum f (xs ++ ys) = sum_by-cons f new (map slot_of (xs ++ ys)) in
     rw (without_split x.block xs x ys refl a h) (omega (arith, step))
@@ -138,11 +162,15 @@ exchange_sum Random c n new xs x ys f a h =
     let y : Line = record { block = new.block; key = x.key; dirty = new.dirty } in
     rw (exchange_split x.block y xs x ys refl a h) (sum_split f xs y ys)
 
-pub exchange_distinct : (p : Repl) (c n : ℕ) (new : Slot) (xs : List Line) (x : Line) (ys : List Line) → Absent x.block xs → Absent x.block ys → Absent new.block (xs ++ x ∷ ys) → Distinct (xs ++ x ∷ ys) → Distinct (with_block p c n new (Some x) (xs ++ x ∷ ys))
+pub exchange_distinct : (p : Repl) (c n : ℕ) (new : Slot) (xs : List Line) (x : Line) (ys : List Line) → Absent x.block xs → Absent x.block ys →
+    Absent new.block (xs ++ x ∷ ys) → Distinct (xs ++ x ∷ ys) → Distinct (with_block p c n new (Some x) (xs ++ x ∷ ys))
 exchange_distinct Lru c n new xs x ys a h k d =
-    rw (without_split x.block xs x ys refl a h) (absent_append new.block xs ys (absent_left new.block xs (x ∷ ys) k) (absent_right new.block xs (x ∷ ys) k).1, distinct_without xs x ys d)
+    rw (without_split x.block xs x ys refl a h)
+    (absent_append new.block xs ys (absent_left new.block xs (x ∷ ys) k) (absent_right new.block xs (x ∷ ys) k).1, distinct_without xs x ys d)
 exchange_distinct Fifo c n new xs x ys a h k d =
-    rw (without_split x.block xs x ys refl a h) (absent_append new.block xs ys (absent_left new.block xs (x ∷ ys) k) (absent_right new.block xs (x ∷ ys) k).1, distinct_without xs x ys d)
+    rw (without_split x.block xs x ys refl a h)
+    (absent_append new.block xs ys (absent_left new.block xs (x ∷ ys) k) (absent_right new.block xs (x ∷ ys) k).1, distinct_without xs x ys d)
 exchange_distinct Random c n new xs x ys a h k d =
     let y : Line = record { block = new.block; key = x.key; dirty = new.dirty } in
-    rw (exchange_split x.block y xs x ys refl a h) (distinct_instead xs y ys (distinct_without xs x ys d) (absent_left new.block xs (x ∷ ys) k) (absent_right new.block xs (x ∷ ys) k).1)
+    rw (exchange_split x.block y xs x ys refl a h)
+    (distinct_instead xs y ys (distinct_without xs x ys d) (absent_left new.block xs (x ∷ ys) k) (absent_right new.block xs (x ∷ ys) k).1)

@@ -1,5 +1,6 @@
 -- The machine stays sound, whatever references and flushes come.
-use Rattle.std.proofs.Common.{◌≡◌, ℕ, ◌+◌, ◌%◌, ◌<◌, ◌≤◌, Bool, true, false, List, [], ◌∷◌, ◌++◌, length, get_or, Option, Some, None, sym, ap, refl, subst, arith, ⊎_elim, map, find, length-set, length-append}
+use Rattle.std.proofs.Common.{◌≡◌, ℕ, ◌+◌, ◌%◌, ◌<◌, ◌≤◌, Bool, true, false, List, [], ◌∷◌, ◌++◌, length, get_or}
+use Rattle.std.proofs.Common.{Option, Some, None, sym, ap, refl, subst, arith, ⊎_elim, map, find, length-set, length-append}
 use Rattle.std.specs.Prelude.{MatchOption, MatchBool, slice_set, remove, fold}
 use Rattle.std.proofs.lemmas.List.{length-map}
 use Rattle.std.proofs.lemmas.List.Edits.{length-remove}
@@ -24,7 +25,8 @@ use Rattle.cache_core.proofs.StateLaw.{step_agrees, sound_step}
 use Rattle.cache_core.proofs.FlushLaw.{start_sound, empty_good}
 use Rattle.cache_core.proofs.Lawful.{marked_length}
 
-touch_exists : (p : Repl) (slots : List Slot) (at : ℕ) → at < length slots → (new : List Slot) × Touches (Some p) slots at new × (length new ≡ length slots)
+touch_exists : (p : Repl) (slots : List Slot) (at : ℕ) → at < length slots →
+    (new : List Slot) × Touches (Some p) slots at new × (length new ≡ length slots)
 touch_exists Lru slots at h =
     let x = get_or slots at (record { block = 0; dirty = false }) in
     (x ∷ remove slots at, (x, slice_get-get_or slots at (record { block = 0; dirty = false }) h, refl), omega (arith, length-remove slots at h))
@@ -52,7 +54,12 @@ record Placed (p : Repl) (word room : ℕ) (slots : List Slot) (slot : Slot) : T
 front_exists : (word room : ℕ) (slots : List Slot) (slot : Slot) → 0 < room → length slots ≡ room → Placed Lru word room slots slot
 front_exists word room slots slot r e =
     let u = unsnoc slots (omega arith) in
-    record { evicted = Some u.gone; new = slot ∷ u.front; places = (e, (u.front, u.split, refl)); few = omega (arith, length-append u.front (u.gone ∷ []), ap length u.split) }
+    record {
+      evicted = Some u.gone;
+      new = slot ∷ u.front;
+      places = (e, (u.front, u.split, refl));
+      few = omega (arith, length-append u.front (u.gone ∷ []), ap length u.split);
+    }
 
 place_exists : (p : Repl) (word room : ℕ) (slots : List Slot) (slot : Slot) → 0 < room → length slots ≤ room → Placed p word room slots slot
 place_exists p word room slots slot r l = ⊎_elim
@@ -69,11 +76,21 @@ place_exists p word room slots slot r l = ⊎_elim
     exchange Lru e = front_exists word room slots slot r e
     exchange Fifo e =
         let u = unsnoc slots (omega arith) in
-        record { evicted = Some u.gone; new = slot ∷ u.front; places = (e, (u.front, u.split, refl)); few = omega (arith, length-append u.front (u.gone ∷ []), ap length u.split) }
+        record {
+          evicted = Some u.gone;
+          new = slot ∷ u.front;
+          places = (e, (u.front, u.split, refl));
+          few = omega (arith, length-append u.front (u.gone ∷ []), ap length u.split);
+        }
     exchange Random e =
         let way : word % length slots < length slots = omega arith in
         let none : Slot = record { block = 0; dirty = false } in
-        record { evicted = Some (get_or slots (word % length slots) none); new = slice_set slots (word % length slots) slot; places = (e, (slice_get-get_or slots (word % length slots) none way, refl)); few = omega (arith, length-set slots (word % length slots) slot) }
+        record {
+          evicted = Some (get_or slots (word % length slots) none);
+          new = slice_set slots (word % length slots) slot;
+          places = (e, (slice_get-get_or slots (word % length slots) none way, refl));
+          few = omega (arith, length-set slots (word % length slots) slot);
+        }
 
 -- some visit of a set, whatever the reference
 pub record Visited (d : Design) (p : Repl) (words : ℕ → ℕ) (ref : Ref) (slots : List Slot) : Type 0 where
@@ -83,13 +100,21 @@ pub record Visited (d : Design) (p : Repl) (words : ℕ → ℕ) (ref : Ref) (sl
   pub visit : Visits d (Some p) words ref slots outcome new rest
   pub few : length new ≤ d.geometry.e
 
-pub visit_exists : (d : Design) (p : Repl) (words : ℕ → ℕ) (ref : Ref) (slots : List Slot) → 0 < d.geometry.e → length slots ≤ d.geometry.e → Visited d p words ref slots
+pub visit_exists : (d : Design) (p : Repl) (words : ℕ → ℕ) (ref : Ref) (slots : List Slot) → 0 < d.geometry.e → length slots ≤ d.geometry.e →
+    Visited d p words ref slots
 visit_exists d p words ref slots r l = by_place (position_of (block_of d.geometry ref.addr) slots) refl
   where
-    by_alloc : (al : Bool) → (outcome : Outcome) × (new : List Slot) × (rest : ℕ → ℕ) × MatchBool al (Fills d (Some p) words ref slots outcome new rest) (Passes words ref slots outcome new rest) × (length new ≤ d.geometry.e)
+    by_alloc : (al : Bool) →
+        (outcome : Outcome) × (new : List Slot) × (rest : ℕ → ℕ)
+        × MatchBool al (Fills d (Some p) words ref slots outcome new rest) (Passes words ref slots outcome new rest) × (length new ≤ d.geometry.e)
     by_alloc true =
-        let x = place_exists p (words 0) d.geometry.e slots (record { block = block_of d.geometry ref.addr; dirty = dirties d.write ref.access }) r l in
-        (outcome_of (on_placing d.geometry d.write ref (block_of d.geometry ref.addr) x.evicted), x.new, words_after (Some p) x.evicted words, record { order = x.places; undrawn = refl; answers = refl }, x.few)
+        let x = place_exists p (words 0) d.geometry.e slots (record { block = block_of d.geometry ref.addr; dirty = dirties d.write ref.access }) r l in (
+          outcome_of (on_placing d.geometry d.write ref (block_of d.geometry ref.addr) x.evicted),
+          x.new,
+          words_after (Some p) x.evicted words,
+          record { order = x.places; undrawn = refl; answers = refl },
+          x.few,
+        )
     by_alloc false = (outcome_of (on_passing ref), slots, words, record { order = refl; undrawn = refl; answers = refl }, l)
 
     by_place : (o : Option ℕ) → position_of (block_of d.geometry ref.addr) slots ≡ o → Visited d p words ref slots
@@ -99,19 +124,28 @@ visit_exists d p words ref slots r l = by_place (position_of (block_of d.geometr
           outcome = x.0;
           new = x.1;
           rest = x.2;
-          visit = subst (λ o. MatchOption o (MatchBool (allocates d.allocate ref.access) (Fills d (Some p) words ref slots x.0 x.1 x.2) (Passes words ref slots x.0 x.1 x.2)) (λ at. Hits d (Some p) words ref at slots x.0 x.1 x.2)) (sym e) x.3;
+          visit = subst
+              (λ o. MatchOption o
+              (MatchBool (allocates d.allocate ref.access) (Fills d (Some p) words ref slots x.0 x.1 x.2) (Passes words ref slots x.0 x.1 x.2))
+              (λ at. Hits d (Some p) words ref at slots x.0 x.1 x.2))
+              (sym e) x.3;
           few = x.4;
         }
     by_place (Some at) e =
         let s = marked (dirties d.write ref.access) slots at in
-        let h : at < length s = omega (arith, (position-Some _ slots at (record { block = 0; dirty = false }) e).0, marked_length (dirties d.write ref.access) slots at) in
+        let h : at < length s =
+        omega (arith, (position-Some _ slots at (record { block = 0; dirty = false }) e).0, marked_length (dirties d.write ref.access) slots at) in
         let x = touch_exists p s at h in
         let out = outcome_of (on_hit d.write ref) in
         record {
           outcome = out;
           new = x.0;
           rest = words;
-          visit = subst (λ o. MatchOption o (MatchBool (allocates d.allocate ref.access) (Fills d (Some p) words ref slots out x.0 words) (Passes words ref slots out x.0 words)) (λ n. Hits d (Some p) words ref n slots out x.0 words)) (sym e) (record { order = x.1; undrawn = refl; answers = refl });
+          visit = subst
+              (λ o. MatchOption o
+              (MatchBool (allocates d.allocate ref.access) (Fills d (Some p) words ref slots out x.0 words) (Passes words ref slots out x.0 words))
+              (λ n. Hits d (Some p) words ref n slots out x.0 words))
+              (sym e) (record { order = x.1; undrawn = refl; answers = refl });
           few = omega (arith, x.2, marked_length (dirties d.write ref.access) slots at);
         }
 
@@ -119,7 +153,8 @@ visit_exists d p words ref slots r l = by_place (position_of (block_of d.geometr
 abbrev pub IsFew : Machine → MachineState → Type 0
 IsFew m st = (k : ℕ) → length (lines_of_set m.design.geometry k st.lines) ≤ m.design.geometry.e
 
-pub sound_ref : (m : Machine) (st : MachineState) (ref : Ref) → 0 < m.design.geometry.e → IsSound m st → IsFew m st → IsSound m (step m st ref) × IsFew m (step m st ref)
+pub sound_ref : (m : Machine) (st : MachineState) (ref : Ref) → 0 < m.design.geometry.e → IsSound m st → IsFew m st →
+    IsSound m (step m st ref) × IsFew m (step m st ref)
 sound_ref m st ref r s f =
     let g = m.design.geometry in
     let b = block_of g ref.addr in
@@ -130,16 +165,19 @@ sound_ref m st ref r s f =
     let a = step_agrees m st ref words v.outcome v.new v.rest (find (is_block b) st.lines) s refl refl v.visit in (
       sound_step m st (step m st ref) k v.new v.rest v.outcome _ s a,
       λ j. ⊎_elim
-          (λ t. subst (λ i. length (lines_of_set g i (step m st ref).lines) ≤ g.e) (sym t.1) (omega (arith, v.few, ap length a.held, length-map (lines_of_set g k (step m st ref).lines) slot_of)))
+          (λ t. subst (λ i. length (lines_of_set g i (step m st ref).lines) ≤ g.e) (sym t.1)
+          (omega (arith, v.few, ap length a.held, length-map (lines_of_set g k (step m st ref).lines) slot_of)))
           (λ n. rw (a.others j n.1) (f j))
           (eqb_tells j k),
     )
 
-pub sound_next : (m : Machine) (st : MachineState) (e : Event) → 0 < m.design.geometry.e → IsSound m st → IsFew m st → IsSound m (next m st e) × IsFew m (next m st e)
+pub sound_next : (m : Machine) (st : MachineState) (e : Event) → 0 < m.design.geometry.e → IsSound m st → IsFew m st →
+    IsSound m (next m st e) × IsFew m (next m st e)
 sound_next m st (event.Reference ref) r s f = sound_ref m st ref r s f
 sound_next m st event.Flush r s f = ((λ k. empty_good m st.clock), (λ k. omega arith))
 
-fold_sound : (m : Machine) (st : MachineState) (events : List Event) → 0 < m.design.geometry.e → IsSound m st → IsFew m st → IsSound m (fold (next m) st events) × IsFew m (fold (next m) st events)
+fold_sound : (m : Machine) (st : MachineState) (events : List Event) → 0 < m.design.geometry.e → IsSound m st → IsFew m st →
+    IsSound m (fold (next m) st events) × IsFew m (fold (next m) st events)
 fold_sound m st [] r s f = (s, f)
 fold_sound m st (e ∷ events) r s f = let n = sound_next m st e r s f in fold_sound m (next m st e) events r n.0 n.1
 

@@ -1,5 +1,6 @@
 -- One access, as the cache sees it and as the machine sees it.
-use Rattle.std.proofs.Common.{◌≡◌, ◌≢◌, ℕ, ◌+◌, ◌==◌, Bool, true, false, cond, ltb, List, [], ◌∷◌, ◌++◌, length, Option, Some, None, sym, ◌∙◌, ap, refl, subst, arith, ⊎_elim, map, find}
+use Rattle.std.proofs.Common.{◌≡◌, ◌≢◌, ℕ, ◌+◌, ◌==◌, Bool, true, false, cond, ltb, List, [], ◌∷◌, ◌++◌, length, Option}
+use Rattle.std.proofs.Common.{Some, None, sym, ◌∙◌, ap, refl, subst, arith, ⊎_elim, map, find}
 use Rattle.std.specs.Prelude.{MatchOption, MatchBool}
 use Rattle.std.proofs.lemmas.List.{length-map, append-nil}
 use Rattle.std.proofs.lemmas.List.Elements.{filter-append}
@@ -13,10 +14,12 @@ use Rattle.cache_core.specs.declared.outcome.Repl.{Repl}
 use Rattle.cache_core.specs.declared.outcome.Repl.TheVariants.{Lru, Fifo, Random}
 use Rattle.cache_core.specs.Geometry.{Shape, set_of_block, block_of, set_of}
 use Rattle.cache_core.specs.Outcomes.{Answer, outcome_of, on_placing, on_passing, dirties, allocates}
-use Rattle.cache_core.specs.Machine.{Machine, MachineState, Line, slot_of, option_slot, is_block, lines_of_set, without, victim, touch, with_block, leaves, placing, draws, step_at, answer_at, step, answer}
+use Rattle.cache_core.specs.Machine.{Machine, MachineState, Line, slot_of, option_slot, is_block, lines_of_set, without, victim, touch, with_block, leaves}
+use Rattle.cache_core.specs.Machine.{placing, draws, step_at, answer_at, step, answer}
 use Rattle.cache_core.specs.Order.{Contents, Accesses, Visits, Fills, Passes, Hits, TakesIn, words_after, slots_of}
 use Rattle.cache_core.specs.Stands.{IsState, Absent, IsGood, IsSound}
-use Rattle.cache_core.proofs.Lines.{ne-eqb, not_found, find_in_set, absent_other, set_without, set_exchange, without_absent, exchange_absent, Found, found, absent_right, falls_weaker}
+use Rattle.cache_core.proofs.Lines.{ne-eqb, not_found, find_in_set, absent_other, set_without, set_exchange, without_absent, exchange_absent, Found, found}
+use Rattle.cache_core.proofs.Lines.{absent_right, falls_weaker}
 use Rattle.cache_core.proofs.SetLaw.{touched, with_mark, place_absent, insert_law, insert_good, exchange_law}
 
 -- a line of a set, and one of another
@@ -27,37 +30,51 @@ cons_other : (g : Shape) (k : ℕ) (x : Line) (ls : List Line) → k ≢ set_of_
 cons_other g k x ls e = rw (ne-eqb (set_of_block g x.block) k (λ q. e (sym q))) refl
 
 -- a touch changes the set of its block, and no other
-pub touch_here : (p : Repl) (c : ℕ) (g : Shape) (k : ℕ) (x : Line) (ls : List Line) → set_of_block g x.block ≡ k → lines_of_set g k (touch p c x ls) ≡ touch p c x (lines_of_set g k ls)
+pub touch_here : (p : Repl) (c : ℕ) (g : Shape) (k : ℕ) (x : Line) (ls : List Line) → set_of_block g x.block ≡ k →
+    lines_of_set g k (touch p c x ls) ≡ touch p c x (lines_of_set g k ls)
 touch_here Lru c g k x ls e = cons_here g k (record x { key = c }) (without x.block ls) e ∙ ap (λ s. record x { key = c } ∷ s) (set_without g k x.block ls)
 touch_here Fifo c g k x ls e = set_exchange g k x.block x ls refl
 touch_here Random c g k x ls e = set_exchange g k x.block x ls refl
 
-pub touch_other : (p : Repl) (c : ℕ) (g : Shape) (k : ℕ) (x : Line) (ls : List Line) → k ≢ set_of_block g x.block → lines_of_set g k (touch p c x ls) ≡ lines_of_set g k ls
-touch_other Lru c g k x ls e = cons_other g k (record x { key = c }) (without x.block ls) e ∙ set_without g k x.block ls ∙ without_absent x.block (lines_of_set g k ls) (absent_other g k x.block ls e)
+pub touch_other : (p : Repl) (c : ℕ) (g : Shape) (k : ℕ) (x : Line) (ls : List Line) → k ≢ set_of_block g x.block →
+    lines_of_set g k (touch p c x ls) ≡ lines_of_set g k ls
+touch_other Lru c g k x ls e =
+    cons_other g k (record x { key = c }) (without x.block ls) e ∙ set_without g k x.block ls
+    ∙ without_absent x.block (lines_of_set g k ls) (absent_other g k x.block ls e)
 touch_other Fifo c g k x ls e = set_exchange g k x.block x ls refl ∙ exchange_absent x.block x (lines_of_set g k ls) (absent_other g k x.block ls e)
 touch_other Random c g k x ls e = set_exchange g k x.block x ls refl ∙ exchange_absent x.block x (lines_of_set g k ls) (absent_other g k x.block ls e)
 
 -- so does a placing
-pub insert_here : (p : Repl) (c n : ℕ) (g : Shape) (k : ℕ) (new : Slot) (ls : List Line) → set_of_block g new.block ≡ k → lines_of_set g k (with_block p c n new None ls) ≡ with_block p c n new None (lines_of_set g k ls)
+pub insert_here : (p : Repl) (c n : ℕ) (g : Shape) (k : ℕ) (new : Slot) (ls : List Line) → set_of_block g new.block ≡ k →
+    lines_of_set g k (with_block p c n new None ls) ≡ with_block p c n new None (lines_of_set g k ls)
 insert_here Lru c n g k new ls e = cons_here g k (record { block = new.block; key = c; dirty = new.dirty }) ls e
 insert_here Fifo c n g k new ls e = cons_here g k (record { block = new.block; key = c; dirty = new.dirty }) ls e
 insert_here Random c n g k new ls e =
     let x : Line = record { block = new.block; key = n; dirty = new.dirty } in
     filter-append (λ line. set_of_block g line.block == k) ls (x ∷ []) ∙ ap (λ s. lines_of_set g k ls ++ s) (cons_here g k x [] e)
 
-pub insert_other : (p : Repl) (c n : ℕ) (g : Shape) (k : ℕ) (new : Slot) (ls : List Line) → k ≢ set_of_block g new.block → lines_of_set g k (with_block p c n new None ls) ≡ lines_of_set g k ls
+pub insert_other : (p : Repl) (c n : ℕ) (g : Shape) (k : ℕ) (new : Slot) (ls : List Line) → k ≢ set_of_block g new.block →
+    lines_of_set g k (with_block p c n new None ls) ≡ lines_of_set g k ls
 insert_other Lru c n g k new ls e = cons_other g k (record { block = new.block; key = c; dirty = new.dirty }) ls e
 insert_other Fifo c n g k new ls e = cons_other g k (record { block = new.block; key = c; dirty = new.dirty }) ls e
 insert_other Random c n g k new ls e =
     let x : Line = record { block = new.block; key = n; dirty = new.dirty } in
-    filter-append (λ line. set_of_block g line.block == k) ls (x ∷ []) ∙ ap (λ s. lines_of_set g k ls ++ s) (cons_other g k x [] e) ∙ append-nil (lines_of_set g k ls)
+    filter-append (λ line. set_of_block g line.block == k) ls (x ∷ []) ∙ ap (λ s. lines_of_set g k ls ++ s) (cons_other g k x [] e)
+    ∙ append-nil (lines_of_set g k ls)
 
-pub exchange_here : (p : Repl) (c n : ℕ) (g : Shape) (k : ℕ) (new : Slot) (gone : Line) (ls : List Line) → set_of_block g new.block ≡ k → set_of_block g gone.block ≡ k → lines_of_set g k (with_block p c n new (Some gone) ls) ≡ with_block p c n new (Some gone) (lines_of_set g k ls)
-exchange_here Lru c n g k new gone ls e f = cons_here g k (record { block = new.block; key = c; dirty = new.dirty }) (without gone.block ls) e ∙ ap (λ s. record { block = new.block; key = c; dirty = new.dirty } ∷ s) (set_without g k gone.block ls)
-exchange_here Fifo c n g k new gone ls e f = cons_here g k (record { block = new.block; key = c; dirty = new.dirty }) (without gone.block ls) e ∙ ap (λ s. record { block = new.block; key = c; dirty = new.dirty } ∷ s) (set_without g k gone.block ls)
+pub exchange_here : (p : Repl) (c n : ℕ) (g : Shape) (k : ℕ) (new : Slot) (gone : Line) (ls : List Line) → set_of_block g new.block ≡ k →
+    set_of_block g gone.block ≡ k → lines_of_set g k (with_block p c n new (Some gone) ls) ≡ with_block p c n new (Some gone) (lines_of_set g k ls)
+exchange_here Lru c n g k new gone ls e f =
+    cons_here g k (record { block = new.block; key = c; dirty = new.dirty }) (without gone.block ls) e
+    ∙ ap (λ s. record { block = new.block; key = c; dirty = new.dirty } ∷ s) (set_without g k gone.block ls)
+exchange_here Fifo c n g k new gone ls e f =
+    cons_here g k (record { block = new.block; key = c; dirty = new.dirty }) (without gone.block ls) e
+    ∙ ap (λ s. record { block = new.block; key = c; dirty = new.dirty } ∷ s) (set_without g k gone.block ls)
 exchange_here Random c n g k new gone ls e f = set_exchange g k gone.block (record { block = new.block; key = gone.key; dirty = new.dirty }) ls (e ∙ sym f)
 
-pub exchange_other : (p : Repl) (c n : ℕ) (g : Shape) (k : ℕ) (new : Slot) (gone : Line) (ls : List Line) → set_of_block g gone.block ≡ set_of_block g new.block → k ≢ set_of_block g new.block → lines_of_set g k (with_block p c n new (Some gone) ls) ≡ lines_of_set g k ls
+pub exchange_other : (p : Repl) (c n : ℕ) (g : Shape) (k : ℕ) (new : Slot) (gone : Line) (ls : List Line) →
+    set_of_block g gone.block ≡ set_of_block g new.block → k ≢ set_of_block g new.block →
+    lines_of_set g k (with_block p c n new (Some gone) ls) ≡ lines_of_set g k ls
 exchange_other Lru c n g k new gone ls e f =
     cons_other g k (record { block = new.block; key = c; dirty = new.dirty }) (without gone.block ls) f ∙ set_without g k gone.block ls
     ∙ without_absent gone.block (lines_of_set g k ls) (absent_other g k gone.block ls (λ q. f (q ∙ e)))
@@ -79,7 +96,8 @@ pub record Agrees (m : Machine) (st next : MachineState) (k : ℕ) (slots : List
 
 hit_agrees : (m : Machine) (st : MachineState) (ref : Ref) (line : Line) (words : ℕ → ℕ) (outcome : Outcome) (slots : List Slot) (rest : ℕ → ℕ) →
     let g = m.design.geometry in let b = block_of g ref.addr in let k = set_of_block g b in
-    IsSound m st → words ≡ (λ n. m.words (st.drawn + n)) → find (is_block b) st.lines ≡ Some line → Visits m.design (Some m.policy) words ref (map slot_of (lines_of_set g k st.lines)) outcome slots rest →
+    IsSound m st → words ≡ (λ n. m.words (st.drawn + n)) → find (is_block b) st.lines ≡ Some line →
+    Visits m.design (Some m.policy) words ref (map slot_of (lines_of_set g k st.lines)) outcome slots rest →
     Agrees m st (step_at m ref b (leaves m st k) st (Some line)) k slots rest outcome (answer_at m ref b (leaves m st k) (Some line))
 hit_agrees m st ref line words outcome slots rest s w h v =
     let g = m.design.geometry in
@@ -90,7 +108,12 @@ hit_agrees m st ref line words outcome slots rest s w h v =
     let f : find (is_block b) here ≡ Some line = find_in_set g b st.lines ∙ h in
     let t = touched m.policy st.clock b line d here (s k) f in
     let hits : Hits m.design (Some m.policy) words ref t.at (map slot_of here) outcome slots rest =
-    subst (λ o. MatchOption o (MatchBool (allocates m.design.allocate ref.access) (Fills m.design (Some m.policy) words ref (map slot_of here) outcome slots rest) (Passes words ref (map slot_of here) outcome slots rest)) (λ at. Hits m.design (Some m.policy) words ref at (map slot_of here) outcome slots rest)) t.place v in
+    subst
+    (λ o. MatchOption o
+    (MatchBool (allocates m.design.allocate ref.access) (Fills m.design (Some m.policy) words ref (map slot_of here) outcome slots rest)
+    (Passes words ref (map slot_of here) outcome slots rest))
+    (λ at. Hits m.design (Some m.policy) words ref at (map slot_of here) outcome slots rest))
+    t.place v in
     let in_set : set_of_block g line.block ≡ k = ap (set_of_block g) (found b here line f).here in
     let e = touch_here m.policy (st.clock + 1) g k (with_mark d line) st.lines in_set in
     record {
@@ -115,17 +138,23 @@ words_none Lru words = refl
 words_none Fifo words = refl
 words_none Random words = refl
 
-words_some : (p : Repl) (gone : Slot) (words w : ℕ → ℕ) (drawn : ℕ) → words ≡ (λ n. w (drawn + n)) → words_after (Some p) (Some gone) words ≡ (λ n. w (cond (draws p) (drawn + 1) drawn + n))
+words_some : (p : Repl) (gone : Slot) (words w : ℕ → ℕ) (drawn : ℕ) → words ≡ (λ n. w (drawn + n)) →
+    words_after (Some p) (Some gone) words ≡ (λ n. w (cond (draws p) (drawn + 1) drawn + n))
 words_some Lru gone words w drawn e = e
 words_some Fifo gone words w drawn e = e
 words_some Random gone words w drawn e =
     let shifted : (n : ℕ) → words (n + 1) ≡ w (drawn + 1 + n) = λ n. ap (λ (f : ℕ → ℕ). f (n + 1)) e ∙ ap w (omega arith) in
     λ i n. shifted n i
 
-fill_agrees : (m : Machine) (st : MachineState) (ref : Ref) (words : ℕ → ℕ) (outcome : Outcome) (slots : List Slot) (rest : ℕ → ℕ) (evicted : Option Slot) →
-    let g = m.design.geometry in let b = block_of g ref.addr in let k = set_of_block g b in let new : Slot = record { block = b; dirty = dirties m.design.write ref.access } in
+fill_agrees : (m : Machine) (st : MachineState) (ref : Ref) (words : ℕ → ℕ) (outcome : Outcome) (slots : List Slot) (rest : ℕ → ℕ)
+    (evicted : Option Slot) →
+    let g = m.design.geometry in
+    let b = block_of g ref.addr in
+    let k = set_of_block g b in
+    let new : Slot = record { block = b; dirty = dirties m.design.write ref.access } in
     IsSound m st → words ≡ (λ n. m.words (st.drawn + n)) → Absent b (lines_of_set g k st.lines) →
-    TakesIn (Some m.policy) (words 0) g.e (map slot_of (lines_of_set g k st.lines)) new evicted slots → rest ≡ words_after (Some m.policy) evicted words → outcome ≡ outcome_of (on_placing g m.design.write ref b evicted) →
+    TakesIn (Some m.policy) (words 0) g.e (map slot_of (lines_of_set g k st.lines)) new evicted slots →
+    rest ≡ words_after (Some m.policy) evicted words → outcome ≡ outcome_of (on_placing g m.design.write ref b evicted) →
     Agrees m st (placing m ref b (leaves m st k) st) k slots rest outcome (on_placing g m.design.write ref b (option_slot (leaves m st k)))
 fill_agrees m st ref words outcome slots rest None s w a p u o =
     let g = m.design.geometry in
@@ -170,7 +199,10 @@ later Lru c ls i = record { distinct = i.distinct; order = falls_weaker (c + 1) 
 later Fifo c ls i = record { distinct = i.distinct; order = falls_weaker (c + 1) (c + 1 + 1) ls (omega arith) i.order }
 later Random c ls i = record { distinct = i.distinct; order = i.order }
 
-pass_agrees : (m : Machine) (st : MachineState) (ref : Ref) (words : ℕ → ℕ) (outcome : Outcome) (slots : List Slot) (rest : ℕ → ℕ) (k : ℕ) → IsSound m st → words ≡ (λ n. m.words (st.drawn + n)) → Passes words ref (map slot_of (lines_of_set m.design.geometry k st.lines)) outcome slots rest → Agrees m st (record st { clock = st.clock + 1 }) k slots rest outcome (on_passing ref)
+pass_agrees : (m : Machine) (st : MachineState) (ref : Ref) (words : ℕ → ℕ) (outcome : Outcome) (slots : List Slot) (rest : ℕ → ℕ) (k : ℕ) →
+    IsSound m st → words ≡ (λ n. m.words (st.drawn + n)) →
+    Passes words ref (map slot_of (lines_of_set m.design.geometry k st.lines)) outcome slots rest →
+    Agrees m st (record st { clock = st.clock + 1 }) k slots rest outcome (on_passing ref)
 pass_agrees m st ref words outcome slots rest k s w v = record {
   held = v.order;
   others = λ j ne. refl;
@@ -180,17 +212,21 @@ pass_agrees m st ref words outcome slots rest k s w v = record {
   clock = refl;
 }
 
-miss_agrees : (m : Machine) (st : MachineState) (ref : Ref) (words : ℕ → ℕ) (outcome : Outcome) (slots : List Slot) (rest : ℕ → ℕ) (fills : Bool) →
+miss_agrees : (m : Machine) (st : MachineState) (ref : Ref) (words : ℕ → ℕ) (outcome : Outcome) (slots : List Slot) (rest : ℕ → ℕ)
+    (fills : Bool) →
     let g = m.design.geometry in let b = block_of g ref.addr in let k = set_of_block g b in let here = map slot_of (lines_of_set g k st.lines) in
     IsSound m st → words ≡ (λ n. m.words (st.drawn + n)) → Absent b (lines_of_set g k st.lines) →
     MatchBool fills (Fills m.design (Some m.policy) words ref here outcome slots rest) (Passes words ref here outcome slots rest) →
-    Agrees m st (cond fills (placing m ref b (leaves m st k) st) (record st { clock = st.clock + 1 })) k slots rest outcome (cond fills (on_placing g m.design.write ref b (option_slot (leaves m st k))) (on_passing ref))
+    Agrees m st (cond fills (placing m ref b (leaves m st k) st) (record st { clock = st.clock + 1 })) k slots rest outcome
+    (cond fills (on_placing g m.design.write ref b (option_slot (leaves m st k))) (on_passing ref))
 miss_agrees m st ref words outcome slots rest true s w a v = fill_agrees m st ref words outcome slots rest outcome.evicted s w a v.order v.undrawn v.answers
 miss_agrees m st ref words outcome slots rest false s w a v = pass_agrees m st ref words outcome slots rest _ s w v
 
-pub step_agrees : (m : Machine) (st : MachineState) (ref : Ref) (words : ℕ → ℕ) (outcome : Outcome) (slots : List Slot) (rest : ℕ → ℕ) (o : Option Line) →
+pub step_agrees : (m : Machine) (st : MachineState) (ref : Ref) (words : ℕ → ℕ) (outcome : Outcome) (slots : List Slot) (rest : ℕ → ℕ)
+    (o : Option Line) →
     let g = m.design.geometry in let b = block_of g ref.addr in let k = set_of_block g b in
-    IsSound m st → words ≡ (λ n. m.words (st.drawn + n)) → find (is_block b) st.lines ≡ o → Visits m.design (Some m.policy) words ref (map slot_of (lines_of_set g k st.lines)) outcome slots rest →
+    IsSound m st → words ≡ (λ n. m.words (st.drawn + n)) → find (is_block b) st.lines ≡ o →
+    Visits m.design (Some m.policy) words ref (map slot_of (lines_of_set g k st.lines)) outcome slots rest →
     Agrees m st (step_at m ref b (leaves m st k) st o) k slots rest outcome (answer_at m ref b (leaves m st k) o)
 step_agrees m st ref words outcome slots rest (Some line) s w e v = hit_agrees m st ref line words outcome slots rest s w e v
 step_agrees m st ref words outcome slots rest None s w e v =
@@ -200,10 +236,16 @@ step_agrees m st ref words outcome slots rest None s w e v =
     let here = lines_of_set g k st.lines in
     let a : Absent b here = not_found b here (find_in_set g b st.lines ∙ e) in
     miss_agrees m st ref words outcome slots rest (allocates m.design.allocate ref.access) s w a
-    (subst (λ o. MatchOption o (MatchBool (allocates m.design.allocate ref.access) (Fills m.design (Some m.policy) words ref (map slot_of here) outcome slots rest) (Passes words ref (map slot_of here) outcome slots rest)) (λ at. Hits m.design (Some m.policy) words ref at (map slot_of here) outcome slots rest)) (place_absent b here a) v)
+    (subst
+    (λ o. MatchOption o
+    (MatchBool (allocates m.design.allocate ref.access) (Fills m.design (Some m.policy) words ref (map slot_of here) outcome slots rest)
+    (Passes words ref (map slot_of here) outcome slots rest))
+    (λ at. Hits m.design (Some m.policy) words ref at (map slot_of here) outcome slots rest))
+    (place_absent b here a) v)
 
 -- the machine stays sound
-pub sound_step : (m : Machine) (st next : MachineState) (k : ℕ) (slots : List Slot) (rest : ℕ → ℕ) (outcome : Outcome) (a : Answer) → IsSound m st → Agrees m st next k slots rest outcome a → IsSound m next
+pub sound_step : (m : Machine) (st next : MachineState) (k : ℕ) (slots : List Slot) (rest : ℕ → ℕ) (outcome : Outcome) (a : Answer) →
+    IsSound m st → Agrees m st next k slots rest outcome a → IsSound m next
 sound_step m st next k slots rest outcome a s r j = ⊎_elim
     (λ t. subst (λ i. IsGood m.policy next.clock (lines_of_set m.design.geometry i next.lines)) (sym t.1) r.good)
     (λ f. rw (r.others j f.1, r.clock) (later m.policy st.clock (lines_of_set m.design.geometry j st.lines) (s j)))
@@ -215,7 +257,8 @@ pub record Follows (m : Machine) (st : MachineState) (ref : Ref) (outcome : Outc
   pub told : outcome ≡ outcome_of (answer m st ref)
   pub sound : IsSound m (step m st ref)
 
-pub access_law : (m : Machine) (st : MachineState) (old : Contents) (ref : Ref) (outcome : Outcome) (new : Contents) → IsSound m st → IsState m st old → Accesses old ref outcome new → Follows m st ref outcome new
+pub access_law : (m : Machine) (st : MachineState) (old : Contents) (ref : Ref) (outcome : Outcome) (new : Contents) → IsSound m st →
+    IsState m st old → Accesses old ref outcome new → Follows m st ref outcome new
 access_law m st old ref outcome new s i a =
     let g = m.design.geometry in
     let b = block_of g ref.addr in
@@ -223,7 +266,10 @@ access_law m st old ref outcome new s i a =
     let shape : old.design.geometry ≡ g = ap (λ (d : Design). d.geometry) i.design in
     let same : set_of old.design.geometry ref.addr ≡ k = ap (λ h. set_of h ref.addr) shape in
     let v1 : Visits m.design old.rule old.words ref (slots_of old.sets k) outcome (slots_of new.sets k) new.words =
-    subst (λ (d : Design). Visits d old.rule old.words ref (slots_of old.sets (set_of d.geometry ref.addr)) outcome (slots_of new.sets (set_of d.geometry ref.addr)) new.words) i.design a.visit in
+    subst
+    (λ (d : Design).
+    Visits d old.rule old.words ref (slots_of old.sets (set_of d.geometry ref.addr)) outcome (slots_of new.sets (set_of d.geometry ref.addr)) new.words)
+    i.design a.visit in
     let v2 : Visits m.design (Some m.policy) old.words ref (slots_of old.sets k) outcome (slots_of new.sets k) new.words =
     subst (λ r. Visits m.design r old.words ref (slots_of old.sets k) outcome (slots_of new.sets k) new.words) i.rule v1 in
     let v3 : Visits m.design (Some m.policy) old.words ref (map slot_of (lines_of_set g k st.lines)) outcome (slots_of new.sets k) new.words =

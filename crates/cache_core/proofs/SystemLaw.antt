@@ -1,5 +1,6 @@
 -- A step and a flush of a system, as its caches see them and as their machines see them.
-use Rattle.std.proofs.Common.{◌≡◌, ℕ, ◌+◌, not, Bool, cond, List, [], ◌∷◌, ◌++◌, map, Option, Some, None, refl, sym, ◌∙◌, ap, subst, arith, append_assoc, append-nil, length-append}
+use Rattle.std.proofs.Common.{◌≡◌, ℕ, ◌+◌, not, Bool, cond, List, [], ◌∷◌, ◌++◌, map, Option, Some, None, refl, sym, ◌∙◌, ap}
+use Rattle.std.proofs.Common.{subst, arith, append_assoc, append-nil, length-append}
 use Rattle.std.specs.Prelude.{count_by, is_none, MatchOption}
 use Rattle.std.proofs.lemmas.List.Sums.{sum_by-cons, sum_by-append}
 use Rattle.trace_core.specs.declared.events.Ref.{Ref}
@@ -23,7 +24,8 @@ use Rattle.cache_core.specs.SystemStands.{SystemStands, NewSystemLaw, StepLaw, S
 use Rattle.cache_core.proofs.Lists.{cases}
 use Rattle.cache_core.proofs.RunLaw.{start_law, flush_run}
 use Rattle.cache_core.proofs.Pushes.{count_by_push}
-use Rattle.cache_core.proofs.SystemPushes.{counts_flush, flushed_flush, events_taken, events_left, events_flush, references_push, references_flush, below_push, below_flush, level_down, memory_push, memory_flush, level_flushed_push}
+use Rattle.cache_core.proofs.SystemPushes.{counts_flush, flushed_flush, events_taken, events_left, events_flush, references_push, references_flush}
+use Rattle.cache_core.proofs.SystemPushes.{below_push, below_flush, level_down, memory_push, memory_flush, level_flushed_push}
 use Rattle.cache_core.proofs.FirstLevelLaw.{Kept, enters, KeptLevel, with_counts, stands_of, counts_is, down_list, first_keeps}
 
 -- memory
@@ -37,14 +39,17 @@ reach_reads : (memory : Memory) (refs : List Ref) → (all_reach memory refs).re
 reach_reads memory [] = omega arith
 reach_reads memory (r ∷ refs) =
     let first : (reaches memory r).reads ≡ memory.reads + cond (not (is_write r.access)) 1 0 =
-    cases (λ b. (cond b (record memory { writes = memory.writes + 1 }) (record memory { reads = memory.reads + 1 })).reads ≡ memory.reads + cond (not b) 1 0) (is_write r.access) (λ _. omega arith) (λ _. refl) in
+    cases
+    (λ b. (cond b (record memory { writes = memory.writes + 1 }) (record memory { reads = memory.reads + 1 })).reads ≡ memory.reads + cond (not b) 1 0)
+    (is_write r.access) (λ _. omega arith) (λ _. refl) in
     omega (arith, reach_reads (reaches memory r) refs, first, sum_by-cons (λ (x : Ref). cond (is_read_of x) 1 0) r refs)
 
 reach_writes : (memory : Memory) (refs : List Ref) → (all_reach memory refs).writes ≡ memory.writes + count_by is_write_of refs
 reach_writes memory [] = omega arith
 reach_writes memory (r ∷ refs) =
     let first : (reaches memory r).writes ≡ memory.writes + cond (is_write r.access) 1 0 =
-    cases (λ b. (cond b (record memory { writes = memory.writes + 1 }) (record memory { reads = memory.reads + 1 })).writes ≡ memory.writes + cond b 1 0) (is_write r.access) (λ _. refl) (λ _. omega arith) in
+    cases (λ b. (cond b (record memory { writes = memory.writes + 1 }) (record memory { reads = memory.reads + 1 })).writes ≡ memory.writes + cond b 1 0)
+    (is_write r.access) (λ _. refl) (λ _. omega arith) in
     omega (arith, reach_writes (reaches memory r) refs, first, sum_by-cons (λ (x : Ref). cond (is_write_of x) 1 0) r refs)
 
 -- the second level and memory, where so many lines were flushed
@@ -53,8 +58,10 @@ record Lower (seed : ℕ) (level : Option Level) (events : List Event) (flushed 
   reads : memory.reads ≡ count_by is_read_of (to_memory seed level events)
   writes : memory.writes ≡ count_by is_write_of (to_memory seed level events) + flushed
 
-reached : (seed : ℕ) (level : Option Level) (events : List Event) (flushed : ℕ) (stage next : Option Stage) (memory after : Memory) (ref : Ref) → Lower seed level events flushed stage memory →
-    KeptLevel seed level (events ++ event.Reference ref ∷ []) next → after ≡ all_reach memory (level_down seed level events ref) → Lower seed level (events ++ event.Reference ref ∷ []) flushed next after
+reached : (seed : ℕ) (level : Option Level) (events : List Event) (flushed : ℕ) (stage next : Option Stage) (memory after : Memory) (ref : Ref) →
+    Lower seed level events flushed stage memory →
+    KeptLevel seed level (events ++ event.Reference ref ∷ []) next → after ≡ all_reach memory (level_down seed level events ref) →
+    Lower seed level (events ++ event.Reference ref ∷ []) flushed next after
 reached seed level events flushed stage next memory after ref l k e =
     let down = level_down seed level events ref in
     let before = to_memory seed level events in
@@ -64,7 +71,8 @@ reached seed level events flushed stage next memory after ref l k e =
     let writes : after.writes ≡ memory.writes + count_by is_write_of down = ap (λ (m : Memory). m.writes) e ∙ reach_writes memory down in
     record { kept = k; reads = omega (arith, reads, l.reads, more is_read_of); writes = omega (arith, writes, l.writes, more is_write_of) }
 
-descends : (seed : ℕ) (level : Option Level) (events : List Event) (flushed : ℕ) (stage next : Option Stage) (memory after : Memory) (ref : Ref) → IsLevel level → Lower seed level events flushed stage memory →
+descends : (seed : ℕ) (level : Option Level) (events : List Event) (flushed : ℕ) (stage next : Option Stage) (memory after : Memory) (ref : Ref) →
+    IsLevel level → Lower seed level events flushed stage memory →
     Descends ref stage memory next after → Lower seed level (events ++ event.Reference ref ∷ []) flushed next after
 descends seed None events flushed stage next memory after ref l low d =
     let e = subst (λ (s : Option Stage). Descends ref s memory next after) low.kept d in
@@ -74,31 +82,44 @@ descends seed (Some level) events flushed stage next memory after ref l low d =
     let r = enters (machine_of seed level) events low.kept.0 ref e.0 e.1 l.some low.kept.2 e.2 in
     reached seed (Some level) events flushed stage next memory after ref low (e.1, e.3, r.kept) (e.4 ∙ ap (all_reach memory) r.sends)
 
-all_descend : (seed : ℕ) (level : Option Level) (events : List Event) (flushed : ℕ) (stage next : Option Stage) (memory after : Memory) (refs : List Ref) → IsLevel level → Lower seed level events flushed stage memory →
+all_descend : (seed : ℕ) (level : Option Level) (events : List Event) (flushed : ℕ) (stage next : Option Stage) (memory after : Memory)
+    (refs : List Ref) →
+    IsLevel level → Lower seed level events flushed stage memory →
     AllDescend refs stage memory next after → Lower seed level (events ++ map (λ x. event.Reference x) refs) flushed next after
 all_descend seed level events flushed stage next memory after [] l low d =
     let here : Lower seed level events flushed next memory = subst (λ (s : Option Stage). Lower seed level events flushed s memory) (sym d.0) low in
-    subst (λ (es : List Event). Lower seed level es flushed next after) (sym (append-nil events)) (subst (λ (m : Memory). Lower seed level events flushed next m) (sym d.1) here)
+    subst (λ (es : List Event). Lower seed level es flushed next after) (sym (append-nil events))
+    (subst (λ (m : Memory). Lower seed level events flushed next m) (sym d.1) here)
 all_descend seed level events flushed stage next memory after (ref ∷ refs) l low d =
     let one = descends seed level events flushed stage d.0 memory d.1 ref l low d.2 in
     subst (λ (es : List Event). Lower seed level es flushed next after) (append_assoc events (event.Reference ref ∷ []) (map (λ x. event.Reference x) refs))
     (all_descend seed level (events ++ event.Reference ref ∷ []) flushed d.0 next d.1 after refs l one d.3)
 
-flushed_refs : (seed : ℕ) (level : Option Level) (events : List Event) (refs : List Ref) → level_flushed seed level (events ++ map (λ x. event.Reference x) refs) ≡ level_flushed seed level events
+flushed_refs : (seed : ℕ) (level : Option Level) (events : List Event) (refs : List Ref) →
+    level_flushed seed level (events ++ map (λ x. event.Reference x) refs) ≡ level_flushed seed level events
 flushed_refs seed level events [] = ap (level_flushed seed level) (append-nil events)
 flushed_refs seed level events (ref ∷ refs) =
-    ap (level_flushed seed level) (sym (append_assoc events (event.Reference ref ∷ []) (map (λ x. event.Reference x) refs))) ∙ flushed_refs seed level (events ++ event.Reference ref ∷ []) refs ∙ level_flushed_push seed level events ref
+    ap (level_flushed seed level) (sym (append_assoc events (event.Reference ref ∷ []) (map (λ x. event.Reference x) refs)))
+    ∙ flushed_refs seed level (events ++ event.Reference ref ∷ []) refs ∙ level_flushed_push seed level events ref
 
-flushed_name : (seed : ℕ) (name : CacheName) (level : Option Level) (events : List Event) (ref : Ref) → level_flushed seed level (events_for name (events ++ event.Reference ref ∷ [])) ≡ level_flushed seed level (events_for name events)
+flushed_name : (seed : ℕ) (name : CacheName) (level : Option Level) (events : List Event) (ref : Ref) →
+    level_flushed seed level (events_for name (events ++ event.Reference ref ∷ [])) ≡ level_flushed seed level (events_for name events)
 flushed_name seed name level events ref =
-    cases (λ b. (takes name ref ≡ b) → level_flushed seed level (events_for name (events ++ event.Reference ref ∷ [])) ≡ level_flushed seed level (events_for name events)) (takes name ref)
+    cases
+    (λ b. (takes name ref ≡ b) →
+    level_flushed seed level (events_for name (events ++ event.Reference ref ∷ [])) ≡ level_flushed seed level (events_for name events))
+    (takes name ref)
     (λ t _. ap (level_flushed seed level) (events_taken name events ref t) ∙ level_flushed_push seed level (events_for name events) ref)
     (λ t _. ap (level_flushed seed level) (events_left name events ref t)) refl
 
-lower_after : (seed : ℕ) (level : Option Level) (events : List Event) (flushed : ℕ) (stage next : Option Stage) (memory after : Memory) (down : Option (List (Option Ref))) → IsLevel level → Lower seed level events flushed stage memory →
-    MatchOption down ((next ≡ stage) × (after ≡ memory)) (λ refs. AllDescend (listed refs) stage memory next after) → Lower seed level (events ++ map (λ x. event.Reference x) (down_list down)) flushed next after
+lower_after : (seed : ℕ) (level : Option Level) (events : List Event) (flushed : ℕ) (stage next : Option Stage) (memory after : Memory)
+    (down : Option (List (Option Ref))) →
+    IsLevel level → Lower seed level events flushed stage memory →
+    MatchOption down ((next ≡ stage) × (after ≡ memory)) (λ refs. AllDescend (listed refs) stage memory next after) →
+    Lower seed level (events ++ map (λ x. event.Reference x) (down_list down)) flushed next after
 lower_after seed level events flushed stage next memory after None l low d = all_descend seed level events flushed stage next memory after [] l low d
-lower_after seed level events flushed stage next memory after (Some down) l low d = all_descend seed level events flushed stage next memory after (listed down) l low d
+lower_after seed level events flushed stage next memory after (Some down) l low d =
+    all_descend seed level events flushed stage next memory after (listed down) l low d
 
 -- all flushed lines
 abbrev flushed_all : Levels → ℕ → List Event → ℕ
@@ -122,20 +143,23 @@ step_law plan seed events old ref new ip s t =
     let moved = lower_after seed plan.second (below plan seed events) flushed old.second new.second old.memory new.memory t.down ip.second before t.lower in
     let listed_below : below plan seed events ++ map (λ x. event.Reference x) (down_list t.down) ≡ below plan seed all =
     ap (λ xs. below plan seed events ++ map (λ x. event.Reference x) xs) f.all_sent ∙ sym (below_push plan seed events ref) in
-    let lower : Lower seed plan.second (below plan seed all) flushed new.second new.memory = subst (λ (es : List Event). Lower seed plan.second es flushed new.second new.memory) listed_below moved in
+    let lower : Lower seed plan.second (below plan seed all) flushed new.second new.memory =
+    subst (λ (es : List Event). Lower seed plan.second es flushed new.second new.memory) listed_below moved in
     let same_flushed : flushed ≡ flushed_all plan seed all =
     omega (
       arith,
       flushed_name seed L1I plan.i events ref,
       flushed_name seed L1D plan.d events ref,
       flushed_name seed L1U plan.u events ref,
-      ap (level_flushed seed plan.second) (below_push plan seed events ref) ∙ flushed_refs seed plan.second (below plan seed events) (sent plan seed events ref),
+      ap (level_flushed seed plan.second) (below_push plan seed events ref)
+          ∙ flushed_refs seed plan.second (below plan seed events) (sent plan seed events ref),
     ) in
     let writes : new.memory.writes ≡ count_by is_write_of (to_memory seed plan.second (below plan seed all)) + flushed_all plan seed all =
     lower.writes ∙ ap (λ n. count_by is_write_of (to_memory seed plan.second (below plan seed all)) + n) same_flushed in
     let untaken : Ref → Bool = λ r. not (is_taken plan r) in
     let bypassed : new.bypassed ≡ count_by untaken (references_in all) =
-    t.bypassed ∙ ap (λ n. n + one_if (is_none t.down)) (ap (λ (x : Stats). x.bypassed) s.stats) ∙ ap (λ b. count_by untaken (references_in events) + one_if b) f.untaken
+    t.bypassed ∙ ap (λ n. n + one_if (is_none t.down)) (ap (λ (x : Stats). x.bypassed) s.stats)
+    ∙ ap (λ b. count_by untaken (references_in events) + one_if b) f.untaken
     ∙ sym (ap (count_by untaken) (references_push events ref) ∙ count_by_push untaken (references_in events) ref) in
     let i = counts_is seed plan.i (events_for L1I all) new.i f.i_kept in
     let d = counts_is seed plan.d (events_for L1D all) new.d f.d_kept in
@@ -171,7 +195,8 @@ new_law plan seed v n =
     let d = new_level seed plan.d v.d n.d in
     let u = new_level seed plan.u v.u n.u in
     let second = new_level seed plan.second v.second n.second in
-    let reads : v.memory.reads ≡ count_by is_read_of (to_memory seed plan.second []) = ap (λ (m : Memory). m.reads) n.memory ∙ sym (ap (count_by is_read_of) (memory_nil seed plan.second)) in
+    let reads : v.memory.reads ≡ count_by is_read_of (to_memory seed plan.second []) =
+    ap (λ (m : Memory). m.reads) n.memory ∙ sym (ap (count_by is_read_of) (memory_nil seed plan.second)) in
     let none : count_by is_write_of (to_memory seed plan.second []) ≡ 0 = ap (count_by is_write_of) (memory_nil seed plan.second) in
     let zero_writes : v.memory.writes ≡ 0 = ap (λ (m : Memory). m.writes) n.memory in
     let writes : v.memory.writes ≡ count_by is_write_of (to_memory seed plan.second []) + flushed_all plan seed [] =
@@ -181,7 +206,15 @@ new_law plan seed v n =
       d = stands_of seed plan.d [] v.d d;
       u = stands_of seed plan.u [] v.u u;
       second = stands_of seed plan.second [] v.second second;
-      stats = cc (counts_is seed plan.i [] v.i i, counts_is seed plan.d [] v.d d, counts_is seed plan.u [] v.u u, counts_is seed plan.second [] v.second second, reads, writes, n.bypassed);
+      stats = cc (
+        counts_is seed plan.i [] v.i i,
+        counts_is seed plan.d [] v.d d,
+        counts_is seed plan.u [] v.u u,
+        counts_is seed plan.second [] v.second second,
+        reads,
+        writes,
+        n.bypassed,
+      );
       steps = n.steps;
     }
 
@@ -190,7 +223,8 @@ record Emptied (m : Machine) (events : List Event) (dirty : ℕ) (new : Stage) :
   kept : Kept m (events ++ event.Flush ∷ []) new
   found : dirty ≡ dirty_count (run m events)
 
-empties : (m : Machine) (events : List Event) (old : Stage) (dirty : ℕ) (new : Stage) → Kept m events old → Empties old dirty new → Emptied m events dirty new
+empties : (m : Machine) (events : List Event) (old : Stage) (dirty : ℕ) (new : Stage) → Kept m events old → Empties old dirty new →
+    Emptied m events dirty new
 empties m events old dirty new k e =
     let r = flush_run m events (contents_of_stage old) dirty (contents_of_stage new) k.stands e.flush in
     record {
@@ -206,7 +240,8 @@ record EmptiedLevel (seed : ℕ) (level : Option Level) (events : List Event) (d
   kept : KeptLevel seed level (events ++ event.Flush ∷ []) new
   found : level_flushed seed level (events ++ event.Flush ∷ []) ≡ level_flushed seed level events + dirty
 
-empties_level : (seed : ℕ) (level : Option Level) (events : List Event) (stage : Option Stage) (dirty : ℕ) (new : Option Stage) → KeptLevel seed level events stage → EmptiesLevel stage dirty new → EmptiedLevel seed level events dirty new
+empties_level : (seed : ℕ) (level : Option Level) (events : List Event) (stage : Option Stage) (dirty : ℕ) (new : Option Stage) →
+    KeptLevel seed level events stage → EmptiesLevel stage dirty new → EmptiedLevel seed level events dirty new
 empties_level seed None events stage dirty new k e =
     let f = subst (λ (s : Option Stage). EmptiesLevel s dirty new) k e in
     record { kept = f.0; found = omega (arith, f.1) }
@@ -216,30 +251,43 @@ empties_level seed (Some level) events stage dirty new k e =
     let r = empties m events k.0 dirty f.0 k.2 f.2 in
     record { kept = (f.0, f.1, r.kept); found = flushed_flush m events ∙ ap (λ n. level_flushed seed (Some level) events + n) (sym r.found) }
 
-kept_flush : (seed : ℕ) (name : CacheName) (level : Option Level) (events : List Event) (dirty : ℕ) (stage : Option Stage) → EmptiedLevel seed level (events_for name events) dirty stage → KeptLevel seed level (events_for name (events ++ event.Flush ∷ [])) stage
+kept_flush : (seed : ℕ) (name : CacheName) (level : Option Level) (events : List Event) (dirty : ℕ) (stage : Option Stage) →
+    EmptiedLevel seed level (events_for name events) dirty stage → KeptLevel seed level (events_for name (events ++ event.Flush ∷ [])) stage
 kept_flush seed name level events dirty stage e = subst (λ (es : List Event). KeptLevel seed level es stage) (sym (events_flush name events)) e.kept
 
-found_flush : (seed : ℕ) (name : CacheName) (level : Option Level) (events : List Event) (dirty : ℕ) (stage : Option Stage) → EmptiedLevel seed level (events_for name events) dirty stage →
+found_flush : (seed : ℕ) (name : CacheName) (level : Option Level) (events : List Event) (dirty : ℕ) (stage : Option Stage) →
+    EmptiedLevel seed level (events_for name events) dirty stage →
     level_flushed seed level (events_for name (events ++ event.Flush ∷ [])) ≡ level_flushed seed level (events_for name events) + dirty
 found_flush seed name level events dirty stage e = ap (level_flushed seed level) (events_flush name events) ∙ e.found
 
 pub flush_law : SystemFlushLaw
 flush_law plan seed events old new s t =
     let all = events ++ event.Flush ∷ [] in
-    let ei = empties_level seed plan.i (events_for L1I events) old.i t.dirty_i new.i (with_counts seed plan.i (events_for L1I events) old.i s.i (ap (λ (x : Stats). x.l1i) s.stats)) t.i in
-    let ed = empties_level seed plan.d (events_for L1D events) old.d t.dirty_d new.d (with_counts seed plan.d (events_for L1D events) old.d s.d (ap (λ (x : Stats). x.l1d) s.stats)) t.d in
-    let eu = empties_level seed plan.u (events_for L1U events) old.u t.dirty_u new.u (with_counts seed plan.u (events_for L1U events) old.u s.u (ap (λ (x : Stats). x.l1u) s.stats)) t.u in
+    let ei =
+    empties_level seed plan.i (events_for L1I events) old.i t.dirty_i new.i
+    (with_counts seed plan.i (events_for L1I events) old.i s.i (ap (λ (x : Stats). x.l1i) s.stats)) t.i in
+    let ed =
+    empties_level seed plan.d (events_for L1D events) old.d t.dirty_d new.d
+    (with_counts seed plan.d (events_for L1D events) old.d s.d (ap (λ (x : Stats). x.l1d) s.stats)) t.d in
+    let eu =
+    empties_level seed plan.u (events_for L1U events) old.u t.dirty_u new.u
+    (with_counts seed plan.u (events_for L1U events) old.u s.u (ap (λ (x : Stats). x.l1u) s.stats)) t.u in
     let lower = below plan seed events in
-    let es = empties_level seed plan.second lower old.second t.dirty_second new.second (with_counts seed plan.second lower old.second s.second (ap (λ (x : Stats). x.l2u) s.stats)) t.second in
+    let es =
+    empties_level seed plan.second lower old.second t.dirty_second new.second
+    (with_counts seed plan.second lower old.second s.second (ap (λ (x : Stats). x.l2u) s.stats)) t.second in
     let i = kept_flush seed L1I plan.i events t.dirty_i new.i ei in
     let d = kept_flush seed L1D plan.d events t.dirty_d new.d ed in
     let u = kept_flush seed L1U plan.u events t.dirty_u new.u eu in
-    let second : KeptLevel seed plan.second (below plan seed all) new.second = subst (λ (x : List Event). KeptLevel seed plan.second x new.second) (sym (below_flush plan seed events)) es.kept in
-    let same : to_memory seed plan.second (below plan seed all) ≡ to_memory seed plan.second lower = ap (to_memory seed plan.second) (below_flush plan seed events) ∙ memory_flush seed plan.second lower in
+    let second : KeptLevel seed plan.second (below plan seed all) new.second =
+    subst (λ (x : List Event). KeptLevel seed plan.second x new.second) (sym (below_flush plan seed events)) es.kept in
+    let same : to_memory seed plan.second (below plan seed all) ≡ to_memory seed plan.second lower =
+    ap (to_memory seed plan.second) (below_flush plan seed events) ∙ memory_flush seed plan.second lower in
     let reads : new.memory.reads ≡ count_by is_read_of (to_memory seed plan.second (below plan seed all)) =
     ap (λ (m : Memory). m.reads) t.memory ∙ ap (λ (x : Stats). x.memory_reads) s.stats ∙ sym (ap (count_by is_read_of) same) in
     let moved : new.memory.writes ≡ old.memory.writes + (t.dirty_i + t.dirty_d + t.dirty_u + t.dirty_second) = ap (λ (m : Memory). m.writes) t.memory in
-    let before : old.memory.writes ≡ count_by is_write_of (to_memory seed plan.second lower) + flushed_all plan seed events = ap (λ (x : Stats). x.memory_writes) s.stats in
+    let before : old.memory.writes ≡ count_by is_write_of (to_memory seed plan.second lower) + flushed_all plan seed events =
+    ap (λ (x : Stats). x.memory_writes) s.stats in
     let writes : new.memory.writes ≡ count_by is_write_of (to_memory seed plan.second (below plan seed all)) + flushed_all plan seed all =
     omega (
       arith,
@@ -252,7 +300,8 @@ flush_law plan seed events old new s t =
       ap (level_flushed seed plan.second) (below_flush plan seed events) ∙ es.found,
     ) in
     let untaken : Ref → Bool = λ r. not (is_taken plan r) in
-    let bypassed : new.bypassed ≡ count_by untaken (references_in all) = t.bypassed ∙ ap (λ (x : Stats). x.bypassed) s.stats ∙ sym (ap (count_by untaken) (references_flush events)) in
+    let bypassed : new.bypassed ≡ count_by untaken (references_in all) =
+    t.bypassed ∙ ap (λ (x : Stats). x.bypassed) s.stats ∙ sym (ap (count_by untaken) (references_flush events)) in
     record {
       i = stands_of seed plan.i (events_for L1I all) new.i i;
       d = stands_of seed plan.d (events_for L1D all) new.d d;
@@ -271,7 +320,8 @@ flush_law plan seed events old new s t =
     }
 
 pub system_runs_law : SystemRunLaw
-system_runs_law plan seed events [] old new p i r = subst (λ es. SystemStands plan seed es new) (sym (append-nil events)) (subst (SystemStands plan seed events) (sym r) i)
+system_runs_law plan seed events [] old new p i r =
+    subst (λ es. SystemStands plan seed es new) (sym (append-nil events)) (subst (SystemStands plan seed events) (sym r) i)
 system_runs_law plan seed events (event.Reference ref ∷ more) old new p i (half, a, r) =
     subst (λ es. SystemStands plan seed es new) (append_assoc events (event.Reference ref ∷ []) more)
     (system_runs_law plan seed (events ++ event.Reference ref ∷ []) more half new p (step_law plan seed events old ref half p i a) r)

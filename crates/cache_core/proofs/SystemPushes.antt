@@ -1,5 +1,6 @@
 -- A system's lists of events and counts, with one more event.
-use Rattle.std.proofs.Common.{◌≡◌, ℕ, ◌+◌, ◌&&◌, not, Bool, true, false, cond, List, [], ◌∷◌, ◌++◌, map, Option, Some, None, refl, sym, ◌∙◌, ap, arith, append_assoc, append-nil}
+use Rattle.std.proofs.Common.{◌≡◌, ℕ, ◌+◌, ◌&&◌, not, Bool, true, false, cond, List, [], ◌∷◌, ◌++◌, map, Option, Some, None, refl}
+use Rattle.std.proofs.Common.{sym, ◌∙◌, ap, arith, append_assoc, append-nil}
 use Rattle.std.specs.Prelude.{fold, count_by, flat_map, is_some}
 use Rattle.std.proofs.lemmas.Grind.{flat_map-append}
 use Rattle.std.proofs.lemmas.List.Elements.{filter-append}
@@ -12,12 +13,14 @@ use Rattle.cache_core.specs.Outcomes.{Answer, is_write, outcome_of}
 use Rattle.cache_core.specs.Machine.{Machine, MachineState, start, run, next, step, answer, answered, dirty_count}
 use Rattle.cache_core.specs.Order.{is_dirty, one_if}
 use Rattle.cache_core.specs.Levels.{Levels}
-use Rattle.cache_core.specs.Systems.{machine_of, is_fetch, is_read, takes, takes_event, events_for, sent, below_from, below, flushed_from, flushed, cache_stats, level_flushed, references_in, to_memory}
+use Rattle.cache_core.specs.Systems.{machine_of, is_fetch, is_read, takes, takes_event, events_for, sent, below_from, below, flushed_from, flushed}
+use Rattle.cache_core.specs.Systems.{cache_stats, level_flushed, references_in, to_memory}
 use Rattle.cache_core.specs.Stages.{tally}
 use Rattle.cache_core.proofs.Pushes.{count_by_push, answered_push, answered_flush}
 
 -- the dirty blocks that its flushes find
-flushed_push_from : (m : Machine) (st : MachineState) (events : List Event) (ref : Ref) → flushed_from m st (events ++ event.Reference ref ∷ []) ≡ flushed_from m st events
+flushed_push_from : (m : Machine) (st : MachineState) (events : List Event) (ref : Ref) →
+    flushed_from m st (events ++ event.Reference ref ∷ []) ≡ flushed_from m st events
 flushed_push_from m st [] ref = refl
 flushed_push_from m st (event.Reference r ∷ events) ref = flushed_push_from m (step m st r) events ref
 flushed_push_from m st (event.Flush ∷ events) ref = ap (λ n. dirty_count st + n) (flushed_push_from m (next m st event.Flush) events ref)
@@ -25,7 +28,8 @@ flushed_push_from m st (event.Flush ∷ events) ref = ap (λ n. dirty_count st +
 pub flushed_push : (m : Machine) (events : List Event) (ref : Ref) → flushed m (events ++ event.Reference ref ∷ []) ≡ flushed m events
 flushed_push m events ref = flushed_push_from m start events ref
 
-flushed_flush_from : (m : Machine) (st : MachineState) (events : List Event) → flushed_from m st (events ++ event.Flush ∷ []) ≡ flushed_from m st events + dirty_count (fold (next m) st events)
+flushed_flush_from : (m : Machine) (st : MachineState) (events : List Event) →
+    flushed_from m st (events ++ event.Flush ∷ []) ≡ flushed_from m st events + dirty_count (fold (next m) st events)
 flushed_flush_from m st [] = omega arith
 flushed_flush_from m st (event.Reference r ∷ events) = flushed_flush_from m (step m st r) events
 flushed_flush_from m st (event.Flush ∷ events) = omega (arith, flushed_flush_from m (next m st event.Flush) events)
@@ -34,13 +38,15 @@ pub flushed_flush : (m : Machine) (events : List Event) → flushed m (events ++
 flushed_flush m events = flushed_flush_from m start events
 
 -- its counts
-pub counts_push : (m : Machine) (events : List Event) (ref : Ref) → cache_stats m (events ++ event.Reference ref ∷ []) ≡ tally (cache_stats m events) ref (outcome_of (answer m (run m events) ref))
+pub counts_push : (m : Machine) (events : List Event) (ref : Ref) →
+    cache_stats m (events ++ event.Reference ref ∷ []) ≡ tally (cache_stats m events) ref (outcome_of (answer m (run m events) ref))
 counts_push m events ref =
     let all : List (Ref × Answer) = answered m events in
     let pair : Ref × Answer = (ref, answer m (run m events) ref) in
     let more : (p : Ref × Answer → Bool) → count_by p (answered m (events ++ event.Reference ref ∷ [])) ≡ count_by p all + cond (p pair) 1 0 =
     λ p. ap (count_by p) (answered_push m events ref) ∙ count_by_push p all pair in
-    let copybacks : count_by (λ (p : Ref × Answer). is_dirty p.1.evicted) (answered m (events ++ event.Reference ref ∷ [])) + flushed m (events ++ event.Reference ref ∷ [])
+    let copybacks : count_by (λ (p : Ref × Answer). is_dirty p.1.evicted) (answered m (events ++ event.Reference ref ∷ []))
+    + flushed m (events ++ event.Reference ref ∷ [])
     ≡ count_by (λ (p : Ref × Answer). is_dirty p.1.evicted) all + flushed m events + one_if (is_dirty pair.1.evicted) =
     omega (arith, more (λ p. is_dirty p.1.evicted), flushed_push m events ref) in
     cc (
@@ -54,10 +60,14 @@ counts_push m events ref =
       copybacks,
     )
 
-pub counts_flush : (m : Machine) (events : List Event) → cache_stats m (events ++ event.Flush ∷ []) ≡ record (cache_stats m events) { copybacks = (cache_stats m events).copybacks + dirty_count (run m events) }
+pub counts_flush : (m : Machine) (events : List Event) →
+    cache_stats m (events ++ event.Flush ∷ [])
+    ≡ record (cache_stats m events) { copybacks = (cache_stats m events).copybacks + dirty_count (run m events) }
 counts_flush m events =
-    let same : (p : Ref × Answer → Bool) → count_by p (answered m (events ++ event.Flush ∷ [])) ≡ count_by p (answered m events) = λ p. ap (count_by p) (answered_flush m events) in
-    let copybacks : count_by (λ (p : Ref × Answer). is_dirty p.1.evicted) (answered m (events ++ event.Flush ∷ [])) + flushed m (events ++ event.Flush ∷ [])
+    let same : (p : Ref × Answer → Bool) → count_by p (answered m (events ++ event.Flush ∷ [])) ≡ count_by p (answered m events) =
+    λ p. ap (count_by p) (answered_flush m events) in
+    let copybacks : count_by (λ (p : Ref × Answer). is_dirty p.1.evicted) (answered m (events ++ event.Flush ∷ []))
+    + flushed m (events ++ event.Flush ∷ [])
     ≡ count_by (λ (p : Ref × Answer). is_dirty p.1.evicted) (answered m events) + flushed m events + dirty_count (run m events) =
     omega (arith, same (λ p. is_dirty p.1.evicted), flushed_flush m events) in
     cc (
@@ -72,13 +82,16 @@ counts_flush m events =
     )
 
 -- the events of a cache of the first level
-pub events_taken : (name : CacheName) (events : List Event) (ref : Ref) → takes name ref ≡ true → events_for name (events ++ event.Reference ref ∷ []) ≡ events_for name events ++ event.Reference ref ∷ []
+pub events_taken : (name : CacheName) (events : List Event) (ref : Ref) → takes name ref ≡ true →
+    events_for name (events ++ event.Reference ref ∷ []) ≡ events_for name events ++ event.Reference ref ∷ []
 events_taken name events ref t =
     filter-append (takes_event name) events (event.Reference ref ∷ []) ∙ ap (λ b. events_for name events ++ cond b (event.Reference ref ∷ []) []) t
 
-pub events_left : (name : CacheName) (events : List Event) (ref : Ref) → takes name ref ≡ false → events_for name (events ++ event.Reference ref ∷ []) ≡ events_for name events
+pub events_left : (name : CacheName) (events : List Event) (ref : Ref) → takes name ref ≡ false →
+    events_for name (events ++ event.Reference ref ∷ []) ≡ events_for name events
 events_left name events ref t =
-    filter-append (takes_event name) events (event.Reference ref ∷ []) ∙ ap (λ b. events_for name events ++ cond b (event.Reference ref ∷ []) []) t ∙ append-nil (events_for name events)
+    filter-append (takes_event name) events (event.Reference ref ∷ []) ∙ ap (λ b. events_for name events ++ cond b (event.Reference ref ∷ []) []) t
+    ∙ append-nil (events_for name events)
 
 pub events_flush : (name : CacheName) (events : List Event) → events_for name (events ++ event.Flush ∷ []) ≡ events_for name events ++ event.Flush ∷ []
 events_flush name events = filter-append (takes_event name) events (event.Flush ∷ [])
@@ -95,28 +108,39 @@ references_flush (event.Reference r ∷ events) = ap (λ xs. r ∷ xs) (referenc
 references_flush (event.Flush ∷ events) = references_flush events
 
 -- what goes down from the first level
-below_push_from : (plan : Levels) (seed : ℕ) (earlier events : List Event) (ref : Ref) → below_from plan seed earlier (events ++ event.Reference ref ∷ []) ≡ below_from plan seed earlier events ++ map (λ x. event.Reference x) (sent plan seed (earlier ++ events) ref)
+below_push_from : (plan : Levels) (seed : ℕ) (earlier events : List Event) (ref : Ref) →
+    below_from plan seed earlier (events ++ event.Reference ref ∷ [])
+    ≡ below_from plan seed earlier events ++ map (λ x. event.Reference x) (sent plan seed (earlier ++ events) ref)
 below_push_from plan seed earlier [] ref =
-    append-nil (map (λ x. event.Reference x) (sent plan seed earlier ref)) ∙ ap (λ es. map (λ x. event.Reference x) (sent plan seed es ref)) (sym (append-nil earlier))
+    append-nil (map (λ x. event.Reference x) (sent plan seed earlier ref))
+    ∙ ap (λ es. map (λ x. event.Reference x) (sent plan seed es ref)) (sym (append-nil earlier))
 below_push_from plan seed earlier (event.Reference r ∷ events) ref =
     ap (λ es. map (λ x. event.Reference x) (sent plan seed earlier r) ++ es) (below_push_from plan seed (earlier ++ event.Reference r ∷ []) events ref)
     ∙ sym (append_assoc (map (λ x. event.Reference x) (sent plan seed earlier r)) (below_from plan seed (earlier ++ event.Reference r ∷ []) events) _)
-    ∙ ap (λ es. map (λ x. event.Reference x) (sent plan seed earlier r) ++ below_from plan seed (earlier ++ event.Reference r ∷ []) events ++ map (λ x. event.Reference x) (sent plan seed es ref)) (append_assoc earlier (event.Reference r ∷ []) events)
+    ∙ ap
+    (λ es. map (λ x. event.Reference x) (sent plan seed earlier r) ++ below_from plan seed (earlier ++ event.Reference r ∷ []) events
+    ++ map (λ x. event.Reference x) (sent plan seed es ref))
+    (append_assoc earlier (event.Reference r ∷ []) events)
 below_push_from plan seed earlier (event.Flush ∷ events) ref =
     ap (λ es. event.Flush ∷ es) (below_push_from plan seed (earlier ++ event.Flush ∷ []) events ref)
-    ∙ ap (λ es. event.Flush ∷ (below_from plan seed (earlier ++ event.Flush ∷ []) events ++ map (λ x. event.Reference x) (sent plan seed es ref))) (append_assoc earlier (event.Flush ∷ []) events)
+    ∙ ap (λ es. event.Flush ∷ (below_from plan seed (earlier ++ event.Flush ∷ []) events ++ map (λ x. event.Reference x) (sent plan seed es ref)))
+    (append_assoc earlier (event.Flush ∷ []) events)
 
-pub below_push : (plan : Levels) (seed : ℕ) (events : List Event) (ref : Ref) → below plan seed (events ++ event.Reference ref ∷ []) ≡ below plan seed events ++ map (λ x. event.Reference x) (sent plan seed events ref)
+pub below_push : (plan : Levels) (seed : ℕ) (events : List Event) (ref : Ref) →
+    below plan seed (events ++ event.Reference ref ∷ []) ≡ below plan seed events ++ map (λ x. event.Reference x) (sent plan seed events ref)
 below_push plan seed events ref = below_push_from plan seed [] events ref
 
-below_flush_from : (plan : Levels) (seed : ℕ) (earlier events : List Event) → below_from plan seed earlier (events ++ event.Flush ∷ []) ≡ below_from plan seed earlier events ++ event.Flush ∷ []
+below_flush_from : (plan : Levels) (seed : ℕ) (earlier events : List Event) →
+    below_from plan seed earlier (events ++ event.Flush ∷ []) ≡ below_from plan seed earlier events ++ event.Flush ∷ []
 below_flush_from plan seed earlier [] = refl
 below_flush_from plan seed earlier (event.Reference r ∷ events) =
     ap (λ es. map (λ x. event.Reference x) (sent plan seed earlier r) ++ es) (below_flush_from plan seed (earlier ++ event.Reference r ∷ []) events)
-    ∙ sym (append_assoc (map (λ x. event.Reference x) (sent plan seed earlier r)) (below_from plan seed (earlier ++ event.Reference r ∷ []) events) (event.Flush ∷ []))
+    ∙ sym (append_assoc (map (λ x. event.Reference x) (sent plan seed earlier r)) (below_from plan seed (earlier ++ event.Reference r ∷ []) events)
+    (event.Flush ∷ []))
 below_flush_from plan seed earlier (event.Flush ∷ events) = ap (λ es. event.Flush ∷ es) (below_flush_from plan seed (earlier ++ event.Flush ∷ []) events)
 
-pub below_flush : (plan : Levels) (seed : ℕ) (events : List Event) → below plan seed (events ++ event.Flush ∷ []) ≡ below plan seed events ++ event.Flush ∷ []
+pub below_flush : (plan : Levels) (seed : ℕ) (events : List Event) →
+    below plan seed (events ++ event.Flush ∷ []) ≡ below plan seed events ++ event.Flush ∷ []
 below_flush plan seed events = below_flush_from plan seed [] events
 
 -- what reaches memory
@@ -124,7 +148,8 @@ abbrev pub level_down : ℕ → Option Level → List Event → Ref → List Ref
 level_down seed None events ref = ref ∷ []
 level_down seed (Some level) events ref = (answer (machine_of seed level) (run (machine_of seed level) events) ref).down
 
-pub memory_push : (seed : ℕ) (level : Option Level) (events : List Event) (ref : Ref) → to_memory seed level (events ++ event.Reference ref ∷ []) ≡ to_memory seed level events ++ level_down seed level events ref
+pub memory_push : (seed : ℕ) (level : Option Level) (events : List Event) (ref : Ref) →
+    to_memory seed level (events ++ event.Reference ref ∷ []) ≡ to_memory seed level events ++ level_down seed level events ref
 memory_push seed None events ref = references_push events ref
 memory_push seed (Some level) events ref =
     let m = machine_of seed level in
@@ -132,10 +157,12 @@ memory_push seed (Some level) events ref =
     ap (flat_map down) (answered_push m events ref) ∙ flat_map-append down (answered m events) ((ref, answer m (run m events) ref) ∷ [])
     ∙ ap (λ xs. flat_map down (answered m events) ++ xs) (append-nil (answer m (run m events) ref).down)
 
-pub memory_flush : (seed : ℕ) (level : Option Level) (events : List Event) → to_memory seed level (events ++ event.Flush ∷ []) ≡ to_memory seed level events
+pub memory_flush : (seed : ℕ) (level : Option Level) (events : List Event) →
+    to_memory seed level (events ++ event.Flush ∷ []) ≡ to_memory seed level events
 memory_flush seed None events = references_flush events
 memory_flush seed (Some level) events = ap (flat_map (λ p. p.1.down)) (answered_flush (machine_of seed level) events)
 
-pub level_flushed_push : (seed : ℕ) (level : Option Level) (events : List Event) (ref : Ref) → level_flushed seed level (events ++ event.Reference ref ∷ []) ≡ level_flushed seed level events
+pub level_flushed_push : (seed : ℕ) (level : Option Level) (events : List Event) (ref : Ref) →
+    level_flushed seed level (events ++ event.Reference ref ∷ []) ≡ level_flushed seed level events
 level_flushed_push seed None events ref = refl
 level_flushed_push seed (Some level) events ref = flushed_push (machine_of seed level) events ref

@@ -34,34 +34,44 @@ stats i d u second reads writes bypassed = record { l1i = i; l1d = d; l1u = u; l
 written_block_is_copied_back : system_run (unified one None) 42 (write 0 ∷ read 0x10 ∷ []) ≡ stats None None (Some (counted 0 0 1 1 1 1 1 1)) None 2 1 0
 written_block_is_copied_back = refl
 
-written_through : system_run (unified (level 1 Lru Through Always) None) 42 (write 0 ∷ read 0x10 ∷ []) ≡ stats None None (Some (counted 0 0 1 1 1 1 1 0)) None 2 1 0
+written_through : system_run (unified (level 1 Lru Through Always) None) 42 (write 0 ∷ read 0x10 ∷ [])
+    ≡ stats None None (Some (counted 0 0 1 1 1 1 1 0)) None 2 1 0
 written_through = refl
 
-written_around : system_run (unified (level 1 Lru Through Never) None) 42 (write 0 ∷ read 0x10 ∷ []) ≡ stats None None (Some (counted 0 0 1 1 1 1 0 0)) None 1 1 0
+written_around : system_run (unified (level 1 Lru Through Never) None) 42 (write 0 ∷ read 0x10 ∷ [])
+    ≡ stats None None (Some (counted 0 0 1 1 1 1 0 0)) None 1 1 0
 written_around = refl
 
-second_level_hits : system_run (unified one (Some (level 2 Lru Back Always))) 42 (read 0 ∷ read 0x10 ∷ read 0 ∷ []) ≡ stats None None (Some (counted 0 0 3 3 0 0 2 0)) (Some (counted 0 0 3 2 0 0 0 0)) 2 0 0
+second_level_hits : system_run (unified one (Some (level 2 Lru Back Always))) 42 (read 0 ∷ read 0x10 ∷ read 0 ∷ [])
+    ≡ stats None None (Some (counted 0 0 3 3 0 0 2 0)) (Some (counted 0 0 3 2 0 0 0 0)) 2 0 0
 second_level_hits = refl
 
-fetch_bypasses : system_run (record { i = None; d = Some one; u = None; second = None }) 42 (fetch 0 ∷ read 0 ∷ []) ≡ stats None (Some (counted 0 0 1 1 0 0 0 0)) None None 1 0 1
+fetch_bypasses : system_run (record { i = None; d = Some one; u = None; second = None }) 42 (fetch 0 ∷ read 0 ∷ [])
+    ≡ stats None (Some (counted 0 0 1 1 0 0 0 0)) None None 1 0 1
 fetch_bypasses = refl
 
 flush_copies_back : system_run (unified one None) 42 (write 0 ∷ event.Flush ∷ read 0 ∷ []) ≡ stats None None (Some (counted 0 0 1 1 1 1 0 1)) None 2 1 0
 flush_copies_back = refl
 
-copyback_enters_the_second_level : system_run (unified one (Some one)) 42 (write 0 ∷ read 0x10 ∷ []) ≡ stats None None (Some (counted 0 0 1 1 1 1 1 1)) (Some (counted 0 0 2 2 1 0 1 1)) 2 1 0
+copyback_enters_the_second_level : system_run (unified one (Some one)) 42 (write 0 ∷ read 0x10 ∷ [])
+    ≡ stats None None (Some (counted 0 0 1 1 1 1 1 1)) (Some (counted 0 0 2 2 1 0 1 1)) 2 1 0
 copyback_enters_the_second_level = refl
 
-bypassed_reference_enters_no_level : system_run (record { i = None; d = Some one; u = None; second = Some (level 2 Lru Back Always) }) 42 (fetch 0 ∷ read 0 ∷ []) ≡ stats None (Some (counted 0 0 1 1 0 0 0 0)) None (Some (counted 0 0 1 1 0 0 0 0)) 1 0 1
+bypassed_reference_enters_no_level : system_run (record { i = None; d = Some one; u = None; second = Some (level 2 Lru Back Always) }) 42
+    (fetch 0 ∷ read 0 ∷ [])
+    ≡ stats None (Some (counted 0 0 1 1 0 0 0 0)) None (Some (counted 0 0 1 1 0 0 0 0)) 1 0 1
 bypassed_reference_enters_no_level = refl
 
-split_first_level : system_run (record { i = Some one; d = Some one; u = None; second = None }) 42 (fetch 0 ∷ write 0 ∷ fetch 4 ∷ []) ≡ stats (Some (counted 2 1 0 0 0 0 0 0)) (Some (counted 0 0 0 0 1 1 0 0)) None None 2 0 0
+split_first_level : system_run (record { i = Some one; d = Some one; u = None; second = None }) 42 (fetch 0 ∷ write 0 ∷ fetch 4 ∷ [])
+    ≡ stats (Some (counted 2 1 0 0 0 0 0 0)) (Some (counted 0 0 0 0 1 1 0 0)) None None 2 0 0
 split_first_level = refl
 
-each_level_is_flushed : system_run (unified one (Some (level 2 Lru Back Always))) 42 (write 0 ∷ read 0x10 ∷ event.Flush ∷ []) ≡ stats None None (Some (counted 0 0 1 1 1 1 1 1)) (Some (counted 0 0 2 2 1 0 0 1)) 2 1 0
+each_level_is_flushed : system_run (unified one (Some (level 2 Lru Back Always))) 42 (write 0 ∷ read 0x10 ∷ event.Flush ∷ [])
+    ≡ stats None None (Some (counted 0 0 1 1 1 1 1 1)) (Some (counted 0 0 2 2 1 0 0 1)) 2 1 0
 each_level_is_flushed = refl
 
-flushed_lines_go_past_the_second_level : system_run (unified one (Some (level 2 Lru Back Always))) 42 (write 0 ∷ event.Flush ∷ []) ≡ stats None None (Some (counted 0 0 0 0 1 1 0 1)) (Some (counted 0 0 1 1 0 0 0 0)) 1 1 0
+flushed_lines_go_past_the_second_level : system_run (unified one (Some (level 2 Lru Back Always))) 42 (write 0 ∷ event.Flush ∷ [])
+    ≡ stats None None (Some (counted 0 0 0 0 1 1 0 1)) (Some (counted 0 0 1 1 0 0 0 0)) 1 1 0
 flushed_lines_go_past_the_second_level = refl
 
 random_victims : system_run (unified (level 2 Random Back Always) None) 42 six ≡ stats None None (Some (counted 0 0 6 4 0 0 2 0)) None 4 0 0

@@ -1,5 +1,7 @@
 -- What a list of touched sets says of the counts, kept as the counts change.
-use Rattle.std.proofs.Common.{◌≡◌, ◌<◌, ◌+◌, ◌++◌, ◌||◌, ◌&&◌, not, Bool, true, false, cond, eqb, ltb, ℕ, zero, suc, List, [], ◌∷◌, Option, Some, None, length, get_or, set, replicate, drop, refl, sym, subst, ap, ◌∙◌, arith, ⊎_elim, length-set, add-one, drop-cons, get_or-set_same, get_or-set_other}
+use Rattle.std.proofs.Common.{◌≡◌, ◌<◌, ◌+◌, ◌++◌, ◌||◌, ◌&&◌, not, Bool, true, false, cond, eqb, ltb, ℕ, zero, suc, List, []}
+use Rattle.std.proofs.Common.{◌∷◌, Option, Some, None, length, get_or, set, replicate, drop, refl, sym, subst, ap, ◌∙◌, arith, ⊎_elim}
+use Rattle.std.proofs.Common.{length-set, add-one, drop-cons, get_or-set_same, get_or-set_other}
 use Rattle.std.specs.Prelude.{All, IfSome}
 use Rattle.std.specs.List.{list_any}
 use Rattle.std.proofs.lemmas.Bool.{cases_eq, eq-eqb, eqb-true, ne_eqb, false≢true}
@@ -22,7 +24,8 @@ zero_at (suc n) zero = refl
 zero_at (suc n) (suc k) = zero_at n k
 
 -- a list of no set stands for counts that are all 0
-pub covers_none : (touched : Touched) (room n : ℕ) (counts : List ℕ) → touched ≡ record { room = room; listed = Some [] } → counts ≡ replicate n 0 → Covers touched counts
+pub covers_none : (touched : Touched) (room n : ℕ) (counts : List ℕ) → touched ≡ record { room = room; listed = Some [] } →
+    counts ≡ replicate n 0 → Covers touched counts
 covers_none touched room n counts is none = rw (is, none) record { within = All-nil (λ k. k < length (replicate n 0)); others = λ k _. zero_at n k }
 
 or_left : (a b : Bool) → (a || b) ≡ false → a ≡ false
@@ -34,12 +37,14 @@ or_right true b h = absurd (false≢true (sym h))
 or_right false b h = h
 
 -- a count changes, and is 0 then if its set is not listed
-changed : (sets counts : List ℕ) (k n : ℕ) → k < length counts → ListsFilled sets counts → (list_any (λ other. eqb other k) sets ≡ false → n ≡ 0) → ListsFilled sets (set counts k n)
+changed : (sets counts : List ℕ) (k n : ℕ) → k < length counts → ListsFilled sets counts →
+    (list_any (λ other. eqb other k) sets ≡ false → n ≡ 0) → ListsFilled sets (set counts k n)
 changed sets counts k n lt l h = record {
   within = subst (λ (m : ℕ). All (λ j. j < m) sets) (sym (length-set counts k n)) l.within;
   others = λ j unlisted.
       ⊎_elim
-      (λ (e : j ≡ k). ap (λ i. get_or (set counts k n) i 0) e ∙ get_or-set_same counts k n 0 lt ∙ h (subst (λ (i : ℕ). list_any (λ other. eqb other i) sets ≡ false) e unlisted))
+      (λ (e : j ≡ k). ap (λ i. get_or (set counts k n) i 0) e ∙ get_or-set_same counts k n 0 lt
+      ∙ h (subst (λ (i : ℕ). list_any (λ other. eqb other i) sets ≡ false) e unlisted))
       (λ (ne : j ≡ k → ⊥). get_or-set_other counts k j n 0 ne ∙ l.others j unlisted)
       (cases_eq j k);
 }
@@ -53,34 +58,40 @@ emptied k sets counts l =
       others = λ j unlisted.
           ⊎_elim
           (λ (e : j ≡ k). ap (λ i. get_or (set counts k 0) i 0) e ∙ get_or-set_same counts k 0 0 lt)
-          (λ (ne : j ≡ k → ⊥). get_or-set_other counts k j 0 0 ne ∙ l.others j (ap (λ b. b || list_any (λ other. eqb other j) sets) (ne_eqb k j (λ e. ne (sym e))) ∙ unlisted))
+          (λ (ne : j ≡ k → ⊥). get_or-set_other counts k j 0 0 ne
+          ∙ l.others j (ap (λ b. b || list_any (λ other. eqb other j) sets) (ne_eqb k j (λ e. ne (sym e))) ∙ unlisted))
           (cases_eq j k);
     }
 
 -- what is left of a list begins with a set that has a count
-pub next_listed : (sets counts : List ℕ) (i : ℕ) → i < length sets → ListsFilled (drop i sets) counts → ListsFilled (get_or sets i 0 ∷ drop (i + 1) sets) counts
+pub next_listed : (sets counts : List ℕ) (i : ℕ) → i < length sets → ListsFilled (drop i sets) counts →
+    ListsFilled (get_or sets i 0 ∷ drop (i + 1) sets) counts
 next_listed sets counts i lt l = subst (λ xs. ListsFilled xs counts) (drop-cons sets i 0 lt ∙ ap (λ n. get_or sets i 0 ∷ drop n sets) (sym (add-one i))) l
 
 -- a list with one set more
 longer : (sets counts : List ℕ) (k : ℕ) → k < length counts → ListsFilled sets counts → ListsFilled (sets ++ k ∷ []) counts
 longer sets counts k lt l = record {
   within = All-append (λ j. j < length counts) sets (k ∷ []) l.within (All-cons (λ j. j < length counts) k [] lt (All-nil (λ j. j < length counts)));
-  others = λ j unlisted. l.others j (or_left _ (list_any (λ other. eqb other j) (k ∷ [])) (sym (list_any-append (λ other. eqb other j) sets (k ∷ [])) ∙ unlisted));
+  others = λ j unlisted.
+      l.others j (or_left _ (list_any (λ other. eqb other j) (k ∷ [])) (sym (list_any-append (λ other. eqb other j) sets (k ∷ [])) ∙ unlisted));
 }
 
 last_listed : (sets : List ℕ) (k n : ℕ) → list_any (λ other. eqb other k) (sets ++ k ∷ []) ≡ false → n ≡ 0
 last_listed sets k n unlisted =
-    let last : (eqb k k || false) ≡ false = or_right (list_any (λ other. eqb other k) sets) _ (sym (list_any-append (λ other. eqb other k) sets (k ∷ [])) ∙ unlisted) in
+    let last : (eqb k k || false) ≡ false =
+    or_right (list_any (λ other. eqb other k) sets) _ (sym (list_any-append (λ other. eqb other k) sets (k ∷ [])) ∙ unlisted) in
     absurd (false≢true (sym (or_left (eqb k k) false last) ∙ eq-eqb k k refl))
 
-covers_joined : (room k n : ℕ) (listed : Option (List ℕ)) (counts : List ℕ) → k < length counts → IfSome listed (λ sets. ListsFilled sets counts) → IfSome (joined room k listed) (λ sets. ListsFilled sets (set counts k n))
+covers_joined : (room k n : ℕ) (listed : Option (List ℕ)) (counts : List ℕ) → k < length counts →
+    IfSome listed (λ sets. ListsFilled sets counts) → IfSome (joined room k listed) (λ sets. ListsFilled sets (set counts k n))
 covers_joined room k n None counts lt l = tt
 covers_joined room k n (Some sets) counts lt l =
     cases (λ b. IfSome (cond b (Some (sets ++ k ∷ [])) None) (λ xs. ListsFilled xs (set counts k n))) (ltb (length sets) room)
     (λ _. changed (sets ++ k ∷ []) counts k n lt (longer sets counts k lt l) (last_listed sets k n))
     (λ _. tt)
 
-covers_kept : (k n : ℕ) (listed : Option (List ℕ)) (counts : List ℕ) → k < length counts → (get_or counts k 0 ≡ 0 → n ≡ 0) → IfSome listed (λ sets. ListsFilled sets counts) → IfSome listed (λ sets. ListsFilled sets (set counts k n))
+covers_kept : (k n : ℕ) (listed : Option (List ℕ)) (counts : List ℕ) → k < length counts → (get_or counts k 0 ≡ 0 → n ≡ 0) →
+    IfSome listed (λ sets. ListsFilled sets counts) → IfSome listed (λ sets. ListsFilled sets (set counts k n))
 covers_kept k n None counts lt h l = tt
 covers_kept k n (Some sets) counts lt h l = changed sets counts k n lt l (λ unlisted. h (l.others k unlisted))
 
@@ -88,11 +99,14 @@ covers_kept k n (Some sets) counts lt h l = changed sets counts k n lt l (λ unl
 not_grown : (before after : ℕ) → (eqb before 0 && not (eqb after 0)) ≡ false → before ≡ 0 → after ≡ 0
 not_grown before after h e =
     let some : not (eqb after 0) ≡ false = ap (λ b. b && not (eqb after 0)) (sym (eq-eqb before 0 e)) ∙ h in
-    cases (λ b. (eqb after 0 ≡ b) → (not b ≡ false) → after ≡ 0) (eqb after 0) (λ _ is _. eqb-true after 0 is) (λ _ _ n. absurd (false≢true (sym n))) refl some
+    cases (λ b. (eqb after 0 ≡ b) → (not b ≡ false) → after ≡ 0) (eqb after 0) (λ _ is _. eqb-true after 0 is)
+    (λ _ _ n. absurd (false≢true (sym n))) refl some
 
 -- the count of a set changes
-pub covers_change : (touched : Touched) (counts : List ℕ) (k before after : ℕ) → k < length counts → before ≡ get_or counts k 0 → Covers touched counts → Covers (after_count k before after touched) (set counts k after)
+pub covers_change : (touched : Touched) (counts : List ℕ) (k before after : ℕ) → k < length counts → before ≡ get_or counts k 0 →
+    Covers touched counts → Covers (after_count k before after touched) (set counts k after)
 covers_change touched counts k before after lt is l =
-    cases (λ b. Covers (cond b (record touched { listed = joined touched.room k touched.listed }) touched) (set counts k after)) (eqb before 0 && not (eqb after 0))
+    cases (λ b. Covers (cond b (record touched { listed = joined touched.room k touched.listed }) touched) (set counts k after))
+    (eqb before 0 && not (eqb after 0))
     (λ _. covers_joined touched.room k after touched.listed counts lt l)
     (λ h. covers_kept k after touched.listed counts lt (λ e. not_grown before after h (is ∙ e)) l)

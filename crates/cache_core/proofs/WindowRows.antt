@@ -37,7 +37,8 @@ nine_seen : map (seen (sets_of_lines 0 1)) (places (sets_of_lines 0 1) nine) ≡
 unfolding window places_after distinct distinct_of_set
 nine_seen = refl
 
-nine_in_one_set : map (λ e. counts (sets_of_lines 0 e) nine) (1 ∷ 2 ∷ 3 ∷ 4 ∷ []) ≡ counted 3 6 5 ∷ counted 4 5 3 ∷ counted 5 4 1 ∷ counted 5 4 0 ∷ []
+nine_in_one_set : map (λ e. counts (sets_of_lines 0 e) nine) (1 ∷ 2 ∷ 3 ∷ 4 ∷ [])
+    ≡ counted 3 6 5 ∷ counted 4 5 3 ∷ counted 5 4 1 ∷ counted 5 4 0 ∷ []
 unfolding counts window places_after distinct distinct_of_set
 nine_in_one_set = refl
 
@@ -63,7 +64,8 @@ nine_held = refl
 abbrev pub twelve : List Event
 twelve = map (λ a. read (16 * a)) (1 ∷ 2 ∷ 3 ∷ 4 ∷ 1 ∷ 2 ∷ 5 ∷ 1 ∷ 2 ∷ 3 ∷ 4 ∷ 5 ∷ [])
 
-twelve_counts : map (λ e. counts (sets_of_lines 0 e) twelve) (1 ∷ 2 ∷ 3 ∷ 4 ∷ 5 ∷ []) ≡ counted 0 12 11 ∷ counted 0 12 10 ∷ counted 2 10 7 ∷ counted 4 8 4 ∷ counted 7 5 0 ∷ []
+twelve_counts : map (λ e. counts (sets_of_lines 0 e) twelve) (1 ∷ 2 ∷ 3 ∷ 4 ∷ 5 ∷ [])
+    ≡ counted 0 12 11 ∷ counted 0 12 10 ∷ counted 2 10 7 ∷ counted 4 8 4 ∷ counted 7 5 0 ∷ []
 unfolding counts window places_after distinct distinct_of_set
 twelve_counts = refl
 

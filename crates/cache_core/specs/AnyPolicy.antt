@@ -1,5 +1,6 @@
 -- Any lawful policy: a cache under it does what the stamp machine does, where any line of a full set may leave.
-use Rattle.std.specs.Prelude.{◌≡◌, ℕ, ◌≤◌, ◌^◌, Bool, true, false, ◌&&◌, List, [], Option, None, Some, is_none, find, map, length, replicate, Contains, IsPermutation}
+use Rattle.std.specs.Prelude.{◌≡◌, ℕ, ◌≤◌, ◌^◌, Bool, true, false, ◌&&◌, List, [], Option, None, Some, is_none, find, map, length}
+use Rattle.std.specs.Prelude.{replicate, Contains, IsPermutation}
 use Rattle.trace_core.specs.declared.events.Ref.{Ref}
 use Rattle.trace_core.specs.declared.events.Event.TheVariants as event
 use Rattle.cache_core.specs.declared.outcome.Outcome.{Outcome}
@@ -22,7 +23,8 @@ pub record HoldsSame (m : Machine) (st : MachineState) (c : Contents) : Type 0 w
 -- whether a reference places its block in a full set
 abbrev pub needs_room : Machine → MachineState → Ref → Bool
 needs_room m st ref =
-    is_none (find (is_block (block_of m.design.geometry ref.addr)) st.lines) && allocates m.design.allocate ref.access && is_full m st (set_of m.design.geometry ref.addr)
+    is_none (find (is_block (block_of m.design.geometry ref.addr)) st.lines) && allocates m.design.allocate ref.access
+    && is_full m st (set_of m.design.geometry ref.addr)
 
 -- A line leaves exactly where a block needs room, and then it is any line of the set.
 abbrev pub MayLeave : Bool → List Line → Option Line → Type 0

@@ -1,5 +1,6 @@
 -- The levels of a system of caches: as they are asked for, and as they are.
-use Rattle.std.specs.Prelude.{◌≡◌, ℕ, ◌*◌, ◌^◌, Bool, true, false, ◌||◌, ◌&&◌, ◌==◌, nat_lt, if◌then◌else◌, Option, Some, None, is_some, is_none, find, Result, Ok, Err, option_and_then, ◌↔◌, List, codes}
+use Rattle.std.specs.Prelude.{◌≡◌, ℕ, ◌*◌, ◌^◌, Bool, true, false, ◌||◌, ◌&&◌, ◌==◌, nat_lt, if◌then◌else◌, Option, Some}
+use Rattle.std.specs.Prelude.{None, is_some, is_none, find, Result, Ok, Err, option_and_then, ◌↔◌, List, codes}
 use Rattle.std.specs.List.{range_with_len}
 use Rattle.std.specs.Option.{option_map}
 use Rattle.cache_core.specs.declared.plan.Level.{Level}
@@ -67,7 +68,8 @@ has_smaller_blocks_than second (Some spec) = nat_lt second.bsize spec.bsize
 -- some first-level cache has larger blocks than the second-level one, if that is asked for
 abbrev pub has_larger_blocks_than : FirstLevel → Option CacheSpec → Bool
 has_larger_blocks_than first None = false
-has_larger_blocks_than first (Some second) = has_smaller_blocks_than second first.i || has_smaller_blocks_than second first.d || has_smaller_blocks_than second first.u
+has_larger_blocks_than first (Some second) =
+    has_smaller_blocks_than second first.i || has_smaller_blocks_than second first.d || has_smaller_blocks_than second first.u
 
 -- the first fault of a plan
 abbrev pub fault_of : FirstLevel → Option CacheSpec → Option PlanFault

@@ -1,6 +1,7 @@
 -- The stamp machine: a cache as a map with stamps. It holds blocks, each with a key and a dirty mark; the key says which
 -- block of a full set leaves. (LRU by stamps: Mattson, Gecsei, Slutz and Traiger 1970.)
-use Rattle.std.specs.Prelude.{ℕ, ◌+◌, ◌%◌, Bool, true, false, ◌||◌, ◌&&◌, not, List, [], ◌∷◌, ◌++◌, Option, Some, None, if◌then◌else◌, ◌==◌, nat_lt, length, filter, map, find, fold, count_by, is_some}
+use Rattle.std.specs.Prelude.{ℕ, ◌+◌, ◌%◌, Bool, true, false, ◌||◌, ◌&&◌, not, List, [], ◌∷◌, ◌++◌, Option, Some, None}
+use Rattle.std.specs.Prelude.{if◌then◌else◌, ◌==◌, nat_lt, length, filter, map, find, fold, count_by, is_some}
 use Rattle.trace_core.specs.declared.events.Ref.{Ref}
 use Rattle.trace_core.specs.declared.events.Event.{Event}
 use Rattle.trace_core.specs.declared.events.Event.TheVariants as event
@@ -111,7 +112,8 @@ placing m ref block leaving st =
     let set = set_of_block m.design.geometry block in
     record {
       clock = st.clock + 1;
-      lines = with_block m.policy (st.clock + 1) (length (lines_of_set m.design.geometry set st.lines)) (record { block = block; dirty = dirties m.design.write ref.access }) leaving st.lines;
+      lines = with_block m.policy (st.clock + 1) (length (lines_of_set m.design.geometry set st.lines))
+          (record { block = block; dirty = dirties m.design.write ref.access }) leaving st.lines;
       drawn = (if is_full m st set && draws m.policy then st.drawn + 1 else st.drawn);
     }
 

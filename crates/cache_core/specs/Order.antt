@@ -1,5 +1,7 @@
 -- What a cache holds, each set in its policy's order, and one access to it.
-use Rattle.std.specs.Prelude.{◌≡◌, ◌≢◌, ◌<◌, ◌≤◌, ℕ, ◌+◌, ◌%◌, Bool, true, false, List, [], ◌∷◌, ◌++◌, Option, Some, None, if◌then◌else◌, ◌==◌, length, MatchOption, MatchBool, slice_get, slice_set, slice_index_or, remove, position, sum_by, count_by, replicate, IsPermutation}
+use Rattle.std.specs.Prelude.{◌≡◌, ◌≢◌, ◌<◌, ◌≤◌, ℕ, ◌+◌, ◌%◌, Bool, true, false, List, [], ◌∷◌, ◌++◌, Option}
+use Rattle.std.specs.Prelude.{Some, None, if◌then◌else◌, ◌==◌, length, MatchOption, MatchBool, slice_get, slice_set, slice_index_or, remove}
+use Rattle.std.specs.Prelude.{position, sum_by, count_by, replicate, IsPermutation}
 use Rattle.trace_core.specs.declared.events.Ref.{Ref}
 use Rattle.cache_core.specs.declared.outcome.Slot.{Slot}
 use Rattle.cache_core.specs.declared.outcome.Outcome.{Outcome}
@@ -58,13 +60,15 @@ abbrev pub position_of : ℕ → List Slot → Option ℕ
 position_of block slots = position (λ x. x.block == block) slots
 
 -- a reference whose block stands at a place of its set
-pub record Hits (d : Design) (rule : Option Repl) (words : ℕ → ℕ) (ref : Ref) (at : ℕ) (old : List Slot) (outcome : Outcome) (new : List Slot) (rest : ℕ → ℕ) : Type 0 where
+pub record Hits (d : Design) (rule : Option Repl) (words : ℕ → ℕ) (ref : Ref) (at : ℕ) (old : List Slot) (outcome : Outcome) (new : List Slot)
+    (rest : ℕ → ℕ) : Type 0 where
   pub order : Touches rule (marked (dirties d.write ref.access) old at) at new
   pub undrawn : rest ≡ words
   pub answers : outcome ≡ outcome_of (on_hit d.write ref)
 
 -- a reference whose block is placed
-pub record Fills (d : Design) (rule : Option Repl) (words : ℕ → ℕ) (ref : Ref) (old : List Slot) (outcome : Outcome) (new : List Slot) (rest : ℕ → ℕ) : Type 0 where
+pub record Fills (d : Design) (rule : Option Repl) (words : ℕ → ℕ) (ref : Ref) (old : List Slot) (outcome : Outcome) (new : List Slot)
+    (rest : ℕ → ℕ) : Type 0 where
   pub order : TakesIn rule (words 0) d.geometry.e old (record { block = block_of d.geometry ref.addr; dirty = dirties d.write ref.access }) outcome.evicted new
   pub undrawn : rest ≡ words_after rule outcome.evicted words
   pub answers : outcome ≡ outcome_of (on_placing d.geometry d.write ref (block_of d.geometry ref.addr) outcome.evicted)
@@ -95,7 +99,8 @@ slots_of sets set = slice_index_or sets set []
 
 -- one access: its set is visited, and the others stay
 pub record Accesses (old : Contents) (ref : Ref) (outcome : Outcome) (new : Contents) : Type 0 where
-  pub visit : Visits old.design old.rule old.words ref (slots_of old.sets (set_of old.design.geometry ref.addr)) outcome (slots_of new.sets (set_of old.design.geometry ref.addr)) new.words
+  pub visit : Visits old.design old.rule old.words ref (slots_of old.sets (set_of old.design.geometry ref.addr)) outcome
+      (slots_of new.sets (set_of old.design.geometry ref.addr)) new.words
   pub others : (k : ℕ) → k ≢ set_of old.design.geometry ref.addr → slots_of new.sets k ≡ slots_of old.sets k
   pub count : length new.sets ≡ length old.sets
   pub design : new.design ≡ old.design

@@ -60,7 +60,8 @@ StandsFor m events c = IsState m (run m events) c
 
 -- a new cache stands for no event
 abbrev pub StartLaw : Type 0
-StartLaw = (m : Machine) (c : Contents) → c.design ≡ m.design → c.rule ≡ Some m.policy → c.words ≡ m.words → c.sets ≡ replicate (2 ^ m.design.geometry.s) [] → StandsFor m [] c
+StartLaw = (m : Machine) (c : Contents) →
+    c.design ≡ m.design → c.rule ≡ Some m.policy → c.words ≡ m.words → c.sets ≡ replicate (2 ^ m.design.geometry.s) [] → StandsFor m [] c
 
 -- a list of events at a cache, one after another
 abbrev pub Runs : Contents → List Event → Contents → Type 0

@@ -1,5 +1,6 @@
 -- One step of a system, over what it holds.
-use Rattle.std.specs.Prelude.{◌≡◌, ◌≤◌, ℕ, ◌+◌, ◌*◌, ◌^◌, List, [], ◌∷◌, Option, Some, None, if◌then◌else◌, MatchOption, MatchBool, is_some, is_none}
+use Rattle.std.specs.Prelude.{◌≡◌, ◌≤◌, ℕ, ◌+◌, ◌*◌, ◌^◌, List, [], ◌∷◌, Option, Some, None, if◌then◌else◌}
+use Rattle.std.specs.Prelude.{MatchOption, MatchBool, is_some, is_none}
 use Rattle.trace_core.specs.declared.events.Ref.{Ref}
 use Rattle.cache_core.specs.declared.outcome.Outcome.{Outcome}
 use Rattle.cache_core.specs.declared.plan.CacheStats.{CacheStats}
@@ -44,7 +45,9 @@ AllDescend (ref ∷ refs) second memory lower after =
 -- what a first-level cache does with a reference, and what it sends down; none if it isn't there
 abbrev pub Answers : Option Stage → Ref → Option (List (Option Ref)) → Option Stage → Type 0
 Answers stage ref None next = (stage ≡ None) × (next ≡ None)
-Answers stage ref (Some down) next = (old : Stage) × (new : Stage) × (outcome : Outcome) × (stage ≡ Some old) × (next ≡ Some new) × (down ≡ outcome.down) × Enters old ref outcome new
+Answers stage ref (Some down) next =
+    (old : Stage) × (new : Stage) × (outcome : Outcome) × (stage ≡ Some old) × (next ≡ Some new) × (down ≡ outcome.down)
+    × Enters old ref outcome new
 
 -- a system: its caches, what reached memory, the references that no cache took, and its steps
 pub record SystemValue : Type 0 where
@@ -57,7 +60,8 @@ pub record SystemValue : Type 0 where
   pub steps : ℕ
 
 -- Which cache answers: a unified one if there is one, else the one for fetches or for data.
-abbrev pub FirstAnswers : Option Stage → Option Stage → Option Stage → Ref → Option (List (Option Ref)) → Option Stage → Option Stage → Option Stage → Type 0
+abbrev pub FirstAnswers : Option Stage → Option Stage → Option Stage → Ref → Option (List (Option Ref)) → Option Stage → Option Stage →
+    Option Stage → Type 0
 FirstAnswers i d u ref down i' d' u' =
     MatchBool (is_some u)
     (Answers u ref down u' × (i' ≡ i) × (d' ≡ d))
@@ -74,7 +78,8 @@ copied (Some stage) = stage.stats.copybacks
 pub record Steps (old : SystemValue) (ref : Ref) (new : SystemValue) : Type 0 where
   pub down : Option (List (Option Ref))
   pub first : FirstAnswers old.i old.d old.u ref down new.i new.d new.u
-  pub lower : MatchOption down ((new.second ≡ old.second) × (new.memory ≡ old.memory)) (λ refs. AllDescend (listed refs) old.second old.memory new.second new.memory)
+  pub lower : MatchOption down ((new.second ≡ old.second) × (new.memory ≡ old.memory))
+      (λ refs. AllDescend (listed refs) old.second old.memory new.second new.memory)
   pub bypassed : new.bypassed ≡ old.bypassed + one_if (is_none down)
   pub steps : new.steps ≡ old.steps + 1
 

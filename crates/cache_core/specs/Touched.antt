@@ -1,5 +1,6 @@
 -- The sets that got a block since the last flush, and the counts that they stand for.
-use Rattle.std.specs.Prelude.{ℕ, ◌≡◌, ◌<◌, ◌&&◌, not, false, List, [], ◌∷◌, ◌++◌, Option, Some, None, if◌then◌else◌, ◌==◌, nat_lt, length, All, IfSome, slice_index_or}
+use Rattle.std.specs.Prelude.{ℕ, ◌≡◌, ◌<◌, ◌&&◌, not, false, List, [], ◌∷◌, ◌++◌, Option, Some, None, if◌then◌else◌}
+use Rattle.std.specs.Prelude.{◌==◌, nat_lt, length, All, IfSome, slice_index_or}
 use Rattle.std.specs.List.{list_any}
 
 -- the sets that are listed, or `None` once there were more of them than room

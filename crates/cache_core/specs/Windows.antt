@@ -1,5 +1,6 @@
 -- LRU stack distances (Mattson, Gecsei, Slutz and Traiger 1970): what each reference of a list of events finds before it.
-use Rattle.std.specs.Prelude.{ℕ, ◌+◌, ◌^◌, min, Bool, true, false, not, ◌&&◌, ◌==◌, nat_lt, nat_le, if◌then◌else◌, Option, Some, None, List, [], ◌∷◌, ◌++◌, length, filter, reverse, sum_by, count_by, filter_map}
+use Rattle.std.specs.Prelude.{ℕ, ◌+◌, ◌^◌, min, Bool, true, false, not, ◌&&◌, ◌==◌, nat_lt, nat_le, if◌then◌else◌, Option, Some}
+use Rattle.std.specs.Prelude.{None, List, [], ◌∷◌, ◌++◌, length, filter, reverse, sum_by, count_by, filter_map}
 use Rattle.std.specs.List.{before_first, list_any, range_with_len}
 use Rattle.trace_core.specs.declared.events.Event.{Event}
 use Rattle.trace_core.specs.declared.events.Event.TheVariants as event

@@ -1,5 +1,6 @@
 -- The steps of a reader.
-use Rattle.std.proofs.Common.{◌≡◌, ℕ, ◌+◌, ◌<◌, ◌≤◌, List, [], ◌∷◌, ◌++◌, length, Option, None, Some, Ok, Err, refl, sym, ap, ◌∙◌, subst, append_assoc}
+use Rattle.std.proofs.Common.{◌≡◌, ℕ, ◌+◌, ◌<◌, ◌≤◌, List, [], ◌∷◌, ◌++◌, length, Option, None, Some, Ok, Err, refl, sym}
+use Rattle.std.proofs.Common.{ap, ◌∙◌, subst, append_assoc}
 use Rattle.std.proofs.lemmas.List.{append-nil}
 use Rattle.std.specs.Io.KnownBytes.{IsAtEnd}
 use Rattle.trace_core.specs.Lines.{HoldsNoFeed}
@@ -53,13 +54,15 @@ module _ (told : Option (List ℕ)) where
     }
 
     -- a fault that the bytes settle
-    pub Advances-fault : (p : Progress) (u : List ℕ) (x : TraceFault) → ((e : Ending) (later : List ℕ) → reading_after e f limit n (u ++ later) ≡ ends (Some x))
+    pub Advances-fault : (p : Progress) (u : List ℕ) (x : TraceFault)
+        → ((e : Ending) (later : List ℕ) → reading_after e f limit n (u ++ later) ≡ ends (Some x))
         → p.state ≡ state.Failed x → Advances told (at f limit n u state.Open) p [] []
     Advances-fault p u x settled failed = record {
       gives = λ e later may. settled e later ∙ sym (ap (λ s. left_in s (reading_after e p.format p.limit p.lines (p.unread ++ later))) failed);
     }
 
-    pub Advances-bad_line : (p : Progress) (w rest : List ℕ) (x : TraceFault) → HoldsNoFeed w → judge f limit (n + 1) w ≡ Err x → p.state ≡ state.Failed x
+    pub Advances-bad_line : (p : Progress) (w rest : List ℕ) (x : TraceFault) → HoldsNoFeed w → judge f limit (n + 1) w ≡ Err x
+        → p.state ≡ state.Failed x
         → Advances told (at f limit n (w ++ 10 ∷ rest) state.Open) p [] []
     Advances-bad_line p w rest x none judged failed =
         Advances-fault p (w ++ 10 ∷ rest) x
@@ -68,7 +71,8 @@ module _ (told : Option (List ℕ)) where
         failed
 
     -- a failure of the device
-    pub Advances-failed : (p : Progress) (u : List ℕ) → HoldsNoFeed u → length u ≤ MAX_LINE → (0 < length u → n < limit) → p.state ≡ state.Failed (fault.Read (n + 1))
+    pub Advances-failed : (p : Progress) (u : List ℕ) → HoldsNoFeed u → length u ≤ MAX_LINE → (0 < length u → n < limit)
+        → p.state ≡ state.Failed (fault.Read (n + 1))
         → Advances told (at f limit n u state.Open) p [] []
     Advances-failed p u none short within failed = record {
       gives = λ e later may.
@@ -77,7 +81,8 @@ module _ (told : Option (List ℕ)) where
     }
 
     -- a last line without LF
-    pub Advances-last : (p : Progress) (c : ℕ) (u : List ℕ) (o : Option Entry) → HoldsNoFeed (c ∷ u) → judge f limit (n + 1) (c ∷ u) ≡ Ok o → p.state ≡ state.Ended
+    pub Advances-last : (p : Progress) (c : ℕ) (u : List ℕ) (o : Option Entry) → HoldsNoFeed (c ∷ u) → judge f limit (n + 1) (c ∷ u) ≡ Ok o
+        → p.state ≡ state.Ended
         → Advances told (at f limit n (c ∷ u) state.Open) p [] (numbered (n + 1) o)
     Advances-last p c u o none judged ended = record {
       gives = λ e later may.
@@ -87,7 +92,8 @@ module _ (told : Option (List ℕ)) where
     }
 
     -- and one at fault
-    pub Advances-bad_last : (p : Progress) (c : ℕ) (u : List ℕ) (x : LineFault) → IsAtEnd told → HoldsNoFeed (c ∷ u) → judge f limit (n + 1) (c ∷ u) ≡ Err (fault.Line (n + 1) x)
+    pub Advances-bad_last : (p : Progress) (c : ℕ) (u : List ℕ) (x : LineFault) → IsAtEnd told → HoldsNoFeed (c ∷ u)
+        → judge f limit (n + 1) (c ∷ u) ≡ Err (fault.Line (n + 1) x)
         → p.state ≡ state.Failed (fault.Line (n + 1) x) → Advances told (at f limit n (c ∷ u) state.Open) p [] []
     Advances-bad_last p c u x ended none judged failed = record {
       gives = λ e later may.

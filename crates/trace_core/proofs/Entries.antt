@@ -1,5 +1,6 @@
 -- The entries of a text without a fault.
-use Rattle.std.proofs.Common.{◌≡◌, ℕ, ◌+◌, Bool, true, false, cond, ltb, length, List, [], ◌∷◌, Option, None, Some, Result, Ok, Err, map, refl, sym, ap, ◌∙◌}
+use Rattle.std.proofs.Common.{◌≡◌, ℕ, ◌+◌, Bool, true, false, cond, ltb, length, List, [], ◌∷◌, Option, None, Some, Result, Ok, Err, map}
+use Rattle.std.proofs.Common.{refl, sym, ap, ◌∙◌}
 use Rattle.std.specs.List.{filter_map, cons_option}
 use Rattle.trace_core.specs.Lines.{lines}
 use Rattle.trace_core.specs.Line.{meaning}
@@ -23,7 +24,9 @@ module _ (f : Format) (limit : ℕ) where
       → map (λ x. x.1) (read_lines f limit n ls (ends None)).entries ≡ filter_map (λ line. entry_in (meaning f line)) ls
   read-entries n [] none = refl
   read-entries n (line ∷ more) none =
-      by_case (judge f limit (n + 1) line) (λ o h. judged-ok (n + 1) (ltb limit (n + 1)) (ltb MAX_LINE (length line)) (fault.TooManyLines limit) (fault.TooLong (n + 1)) (meaning f line) o h) none (read-entries (n + 1) more)
+      by_case (judge f limit (n + 1) line)
+      (λ o h. judged-ok (n + 1) (ltb limit (n + 1)) (ltb MAX_LINE (length line)) (fault.TooManyLines limit) (fault.TooLong (n + 1)) (meaning f line) o h)
+      none (read-entries (n + 1) more)
     where
       by_case : (r : Result (Option Entry) TraceFault) → ((o : Option Entry) → r ≡ Ok o → entry_in (meaning f line) ≡ o)
           → (then_reads (n + 1) r (read_lines f limit (n + 1) more (ends None))).fault ≡ None
@@ -35,6 +38,7 @@ module _ (f : Format) (limit : ℕ) where
       by_case (Ok (Some entry)) means none later = rw (means (Some entry) refl) (ap (λ es. entry ∷ es) (later none))
       by_case (Err x) means none later = cc
 
-  pub entries-reading : (text : List ℕ) (xs : List (ℕ × Entry)) → reading f limit text ≡ record { entries = xs; fault = None } → map (λ x. x.1) xs ≡ entries f text
+  pub entries-reading : (text : List ℕ) (xs : List (ℕ × Entry)) → reading f limit text ≡ record { entries = xs; fault = None }
+      → map (λ x. x.1) xs ≡ entries f text
   entries-reading text xs is =
       ap (λ r. map (λ x. x.1) r.entries) (sym is) ∙ read-entries 0 (lines text) (ap (λ r. r.fault) is)

@@ -1,5 +1,6 @@
 -- The fields of a line, read from its front: blanks are skipped, and a field goes up to where it ends.
-use Rattle.std.proofs.Common.{◌≡◌, ℕ, suc, ◌+◌, ◌-◌, ◌<◌, ◌≤◌, ◌⊎◌, inl, inr, Bool, true, false, cond, ◌==◌, List, [], ◌∷◌, ◌++◌, length, take, drop, get_or, refl, sym, ap, ◌∙◌, arith, eqb, take_all, append_assoc}
+use Rattle.std.proofs.Common.{◌≡◌, ℕ, suc, ◌+◌, ◌-◌, ◌<◌, ◌≤◌, ◌⊎◌, inl, inr, Bool, true, false, cond, ◌==◌, List, []}
+use Rattle.std.proofs.Common.{◌∷◌, ◌++◌, length, take, drop, get_or, refl, sym, ap, ◌∙◌, arith, eqb, take_all, append_assoc}
 use Rattle.std.specs.Prelude.{⊤}
 use Rattle.std.specs.List.{suffix_len, prefix_len, position_or_len, list_all}
 use Rattle.std.proofs.lemmas.Bool.{and_parts, false≢true, eqb-true}
@@ -124,7 +125,8 @@ fields-blanks (c ∷ cs) rest all =
     fields-skip c (cs ++ rest) both.0 ∙ fields-blanks cs rest both.1
 
 -- a label of one byte between blanks
-fields-label : (bs cs rest : List ℕ) (label b : ℕ) → list_all is_blank bs ≡ true → list_all is_blank cs ≡ true → is_blank b ≡ true → is_trailing label ≡ false
+fields-label : (bs cs rest : List ℕ) (label b : ℕ) → list_all is_blank bs ≡ true → list_all is_blank cs ≡ true → is_blank b ≡ true
+    → is_trailing label ≡ false
     → fields (trimmed (bs ++ label ∷ b ∷ (cs ++ rest))) ≡ (label ∷ []) ∷ fields (trimmed rest)
 fields-label bs cs rest label b before after blank plain =
     fields-blanks bs (label ∷ b ∷ (cs ++ rest)) before
@@ -160,7 +162,8 @@ one-front [] some = absurd (omega arith)
 one-front (c ∷ cs) some = ap (λ more. c ∷ more) (sym (take_all (length (c ∷ cs) - 1) cs (omega arith)))
 
 -- one blank more
-pub blanks-more : (bytes bs rest : List ℕ) → bytes ≡ bs ++ rest → list_all is_blank bs ≡ true → 1 ≤ length rest → is_blank (get_or rest 0 0) ≡ true
+pub blanks-more : (bytes bs rest : List ℕ) → bytes ≡ bs ++ rest → list_all is_blank bs ≡ true → 1 ≤ length rest
+    → is_blank (get_or rest 0 0) ≡ true
     → (blanks : List ℕ) × (bytes ≡ blanks ++ take (length rest - 1) (drop 1 rest)) × (list_all is_blank blanks ≡ true)
 blanks-more bytes bs rest is all some blank = (
   bs ++ get_or rest 0 0 ∷ [],
@@ -173,8 +176,10 @@ blanks-more bytes bs rest is all some blank = (
     all-push (x ∷ xs) h = let both = and_parts (is_blank x) (list_all is_blank xs) h in rw both.0 (all-push xs both.1)
 
 -- a label and blanks in front of a line
-pub label-front : (text cut tail rest : List ℕ) → (bs : List ℕ) × (text ≡ bs ++ cut) × (list_all is_blank bs ≡ true) → 2 ≤ length cut → is_blank (get_or cut 1 0) ≡ true
-    → tail ≡ take (length cut - 2) (drop 2 cut) → (cs : List ℕ) × (tail ≡ cs ++ rest) × (list_all is_blank cs ≡ true) → BeginsLabel text rest (get_or cut 0 0)
+pub label-front : (text cut tail rest : List ℕ) → (bs : List ℕ) × (text ≡ bs ++ cut) × (list_all is_blank bs ≡ true) → 2 ≤ length cut
+    → is_blank (get_or cut 1 0) ≡ true
+    → tail ≡ take (length cut - 2) (drop 2 cut) → (cs : List ℕ) × (tail ≡ cs ++ rest) × (list_all is_blank cs ≡ true)
+    → BeginsLabel text rest (get_or cut 0 0)
 label-front text cut tail rest before some blank tail_is after =
     let label = get_or cut 0 0 in
     let b = get_or cut 1 0 in
@@ -183,6 +188,7 @@ label-front text cut tail rest before some blank tail_is after =
     record {
       front = before.0 ++ label ∷ b ∷ after.0;
       splits = before.1 ∙ ap (λ r. before.0 ++ r) (two-front cut some ∙ ap (λ r. label ∷ b ∷ r) (sym tail_is ∙ after.1)) ∙ split rest;
-      no_line_feed = λ byte. unfed-append before.0 (label ∷ b ∷ after.0) (unfed-blanks before.0 before.2) (byte, (unfed-blank b blank, unfed-blanks after.0 after.2));
+      no_line_feed = λ byte.
+          unfed-append before.0 (label ∷ b ∷ after.0) (unfed-blanks before.0 before.2) (byte, (unfed-blank b blank, unfed-blanks after.0 after.2));
       first = λ more plain. ap (λ l. fields (trimmed l)) (sym (split more)) ∙ fields-label before.0 after.0 more label b before.2 after.2 blank plain;
     }

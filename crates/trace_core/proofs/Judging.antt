@@ -1,5 +1,6 @@
 -- A reading by the judgements of its lines.
-use Rattle.std.proofs.Common.{◌≡◌, ℕ, suc, zero, ◌+◌, Bool, true, false, cond, ltb, length, List, [], ◌∷◌, take, drop, Option, None, Some, Result, Ok, Err, map, refl, sym, ap, ◌∙◌, arith}
+use Rattle.std.proofs.Common.{◌≡◌, ℕ, suc, zero, ◌+◌, Bool, true, false, cond, ltb, length, List, [], ◌∷◌, take, drop, Option, None, Some}
+use Rattle.std.proofs.Common.{Result, Ok, Err, map, refl, sym, ap, ◌∙◌, arith}
 use Rattle.std.specs.Result.{IsOk, is_ok}
 use Rattle.std.specs.List.{All, slice_get, filter_map, enumerate_from, prefix_len, slice_split, onto_first}
 use Rattle.std.proofs.lemmas.List.Elements.{All-nil, All-cons, All-head, All-tail}
@@ -15,7 +16,8 @@ use Rattle.trace_core.specs.declared.reader.TheConstants.{MAX_LINE}
 
 -- one byte more in front of some pieces
 pieces-cons : (feed : Bool) (c : ℕ) (pieces : List (List ℕ)) (x : List ℕ) (xs : List (List ℕ)) → pieces ≡ x ∷ xs
-    → cond feed ([] ∷ without_empty_last pieces) (onto_first c (without_empty_last pieces)) ≡ without_empty_last (cond feed ([] ∷ pieces) (onto_first c pieces))
+    → cond feed ([] ∷ without_empty_last pieces) (onto_first c (without_empty_last pieces))
+    ≡ without_empty_last (cond feed ([] ∷ pieces) (onto_first c pieces))
 pieces-cons true c pieces x xs is = rw is refl
 pieces-cons false c pieces [] [] is = rw is refl
 pieces-cons false c pieces (d ∷ x) [] is = rw is refl
@@ -26,7 +28,8 @@ some_pieces : (text : List ℕ) → (x : List ℕ) × (xs : List (List ℕ)) × 
 some_pieces [] = ([], [], refl)
 some_pieces (c ∷ text) = by_byte (is_line_feed c) (slice_split is_line_feed text)
   where
-    by_byte : (feed : Bool) (pieces : List (List ℕ)) → (x : List ℕ) × (xs : List (List ℕ)) × (cond feed ([] ∷ pieces) (onto_first c pieces) ≡ x ∷ xs)
+    by_byte : (feed : Bool) (pieces : List (List ℕ))
+        → (x : List ℕ) × (xs : List (List ℕ)) × (cond feed ([] ∷ pieces) (onto_first c pieces) ≡ x ∷ xs)
     by_byte true pieces = ([], pieces, refl)
     by_byte false [] = (c ∷ [], [], refl)
     by_byte false (piece ∷ pieces) = (c ∷ piece, pieces, refl)
@@ -45,10 +48,12 @@ abbrev read_judged : ℕ → List Judgement → Reading → Reading
 read_judged n [] last = last
 read_judged n (r ∷ rs) last = then_reads (n + 1) r (read_judged (n + 1) rs last)
 
-fault-some : (n : ℕ) (rs : List Judgement) (x : TraceFault) → (read_judged n rs (ends None)).fault ≡ Some x → (k : ℕ) × (slice_get rs k ≡ Some (Err x)) × All IsOk (take k rs)
+fault-some : (n : ℕ) (rs : List Judgement) (x : TraceFault) → (read_judged n rs (ends None)).fault ≡ Some x
+    → (k : ℕ) × (slice_get rs k ≡ Some (Err x)) × All IsOk (take k rs)
 fault-some n [] x h = absurd cc
 fault-some n (Ok None ∷ rs) x h = let later = fault-some (n + 1) rs x h in (suc later.0, later.1, All-cons IsOk (Ok None) (take later.0 rs) refl later.2)
-fault-some n (Ok (Some e) ∷ rs) x h = let later = fault-some (n + 1) rs x h in (suc later.0, later.1, All-cons IsOk (Ok (Some e)) (take later.0 rs) refl later.2)
+fault-some n (Ok (Some e) ∷ rs) x h =
+    let later = fault-some (n + 1) rs x h in (suc later.0, later.1, All-cons IsOk (Ok (Some e)) (take later.0 rs) refl later.2)
 fault-some n (Err y ∷ rs) x h = (0, cc, All-nil IsOk)
 
 fault-none : (n : ℕ) (rs : List Judgement) → (read_judged n rs (ends None)).fault ≡ None → All IsOk rs
@@ -58,7 +63,8 @@ fault-none n (Ok (Some e) ∷ rs) h = All-cons IsOk (Ok (Some e)) rs refl (fault
 fault-none n (Err y ∷ rs) h = absurd cc
 
 module _ (last : Reading) where
-  some-fault : (n : ℕ) (rs : List Judgement) (x : TraceFault) (k : ℕ) → slice_get rs k ≡ Some (Err x) → All IsOk (take k rs) → (read_judged n rs last).fault ≡ Some x
+  some-fault : (n : ℕ) (rs : List Judgement) (x : TraceFault) (k : ℕ) → slice_get rs k ≡ Some (Err x) → All IsOk (take k rs)
+      → (read_judged n rs last).fault ≡ Some x
   some-fault n [] x k is before = absurd cc
   some-fault n (Ok o ∷ rs) x zero is before = absurd cc
   some-fault n (Ok None ∷ rs) x (suc k) is before = some-fault (n + 1) rs x k is (All-tail IsOk (Ok None) (take k rs) before)
@@ -85,7 +91,8 @@ module _ (f : Format) (limit : ℕ) where
       → (k : ℕ) × (slice_get (judged (n + 1) ls) k ≡ Some (Err x)) × All IsOk (take k (judged (n + 1) ls))
   fault-first n ls x h = fault-some n (judged (n + 1) ls) x (ap (λ r. r.fault) (sym (lines-judged n ls (ends None))) ∙ h)
 
-  pub first-fault : (n : ℕ) (ls : List (List ℕ)) (last : Reading) (x : TraceFault) → (k : ℕ) × (slice_get (judged (n + 1) ls) k ≡ Some (Err x)) × All IsOk (take k (judged (n + 1) ls))
+  pub first-fault : (n : ℕ) (ls : List (List ℕ)) (last : Reading) (x : TraceFault)
+      → (k : ℕ) × (slice_get (judged (n + 1) ls) k ≡ Some (Err x)) × All IsOk (take k (judged (n + 1) ls))
       → (read_lines f limit n ls last).fault ≡ Some x
   first-fault n ls last x first = ap (λ r. r.fault) (lines-judged n ls last) ∙ some-fault last n (judged (n + 1) ls) x first.0 first.1 first.2
 
@@ -122,7 +129,8 @@ module _ (f : Format) (limit : ℕ) where
       ≡ filter_map (numbered_entry f) (take (prefix_len is_ok (judged (n + 1) ls)) (enumerate_from (n + 1) ls))
   entries-before n [] last = refl
   entries-before n (line ∷ more) last =
-      by_case (judge f limit (n + 1) line) (λ o h. judged-ok (n + 1) (ltb limit (n + 1)) (ltb MAX_LINE (length line)) (fault.TooManyLines limit) (fault.TooLong (n + 1)) (meaning f line) o h)
+      by_case (judge f limit (n + 1) line)
+      (λ o h. judged-ok (n + 1) (ltb limit (n + 1)) (ltb MAX_LINE (length line)) (fault.TooManyLines limit) (fault.TooLong (n + 1)) (meaning f line) o h)
       (entries-before (n + 1) more last)
     where
       before : List (ℕ × List ℕ)
@@ -134,7 +142,8 @@ module _ (f : Format) (limit : ℕ) where
       by_case : (r : Judgement) → ((o : Option Entry) → r ≡ Ok o → entry_in (meaning f line) ≡ o)
           → (read_lines f limit (n + 1) more (ends last)).entries ≡ filter_map (numbered_entry f) before
           → (then_reads (n + 1) r (read_lines f limit (n + 1) more (ends last))).entries
-          ≡ filter_map (numbered_entry f) (take (cond (is_ok r) (1 + prefix_len is_ok (judged (n + 1 + 1) more)) 0) ((n + 1, line) ∷ enumerate_from (n + 1 + 1) more))
+          ≡ filter_map (numbered_entry f)
+          (take (cond (is_ok r) (1 + prefix_len is_ok (judged (n + 1 + 1) more)) 0) ((n + 1, line) ∷ enumerate_from (n + 1 + 1) more))
       by_case (Ok None) means later = rw (more_before, means None refl) later
       by_case (Ok (Some entry)) means later = rw (more_before, means (Some entry) refl) (ap (λ es. (n + 1, entry) ∷ es) later)
       by_case (Err x) means later = refl

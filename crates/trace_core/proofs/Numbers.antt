@@ -1,5 +1,6 @@
 -- The number that a loop over digits has read.
-use Rattle.std.proofs.Common.{◌≡◌, ℕ, ◌+◌, ◌*◌, ◌<◌, ◌≤◌, ◌^◌, true, List, [], ◌∷◌, length, take, get_or, Some, refl, arith, rules, tests, ltb, leb}
+use Rattle.std.proofs.Common.{◌≡◌, ℕ, ◌+◌, ◌*◌, ◌<◌, ◌≤◌, ◌^◌, true, List, [], ◌∷◌, length, take, get_or, Some, refl}
+use Rattle.std.proofs.Common.{arith, rules, tests, ltb, leb}
 use Rattle.std.specs.List.{list_all}
 use Rattle.std.specs.Char.{digit_value, is_digit}
 use Rattle.std.specs.Str.Parse.{AllDigits, digits_value}
@@ -28,7 +29,8 @@ module _ (radix most : ℕ) (some : 0 < radix) where
       let first : ltb (digit_value c) radix ≡ true = search (rules, tests, digits.0) in
       rw first (all_digits cs digits.1)
 
-  pub number_of-some : (ds : List ℕ) → 1 ≤ length ds → length ds ≤ most → AllDigits radix ds → number_of radix most ds ≡ Some (digits_value radix ds)
+  pub number_of-some : (ds : List ℕ) → 1 ≤ length ds → length ds ≤ most → AllDigits radix ds
+      → number_of radix most ds ≡ Some (digits_value radix ds)
   number_of-some ds low high digits =
       let at_least : leb 1 (length ds) ≡ true = search (rules, tests) in
       let at_most : leb (length ds) most ≡ true = search (rules, tests) in

@@ -1,5 +1,6 @@
 -- What the reading of a text says of its first line.
-use Rattle.std.proofs.Common.{◌≡◌, ℕ, suc, zero, ◌+◌, ◌<◌, ◌≤◌, Bool, true, false, cond, ltb, List, [], ◌∷◌, ◌++◌, length, take, drop, get_or, None, Some, Err, refl, ap, arith, rules, tests, length-append}
+use Rattle.std.proofs.Common.{◌≡◌, ℕ, suc, zero, ◌+◌, ◌<◌, ◌≤◌, Bool, true, false, cond, ltb, List, [], ◌∷◌, ◌++◌, length}
+use Rattle.std.proofs.Common.{take, drop, get_or, None, Some, Err, refl, ap, arith, rules, tests, length-append}
 use Rattle.std.specs.List.{onto_first}
 use Rattle.trace_core.specs.Lines.{is_line_feed, HoldsNoFeed, lines, line_feeds}
 use Rattle.trace_core.specs.Reading.{ends, judge, then_reads, read_lines, cut_off, Ending, at_end, at_failure, reading_after}
@@ -22,8 +23,10 @@ lines-last c [] none = rw none.0 refl
 lines-last c (d ∷ u) none = rw (none.0, lines-last d u none.1) refl
 
 -- the first line begins with bytes that hold no LF
-pub lines-front : (c : ℕ) (u z : List ℕ) → HoldsNoFeed (c ∷ u) → (v : List ℕ) × (more : List (List ℕ)) × (lines (c ∷ u ++ z) ≡ ((c ∷ u) ++ v) ∷ more)
-lines-front c [] z none = elim (lines z) as (λ ls. (v : List ℕ) × (more : List (List ℕ)) × (cond (is_line_feed c) ([] ∷ ls) (onto_first c ls) ≡ (c ∷ v) ∷ more))
+pub lines-front : (c : ℕ) (u z : List ℕ) → HoldsNoFeed (c ∷ u)
+    → (v : List ℕ) × (more : List (List ℕ)) × (lines (c ∷ u ++ z) ≡ ((c ∷ u) ++ v) ∷ more)
+lines-front c [] z none =
+    elim (lines z) as (λ ls. (v : List ℕ) × (more : List (List ℕ)) × (cond (is_line_feed c) ([] ∷ ls) (onto_first c ls) ≡ (c ∷ v) ∷ more))
     [ [] ↦ ([], [], rw none.0 refl) | l ∷ ls ↦ (l, ls, rw none.0 refl) ]
 lines-front c (d ∷ u) z none =
     let first = lines-front d u z none.1 in
@@ -70,7 +73,8 @@ module _ (f : Format) (limit : ℕ) where
       rw (lines-last c u none, line_feeds-none (c ∷ u) none, e, in_limit, in_length) refl
 
   -- a first line that is at fault, whole or cut off
-  fault_first : (n k : ℕ) (v : List ℕ) (more : List (List ℕ)) (x : TraceFault) → judge f limit (n + 1) v ≡ Err x → cut_off limit (n + 1) (v ∷ []) ≡ x
+  fault_first : (n k : ℕ) (v : List ℕ) (more : List (List ℕ)) (x : TraceFault) → judge f limit (n + 1) v ≡ Err x
+      → cut_off limit (n + 1) (v ∷ []) ≡ x
       → read_lines f limit n (take k (v ∷ more)) (ends (Some (cut_off limit (n + k + 1) (drop k (v ∷ more))))) ≡ ends (Some x)
   fault_first n zero v more x judged cut =
       let e : n + 0 + 1 ≡ n + 1 = omega arith in

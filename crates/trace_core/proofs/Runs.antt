@@ -1,5 +1,6 @@
 -- What a reader has read of a source.
-use Rattle.std.proofs.Common.{◌≡◌, ◌≢◌, ℕ, List, [], ◌++◌, Bool, true, false, Option, None, Some, ◌⊎◌, inl, inr, ⊎_elim, refl, sym, ap, ◌∙◌, subst}
+use Rattle.std.proofs.Common.{◌≡◌, ◌≢◌, ℕ, List, [], ◌++◌, Bool, true, false, Option, None, Some, ◌⊎◌, inl, inr, ⊎_elim, refl}
+use Rattle.std.proofs.Common.{sym, ap, ◌∙◌, subst}
 use Rattle.std.proofs.lemmas.List.{append-nil}
 use Rattle.std.specs.Io.KnownBytes.{IsAtEnd}
 use Rattle.trace_core.specs.Device.{SourceView, failures_after}
@@ -55,7 +56,8 @@ module _ (f : Format) (limit : ℕ) where
         delivers = Delivers-then start.remaining mid.remaining now.remaining (device_failed q.state) so_far.bytes step.0 consumes step.1;
         reads = Advances-then now.remaining mid.remaining (begun f limit) p q so_far.bytes step.0 xs ys opened so_far.reads step.2;
         at_end = over;
-        counted = counted ∙ ap (failures_after (device_failed q.state)) (so_far.counted ∙ ap (λ s. failures_after (device_failed s) start.failures) opened);
+        counted =
+            counted ∙ ap (failures_after (device_failed q.state)) (so_far.counted ∙ ap (λ s. failures_after (device_failed s) start.failures) opened);
       }
 
   -- any reader reads on, or stays as it is

@@ -1,5 +1,6 @@
 -- What a scan's steps do, by what its calls answered.
-use Rattle.std.proofs.Common.{◌≡◌, ℕ, ◌+◌, ◌<◌, ◌≤◌, false, ltb, List, [], ◌∷◌, ◌++◌, length, take, drop, get_or, Option, None, Some, Result, Ok, Err, refl, sym, ap, ◌∙◌, subst, arith, rules, tests}
+use Rattle.std.proofs.Common.{◌≡◌, ℕ, ◌+◌, ◌<◌, ◌≤◌, false, ltb, List, [], ◌∷◌, ◌++◌, length, take, drop, get_or, Option}
+use Rattle.std.proofs.Common.{None, Some, Result, Ok, Err, refl, sym, ap, ◌∙◌, subst, arith, rules, tests}
 use Rattle.std.specs.Io.KnownBytes.{IsAtEnd}
 use Rattle.std.proofs.lemmas.Bool.{eqb-true}
 use Rattle.std.proofs.lemmas.List.{drop_more, take-append-drop, get_or-take, length-take-le}
@@ -25,14 +26,16 @@ with_line-err n (Ok o) x h = absurd cc
 with_line-err n (Err y) x h = (y, cc)
 
 -- a short line within the limit has no other fault than its own
-judge-fault : (f : Format) (limit n : ℕ) (w : List ℕ) (x : TraceFault) → n ≤ limit → length w ≤ MAX_LINE → judge f limit n w ≡ Err x → (y : LineFault) × (x ≡ fault.Line n y)
+judge-fault : (f : Format) (limit n : ℕ) (w : List ℕ) (x : TraceFault) → n ≤ limit → length w ≤ MAX_LINE → judge f limit n w ≡ Err x
+    → (y : LineFault) × (x ≡ fault.Line n y)
 judge-fault f limit n w x within short judged =
     let in_limit : ltb limit n ≡ false = search (rules, tests) in
     let in_length : ltb MAX_LINE (length w) ≡ false = search (rules, tests) in
     with_line-err n (meaning f w) x (rw (in_limit, in_length) at judged)
 
 -- a short line within the limit that means something
-pub judge-ok : (f : Format) (limit n : ℕ) (w : List ℕ) (o : Option Entry) → n ≤ limit → length w ≤ MAX_LINE → meaning f w ≡ Ok o → judge f limit n w ≡ Ok o
+pub judge-ok : (f : Format) (limit n : ℕ) (w : List ℕ) (o : Option Entry) → n ≤ limit → length w ≤ MAX_LINE → meaning f w ≡ Ok o
+    → judge f limit n w ≡ Ok o
 judge-ok f limit n w o within short means =
     let in_limit : ltb limit n ≡ false = search (rules, tests) in
     let in_length : ltb MAX_LINE (length w) ≡ false = search (rules, tests) in
@@ -55,11 +58,13 @@ pub no-line : (u : List ℕ) → IsFirstByte (is_byte 10) u None → HoldsNoFeed
 no-line u none = NoFeed-from_places u (fails-all is_line_feed u none)
 
 module _ (told : Option (List ℕ)) (f : Format) (limit n : ℕ) (u : List ℕ) (s : ReaderState) (opened : s ≡ state.Open) where
-  from_open : (q : Progress) (d : List ℕ) (xs : List (ℕ × Entry)) → Advances told (at f limit n u state.Open) q d xs → Advances told (at f limit n u s) q d xs
+  from_open : (q : Progress) (d : List ℕ) (xs : List (ℕ × Entry)) → Advances told (at f limit n u state.Open) q d xs
+      → Advances told (at f limit n u s) q d xs
   from_open q d xs = subst (λ v. Advances told (at f limit n u v) q d xs) (sym opened)
 
   pub steps-line : (k : ℕ) (o : Option Entry) (q : Progress) → IsFirstByte (is_byte 10) u (Some k) → judge f limit (n + 1) (take k u) ≡ Ok o
-      → q.lines ≡ n + 1 → q.unread ≡ drop (k + 1) u → (q.format ≡ f) × (q.limit ≡ limit) × (q.state ≡ s) → Advances told (at f limit n u s) q [] (numbered (n + 1) o)
+      → q.lines ≡ n + 1 → q.unread ≡ drop (k + 1) u → (q.format ≡ f) × (q.limit ≡ limit) × (q.state ≡ s)
+      → Advances told (at f limit n u s) q [] (numbered (n + 1) o)
   steps-line k o q found judged line rest same =
       let passed : at f limit (n + 1) (drop (k + 1) u) state.Open ≡ q =
       λ i. record { format = (sym same.0) i; limit = (sym same.1) i; lines = (sym line) i; unread = (sym rest) i; state = (sym opened ∙ sym same.2) i } in
@@ -68,43 +73,51 @@ module _ (told : Option (List ℕ)) (f : Format) (limit n : ℕ) (u : List ℕ) 
       (subst (λ v. Advances told (at f limit n v state.Open) (at f limit (n + 1) (drop (k + 1) u) state.Open) [] (numbered (n + 1) o))
       (sym (line-split u k found)) (Advances-line told f limit n (take k u) (drop (k + 1) u) o (line-before u k found) judged)))
 
-  pub steps-bad_line : (q : Progress) (k : ℕ) (x : TraceFault) → IsFirstByte (is_byte 10) u (Some k) → judge f limit (n + 1) (take k u) ≡ Err x → q.state ≡ state.Failed x
+  pub steps-bad_line : (q : Progress) (k : ℕ) (x : TraceFault) → IsFirstByte (is_byte 10) u (Some k) → judge f limit (n + 1) (take k u) ≡ Err x
+      → q.state ≡ state.Failed x
       → Advances told (at f limit n u s) q [] []
   steps-bad_line q k x found judged failed =
       from_open q [] []
       (subst (λ v. Advances told (at f limit n v state.Open) q [] []) (sym (line-split u k found))
       (Advances-bad_line told f limit n q (take k u) (drop (k + 1) u) x (line-before u k found) judged failed))
 
-  pub steps-past : (q : Progress) → 0 < length u → limit ≤ n → q.state ≡ state.Failed (fault.TooManyLines limit) → Advances told (at f limit n u s) q [] []
+  pub steps-past : (q : Progress) → 0 < length u → limit ≤ n → q.state ≡ state.Failed (fault.TooManyLines limit)
+      → Advances told (at f limit n u s) q [] []
   steps-past q some past failed =
       from_open q [] [] (Advances-fault told f limit n q u (fault.TooManyLines limit) (past_all u some) failed)
     where
-      past_all : (v : List ℕ) → 0 < length v → (e : Ending) (later : List ℕ) → reading_after e f limit n (v ++ later) ≡ ends (Some (fault.TooManyLines limit))
+      past_all : (v : List ℕ) → 0 < length v → (e : Ending) (later : List ℕ)
+          → reading_after e f limit n (v ++ later) ≡ ends (Some (fault.TooManyLines limit))
       past_all [] some e later = absurd (omega arith)
       past_all (c ∷ v) some e later = reading-past f limit e n c (v ++ later) past
 
-  pub steps-long : (q : Progress) → HoldsNoFeed u → n < limit → MAX_LINE < length u → q.state ≡ state.Failed (fault.TooLong (n + 1)) → Advances told (at f limit n u s) q [] []
+  pub steps-long : (q : Progress) → HoldsNoFeed u → n < limit → MAX_LINE < length u → q.state ≡ state.Failed (fault.TooLong (n + 1))
+      → Advances told (at f limit n u s) q [] []
   steps-long q none within long failed =
       from_open q [] [] (Advances-fault told f limit n q u (fault.TooLong (n + 1)) (λ e later. reading-long f limit e n u later none within long) failed)
 
-  pub steps-failed : (q : Progress) → HoldsNoFeed u → length u ≤ MAX_LINE → (0 < length u → n < limit) → q.state ≡ state.Failed (fault.Read (n + 1)) → Advances told (at f limit n u s) q [] []
+  pub steps-failed : (q : Progress) → HoldsNoFeed u → length u ≤ MAX_LINE → (0 < length u → n < limit)
+      → q.state ≡ state.Failed (fault.Read (n + 1)) → Advances told (at f limit n u s) q [] []
   steps-failed q none short within failed = from_open q [] [] (Advances-failed told f limit n q u none short within failed)
 
   pub steps-last : (q : Progress) (o : Option Entry) → HoldsNoFeed u → 0 < length u → judge f limit (n + 1) u ≡ Ok o → q.state ≡ state.Ended
       → Advances told (at f limit n u s) q [] (numbered (n + 1) o)
   steps-last q o none some judged ended = from_open q [] (numbered (n + 1) o) (last_of u none some judged)
     where
-      last_of : (v : List ℕ) → HoldsNoFeed v → 0 < length v → judge f limit (n + 1) v ≡ Ok o → Advances told (at f limit n v state.Open) q [] (numbered (n + 1) o)
+      last_of : (v : List ℕ) → HoldsNoFeed v → 0 < length v → judge f limit (n + 1) v ≡ Ok o
+          → Advances told (at f limit n v state.Open) q [] (numbered (n + 1) o)
       last_of [] none some judged = absurd (omega arith)
       last_of (c ∷ v) none some judged = Advances-last told f limit n q c v o none judged ended
 
-  pub steps-bad_last : (q : Progress) (x : TraceFault) → IsAtEnd told → HoldsNoFeed u → 0 < length u → n < limit → length u ≤ MAX_LINE → judge f limit (n + 1) u ≡ Err x
+  pub steps-bad_last : (q : Progress) (x : TraceFault) → IsAtEnd told → HoldsNoFeed u → 0 < length u → n < limit → length u ≤ MAX_LINE
+      → judge f limit (n + 1) u ≡ Err x
       → q.state ≡ state.Failed x → Advances told (at f limit n u s) q [] []
   steps-bad_last q x over none some within short judged failed =
       let own = judge-fault f limit (n + 1) u x (omega arith) short judged in
       from_open q [] [] (last_of own.0 u none some (judged ∙ ap Err own.1) (failed ∙ ap state.Failed own.1))
     where
-      last_of : (y : LineFault) (v : List ℕ) → HoldsNoFeed v → 0 < length v → judge f limit (n + 1) v ≡ Err (fault.Line (n + 1) y) → q.state ≡ state.Failed (fault.Line (n + 1) y)
+      last_of : (y : LineFault) (v : List ℕ) → HoldsNoFeed v → 0 < length v → judge f limit (n + 1) v ≡ Err (fault.Line (n + 1) y)
+          → q.state ≡ state.Failed (fault.Line (n + 1) y)
           → Advances told (at f limit n v state.Open) q [] []
       last_of y [] none some judged failed = absurd (omega arith)
       last_of y (c ∷ v) none some judged failed = Advances-bad_last told f limit n q c v y over none judged failed

@@ -1,5 +1,5 @@
 -- The worked tables of the formats, computed.
-use Rattle.std.proofs.Common.{◌≡◌, ◌++◌, [], ◌∷◌, Option, None, Some, Result, Ok, Err, refl, replicate}
+use Rattle.std.proofs.Common.{◌≡◌, ℕ, ◌++◌, [], ◌∷◌, Option, None, Some, Result, Ok, Err, refl, replicate}
 use Rattle.std.specs.Prelude.{codes}
 use Rattle.trace_core.specs.Line.{meaning, item}
 use Rattle.trace_core.specs.Reading.{reading, cut_reading}
@@ -122,31 +122,35 @@ lackey13 = refl
 lackey14 : meaning Lackey (codes "L 10, 4") ≡ Err Size
 lackey14 = refl
 
+-- a load of a din line
+abbrev load : ℕ → Entry
+load addr = entry.Item (record { op = Load; addr = addr; size = 0 })
+
 -- a failure after `0 10` LF `0 x`, and after a further LF
 cut1 : cut_reading Din 9 (codes "0 10" ++ 10 ∷ codes "0 x")
-    ≡ record { entries = (1, entry.Item (record { op = Load; addr = 16; size = 0 })) ∷ []; fault = Some (fault.Read 2) }
+    ≡ record { entries = (1, load 16) ∷ []; fault = Some (fault.Read 2) }
 cut1 = refl
 
 cut2 : cut_reading Din 9 (codes "0 10" ++ 10 ∷ codes "0 x" ++ 10 ∷ [])
-    ≡ record { entries = (1, entry.Item (record { op = Load; addr = 16; size = 0 })) ∷ []; fault = Some (fault.Line 2 Address) }
+    ≡ record { entries = (1, load 16) ∷ []; fault = Some (fault.Line 2 Address) }
 cut2 = refl
 
 -- at most two lines
 limit1 : reading Din 2 (codes "0 1" ++ 10 ∷ codes "0 2" ++ 10 ∷ [])
-    ≡ record { entries = (1, entry.Item (record { op = Load; addr = 1; size = 0 })) ∷ (2, entry.Item (record { op = Load; addr = 2; size = 0 })) ∷ []; fault = None }
+    ≡ record { entries = (1, load 1) ∷ (2, load 2) ∷ []; fault = None }
 limit1 = refl
 
 limit2 : reading Din 2 (codes "0 1" ++ 10 ∷ codes "0 2" ++ 10 ∷ 32 ∷ [])
-    ≡ record { entries = (1, entry.Item (record { op = Load; addr = 1; size = 0 })) ∷ (2, entry.Item (record { op = Load; addr = 2; size = 0 })) ∷ []; fault = Some (fault.TooManyLines 2) }
+    ≡ record { entries = (1, load 1) ∷ (2, load 2) ∷ []; fault = Some (fault.TooManyLines 2) }
 limit2 = refl
 
 limit3 : reading Din 2 (codes "0 1" ++ 10 ∷ codes "9 2" ++ 10 ∷ 32 ∷ [])
-    ≡ record { entries = (1, entry.Item (record { op = Load; addr = 1; size = 0 })) ∷ []; fault = Some (fault.Line 2 Label) }
+    ≡ record { entries = (1, load 1) ∷ []; fault = Some (fault.Line 2 Label) }
 limit3 = refl
 
 -- a line of 4,096 bytes and one of 4,097
 long1 : reading Din 2 (codes "0 10" ++ replicate 4092 32 ++ 10 ∷ [])
-    ≡ record { entries = (1, entry.Item (record { op = Load; addr = 16; size = 0 })) ∷ []; fault = None }
+    ≡ record { entries = (1, load 16) ∷ []; fault = None }
 long1 = refl
 
 long2 : reading Din 2 (codes "0 10" ++ replicate 4093 32 ++ 10 ∷ [])

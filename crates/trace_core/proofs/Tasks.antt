@@ -47,7 +47,8 @@ ReadWhole-read {task = task} {source = source} {source' = source'} whole text to
 module _ (task : Task) (source source' : SourceView) (xs : List (ℕ × Entry)) (p : Progress) (run : Reached task.format task.limit source source' xs p)
     (sink sink' : SinkView) where
   -- at a fault of the trace, what comes of the entries before it was written
-  pub task_stops : (x : TraceFault) → p.state ≡ state.Failed x → device_failed (state.Failed x) ≡ false → Wrote sink sink' (task.partial (entries_of xs))
+  pub task_stops : (x : TraceFault) → p.state ≡ state.Failed x → device_failed (state.Failed x) ≡ false
+      → Wrote sink sink' (task.partial (entries_of xs))
       → IfSome source.remaining (λ text. StopsAt task x text sink sink')
   task_stops x failed own wrote = if_known source.remaining (λ text. StopsAt task x text sink sink') (λ text told.
       let is = Reached-fault task.format task.limit text source source' xs p x told run failed own in

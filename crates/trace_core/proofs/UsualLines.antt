@@ -1,5 +1,6 @@
 -- What a line in the form that most have stands for.
-use Rattle.std.proofs.Common.{◌≡◌, ℕ, zero, suc, ◌<◌, ◌==◌, ◌&&◌, ◌||◌, ◌+◌, ◌-◌, ◌≤◌, Bool, true, false, List, [], ◌∷◌, ◌++◌, length, take, drop, get_or, refl, sym, ap, ◌∙◌, arith, rules, tests, append_assoc}
+use Rattle.std.proofs.Common.{◌≡◌, ℕ, zero, suc, ◌<◌, ◌==◌, ◌&&◌, ◌||◌, ◌+◌, ◌-◌, ◌≤◌, Bool, true, false, List, []}
+use Rattle.std.proofs.Common.{◌∷◌, ◌++◌, length, take, drop, get_or, refl, sym, ap, ◌∙◌, arith, rules, tests, append_assoc}
 use Rattle.std.specs.Prelude.{None, Some, Ok, nat_lt, nat_le}
 use Rattle.std.specs.List.{position_or_len, before_first, after_first, list_all}
 use Rattle.std.specs.Char.{is_digit}
@@ -37,15 +38,18 @@ module _ (radix : ℕ) (small : nat_lt 36 radix ≡ false) where
 
   digits-plain : (ds : List ℕ) → list_all (λ c. is_digit c radix) ds ≡ true → Plain ds
   digits-plain [] all = tt
-  digits-plain (c ∷ cs) all = let both = and_parts (is_digit c radix) (list_all (λ d. is_digit d radix) cs) all in (digit-plain c both.0, digits-plain cs both.1)
+  digits-plain (c ∷ cs) all =
+      let both = and_parts (is_digit c radix) (list_all (λ d. is_digit d radix) cs) all in (digit-plain c both.0, digits-plain cs both.1)
 
   digits-comma : (ds : List ℕ) → list_all (λ c. is_digit c radix) ds ≡ true → Fails is_comma ds
   digits-comma [] all = tt
-  digits-comma (c ∷ cs) all = let both = and_parts (is_digit c radix) (list_all (λ d. is_digit d radix) cs) all in (other-byte 44 radix small c both.0, digits-comma cs both.1)
+  digits-comma (c ∷ cs) all =
+      let both = and_parts (is_digit c radix) (list_all (λ d. is_digit d radix) cs) all in (other-byte 44 radix small c both.0, digits-comma cs both.1)
 
   digits-unfed : (ds : List ℕ) → list_all (λ c. is_digit c radix) ds ≡ true → HoldsNoFeed ds
   digits-unfed [] all = tt
-  digits-unfed (c ∷ cs) all = let both = and_parts (is_digit c radix) (list_all (λ d. is_digit d radix) cs) all in (other-byte 10 radix small c both.0, digits-unfed cs both.1)
+  digits-unfed (c ∷ cs) all =
+      let both = and_parts (is_digit c radix) (list_all (λ d. is_digit d radix) cs) all in (other-byte 10 radix small c both.0, digits-unfed cs both.1)
 
 -- what writes a number is one or more digits
 number-digits : (radix most : ℕ) (ds : List ℕ) (n : ℕ) → number_of radix most ds ≡ Some n
@@ -63,7 +67,8 @@ plain-append : (xs ys : List ℕ) → Plain xs → Plain ys → Plain (xs ++ ys)
 plain-append [] ys front back = back
 plain-append (x ∷ xs) ys front back = (front.0, plain-append xs ys front.1 back)
 
-prefix-bytes : (p : ℕ → Bool) (a b : ℕ) → p 48 ≡ false → p 120 ≡ false → p 88 ≡ false → (a == 48 && (b == 120 || b == 88)) ≡ true → (p a ≡ false) × (p b ≡ false)
+prefix-bytes : (p : ℕ → Bool) (a b : ℕ) → p 48 ≡ false → p 120 ≡ false → p 88 ≡ false → (a == 48 && (b == 120 || b == 88)) ≡ true
+    → (p a ≡ false) × (p b ≡ false)
 prefix-bytes p a b zero_is small_is large_is is = by_case (a == 48) (b == 120) (b == 88) refl refl refl is
   where
     by_case : (zero small large : Bool) → (a == 48) ≡ zero → (b == 120) ≡ small → (b == 88) ≡ large → (a == 48 && (b == 120 || b == 88)) ≡ true
@@ -82,7 +87,8 @@ record FieldOf (rest digits end : List ℕ) : Type 0 where
   plain : Plain field
   unfed : HoldsNoFeed field
 
-field-of : (rest digits end : List ℕ) → without_0x rest ≡ digits ++ end → 1 ≤ length digits → Plain digits → HoldsNoFeed digits → FieldOf rest digits end
+field-of : (rest digits end : List ℕ) → without_0x rest ≡ digits ++ end → 1 ≤ length digits → Plain digits → HoldsNoFeed digits
+    → FieldOf rest digits end
 field-of rest [] end is some plain unfed = absurd (omega arith)
 field-of [] (d ∷ ds) end is some plain unfed = absurd (cc)
 field-of (a ∷ []) (d ∷ []) end is some plain unfed = record { field = d ∷ []; splits = is; bare = refl; some = some; plain = plain; unfed = unfed }
@@ -97,20 +103,30 @@ field-of (a ∷ b ∷ more) (d ∷ ds) end is some plain unfed = by_case (a == 4
         let now : (d == 48 && (e == 120 || e == 88)) ≡ false = rw (← first, ← second) other in
         rw now refl
 
-    by_case : (t : Bool) → (a == 48 && (b == 120 || b == 88)) ≡ t → without_0x (a ∷ b ∷ more) ≡ (d ∷ ds) ++ end → FieldOf (a ∷ b ∷ more) (d ∷ ds) end
+    by_case : (t : Bool) → (a == 48 && (b == 120 || b == 88)) ≡ t → without_0x (a ∷ b ∷ more) ≡ (d ∷ ds) ++ end
+        → FieldOf (a ∷ b ∷ more) (d ∷ ds) end
     by_case true test is =
         let same : more ≡ (d ∷ ds) ++ end = (rw test at is) in
         let kept = prefix-bytes is_trailing a b refl refl refl test in
         let fed = prefix-bytes is_line_feed a b refl refl refl test in
-        record { field = a ∷ b ∷ d ∷ ds; splits = ap (λ m. a ∷ b ∷ m) same; bare = rw test refl; some = omega arith; plain = (kept.0, (kept.1, plain)); unfed = (fed.0, (fed.1, unfed)) }
+        record {
+          field = a ∷ b ∷ d ∷ ds;
+          splits = ap (λ m. a ∷ b ∷ m) same;
+          bare = rw test refl;
+          some = omega arith;
+          plain = (kept.0, (kept.1, plain));
+          unfed = (fed.0, (fed.1, unfed));
+        }
     by_case false test is =
         let same : a ∷ b ∷ more ≡ d ∷ (ds ++ end) = (rw test at is) in
         record { field = d ∷ ds; splits = same; bare = bare_of ds test same; some = omega arith; plain = plain; unfed = unfed }
 
 -- a line that begins with a label, and then a field
-begins-field : (text rest end field : List ℕ) (label : ℕ) → (begun : BeginsLabel text rest label) → is_trailing label ≡ false → rest ≡ field ++ end
+begins-field : (text rest end field : List ℕ) (label : ℕ) → (begun : BeginsLabel text rest label) → is_trailing label ≡ false
+    → rest ≡ field ++ end
     → 1 ≤ length field → Plain field → (text ≡ (begun.front ++ field) ++ end)
-    × ((more : List ℕ) → ends_field more ≡ true → fields (trimmed ((begun.front ++ field) ++ more)) ≡ (label ∷ []) ∷ field ∷ fields (trimmed more))
+    × ((more : List ℕ) → ends_field more ≡ true →
+    fields (trimmed ((begun.front ++ field) ++ more)) ≡ (label ∷ []) ∷ field ∷ fields (trimmed more))
 begins-field text rest end field label begun plain_label splits some plain = (
   begun.splits ∙ ap (λ r. begun.front ++ r) splits ∙ sym (append_assoc begun.front field end),
   λ more ends. ap (λ l. fields (trimmed l)) (append_assoc begun.front field more) ∙ begun.first (field ++ more) plain_label
@@ -196,7 +212,8 @@ lackey-usual text rest more digits decimals end label addr size op begun is comm
     let written-2 = number-digits 10 9 decimals size number-2 in
     let f = digits ++ (44 ∷ decimals) in
     let plain : Plain f = plain-append digits (44 ∷ decimals) (digits-plain 16 refl digits written.1) (refl, digits-plain 10 refl decimals written-2.1) in
-    let unfed : HoldsNoFeed f = unfed-append digits (44 ∷ decimals) (digits-unfed 16 refl digits written.1) (refl, digits-unfed 10 refl decimals written-2.1) in
+    let unfed : HoldsNoFeed f =
+    unfed-append digits (44 ∷ decimals) (digits-unfed 16 refl digits written.1) (refl, digits-unfed 10 refl decimals written-2.1) in
     let some : 1 ≤ length f = simp length-append (omega arith) in
     let field : rest ≡ f ++ end = comma ∙ ap (λ m. digits ++ (44 ∷ m)) back ∙ sym (append_assoc digits (44 ∷ decimals) end) in
     let at : position_or_len is_comma f ≡ length digits = position-past is_comma digits (44 ∷ decimals) (digits-comma 16 refl digits written.1) refl in
@@ -209,14 +226,19 @@ lackey-usual text rest more digits decimals end label addr size op begun is comm
       no_line_feed = unfed-append begun.front f (begun.no_line_feed (op-byte label op is 10 refl)) unfed;
       means = λ later ends.
           let line-fields = begins.1 later ends in
-          let usual : is_message ((begun.front ++ f) ++ later) ≡ false = no-message ((begun.front ++ f) ++ later) label op (f ∷ fields (trimmed later)) line-fields is in
+          let usual : is_message ((begun.front ++ f) ++ later) ≡ false =
+          no-message ((begun.front ++ f) ++ later) label op (f ∷ fields (trimmed later)) line-fields is in
           rw (usual, line-fields, is, before, number, after, number-2) refl;
     }
 
 -- the place of an LF after bytes that hold none
 feed-place : (u z : List ℕ) → HoldsNoFeed u → IsFirstByte (is_byte 10) (u ++ 10 ∷ z) (Some (length u))
 feed-place u z unfed = (
-  record { low = omega arith; high = omega (arith, length-append u (10 ∷ z)); before = λ j _ lt is. false≢true (sym (unfed-at u j unfed lt) ∙ ap (λ c. c == 10) (sym (get_or_append_left u (10 ∷ z) 0 j lt)) ∙ is) },
+  record {
+    low = omega arith;
+    high = omega (arith, length-append u (10 ∷ z));
+    before = λ j _ lt is. false≢true (sym (unfed-before j lt) ∙ is);
+  },
   ap (λ c. c == 10) (get_or-append_seam u 10 z 0),
 )
   where
@@ -225,15 +247,21 @@ feed-place u z unfed = (
     unfed-at (c ∷ cs) zero none lt = none.0
     unfed-at (c ∷ cs) (suc j) none lt = unfed-at cs j none.1 (omega arith)
 
+    unfed-before : (j : ℕ) → j < length u → (get_or (u ++ 10 ∷ z) j 0 == 10) ≡ false
+    unfed-before j lt = ap (λ c. c == 10) (get_or_append_left u (10 ∷ z) 0 j lt) ∙ unfed-at u j unfed lt
+
 -- the line of a text, whose front ends in a field
-pub line-end : (f : Format) (text rest : List ℕ) (item : Item) (k at : ℕ) → BeginsLine f text rest item → IsFirstByte (is_byte 10) rest (Some k) → ends_field (take k rest) ≡ true
+pub line-end : (f : Format) (text rest : List ℕ) (item : Item) (k at : ℕ) → BeginsLine f text rest item → IsFirstByte (is_byte 10) rest (Some k)
+    → ends_field (take k rest) ≡ true
     → at ≡ length text - length rest + k → IsFirstByte (is_byte 10) text (Some at) × (meaning f (take at text) ≡ Ok (Some (entry.Item item)))
 line-end f text rest item k at begun found ends place =
     let line = begun.front ++ take k rest in
     let after = drop (k + 1) rest in
-    let split : text ≡ line ++ 10 ∷ after = begun.splits ∙ ap (λ r. begun.front ++ r) (line-split rest k found) ∙ sym (append_assoc begun.front (take k rest) (10 ∷ after)) in
+    let split : text ≡ line ++ 10 ∷ after =
+    begun.splits ∙ ap (λ r. begun.front ++ r) (line-split rest k found) ∙ sym (append_assoc begun.front (take k rest) (10 ∷ after)) in
     let long : length (take k rest) ≡ k = length-take-le k rest (omega (arith, found.0.high)) in
-    let is : at ≡ length line = omega (arith, place, long, ap length begun.splits, length-append begun.front rest, length-append begun.front (take k rest)) in (
+    let is : at ≡ length line =
+    omega (arith, place, long, ap length begun.splits, length-append begun.front rest, length-append begun.front (take k rest)) in (
       rw (is, split) (feed-place line after (unfed-append begun.front (take k rest) begun.no_line_feed (line-before rest k found))),
       ap (λ t. meaning f (take at t)) split ∙ ap (λ n. meaning f (take n (line ++ 10 ∷ after))) is
           ∙ ap (meaning f) (take-append_seam line (10 ∷ after)) ∙ begun.means (take k rest) ends,

@@ -39,7 +39,8 @@ took_after (Some x) None c front piece wrote all = absurd wrote
 took_after (Some x) (Some y) None front piece wrote all = tt
 took_after (Some x) (Some y) (Some z) front piece wrote all = all ∙ ap (λ l. l ++ piece) wrote ∙ append_assoc x front piece
 
-flushes_after : {a b : SinkView} {front : List ℕ} (c : SinkView) (piece : List ℕ) → Wrote a b front → FlushesAfter piece b c → FlushesAfter (front ++ piece) a c
+flushes_after : {a b : SinkView} {front : List ℕ} (c : SinkView) (piece : List ℕ) → Wrote a b front → FlushesAfter piece b c
+    → FlushesAfter (front ++ piece) a c
 flushes_after c piece wrote (inl unflushed) = inl (unflushed ∙ wrote.unflushed)
 flushes_after {a} {b} {front} c piece wrote (inr all) = inr (took_after a.written b.written c.written front piece wrote.took all)
 

@@ -11,22 +11,27 @@ pub visit-count-requires-clause-addresses : goal.visit-count-requires-clause-add
 visit-count-requires-clause-addresses g c =
     let e = c.args.design.geometry.e in
     rw (c.e-ways.ensures, slab_read e c.args.filled.now c.set_of-set.result c.args.slots.now (omega arith) c.requires.slab.within)
-    (All-get_or (Addressable c.args.design.geometry.b) (sets_of e c.args.slots.now c.args.filled.now) c.set_of-set.result [] (omega (arith, length-sets_of e c.args.filled.now c.args.slots.now)) c.requires.slab.addresses)
+    (All-get_or (Addressable c.args.design.geometry.b) (sets_of e c.args.slots.now c.args.filled.now) c.set_of-set.result []
+    (omega (arith, length-sets_of e c.args.filled.now c.args.slots.now)) c.requires.slab.addresses)
 
 pub returns-clause-slab : goal.returns-clause-slab
 returns-clause-slab g c =
-    slab_kept c.args.design _ _ _ _ _ _ c.requires.slab c.e-ways.ensures c.set_of-set.ensures.within (omega arith) c.visit-count.ensures.within c.visit-count.ensures.addresses
+    slab_kept c.args.design _ _ _ _ _ _ c.requires.slab c.e-ways.ensures c.set_of-set.ensures.within (omega arith) c.visit-count.ensures.within
+    c.visit-count.ensures.addresses
 
 pub returns-clause-access : goal.returns-clause-access
 returns-clause-access g c =
-    slab_access c.args.design _ _ _ _ _ _ _ _ _ _ _ _ c.requires.slab c.set_of-set.ensures.value c.set_of-set.ensures.within c.e-ways.ensures (omega arith) c.visit-count.ensures.within c.visit-count.ensures.rule c.visit-count.ensures.visit
+    slab_access c.args.design _ _ _ _ _ _ _ _ _ _ _ _ c.requires.slab c.set_of-set.ensures.value c.set_of-set.ensures.within c.e-ways.ensures (omega arith)
+    c.visit-count.ensures.within c.visit-count.ensures.rule c.visit-count.ensures.visit
 
 pub returns-clause-dirty : goal.returns-clause-dirty
 returns-clause-dirty g c =
-    slab_dirty c.args.design _ _ _ _ _ _ _ _ _ _ _ c.requires.slab c.set_of-set.ensures.within c.e-ways.ensures (omega arith) c.visit-count.ensures.within c.visit-count.ensures.visit
+    slab_dirty c.args.design _ _ _ _ _ _ _ _ _ _ _ c.requires.slab c.set_of-set.ensures.within c.e-ways.ensures (omega arith) c.visit-count.ensures.within
+    c.visit-count.ensures.visit
 
 pub returns-clause-touched : goal.returns-clause-touched
 returns-clause-touched g c =
     let filled = c.args.filled.now in
     subst (λ touched. Covers touched (set filled c.set_of-set.result c.visit-count.result.1)) (sym c.note_growth.ensures)
-    (covers_change c.args.touched.now filled c.set_of-set.result (get_or filled c.set_of-set.result 0) c.visit-count.result.1 (omega arith) refl c.requires.touched)
+    (covers_change c.args.touched.now filled c.set_of-set.result (get_or filled c.set_of-set.result 0) c.visit-count.result.1 (omega arith) refl
+    c.requires.touched)

@@ -21,10 +21,14 @@ loop-reference-preserved c =
     let outcome = c.access-outcome.result in
     let contents = lru_contents c.access-outcome.new.self in
     let done = map (λ x. event.Reference x) (take i refs) in
-    let step = simulated_more m done before (lru_contents c.loop-reference.cache) contents (get_or refs i none) outcome c.limits.ensures.some c.loop-reference.invariant.simulated c.access-outcome.ensures.step in
+    let step =
+    simulated_more m done before (lru_contents c.loop-reference.cache) contents (get_or refs i none) outcome c.limits.ensures.some
+    c.loop-reference.invariant.simulated c.access-outcome.ensures.step in
     let counted_now : c.count.new.self ≡ counted before outcome = c.count.ensures in
     rw counted_now record {
-      simulated = subst (λ (events : List Event). Simulated m events (counted before outcome) contents) (sym (taken_more refs i none c.loop-reference-test.true)) step;
+      simulated =
+          subst (λ (events : List Event). Simulated m events (counted before outcome) contents) (sym (taken_more refs i none c.loop-reference-test.true))
+          step;
       accesses = omega (arith, accesses_more before outcome, c.loop-reference.invariant.accesses);
       evictions = omega (arith, evictions_more before outcome, c.loop-reference.invariant.evictions);
     }

@@ -7,4 +7,5 @@ use Rattle.cache_core.proofs.touched.zero_listed.Goals as goal
 pub returns : goal.returns
 returns c =
     let none = drop_all c.loop-set.set-index c.args.sets.now (omega arith) in
-    no_count c.loop-set.counts (subst (λ sets. ListsFilled sets c.loop-set.counts) none c.loop-set.invariant) ∙ ap (λ n. replicate n 0) c.loop-set.auto.counts
+    no_count c.loop-set.counts (subst (λ sets. ListsFilled sets c.loop-set.counts) none c.loop-set.invariant)
+    ∙ ap (λ n. replicate n 0) c.loop-set.auto.counts

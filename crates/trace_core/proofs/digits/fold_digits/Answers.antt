@@ -4,7 +4,8 @@ use Rattle.std.proofs.lemmas.Int.Digits.{digits_value_more, digits_more}
 use Rattle.trace_core.proofs.Numbers.{number-fits}
 use Rattle.trace_core.proofs.digits.fold_digits.Goals as goal
 
-step : (c : goal.Else-digit-radix) → (digit_value (get_or c.args.text.now c.loop-at.at 0) < c.args.radix) × (c.loop-at.value * c.args.radix + c.digit_value-digit.result < 2 ^ 64)
+step : (c : goal.Else-digit-radix)
+    → (digit_value (get_or c.args.text.now c.loop-at.at 0) < c.args.radix) × (c.loop-at.value * c.args.radix + c.digit_value-digit.result < 2 ^ 64)
 step c =
     let text = c.args.text.now in
     let at = c.loop-at.at in

@@ -12,6 +12,7 @@ returns c =
     let more = take (length rest - 1) (drop 1 rest) in
     let comma : get_or rest 0 0 ≡ 44 = search (rules, tests) in
     let op : lackey_op c.in_ok-label.label ≡ Some c.in_ok-op.op = sym c.in_ok-op.ensures in
-    lackey-usual c.args.text.now c.in_ok-label.rest.now more address.0 size.0 c.in_ok-size.rest.now c.in_ok-label.label c.in_ok-addr.addr c.in_ok-size.size c.in_ok-op.op
+    lackey-usual c.args.text.now c.in_ok-label.rest.now more address.0 size.0 c.in_ok-size.rest.now c.in_ok-label.label c.in_ok-addr.addr c.in_ok-size.size
+    c.in_ok-op.op
     c.in_ok-label.ensures op (address.1 ∙ ap (λ xs. address.0 ++ xs) (one-front rest c.in-44.len_at_least ∙ ap (λ b. b ∷ more) comma)) address.2
     size.1 size.2

@@ -28,7 +28,8 @@ returns-clause-order c =
 
 pub returns-clause-lawful : goal.returns-clause-lawful
 returns-clause-lawful c =
-    lawful_place (Some Random) c.next_word.result 0 _ _ _ (Some _) _ c.requires.room (exchange_full c.args.set.now c.args.filled c.next_word.result _ c.args.new _ (omega arith) c.requires.room refl)
+    lawful_place (Some Random) c.next_word.result 0 _ _ _ (Some _) _ c.requires.room
+    (exchange_full c.args.set.now c.args.filled c.next_word.result _ c.args.new _ (omega arith) c.requires.room refl)
 
 pub returns-clause-place : goal.returns-clause-place
 returns-clause-place c =
@@ -36,4 +37,5 @@ returns-clause-place c =
     written (c.args.filled + 1) _ _ _ way (omega arith)
 
 pub returns-clause-words : goal.returns-clause-words
-returns-clause-words c = word_of-rest c.args.self.now c.next_word.new.self (ap (λ (p : ℕ × Lcg). p.1) c.next_word.ensures ∙ ap (λ g. (pcg32 g).1) c.self.view_is)
+returns-clause-words c =
+    word_of-rest c.args.self.now c.next_word.new.self (ap (λ (p : ℕ × Lcg). p.1) c.next_word.ensures ∙ ap (λ g. (pcg32 g).1) c.self.view_is)

@@ -18,8 +18,10 @@ invariant_of-self c =
         arith,
         c.descend_all.ensures.memory,
         i.memory,
-        first_copied c.self.inside.i c.self.inside.d c.self.inside.u c.args.reference c.first_level-down.result c.first_level-down.new.i c.first_level-down.new.d c.first_level-down.new.u c.first_level-down.ensures.value,
-        all_copied (listed c.in-Some.down) c.self.inside.second c.self.inside.memory c.descend_all.new.second c.descend_all.new.memory c.descend_all.ensures.value,
+        first_copied c.self.inside.i c.self.inside.d c.self.inside.u c.args.reference c.first_level-down.result c.first_level-down.new.i
+            c.first_level-down.new.d c.first_level-down.new.u c.first_level-down.ensures.value,
+        all_copied (listed c.in-Some.down) c.self.inside.second c.self.inside.memory c.descend_all.new.second c.descend_all.new.memory
+            c.descend_all.ensures.value,
       );
       bypassed = omega (arith, i.bypassed);
     }

@@ -22,4 +22,5 @@ returns-in-Err-clause-advances c = λ told over.
     let some : 0 < length s.buffer = search (rules, tests, ap length held) in
     let below = c.requires.below some in
     let judged = ap (judge s.format s.limit (s.lines + 1)) (sym held) ∙ sym (c.judge.ensures s.limit (omega arith)) ∙ c.in-Err.is in
-    steps-bad_last told s.format s.limit s.lines s.buffer s.state c.requires.open _ c.in-Err.fault over (no-line s.buffer c.requires.no_line) some below c.requires.short judged refl
+    steps-bad_last told s.format s.limit s.lines s.buffer s.state c.requires.open _ c.in-Err.fault over (no-line s.buffer c.requires.no_line) some below
+    c.requires.short judged refl

@@ -13,7 +13,9 @@ returns-in-Ok-clause-advances c = λ told.
     let judged = ap (λ u. judge s.format s.limit (s.lines + 1) (take c.args.at u)) (sym c.as_slice.ensures.value)
     ∙ sym (c.judge.ensures s.limit (omega arith)) ∙ c.in-Ok.is in
     let passed = c.pass_line.ensures in
-    rw same (steps-line told s.format s.limit s.lines s.buffer s.state c.requires.open c.args.at c.in-Ok.entry (progress c.pass_line.new.self) c.requires.line judged passed.lines passed.buffer passed.same)
+    rw same
+    (steps-line told s.format s.limit s.lines s.buffer s.state c.requires.open c.args.at c.in-Ok.entry (progress c.pass_line.new.self) c.requires.line judged
+    passed.lines passed.buffer passed.same)
 
 pub returns-in-Err-clause-advances : goal.returns-in-Err-clause-advances
 returns-in-Err-clause-advances c = λ told.
