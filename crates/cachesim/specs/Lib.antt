@@ -1,15 +1,1 @@
-pub mod CommandLine
-pub mod CsimJob
-pub mod CsimText
-pub mod DinJob
-pub mod DinPass
-pub mod DinText
-pub mod Faults
-pub mod Job
-pub mod Numbers
-pub mod Options
-pub mod Readings
-pub mod Respell
-pub mod Simulation
-pub mod SweepJob
-pub mod Text
+pub mod Status

@@ -1,35 +1,16 @@
 //! A trace-driven simulator of processor caches.
 #![tactic(auto)]
 
-mod cache_options;
-mod csim;
-mod csim_job;
-mod csim_text;
-mod din;
-mod din_job;
-mod din_text;
-mod execute;
 mod faults;
-mod help;
-mod job;
-mod numbers;
-mod options;
-mod parse;
-mod readings;
-mod respell;
-#[cfg(test)]
-mod runs;
-mod simulation;
-mod sweep_job;
-mod text;
 
 ghost use Rattle.std.specs.Prelude.{◌≤◌};
-ghost use Rattle.cachesim.specs.Job.{max_lines_of};
+ghost use Rattle.arguments.specs.Job.{max_lines_of};
 
-use crate::execute::execute;
-use crate::faults::{ProgramFault, WordsFault};
-use crate::job::Job;
-use crate::parse::{Command, parse};
+use crate::faults::ProgramFault;
+use arguments::faults::WordsFault;
+use arguments::job::Job;
+use arguments::parse::{Command, parse};
+use commands::execute::execute;
 use std::alloc::{AllocError, Global};
 use std::env::{self, Args};
 use std::fs::File;
@@ -111,7 +92,7 @@ fn run_on<S: Source + Drop>(rt: &HostRuntime, job: &Job, mut source: S) -> Resul
 
 /// Tells a fault on standard error, or help on standard output.
 fn tell(rt: &HostRuntime, fault: &ProgramFault) -> ExitCode {
-    if let ProgramFault::Words(WordsFault::Usage { text, help: true }) = fault {
+    if let ProgramFault::Arguments(WordsFault::Usage { text, help: true }) = fault {
         let _ = println!(rt; "{text}");
         let _ = rt.stdout().flush();
     } else {

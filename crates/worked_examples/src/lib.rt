@@ -14,6 +14,8 @@ mod profiles;
 #[cfg(test)]
 mod reader;
 #[cfg(test)]
+mod runs;
+#[cfg(test)]
 mod samples;
 #[cfg(test)]
 mod sweeps;

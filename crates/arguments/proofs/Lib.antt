@@ -1,0 +1,5 @@
+pub mod AppFacts
+pub mod HelpLemmas
+pub mod NumberLemmas
+pub mod OptionLemmas
+mod Rows

@@ -1,0 +1,65 @@
+-- The command that the words give.
+use Rattle.std.specs.Prelude.{Bool, true, false, List, Option, Some, None, Result, Ok, Err, codes}
+use Rattle.std.specs.Prelude.{if◌then◌else◌, option_and_then, option_map, string_bytes}
+use Rattle.std.specs.Str.{bytes_eq}
+use Rattle.clap.specs.Words.{Row, Text, first_of, subcommand_of}
+use Rattle.clap.specs.declared.error.kind.ErrorKind.{ErrorKind}
+use Rattle.clap.specs.declared.error.kind.ErrorKind.TheVariants as kind
+use Rattle.arguments.specs.CsimJob.{csim_of}
+use Rattle.arguments.specs.DinJob.{din_of}
+use Rattle.arguments.specs.Faults.{Judgement, judgement_of}
+use Rattle.arguments.specs.Options.{cachesim_app}
+use Rattle.arguments.specs.Readings.{and_then}
+use Rattle.arguments.specs.Respell.{respelled}
+use Rattle.arguments.specs.SweepJob.{sweep_of}
+use Rattle.arguments.specs.declared.faults.WordsFault.{WordsFault}
+use Rattle.arguments.specs.declared.faults.WordsFault.TheVariants as fault
+use Rattle.arguments.specs.declared.parse.Command.{Command}
+use Rattle.arguments.specs.declared.job.Job.{Job}
+
+-- a job, and the name of the trace's file
+pub record CommandValue : Type 0 where
+  pub job : Job
+  pub trace : Option Text
+
+-- the same of a `Command` of `parse`
+abbrev pub command_value : Command → CommandValue
+command_value c = record { job = c.job; trace = option_map string_bytes c.trace }
+
+-- what the entries of a subcommand say
+abbrev pub job_named : Text → List Row → Option (Result Job Judgement)
+job_named name rows = if bytes_eq name (codes "csim") then Some (csim_of rows)
+    else (if bytes_eq name (codes "din") then Some (din_of rows)
+    else (if bytes_eq name (codes "sweep") then Some (sweep_of rows) else None))
+
+-- what was read, with the file of `-t`
+abbrev pub with_trace : List Row → Result Job Judgement → Result CommandValue Judgement
+with_trace rows read = and_then read (λ j. Ok (record { job = j; trace = first_of (codes "-t") rows }))
+
+-- a subcommand of this name with these entries, read; none of another name
+abbrev pub chosen_command : Text × List Row → Option (Result CommandValue Judgement)
+chosen_command s = option_map (with_trace s.1) (job_named s.0 s.1)
+
+-- the subcommand and the entries that clap gives for the respelled words, read
+abbrev pub command_of : List Text → Option (Result CommandValue Judgement)
+command_of words = option_and_then chosen_command (subcommand_of cachesim_app (respelled words))
+
+-- what `parse` answers, but for want of memory and what clap refuses
+abbrev pub answer_of : Result Command WordsFault → Option (Result CommandValue Judgement)
+answer_of (Ok c) = Some (Ok (command_value c))
+answer_of (Err e) = option_map Err (judgement_of e)
+
+-- where clap refused the words, whether it says that help was asked for
+abbrev pub usage_of : WordsFault → Option Bool
+usage_of (fault.Usage text help) = Some help
+usage_of _ = None
+
+-- the same of an answer of `parse`
+abbrev pub refusal_of : Result Command WordsFault → Option Bool
+refusal_of (Ok c) = None
+refusal_of (Err e) = usage_of e
+
+-- clap says that help was asked for
+abbrev pub is_help : ErrorKind → Bool
+is_help kind.DisplayHelp = true
+is_help _ = false

@@ -1,0 +1,108 @@
+-- What the words after `din` say.
+use Rattle.std.specs.Prelude.{ℕ, Bool, List, Option, Some, None, Result, Ok, codes, ◌||◌}
+use Rattle.std.specs.Prelude.{if◌then◌else◌, is_some, ok_or, option_and_then, unwrap_or}
+use Rattle.sweep_core.specs.Space.{is_power}
+use Rattle.std.specs.Result.{result_map_both}
+use Rattle.std.specs.Str.{bytes_eq}
+use Rattle.clap.specs.Words.{Row, Text}
+use Rattle.cache_core.specs.Levels.{Levels, plan_of}
+use Rattle.trace_core.specs.declared.line.Format.TheVariants.{Din as DinFormat}
+use Rattle.cache_core.specs.declared.outcome.AllocMode.{AllocMode}
+use Rattle.cache_core.specs.declared.outcome.AllocMode.TheVariants.{Always, Never}
+use Rattle.cache_core.specs.declared.plan.CacheName.{CacheName}
+use Rattle.cache_core.specs.declared.plan.CacheName.TheVariants.{L1I, L1D, L1U, L2U}
+use Rattle.cache_core.specs.declared.plan.CacheSpec.{CacheSpec}
+use Rattle.cache_core.specs.declared.outcome.Repl.{Repl}
+use Rattle.cache_core.specs.declared.outcome.Repl.TheVariants.{Lru, Fifo, Random}
+use Rattle.cache_core.specs.declared.outcome.WriteMode.{WriteMode}
+use Rattle.cache_core.specs.declared.outcome.WriteMode.TheVariants.{Back, Through}
+use Rattle.arguments.specs.Faults.{Judgement, incomplete, plan}
+use Rattle.arguments.specs.Job.{line_limit}
+use Rattle.arguments.specs.Numbers.{number_of, scaled_of}
+use Rattle.arguments.specs.Options.{option_of}
+use Rattle.arguments.specs.Readings.{and_then, format_named, optional_value, value_or}
+use Rattle.arguments.specs.declared.din_job.CacheReading.{CacheReading}
+use Rattle.arguments.specs.declared.job.Job.{Job}
+use Rattle.arguments.specs.declared.job.Job.TheVariants.{Din}
+
+-- a value of kind P: a scaled number that is a power of two
+abbrev pub power_of : Text → Option ℕ
+power_of text = option_and_then (λ n. if is_power n then Some n else None) (scaled_of text)
+
+-- Dinero IV's letters: l LRU, f FIFO, r random
+abbrev pub repl_named : Text → Option Repl
+repl_named text = if bytes_eq text (codes "l") then Some Lru
+    else (if bytes_eq text (codes "f") then Some Fifo
+    else (if bytes_eq text (codes "r") then Some Random else None))
+
+-- Dinero IV's letters: a always, n never
+abbrev pub walloc_named : Text → Option AllocMode
+walloc_named text = if bytes_eq text (codes "a") then Some Always
+    else (if bytes_eq text (codes "n") then Some Never else None)
+
+-- Dinero IV's letters: a write-back, n write-through
+abbrev pub wback_named : Text → Option WriteMode
+wback_named text = if bytes_eq text (codes "a") then Some Back
+    else (if bytes_eq text (codes "n") then Some Through else None)
+
+-- the six options of a cache, in the table's order
+abbrev pub reading_of : CacheName → List Row → Result CacheReading Judgement
+reading_of cache rows =
+    and_then (optional_value (option_of cache (codes "size")) power_of rows) (λ size.
+    and_then (optional_value (option_of cache (codes "bsize")) power_of rows) (λ bsize.
+    and_then (optional_value (option_of cache (codes "assoc")) number_of rows) (λ assoc.
+    and_then (optional_value (option_of cache (codes "repl")) repl_named rows) (λ repl.
+    and_then (optional_value (option_of cache (codes "walloc")) walloc_named rows) (λ walloc.
+    and_then (optional_value (option_of cache (codes "wback")) wback_named rows) (λ wback.
+    Ok (record {
+      size = size;
+      bsize = bsize;
+      assoc = assoc;
+      repl = repl;
+      walloc = walloc;
+      wback = wback;
+    })))))))
+
+-- one of the six was given
+abbrev pub is_given : CacheReading → Bool
+is_given r = is_some r.size || (is_some r.bsize || (is_some r.assoc || (is_some r.repl
+    || (is_some r.walloc || is_some r.wback))))
+
+-- the cache with its defaults
+abbrev pub spec_with : Option ℕ → Option ℕ → CacheReading → Option CacheSpec
+spec_with (Some size) (Some bsize) r = Some (record {
+  size = size;
+  bsize = bsize;
+  assoc = unwrap_or r.assoc 1;
+  repl = unwrap_or r.repl Lru;
+  wback = unwrap_or r.wback Back;
+  walloc = unwrap_or r.walloc Always;
+})
+spec_with _ _ r = None
+
+-- a cache is there exactly if one of its options was given, and then needs size and bsize
+abbrev pub cache_of : CacheName → CacheReading → Result (Option CacheSpec) Judgement
+cache_of cache r = if is_given r
+    then and_then (ok_or (spec_with r.size r.bsize r) (incomplete cache)) (λ spec. Ok (Some spec))
+    else Ok None
+
+-- The plan of what was given of the four caches, or the first fault: caches that lack size or bsize, then the plan's.
+abbrev pub plan_given : CacheReading → CacheReading → CacheReading → CacheReading → Result Levels Judgement
+plan_given i d u second =
+    and_then (cache_of L1I i) (λ i.
+    and_then (cache_of L1D d) (λ d.
+    and_then (cache_of L1U u) (λ u.
+    and_then (cache_of L2U second) (λ second.
+    result_map_both (λ p. p) plan (plan_of (record { i = i; d = d; u = u }) second)))))
+
+-- The job of these entries, or the first fault: bad values in the table's order, then the caches' and the plan's. The letters of the
+-- format and the default seed are this project's.
+abbrev pub din_of : List Row → Result Job Judgement
+din_of rows =
+    and_then (reading_of L1I rows) (λ i.
+    and_then (reading_of L1D rows) (λ d.
+    and_then (reading_of L1U rows) (λ u.
+    and_then (reading_of L2U rows) (λ second.
+    and_then (value_or DinFormat (codes "-informat") format_named rows) (λ format.
+    and_then (value_or 42 (codes "--seed") number_of rows) (λ seed.
+    and_then (plan_given i d u second) (λ p. Ok (Din p seed format line_limit))))))))

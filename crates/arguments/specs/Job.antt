@@ -1,0 +1,14 @@
+-- The work that a command line asks for.
+use Rattle.std.specs.Prelude.{ℕ, ◌^◌}
+use Rattle.arguments.specs.declared.job.Job.{Job}
+use Rattle.arguments.specs.declared.job.Job.TheVariants.{Csim, Din, Sweep}
+
+-- the most lines that a trace may have, `MAX_LINES` of the reader
+abbrev pub line_limit : ℕ
+line_limit = 2 ^ 40
+
+-- the most lines that a job takes
+abbrev pub max_lines_of : Job → ℕ
+max_lines_of (Csim geometry verbose max_lines) = max_lines
+max_lines_of (Din plan seed format max_lines) = max_lines
+max_lines_of (Sweep request) = request.max_lines

@@ -1,0 +1,10 @@
+pub mod CommandLine
+pub mod CsimJob
+pub mod DinJob
+pub mod Faults
+pub mod Job
+pub mod Numbers
+pub mod Options
+pub mod Readings
+pub mod Respell
+pub mod SweepJob

@@ -1,0 +1,75 @@
+//! The options of the caches of `din`: six for each.
+ghost use Rattle.arguments.specs.Options.{IsOptionsOf};
+
+use crate::options::CommandOption;
+use crate::options::Presence::Optional;
+use crate::options::Spelling::Long;
+use cache_core::plan::CacheName;
+
+/// The six options of one cache.
+pub struct CacheOptions {
+    pub size: CommandOption,
+    pub bsize: CommandOption,
+    pub assoc: CommandOption,
+    pub repl: CommandOption,
+    pub walloc: CommandOption,
+    pub wback: CommandOption,
+}
+
+const SIZE: &str = "Bytes of all its blocks, a power of two, as 16k";
+
+const BSIZE: &str = "Bytes in a block, a power of two";
+
+const ASSOC: &str = "Lines in a set, a power of two [default: 1]";
+
+const REPL: &str = "What leaves a full set: l LRU, f FIFO, r random [default: l]";
+
+const WALLOC: &str = "Whether a write that misses loads its block: a always, n never [default: a]";
+
+const WBACK: &str = "Writes: a go back when their block leaves, n go through at once [default: a]";
+
+/// An option of the cache of this name, which ends in this word.
+macro_rules! cache_option {
+    ($cache:literal, $word:literal, $value:literal, $help:expr) => {
+        CommandOption {
+            name: concat!("-", $cache, $word),
+            spelling: Long(concat!($cache, $word)),
+            presence: Optional($value),
+            help: $help,
+        }
+    };
+}
+
+/// The six options of the cache of this name.
+macro_rules! six_options {
+    ($cache:literal) => {
+        CacheOptions {
+            size: cache_option!($cache, "size", "BYTES", SIZE),
+            bsize: cache_option!($cache, "bsize", "BYTES", BSIZE),
+            assoc: cache_option!($cache, "assoc", "N", ASSOC),
+            repl: cache_option!($cache, "repl", "RULE", REPL),
+            walloc: cache_option!($cache, "walloc", "MODE", WALLOC),
+            wback: cache_option!($cache, "wback", "MODE", WBACK),
+        }
+    };
+}
+
+static L1I_OPTIONS: CacheOptions = six_options!("l1-i");
+
+static L1D_OPTIONS: CacheOptions = six_options!("l1-d");
+
+static L1U_OPTIONS: CacheOptions = six_options!("l1-u");
+
+static L2U_OPTIONS: CacheOptions = six_options!("l2-u");
+
+/// The six options of one cache.
+pub fn cache_options(cache: CacheName) -> &'static CacheOptions
+    ensures { IsOptionsOf cache result.now }
+{
+    match cache {
+        CacheName::L1I => &L1I_OPTIONS,
+        CacheName::L1D => &L1D_OPTIONS,
+        CacheName::L1U => &L1U_OPTIONS,
+        CacheName::L2U => &L2U_OPTIONS,
+    }
+}

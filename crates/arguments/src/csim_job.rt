@@ -1,0 +1,32 @@
+//! The options of `csim`.
+ghost use Rattle.std.specs.Prelude.{◌≡◌, IfOk, Some};
+ghost use Rattle.arguments.specs.CsimJob.{csim_of};
+ghost use Rattle.arguments.specs.Faults.{answer_in};
+ghost use Rattle.arguments.specs.Job.{max_lines_of};
+ghost use Rattle.arguments.specs.Readings.{rows_given};
+
+use crate::faults::WordsFault;
+use crate::job::Job;
+use crate::readings::{is_flagged, number_at};
+use cache_core::geometry::Geometry;
+use clap::ArgMatches;
+use trace_core::reader::MAX_LINES;
+
+/// The job of `csim`.
+pub fn csim_job(matches: &ArgMatches<'_>) -> Result<Job, WordsFault>
+    ensures job { answer_in result ≡ Some (csim_of (rows_given matches.now)) }
+    ensures limit { IfOk result (λ job. max_lines_of job ≡ MAX_LINES) }
+{
+    let s = number_at(matches, "-s")?;
+    let e = number_at(matches, "-E")?;
+    let b = number_at(matches, "-b")?;
+    let verbose = is_flagged(matches, "-v");
+    match Geometry::new(s, e, b) {
+        Some(geometry) => Ok(Job::Csim {
+            geometry,
+            verbose,
+            max_lines: MAX_LINES,
+        }),
+        None => Err(WordsFault::BadShape),
+    }
+}

@@ -1,0 +1,166 @@
+//! The options of `din`.
+ghost use Rattle.std.specs.Prelude.{◌≡◌, IfOk, Some};
+ghost use Rattle.arguments.specs.DinJob.{cache_of, din_of, plan_given, power_of, reading_of, repl_named, walloc_named, wback_named};
+ghost use Rattle.arguments.specs.Faults.{answer_in};
+ghost use Rattle.arguments.specs.Job.{max_lines_of};
+ghost use Rattle.arguments.specs.Readings.{optional_value, rows_given};
+
+use crate::cache_options::cache_options;
+use crate::faults::WordsFault;
+use crate::job::Job;
+use crate::numbers::read_scaled;
+use crate::readings::{format_at, optional_number_at, text_at};
+use cache_core::outcome::{AllocMode, Repl, WriteMode};
+use cache_core::plan::{CacheName, CacheSpec, FirstLevel, Plan};
+use clap::ArgMatches;
+use sweep_core::space::is_power;
+use trace_core::reader::MAX_LINES;
+
+/// What was given of the options of one cache.
+#[derive(Clone, Copy)]
+pub struct CacheReading {
+    size: Option<u64>,
+    bsize: Option<u64>,
+    assoc: Option<u64>,
+    repl: Option<Repl>,
+    walloc: Option<AllocMode>,
+    wback: Option<WriteMode>,
+}
+
+/// The job of `din`.
+pub fn din_job(matches: &ArgMatches<'_>) -> Result<Job, WordsFault>
+    ensures job { answer_in result ≡ Some (din_of (rows_given matches.now)) }
+    ensures limit { IfOk result (λ job. max_lines_of job ≡ MAX_LINES) }
+{
+    let i = read_cache(matches, CacheName::L1I)?;
+    let d = read_cache(matches, CacheName::L1D)?;
+    let u = read_cache(matches, CacheName::L1U)?;
+    let second = read_cache(matches, CacheName::L2U)?;
+    let format = format_at(matches, "-informat")?;
+    let seed = optional_number_at(matches, "--seed")?.unwrap_or(42);
+    let plan = plan_given(i, d, u, second)?;
+    Ok(Job::Din {
+        plan,
+        seed,
+        format,
+        max_lines: MAX_LINES,
+    })
+}
+
+/// The plan of what was given of the four caches.
+fn plan_given(
+    i: CacheReading,
+    d: CacheReading,
+    u: CacheReading,
+    second: CacheReading,
+) -> Result<Plan, WordsFault>
+    ensures { answer_in result ≡ Some (plan_given i d u second) }
+{
+    let first = FirstLevel {
+        i: complete(CacheName::L1I, i)?,
+        d: complete(CacheName::L1D, d)?,
+        u: complete(CacheName::L1U, u)?,
+    };
+    let second = complete(CacheName::L2U, second)?;
+    Ok(Plan::new(first, second)?)
+}
+
+/// The six options of a cache.
+fn read_cache(matches: &ArgMatches<'_>, cache: CacheName) -> Result<CacheReading, WordsFault>
+    ensures { answer_in result ≡ Some (reading_of cache (rows_given matches.now)) }
+{
+    let options = cache_options(cache);
+    Ok(CacheReading {
+        size: power_at(matches, options.size.name)?,
+        bsize: power_at(matches, options.bsize.name)?,
+        assoc: optional_number_at(matches, options.assoc.name)?,
+        repl: repl_at(matches, options.repl.name)?,
+        walloc: walloc_at(matches, options.walloc.name)?,
+        wback: wback_at(matches, options.wback.name)?,
+    })
+}
+
+/// The cache, where one of its options was given.
+fn complete(cache: CacheName, reading: CacheReading) -> Result<Option<CacheSpec>, WordsFault>
+    ensures { answer_in result ≡ Some (cache_of cache reading) }
+{
+    match reading {
+        CacheReading {
+            size: Some(size),
+            bsize: Some(bsize),
+            assoc,
+            repl,
+            walloc,
+            wback,
+        } => Ok(Some(CacheSpec {
+            size,
+            bsize,
+            assoc: assoc.unwrap_or(1),
+            repl: repl.unwrap_or(Repl::Lru),
+            wback: wback.unwrap_or(WriteMode::Back),
+            walloc: walloc.unwrap_or(AllocMode::Always),
+        })),
+        CacheReading {
+            size: None,
+            bsize: None,
+            assoc: None,
+            repl: None,
+            walloc: None,
+            wback: None,
+        } => Ok(None),
+        _ => Err(WordsFault::Incomplete { cache }),
+    }
+}
+
+/// A power of two that may be left out.
+fn power_at(matches: &ArgMatches<'_>, option: &'static str) -> Result<Option<u64>, WordsFault>
+    ensures { answer_in result ≡ Some (optional_value option.entry.now power_of (rows_given matches.now)) }
+{
+    let Some(text) = text_at(matches, option) else {
+        return Ok(None);
+    };
+    match read_scaled(text) {
+        Some(number) if is_power(number) => Ok(Some(number)),
+        _ => Err(WordsFault::Value { option }),
+    }
+}
+
+/// The rule by which blocks leave a set, which may be left out.
+fn repl_at(matches: &ArgMatches<'_>, option: &'static str) -> Result<Option<Repl>, WordsFault>
+    ensures { answer_in result ≡ Some (optional_value option.entry.now repl_named (rows_given matches.now)) }
+{
+    match text_at(matches, option) {
+        None => Ok(None),
+        Some("l") => Ok(Some(Repl::Lru)),
+        Some("f") => Ok(Some(Repl::Fifo)),
+        Some("r") => Ok(Some(Repl::Random)),
+        Some(_) => Err(WordsFault::Value { option }),
+    }
+}
+
+/// What a write does that misses, which may be left out.
+fn walloc_at(
+    matches: &ArgMatches<'_>,
+    option: &'static str,
+) -> Result<Option<AllocMode>, WordsFault>
+    ensures { answer_in result ≡ Some (optional_value option.entry.now walloc_named (rows_given matches.now)) }
+{
+    match text_at(matches, option) {
+        None => Ok(None),
+        Some("a") => Ok(Some(AllocMode::Always)),
+        Some("n") => Ok(Some(AllocMode::Never)),
+        Some(_) => Err(WordsFault::Value { option }),
+    }
+}
+
+/// Where writes go, which may be left out.
+fn wback_at(matches: &ArgMatches<'_>, option: &'static str) -> Result<Option<WriteMode>, WordsFault>
+    ensures { answer_in result ≡ Some (optional_value option.entry.now wback_named (rows_given matches.now)) }
+{
+    match text_at(matches, option) {
+        None => Ok(None),
+        Some("a") => Ok(Some(WriteMode::Back)),
+        Some("n") => Ok(Some(WriteMode::Through)),
+        Some(_) => Err(WordsFault::Value { option }),
+    }
+}

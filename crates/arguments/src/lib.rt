@@ -1,0 +1,15 @@
+//! The arguments of the command line: what they are spelled as, the options that they have, and the job that they ask for.
+#![tactic(auto)]
+
+mod cache_options;
+mod csim_job;
+mod din_job;
+pub mod faults;
+mod help;
+pub mod job;
+pub mod numbers;
+mod options;
+pub mod parse;
+mod readings;
+pub mod respell;
+mod sweep_job;

@@ -1,0 +1,122 @@
+//! From the words of the command line to a job.
+ghost use Rattle.std.specs.Prelude.{codes, [], ◌≡◌, ◌≢◌, IfOk, IfSome, None, Some, true, is_some, map, option_and_then, option_map, string_bytes};
+ghost use Rattle.std.specs.List.{list_any};
+ghost use Rattle.clap.specs.Words.{fault_of, first_of, kind_of, subcommand_rows_of, takes};
+ghost use Rattle.arguments.specs.CommandLine.{answer_of, command_of, is_help, job_named, chosen_command, refusal_of, usage_of};
+ghost use Rattle.arguments.specs.Faults.{judgement_of, answer_in};
+ghost use Rattle.arguments.specs.Job.{max_lines_of};
+ghost use Rattle.arguments.specs.Options.{cachesim_app};
+ghost use Rattle.arguments.specs.Readings.{rows_given};
+ghost use Rattle.arguments.specs.Respell.{respelled};
+
+use crate::csim_job::csim_job;
+use crate::din_job::din_job;
+use crate::faults::WordsFault;
+use crate::job::Job;
+use crate::options::cachesim_command;
+use crate::readings::text_at;
+use crate::respell::respell;
+use crate::sweep_job::sweep_job;
+use clap::ArgMatches;
+use clap::error::ErrorKind;
+use std::alloc::{AllocError, Global};
+use trace_core::reader::MAX_LINES;
+
+/// A job, and the file of the trace; without it, standard input.
+#[derive(Debug, Drop)]
+pub struct Command {
+    pub job: Job,
+    pub trace: Option<String>,
+}
+
+/// The job that the words ask for. The first word is the program's name. No file is opened.
+///
+/// Errors, the first that applies: `Usage` for what `clap` refuses or for help; `Value` for the first bad value, in the order of the manual's
+/// tables; `Incomplete`; then `BadShape`, `Plan` or `Space`. `Memory` wherever memory is refused.
+pub fn parse(alloc: Global, words: &[String]) -> Result<Command, WordsFault>
+    // But for want of memory and for what clap refuses, the answer is what the words mean, and clap refuses nothing.
+    ensures answer { IfSome (answer_of result) (λ answer.
+        command_of (map string_bytes words.now) ≡ Some answer) }
+    ensures accepted { IfSome (answer_of result) (λ _.
+        fault_of cachesim_app (respelled (map string_bytes words.now)) ≡ []) }
+    ensures limit { IfOk result (λ c. max_lines_of c.job ≡ MAX_LINES) }
+
+    // What clap takes is not refused, a refusal is one of clap's, and it says whether help was asked for.
+    ensures taken { takes cachesim_app (respelled (map string_bytes words.now)) ≡ true
+        → refusal_of result ≡ None }
+    ensures refused { IfSome (refusal_of result) (λ _.
+        fault_of cachesim_app (respelled (map string_bytes words.now)) ≢ []) }
+    ensures help { IfSome (refusal_of result) (λ help.
+        help ≡ list_any is_help (fault_of cachesim_app (respelled (map string_bytes words.now)))) }
+{
+    let respelled = respell(alloc, words)?;
+    let command = cachesim_command(alloc)?;
+    match command.try_get_matches_from(respelled.as_slice()) {
+        Ok(matches) => read_command(alloc, &matches),
+        Err(error) => Err(usage_fault(alloc, &error)),
+    }
+}
+
+/// The job of the command that was chosen.
+fn read_command(alloc: Global, matches: &ArgMatches<'_>) -> Result<Command, WordsFault>
+    requires { is_some (option_and_then chosen_command (subcommand_rows_of matches.now)) ≡ true }
+    ensures answer { IfSome (answer_of result) (λ answer.
+        option_and_then chosen_command (subcommand_rows_of matches.now) ≡ Some answer) }
+    ensures limit { IfOk result (λ c. max_lines_of c.job ≡ MAX_LINES) }
+    ensures taken { refusal_of result ≡ None }
+{
+    let Some((name, options)) = matches.subcommand() else {
+        unreachable!()
+    };
+    let job = job_of(name, options)?;
+    let trace = file_at(alloc, options)?;
+    Ok(Command { job, trace })
+}
+
+/// The job of a command, from its options.
+fn job_of(name: &str, options: &ArgMatches<'_>) -> Result<Job, WordsFault>
+    requires { is_some (job_named name.now (rows_given options.now)) ≡ true }
+    ensures job { answer_in result ≡ job_named name.now (rows_given options.now) }
+    ensures limit { IfOk result (λ job. max_lines_of job ≡ MAX_LINES) }
+{
+    match name {
+        "csim" => csim_job(options),
+        "din" => din_job(options),
+        "sweep" => sweep_job(options),
+        _ => unreachable!(),
+    }
+}
+
+/// The file of `-t`.
+fn file_at(alloc: Global, options: &ArgMatches<'_>) -> Result<Option<String>, AllocError>
+    ensures { IfOk result (λ file. option_map string_bytes file ≡ first_of (codes "-t") (rows_given options.now)) }
+{
+    match text_at(options, "-t") {
+        Some(name) => Ok(Some(String::from_str(alloc, name)?)),
+        None => Ok(None),
+    }
+}
+
+/// What `clap` refused, with its text less the last LF.
+fn usage_fault(alloc: Global, error: &clap::Error) -> WordsFault
+    ensures silent { judgement_of result ≡ None }
+    ensures memory { kind_of error.now ≡ ErrorKind.OutOfMemory → usage_of result ≡ None }
+    ensures help { IfSome (usage_of result) (λ help. help ≡ is_help (kind_of error.now)) }
+{
+    let kind = error.kind();
+    if kind == ErrorKind::OutOfMemory {
+        return WordsFault::Memory;
+    }
+    match format!(in alloc; "{error}") {
+        Ok(mut text) => {
+            if text.as_str().ends_with('\n') {
+                let _ = text.pop();
+            }
+            WordsFault::Usage {
+                text,
+                help: matches!(kind, ErrorKind::DisplayHelp),
+            }
+        }
+        Err(_) => WordsFault::Memory,
+    }
+}

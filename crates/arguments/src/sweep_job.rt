@@ -1,0 +1,51 @@
+//! The options of `sweep`.
+ghost use Rattle.std.specs.Prelude.{◌≡◌, IfOk, Some};
+ghost use Rattle.arguments.specs.Faults.{answer_in};
+ghost use Rattle.arguments.specs.Job.{max_lines_of};
+ghost use Rattle.arguments.specs.Readings.{rows_given};
+ghost use Rattle.arguments.specs.SweepJob.{ranges_of, sweep_of};
+
+use crate::faults::WordsFault;
+use crate::job::Job;
+use crate::readings::{config_at, format_at, is_flagged, kind_at, optional_number_at, range_at};
+use clap::ArgMatches;
+use sweep_core::request::Request;
+use sweep_core::space::Space;
+use trace_core::reader::MAX_LINES;
+
+/// A lowest and a greatest value.
+type Range = (u64, u64);
+
+/// The job of `sweep`.
+pub fn sweep_job(matches: &ArgMatches<'_>) -> Result<Job, WordsFault>
+    ensures job { answer_in result ≡ Some (sweep_of (rows_given matches.now)) }
+    ensures limit { IfOk result (λ job. max_lines_of job ≡ MAX_LINES) }
+{
+    let (bsize, sets, assoc, size) = ranges_at(matches)?;
+    let kind = kind_at(matches, "--kind")?;
+    let format = format_at(matches, "--format")?;
+    let after = config_at(matches, "--after")?;
+    let rows = optional_number_at(matches, "--rows")?;
+    let powers = is_flagged(matches, "--pow2");
+    let space = Space::new(bsize, sets, assoc, size, powers)?;
+    let request = Request {
+        space,
+        kind,
+        format,
+        after,
+        rows,
+        max_lines: MAX_LINES,
+    };
+    Ok(Job::Sweep { request })
+}
+
+/// The ranges of block sizes, set counts, associativities and sizes.
+fn ranges_at(matches: &ArgMatches<'_>) -> Result<(Range, Range, Range, Range), WordsFault>
+    ensures { answer_in result ≡ Some (ranges_of (rows_given matches.now)) }
+{
+    let bsize = range_at(matches, "--bsize")?;
+    let sets = range_at(matches, "--sets")?;
+    let assoc = range_at(matches, "--assoc")?;
+    let size = range_at(matches, "--size")?;
+    Ok((bsize, sets, assoc, size))
+}

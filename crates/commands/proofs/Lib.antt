@@ -1,0 +1,5 @@
+pub mod CsimLemmas
+pub mod DinLemmas
+pub mod Hexadecimal
+pub mod Simulating
+mod TextRows

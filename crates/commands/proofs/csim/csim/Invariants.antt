@@ -1,0 +1,13 @@
+use Rattle.std.proofs.Common.{◌-◌}
+use Rattle.commands.proofs.CsimLemmas.{Simulated}
+use Rattle.commands.proofs.csim.csim.Given as goal
+
+-- what was read, simulated and written
+abbrev pub invariant-loop-simulation : goal.invariant-loop-simulation
+invariant-loop-simulation g l =
+    let source = g.S.Source.view in
+    let sink = g.K.Sink.view in
+    Simulated l.fn.geometry l.verbose l.fn.max_lines (source l.initial.source) (source l.source) (sink l.initial.sink) (sink l.sink) l.lines l.simulation
+
+abbrev pub decreases-loop-simulation : goal.decreases-loop-simulation
+decreases-loop-simulation g l = l.lines.limit - l.lines.lines

@@ -1,0 +1,13 @@
+use Rattle.std.proofs.Common.{◌-◌, ◌*◌, ◌≤◌, ◌^◌}
+use Rattle.commands.specs.DinPass.{StepsThrough}
+use Rattle.commands.proofs.din.step_through.Given as goal
+
+-- the system was stepped through the entries that were read, at most two references a line
+abbrev pub invariant-loop-entry : goal.invariant-loop-entry
+invariant-loop-entry g l =
+    StepsThrough l.fn.lines.format l.fn.lines.limit (g.S.Source.view l.initial.source) (g.S.Source.view l.source) l.lines l.fn.system l.system
+    × (l.system.steps ≤ 2 * l.lines.lines)
+    × (l.lines.limit ≤ 2 ^ 40)
+
+abbrev pub decreases-loop-entry : goal.decreases-loop-entry
+decreases-loop-entry g l = l.lines.limit - l.lines.lines

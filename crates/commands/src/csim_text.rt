@@ -1,0 +1,95 @@
+//! The lines that `csim` writes.
+ghost use Rattle.std.specs.Prelude.{◌≡◌, ◌+◌, ◌≤◌, [], ◌++◌, length, flat_map, OnOk, OnErr, if◌then◌else◌};
+ghost use Rattle.std.specs.Option.{option_to_list};
+ghost use Rattle.std.specs.Io.KnownBytes.{Appends};
+ghost use Rattle.trace_core.specs.Device.{Writes};
+ghost use Rattle.commands.specs.CsimText.{letter_of, words_of, item_line, line_of, summary};
+ghost use Rattle.commands.specs.Simulation.{lookups_of_pair};
+
+use crate::simulation::Lookup;
+use crate::text::{CAPACITY, Text};
+use cache_core::outcome::Counts;
+use trace_core::events::{Entry, Item, Op};
+use trace_core::io::{DeviceFault, Sink, write_all};
+
+/// The letter of an item's line. A fetch has no line.
+fn letter(op: Op) -> Option<u8>
+    ensures { result ≡ letter_of op }
+{
+    match op {
+        Op::Fetch => None,
+        Op::Load => Some(b'L'),
+        Op::Store => Some(b'S'),
+        Op::Modify => Some(b'M'),
+    }
+}
+
+/// Adds the words of a lookup, if there is one.
+fn push_lookup(text: &mut Text, lookup: Option<Lookup>)
+    requires { length text.old + 14 ≤ CAPACITY }
+    ensures value { text.new ≡ text.old ++ flat_map words_of (option_to_list lookup) }
+    ensures short { length text.new ≤ length text.old + 14 }
+{
+    if let Some(lookup) = lookup {
+        text.push(lookup.words());
+    }
+}
+
+/// Adds the line of an item whose references went so.
+fn push_item(text: &mut Text, item: Item, lookups: (Option<Lookup>, Option<Lookup>))
+    requires { length text.old + 68 ≤ CAPACITY }
+    ensures { text.new ≡ text.old ++ item_line (letter_of item.op) item (lookups_of_pair lookups) }
+{
+    let Some(letter) = letter(item.op) else {
+        return;
+    };
+    text.push(&[letter, b' ']);
+    text.push_hexadecimal(item.addr);
+    text.push(b",");
+    text.push_decimal(item.size as u64);
+    push_lookup(text, lookups.0);
+    push_lookup(text, lookups.1);
+    text.push(b"\n");
+}
+
+/// Puts the line of an entry whose references went so in place of what a text held.
+fn set_line(text: &mut Text, entry: Entry, lookups: (Option<Lookup>, Option<Lookup>))
+    ensures { text.new ≡ line_of entry (lookups_of_pair lookups) }
+{
+    text.clear();
+    if let Entry::Item(item) = entry {
+        push_item(text, item, lookups);
+    }
+}
+
+/// Writes the line of an entry, if lines are wanted.
+pub(crate) fn write_line<K: Sink>(
+    verbose: bool,
+    text: &mut Text,
+    entry: Entry,
+    lookups: (Option<Lookup>, Option<Lookup>),
+    sink: &mut K,
+) -> Result<(), DeviceFault>
+    ensures { Writes (K.view sink.old) (K.view sink.new) result
+        (if verbose then line_of entry (lookups_of_pair lookups) else []) }
+{
+    if !verbose {
+        return Ok(());
+    }
+    set_line(text, entry, lookups);
+    write_all(sink, text.as_slice())
+}
+
+/// Puts the summary in place of what a text held.
+pub(crate) fn set_summary(text: &mut Text, counts: Counts)
+    ensures { text.new ≡ summary counts }
+{
+    text.clear();
+    text.push(b"hits:");
+    text.push_decimal(counts.hits);
+    text.push(b" misses:");
+    text.push_decimal(counts.misses);
+    text.push(b" evictions:");
+    text.push_decimal(counts.evictions);
+    text.push(b"\n");
+}

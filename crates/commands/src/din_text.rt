@@ -1,0 +1,54 @@
+//! The report of `din`.
+ghost use Rattle.std.specs.Prelude.{◌≡◌, ◌+◌, ◌≤◌, ◌++◌, length};
+ghost use Rattle.commands.specs.DinText.{field, cache_line, report_of};
+
+use crate::text::{CAPACITY, Text};
+use cache_core::plan::{CacheStats, Stats};
+
+/// Adds a name, and a number behind it.
+fn push_field(text: &mut Text, name: &[u8], number: u64)
+    requires { length text.old + length name.now + 20 ≤ CAPACITY }
+    ensures value { text.new ≡ text.old ++ field name.now number }
+    ensures short { length text.new ≤ length text.old + length name.now + 20 }
+{
+    text.push(name);
+    text.push_decimal(number);
+}
+
+/// Adds the line of a cache, if there is one.
+fn push_cache(text: &mut Text, name: &[u8], stats: Option<CacheStats>)
+    requires room { length text.old + 300 ≤ CAPACITY }
+    requires name { length name.now ≤ 4 }
+    ensures value { text.new ≡ text.old ++ cache_line name.now stats }
+    ensures short { length text.new ≤ length text.old + 300 }
+{
+    let Some(stats) = stats else {
+        return;
+    };
+    text.push(name);
+    push_field(text, b" fetches=", stats.fetches);
+    push_field(text, b" fetch-misses=", stats.fetch_misses);
+    push_field(text, b" reads=", stats.reads);
+    push_field(text, b" read-misses=", stats.read_misses);
+    push_field(text, b" writes=", stats.writes);
+    push_field(text, b" write-misses=", stats.write_misses);
+    push_field(text, b" evictions=", stats.evictions);
+    push_field(text, b" copybacks=", stats.copybacks);
+    text.push(b"\n");
+}
+
+/// Puts the report in place of what a text held.
+pub(crate) fn set_report(text: &mut Text, stats: &Stats)
+    ensures { text.new ≡ report_of stats.now }
+{
+    text.clear();
+    push_cache(text, b"l1-i", stats.l1i);
+    push_cache(text, b"l1-d", stats.l1d);
+    push_cache(text, b"l1-u", stats.l1u);
+    push_cache(text, b"l2-u", stats.l2u);
+    push_field(text, b"memory reads=", stats.memory_reads);
+    push_field(text, b" writes=", stats.memory_writes);
+    text.push(b"\n");
+    push_field(text, b"bypassed=", stats.bypassed);
+    text.push(b"\n");
+}

@@ -1,0 +1,47 @@
+//! How jobs are done.
+ghost use Rattle.std.specs.Prelude.{◌≤◌};
+ghost use Rattle.trace_core.specs.Task.{Performs};
+ghost use Rattle.arguments.specs.Job.{max_lines_of};
+ghost use Rattle.commands.specs.Execute.{task_of};
+
+use crate::csim::csim;
+use crate::din::din;
+use arguments::job::Job;
+use std::alloc::Global;
+use sweep_core::sweep::sweep;
+use trace_core::fault::RunFault;
+use trace_core::io::{Sink, Source};
+use trace_core::reader::MAX_LINES;
+
+/// Does a job: what it answers, reads and writes is what the command of that name does.
+///
+/// Errors: those of `csim`, `din` and `sweep`. The comparisons that `sweep` answers are dropped.
+pub fn execute<S: Source, K: Sink>(
+    alloc: Global,
+    job: &Job,
+    source: &mut S,
+    sink: &mut K,
+) -> Result<(), RunFault>
+    requires some { 1 ≤ max_lines_of job.now }
+    requires most { max_lines_of job.now ≤ MAX_LINES }
+    ensures { Performs (task_of job.now) result
+        S.view source.old source.new K.view sink.old sink.new }
+{
+    match *job {
+        Job::Csim {
+            geometry,
+            verbose,
+            max_lines,
+        } => csim(alloc, geometry, verbose, max_lines, source, sink),
+        Job::Din {
+            plan,
+            seed,
+            format,
+            max_lines,
+        } => din(alloc, plan, seed, format, max_lines, source, sink),
+        Job::Sweep { request } => {
+            sweep(alloc, &request, source, sink)?;
+            Ok(())
+        }
+    }
+}
