@@ -1,6 +1,6 @@
 -- The depth of a pair is the greatest valid associativity, and gives a geometry.
-use Rattle.std.proofs.Common.{◌≡◌, ℕ, ◌*◌, ◌^◌, ◌<◌, ◌≤◌, max, Bool, true, ◌&&◌, List, [], ◌∷◌, map, fold, refl, sym, ap, ◌∙◌, arith, Option, None, Some, inl, inr, subst}
-use Rattle.std.specs.Prelude.{◌⊎◌, filter}
+use Rattle.std.proofs.Common.{◌≡◌, ℕ, ◌*◌, ◌^◌, ◌<◌, ◌≤◌, Bool, true, ◌&&◌, List, map, refl, sym, ap, ◌∙◌, arith, Option, None, Some, inl, inr, subst}
+use Rattle.std.specs.Prelude.{filter}
 use Rattle.std.specs.List.{AllByRecursion as Each}
 use Rattle.std.specs.Int.{w64, bit_at}
 use Rattle.std.proofs.lemmas.Bool.{and_parts, and_from, eqb-true, eq-eqb, cases_lt, cases_eq}
@@ -8,18 +8,17 @@ use Rattle.std.proofs.lemmas.Nat.{pow_pos, pow-add}
 use Rattle.std.proofs.lemmas.Nat.Bits.{bit_at-trailing_zeros, bit_at-pow_other}
 use Rattle.std.proofs.Math.Pow.{pow-lt}
 use Rattle.std.proofs.Math.Nat.{mul_comm}
-use Rattle.sweep_core.proofs.Powers.{power_of}
+use Rattle.sweep_core.proofs.Lists.{Member, Each-weaker, Each-both, Each-map, Each-filter, Member-map, passes-all, kept-of, max-is, max-above}
+use Rattle.sweep_core.proofs.Powers.{power-of}
 use Rattle.cache_core.specs.Geometry.{IsGeometry, size_of}
 use Rattle.sweep_core.specs.declared.space.Config.{Config}
 use Rattle.sweep_core.specs.Space.{Ranges, is_power, is_valid, bytes_of, config}
 use Rattle.sweep_core.specs.Table.{is_less, is_after, table, all_configs}
 use Rattle.sweep_core.specs.SweepText.{log2, shape_of_config}
 use Rattle.sweep_core.specs.Work.{depth, has_pair}
-use Rattle.sweep_core.proofs.Validity.{IsLimited, valid_of, exponent_of}
+use Rattle.sweep_core.proofs.Validity.{IsLimited, valid_of, power-exponent}
 use Rattle.sweep_core.proofs.Orders.{is_less-from, is_less-trans}
-use Rattle.sweep_core.proofs.Tables.{Member, Member-map, Each-weaker, Each-both}
 use Rattle.sweep_core.proofs.Next.{valid-member}
-use Rattle.sweep_core.proofs.Members.{kept-of, passes-all, Each-filter}
 
 -- the logarithm of a power
 pub log2-pow : (k : ℕ) → k < 64 → log2 (2 ^ k) ≡ k
@@ -32,13 +31,13 @@ log2-pow k h =
     ]
 
 pub log2-is : (n : ℕ) → is_power n ≡ true → 2 ^ log2 n ≡ n
-log2-is n h = let k = power_of n h in ap (λ m. 2 ^ log2 m) k.2 ∙ ap (λ i. 2 ^ i) (log2-pow k.0 k.1) ∙ sym k.2
+log2-is n h = let k = power-of n h in ap (λ m. 2 ^ log2 m) k.2 ∙ ap (λ i. 2 ^ i) (log2-pow k.0 k.1) ∙ sym k.2
 
 pub geometry-of : (space : Ranges) (c : Config) → IsLimited space → is_valid space c ≡ true → IsGeometry (shape_of_config c)
 geometry-of space c l h =
     let v = valid_of space c h in
-    let i = exponent_of c.bsize v.block_power (omega (arith, v.bsize.1, l.bsize.1)) in
-    let j = exponent_of c.sets v.set_power (omega (arith, v.sets.1, l.sets.1)) in
+    let i = power-exponent c.bsize v.block_power (omega (arith, v.bsize.1, l.bsize.1)) in
+    let j = power-exponent c.sets v.set_power (omega (arith, v.sets.1, l.sets.1)) in
     let li : log2 c.bsize ≡ i.0 = ap log2 i.2 ∙ log2-pow i.0 (omega (arith, i.1)) in
     let lj : log2 c.sets ≡ j.0 = ap log2 j.2 ∙ log2-pow j.0 (omega (arith, j.1)) in
     let back : c.assoc * 2 ^ log2 c.sets ≡ c.assoc * c.sets = ap (λ x. c.assoc * x) (log2-is c.sets v.set_power) in
@@ -51,17 +50,6 @@ bytes-are space c h =
     ∙ ap (λ x. c.assoc * (x * 2 ^ log2 c.bsize)) (log2-is c.sets v.set_power)
     ∙ ap (λ x. c.assoc * (c.sets * x)) (log2-is c.bsize v.block_power)
     ∙ mul_comm c.assoc (c.sets * c.bsize) ∙ ap (λ x. x * c.assoc) (mul_comm c.sets c.bsize)
-
-max-is : (n : ℕ) (xs : List ℕ) (a : ℕ) → a ≤ n → Each (λ x. x ≤ n) xs → (a ≡ n) ⊎ Member n xs → fold max a xs ≡ n
-max-is n [] a low all (inl e) = e
-max-is n [] a low all (inr m) = absurd m
-max-is n (x ∷ xs) a low all (inl e) = max-is n xs (max a x) (omega (arith, all.0)) all.1 (inl (omega (arith, all.0)))
-max-is n (x ∷ xs) a low all (inr (inl e)) = max-is n xs (max a x) (omega (arith, all.0)) all.1 (inl (omega (arith, all.0)))
-max-is n (x ∷ xs) a low all (inr (inr m)) = max-is n xs (max a x) (omega (arith, all.0)) all.1 (inr m)
-
-Each-map : {A B : Type 0} (P : B → Type 0) (f : A → B) (xs : List A) → Each (λ x. P (f x)) xs → Each P (map f xs)
-Each-map P f [] h = tt
-Each-map P f (x ∷ xs) h = (h.0, Each-map P f xs h.1)
 
 wider-after : (after : Option Config) (c : Config) (n : ℕ) → is_after after c ≡ true → c.assoc ≤ n → is_after after (config c.bsize c.sets n) ≡ true
 wider-after None c n h w = refl
@@ -87,13 +75,6 @@ depth-is space after c n l valid later top greatest =
     kept-of q (config c.bsize c.sets n) rows (and_from _ _ (eq-eqb c.bsize c.bsize refl) (eq-eqb c.sets c.sets refl))
     (kept-of p (config c.bsize c.sets n) (all_configs space.assoc) (and_from _ _ top (wider-after after c n later (greatest c.assoc valid))) (valid-member space (config c.bsize c.sets n) l top)) in
     max-is n (map (λ d. d.assoc) (filter q rows)) 0 (omega arith) (Each-map (λ x. x ≤ n) (λ d. d.assoc) (filter q rows) bound) (inr (Member-map (λ d. d.assoc) (config c.bsize c.sets n) (filter q rows) member))
-
-max-above : (n a : ℕ) (xs : List ℕ) → (n ≤ a) ⊎ Member n xs → n ≤ fold max a xs
-max-above n a [] (inl low) = low
-max-above n a [] (inr m) = absurd m
-max-above n a (x ∷ xs) (inl low) = max-above n (max a x) xs (inl (omega arith))
-max-above n a (x ∷ xs) (inr (inl e)) = max-above n (max a x) xs (inl (omega arith))
-max-above n a (x ∷ xs) (inr (inr m)) = max-above n (max a x) xs (inr m)
 
 -- no configuration is deeper than its pair
 pub depth-above : (all : List Config) (c : Config) → Member c all → c.assoc ≤ depth all (c.bsize, c.sets)

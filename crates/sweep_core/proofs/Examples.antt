@@ -15,7 +15,7 @@ use Rattle.sweep_core.specs.declared.space.Cause.{Cause}
 use Rattle.sweep_core.specs.declared.space.Cause.TheVariants.{NotPower, Limit, Reversed}
 use Rattle.sweep_core.specs.Space.{Ranges, ranges, space_of, is_power, config}
 use Rattle.sweep_core.specs.Table.{table, all_configs}
-use Rattle.sweep_core.specs.SweepText.{sweep_text, rows_text, all_of, rows_of}
+use Rattle.sweep_core.specs.SweepText.{sweep_text, rows_text, configs_of, rows_of}
 use Rattle.sweep_core.specs.Work.{sweep_work, work, pairs, depth}
 use Rattle.sweep_core.specs.Pass.{made_for}
 
@@ -34,7 +34,7 @@ of_kind kind r = record r { kind = kind }
 
 -- block size, set count and depth of each profile that a sweep makes
 abbrev profiles_of : Request → List (ℕ × ℕ × ℕ)
-profiles_of r = map (λ x. (x.bsize, x.sets, x.profile.geometry.e)) (made_for (all_of r) (rows_of r))
+profiles_of r = map (λ x. (x.bsize, x.sets, x.profile.geometry.e)) (made_for (configs_of r) (rows_of r))
 
 abbrev header : List ℕ
 header = codes "bsize,sets,assoc,size,hits,misses,evictions\n"

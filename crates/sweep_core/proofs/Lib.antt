@@ -1,3 +1,4 @@
+pub mod Lists
 pub mod Powers
 pub mod Orders
 pub mod Validity

@@ -1,23 +1,16 @@
 -- The table rises, and its members are the valid configurations after a triple.
-use Rattle.std.proofs.Common.{◌≡◌, ℕ, suc, zero, ◌<◌, Bool, true, ◌&&◌, List, [], ◌∷◌, refl, sym, ap, ◌∙◌, Option, inl, inr, get_or, length, arith, subst}
+use Rattle.std.proofs.Common.{◌≡◌, Bool, true, ◌&&◌, List, [], ◌∷◌, refl, sym, ap, ◌∙◌, Option, inl, inr, subst}
 use Rattle.std.specs.Prelude.{◌↔◌, filter, Contains}
 use Rattle.std.specs.List.{AllByRecursion as Each}
 use Rattle.std.proofs.lemmas.Bool.{cases_Bool, cond-true, cond-false, and_parts, and_from, false≢true}
 use Rattle.sweep_core.specs.declared.space.Config.{Config}
 use Rattle.sweep_core.specs.Space.{Ranges, is_valid}
 use Rattle.sweep_core.specs.Table.{is_less, is_after, table, all_configs, IsRising}
+use Rattle.sweep_core.proofs.Lists.{Member, Each-member, Each-weaker, Each-filter, Each-get_or, contains-of, member-of, passes-all, kept-of}
 use Rattle.sweep_core.proofs.Validity.{IsLimited}
-use Rattle.sweep_core.proofs.Tables.{Member, Each-member, Each-weaker, all_configs-rise}
+use Rattle.sweep_core.proofs.Tables.{all_configs-rise}
 use Rattle.sweep_core.proofs.Orders.{is_less-asym, is_less-same}
 use Rattle.sweep_core.proofs.Next.{valid-member}
-
-pub Each-filter : {A : Type 0} (P : A → Type 0) (p : A → Bool) (xs : List A) → Each P xs → Each P (filter p xs)
-Each-filter P p [] h = tt
-Each-filter P p (x ∷ xs) h =
-    elim (cases_Bool (p x)) [
-      | inl passes ↦ subst (Each P) (sym (cond-true _ _ _ passes)) (h.0, Each-filter P p xs h.1)
-      | inr fails ↦ subst (Each P) (sym (cond-false _ _ _ fails)) (Each-filter P p xs h.1)
-    ]
 
 Rising-filter : (p : Config → Bool) (xs : List Config) → IsRising xs → IsRising (filter p xs)
 Rising-filter p [] h = tt
@@ -31,48 +24,16 @@ pub table-rises : (space : Ranges) (after : Option Config) → IsRising (table s
 unfolding table
 table-rises space after = Rising-filter (λ c. is_valid space c && is_after after c) (all_configs space.assoc) (all_configs-rise space.assoc)
 
-pub contains-of : {A : Type 0} (c : A) (xs : List A) → Member c xs → Contains xs c
-contains-of c [] m = absurd m
-contains-of c (x ∷ xs) (inl e) = (0, omega arith, e)
-contains-of c (x ∷ xs) (inr m) = let w = contains-of c xs m in (suc w.0, omega arith, w.2)
-
-pub kept-of : {A : Type 0} (p : A → Bool) (c : A) (xs : List A) → p c ≡ true → Member c xs → Member c (filter p xs)
-kept-of p c [] h m = absurd m
-kept-of p c (x ∷ xs) h (inl e) = subst (Member c) (sym (cond-true _ _ _ (ap p e ∙ h))) (inl e)
-kept-of p c (x ∷ xs) h (inr m) =
-    elim (cases_Bool (p x)) [
-      | inl passes ↦ subst (Member c) (sym (cond-true _ _ _ passes)) (inr (kept-of p c xs h m))
-      | inr fails ↦ subst (Member c) (sym (cond-false _ _ _ fails)) (kept-of p c xs h m)
-    ]
-
 pub table-has : (space : Ranges) (after : Option Config) (c : Config) → IsLimited space → is_valid space c ≡ true → is_after after c ≡ true → Contains (table space after) c
 unfolding table
 table-has space after c l v a =
     contains-of c _ (kept-of (λ d. is_valid space d && is_after after d) c (all_configs space.assoc) (and_from _ _ v a) (valid-member space c l v))
 
-pub passes-all : {A : Type 0} (p : A → Bool) (xs : List A) → Each (λ c. p c ≡ true) (filter p xs)
-passes-all p [] = tt
-passes-all p (x ∷ xs) =
-    elim (cases_Bool (p x)) [
-      | inl passes ↦ subst (Each (λ c. p c ≡ true)) (sym (cond-true _ _ _ passes)) (passes, passes-all p xs)
-      | inr fails ↦ subst (Each (λ c. p c ≡ true)) (sym (cond-false _ _ _ fails)) (passes-all p xs)
-    ]
-
-at : (P : Config → Type 0) (xs : List Config) (k : ℕ) (d : Config) → k < length xs → Each P xs → P (get_or xs k d)
-at P [] k d h all = absurd (omega arith)
-at P (x ∷ xs) zero d h all = all.0
-at P (x ∷ xs) (suc k) d h all = at P xs k d (omega arith) all.1
-
 pub table-only : (space : Ranges) (after : Option Config) (c : Config) → Contains (table space after) c → (is_valid space c ≡ true) × (is_after after c ≡ true)
 unfolding table
 table-only space after c m =
     let p : Config → Bool = λ d. is_valid space d && is_after after d in
-    and_parts _ _ (subst (λ (d : Config). p d ≡ true) m.2 (at (λ d. p d ≡ true) (filter p (all_configs space.assoc)) m.0 c m.1 (passes-all p (all_configs space.assoc))))
-
-pub member-of : {A : Type 0} (c : A) (xs : List A) → Contains xs c → Member c xs
-member-of c [] (k, low, e) = absurd (omega arith)
-member-of c (x ∷ xs) (zero, low, e) = inl e
-member-of c (x ∷ xs) (suc k, low, e) = inr (member-of c xs (k, omega arith, e))
+    and_parts _ _ (subst (λ (d : Config). p d ≡ true) m.2 (Each-get_or (λ d. p d ≡ true) (filter p (all_configs space.assoc)) m.0 c m.1 (passes-all p (all_configs space.assoc))))
 
 no-loop : (c d : Config) → is_less c d ≡ true → is_less d c ≡ true → ⊥
 no-loop c d p q = false≢true (sym (is_less-asym c d p) ∙ q)

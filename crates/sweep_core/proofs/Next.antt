@@ -5,9 +5,10 @@ use Rattle.sweep_core.specs.declared.space.Config.{Config}
 use Rattle.sweep_core.specs.Space.{Ranges, is_valid, config}
 use Rattle.sweep_core.specs.Table.{is_less, is_after, table, all_configs}
 use Rattle.sweep_core.specs.Least.{IsLeast, is_from}
-use Rattle.sweep_core.proofs.Validity.{IsLimited, valid_of, exponent_of}
+use Rattle.sweep_core.proofs.Lists.{Member, filter-none}
+use Rattle.sweep_core.proofs.Validity.{IsLimited, valid_of, power-exponent}
 use Rattle.sweep_core.proofs.Orders.{is_less-trans}
-use Rattle.sweep_core.proofs.Tables.{Member, filter-none, filter-peel, all_configs-rise, all_configs-member}
+use Rattle.sweep_core.proofs.Tables.{filter-peel, all_configs-rise, all_configs-member}
 
 -- a triple from which on all configurations are greater than `after`
 pub record Begins (from : Config) (after : Option Config) : Type 0 where
@@ -17,8 +18,8 @@ pub record Begins (from : Config) (after : Option Config) : Type 0 where
 pub valid-member : (space : Ranges) (c : Config) → IsLimited space → is_valid space c ≡ true → Member c (all_configs space.assoc)
 valid-member space c l h =
     let v = valid_of space c h in
-    let i = exponent_of c.bsize v.block_power (omega (arith, v.bsize.1, l.bsize.1)) in
-    let j = exponent_of c.sets v.set_power (omega (arith, v.sets.1, l.sets.1)) in
+    let i = power-exponent c.bsize v.block_power (omega (arith, v.bsize.1, l.bsize.1)) in
+    let j = power-exponent c.sets v.set_power (omega (arith, v.sets.1, l.sets.1)) in
     let same : config (2 ^ i.0) (2 ^ j.0) c.assoc ≡ c = ap (λ x. config x (2 ^ j.0) c.assoc) (sym i.2) ∙ ap (λ y. config c.bsize y c.assoc) (sym j.2) in
     subst (λ (d : Config). Member d (all_configs space.assoc)) same (all_configs-member space.assoc i.0 j.0 c.assoc i.1 j.1 v.assoc.0 v.assoc.1)
 

@@ -9,12 +9,13 @@ use Rattle.std.specs.List.{flat_map}
 use Rattle.std.proofs.lemmas.List.Concat.{flat_map-append}
 use Rattle.std.proofs.Math.Seq.{take-add}
 use Rattle.trace_core.specs.declared.events.Event.{Event}
-use Rattle.sweep_core.specs.SweepText.{rows_text, row_of, row_counts, all_of, header_of, sweep_text, ArePages}
+use Rattle.sweep_core.specs.SweepText.{rows_text, row_of, row_counts, configs_of, header_of, sweep_text, ArePages}
 use Rattle.sweep_core.specs.declared.request.Request.{Request}
 use Rattle.trace_core.specs.Reading.{events}
+use Rattle.sweep_core.proofs.Lists.{Member, Each-member, Each-weaker, filter-agree}
 use Rattle.sweep_core.proofs.Orders.{is_less-asym, is_less-same}
 use Rattle.sweep_core.proofs.Next.{later_after}
-use Rattle.sweep_core.proofs.Tables.{Member, Each-member, Each-weaker, filter-agree, all_configs-rise}
+use Rattle.sweep_core.proofs.Tables.{all_configs-rise}
 
 -- a member of what was kept is a member
 kept-member : (p : Config → Bool) (c : Config) (gs xs ys : List Config) → filter p gs ≡ xs ++ c ∷ ys → Member c gs
@@ -88,18 +89,18 @@ rows-join space after n m c front es last =
     sym (flat_map-append (λ d. row_of d (row_counts es d)) (take n (table space after)) (first_rows m (table space (Some c))))
     ∙ ap (flat_map (λ d. row_of d (row_counts es d))) (ap (λ l. take n (table space after) ++ first_rows m l) rest ∙ first_rows-join n m (table space after))
 
-pub texts-join : (r : Request) (text : List ℕ) (n : ℕ) (m : Option ℕ) (front : List Config) (c : Config) → take n (all_of r) ≡ front ++ c ∷ []
+pub texts-join : (r : Request) (text : List ℕ) (n : ℕ) (m : Option ℕ) (front : List Config) (c : Config) → take n (configs_of r) ≡ front ++ c ∷ []
     → sweep_text (record r { rows = Some n }) text ++ sweep_text (record r { after = Some c; rows = m }) text ≡ sweep_text (record r { rows = more_rows n m }) text
 unfolding sweep_text
 texts-join r text n m front c last =
     let es = events r.format r.kind text in
-    append_assoc (header_of r.after) (rows_text es (take n (all_of r))) (rows_text es (first_rows m (table r.space (Some c))))
+    append_assoc (header_of r.after) (rows_text es (take n (configs_of r))) (rows_text es (first_rows m (table r.space (Some c))))
     ∙ ap (λ l. header_of r.after ++ l) (rows-join r.space r.after n m c front es last)
 
-last-page : (n : ℕ) (r : Request) (text : List ℕ) → drop n (all_of r) ≡ [] → sweep_text (record r { rows = Some n }) text ≡ sweep_text (record r { rows = None }) text
+last-page : (n : ℕ) (r : Request) (text : List ℕ) → drop n (configs_of r) ≡ [] → sweep_text (record r { rows = Some n }) text ≡ sweep_text (record r { rows = None }) text
 unfolding sweep_text
 last-page n r text none =
-    ap (λ rows. header_of r.after ++ rows_text (events r.format r.kind text) rows) (sym (append-nil (take n (all_of r))) ∙ ap (λ l. take n (all_of r) ++ l) (sym none) ∙ take-append-drop n (all_of r))
+    ap (λ rows. header_of r.after ++ rows_text (events r.format r.kind text) rows) (sym (append-nil (take n (configs_of r))) ∙ ap (λ l. take n (configs_of r) ++ l) (sym none) ∙ take-append-drop n (configs_of r))
 
 pub pages-join : (n : ℕ) (r : Request) (pages : List Request) (text : List ℕ) → ArePages n r pages
     → flat_map (λ page. sweep_text page text) pages ≡ sweep_text (record r { rows = None }) text

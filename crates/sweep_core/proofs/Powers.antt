@@ -30,9 +30,9 @@ pub is_power-pow : (k : ℕ) → k < 64 → is_power (2 ^ k) ≡ true
 unfolding is_power
 is_power-pow k h = range-any (λ i. 2 ^ k == 2 ^ i) 0 64 k (omega arith) (omega arith) (eq-eqb (2 ^ k) (2 ^ k) refl)
 
-pub power_of : (n : ℕ) → is_power n ≡ true → (k : ℕ) × (k < 64) × (n ≡ 2 ^ k)
+pub power-of : (n : ℕ) → is_power n ≡ true → (k : ℕ) × (k < 64) × (n ≡ 2 ^ k)
 unfolding is_power
-power_of n h = let w = any-range (λ k. n == 2 ^ k) 0 64 h in (w.0, omega arith, eqb-true _ _ w.2)
+power-of n h = let w = any-range (λ k. n == 2 ^ k) 0 64 h in (w.0, omega arith, eqb-true _ _ w.2)
 
 ones-pow : (k : ℕ) → count_ones (2 ^ k) ≡ 1
 unfolding count_ones
@@ -59,13 +59,13 @@ pub is_power-is : (n : ℕ) → n < 2 ^ 64 → is_power_of_two n ≡ is_power n
 is_power-is n fits =
     elim (cases_Bool (is_power_of_two n)) [
       | inl one ↦ let k = log_of_ones n n (omega arith) (eqb-true _ _ one) in one ∙ sym (ap is_power k.1 ∙ is_power-pow k.0 (below-64 n k.0 fits k.1))
-      | inr other ↦ other ∙ sym (false_from_ne_true (is_power n) (λ h. let k = power_of n h in false≢true (sym other ∙ eq-eqb (count_ones n) 1 (ap count_ones k.2 ∙ ones-pow k.0))))
+      | inr other ↦ other ∙ sym (false_from_ne_true (is_power n) (λ h. let k = power-of n h in false≢true (sym other ∙ eq-eqb (count_ones n) 1 (ap count_ones k.2 ∙ ones-pow k.0))))
     ]
 
 -- the least power of two above a number, or the number itself, is at most each such power
 pub next_power-least : (n p e : ℕ) → IsPowerOfTwo p → p / 2 < max 1 n → n ≤ e → is_power e ≡ true → p ≤ e
 next_power-least n p e power low above h =
-    let k = power_of e h in
+    let k = power-of e h in
     elim (cases_lt k.0 power.0) [
       | inl less ↦ absurd (half power.0 k.0 less (power.1) k.2)
       | inr more ↦ let m : 2 ^ power.0 ≤ 2 ^ k.0 = pow_mono more in omega arith
@@ -82,7 +82,7 @@ is_power-of n p fits = ap is_power p.1 ∙ is_power-pow p.0 (below-64 n p.0 fits
 -- a power up to a number is at most the greatest power up to it
 pub power-floor : (m i e : ℕ) → m < 2 * 2 ^ i → is_power e ≡ true → e ≤ m → e ≤ 2 ^ i
 power-floor m i e above h small =
-    let k = power_of e h in
+    let k = power-of e h in
     elim (cases_lt i k.0) [
       | inl less ↦ let more : 2 ^ suc i ≤ 2 ^ k.0 = pow_mono less in absurd (omega arith)
       | inr low ↦ let m' : 2 ^ k.0 ≤ 2 ^ i = pow_mono low in omega arith

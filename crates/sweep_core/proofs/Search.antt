@@ -7,35 +7,35 @@ use Rattle.sweep_core.specs.declared.space.Config.{Config}
 use Rattle.sweep_core.specs.Space.{Ranges, is_power, is_in_range, is_valid, config}
 use Rattle.sweep_core.specs.Table.{is_less}
 use Rattle.sweep_core.specs.Least.{IsLeast, is_from, is_from_of_bsize, is_from_pair}
-use Rattle.sweep_core.proofs.Validity.{IsLimited, valid_of, is_in_range-from, exponent_of}
+use Rattle.sweep_core.proofs.Validity.{IsLimited, valid_of, is_in_range-from, power-exponent}
 use Rattle.sweep_core.proofs.Orders.{Less, less_of, is_less-from}
 
-same_pair : (b s : ℕ) (d : Config) → d.bsize ≡ b → d.sets ≡ s → d ≡ config b s d.assoc
-same_pair b s d p q = ap (λ x. config x d.sets d.assoc) p ∙ ap (λ y. config b y d.assoc) q
+config-same : (b s : ℕ) (d : Config) → d.bsize ≡ b → d.sets ≡ s → d ≡ config b s d.assoc
+config-same b s d p q = ap (λ x. config x d.sets d.assoc) p ∙ ap (λ y. config b y d.assoc) q
 
 pub record IsFromPair (space : Ranges) (from : Config) (b s : ℕ) (d : Config) : Type 0 where
   pub valid : is_valid space d ≡ true
   pub from_on : is_less d from ≡ false
   pub same : d ≡ config b s d.assoc
 
-pub pair_of : (space : Ranges) (from : Config) (b s : ℕ) (d : Config) → is_from_pair space from b s d ≡ true → IsFromPair space from b s d
-pair_of space from b s d h =
+pub is_from_pair-of : (space : Ranges) (from : Config) (b s : ℕ) (d : Config) → is_from_pair space from b s d ≡ true → IsFromPair space from b s d
+is_from_pair-of space from b s d h =
     let w = and_parts _ _ h in let v = and_parts _ _ w.0 in let u = and_parts _ _ v.0 in
-    record { valid = u.0; from_on = not-true _ u.1; same = same_pair b s d (eqb-true _ _ v.1) (eqb-true _ _ w.1) }
+    record { valid = u.0; from_on = not-true _ u.1; same = config-same b s d (eqb-true _ _ v.1) (eqb-true _ _ w.1) }
 
 pub pair-none_bsize : (space : Ranges) (from : Config) (b s : ℕ) → is_in_range space.bsize b ≡ false → (d : Config) → is_from_pair space from b s d ≡ false
 pair-none_bsize space from b s out d =
-    false_from_ne_true _ (λ h. let f = pair_of space from b s d h in
+    false_from_ne_true _ (λ h. let f = is_from_pair-of space from b s d h in
     false≢true (sym out ∙ ap (λ (c : Config). is_in_range space.bsize c.bsize) (sym f.same) ∙ is_in_range-from _ _ (valid_of space d f.valid).bsize))
 
 pub pair-none_sets : (space : Ranges) (from : Config) (b s : ℕ) → is_in_range space.sets s ≡ false → (d : Config) → is_from_pair space from b s d ≡ false
 pair-none_sets space from b s out d =
-    false_from_ne_true _ (λ h. let f = pair_of space from b s d h in
+    false_from_ne_true _ (λ h. let f = is_from_pair-of space from b s d h in
     false≢true (sym out ∙ ap (λ (c : Config). is_in_range space.sets c.sets) (sym f.same) ∙ is_in_range-from _ _ (valid_of space d f.valid).sets))
 
 pub pair-none_less : (space : Ranges) (from : Config) (b s : ℕ) → ((e : ℕ) → is_less (config b s e) from ≡ true) → (d : Config) → is_from_pair space from b s d ≡ false
 pair-none_less space from b s less d =
-    false_from_ne_true _ (λ h. let f = pair_of space from b s d h in
+    false_from_ne_true _ (λ h. let f = is_from_pair-of space from b s d h in
     false≢true (sym f.from_on ∙ ap (λ c. is_less c from) f.same ∙ less d.assoc))
 
 -- a configuration of the pair that isn't less has at least the least associativity
@@ -45,7 +45,7 @@ least_is space from b s least d is f = ltb-false _ _ (sym (is d.assoc) ∙ ap (�
 pub pair-none : (space : Ranges) (from : Config) (b s least : ℕ) → ((e : ℕ) → is_less (config b s e) from ≡ ltb e least)
     → ((e : ℕ) → least ≤ e → is_valid space (config b s e) ≡ false) → (d : Config) → is_from_pair space from b s d ≡ false
 pair-none space from b s least is none d =
-    false_from_ne_true _ (λ h. let f = pair_of space from b s d h in
+    false_from_ne_true _ (λ h. let f = is_from_pair-of space from b s d h in
     false≢true (sym (none d.assoc (least_is space from b s least d is f)) ∙ ap (is_valid space) (sym f.same) ∙ f.valid))
 
 pub pair-some : (space : Ranges) (from : Config) (b s least n : ℕ) → ((e : ℕ) → is_less (config b s e) from ≡ ltb e least)
@@ -53,7 +53,7 @@ pub pair-some : (space : Ranges) (from : Config) (b s least n : ℕ) → ((e : �
     → IsLeast (is_from_pair space from b s) (Some (config b s n))
 pair-some space from b s least n is low valid first = (
   and_from _ _ (and_from _ _ (and_from _ _ valid (not_from_false _ (is n ∙ le-ltb _ _ low))) (eq-eqb b b refl)) (eq-eqb s s refl),
-  λ d h. let f = pair_of space from b s d h in
+  λ d h. let f = is_from_pair-of space from b s d h in
       let m : n ≤ d.assoc = first d.assoc (least_is space from b s least d is f) (ap (is_valid space) (sym f.same) ∙ f.valid) in
       false_from_ne_true _ (λ k. not_below d.assoc m (less_of (config b s d.assoc) (config b s n) (ap (λ c. is_less c (config b s n)) (sym f.same) ∙ k))),
 )
@@ -70,11 +70,11 @@ module _ (passes : Config → Bool) (number : Config → ℕ) (power : (d : Conf
   Reached k = (d : Config) → passes d ≡ true → 2 ^ k ≤ number d
 
   pub reached-first : Reached 0
-  reached-first d h = let e = exponent_of (number d) (power d h).0 (power d h).1 in let m : 0 < 2 ^ e.0 = pow_pos e.0 in omega arith
+  reached-first d h = let e = power-exponent (number d) (power d h).0 (power d h).1 in let m : 0 < 2 ^ e.0 = pow_pos e.0 in omega arith
 
   pub reached-next : (k : ℕ) → Reached k → ((d : Config) → (passes d && number d == 2 ^ k) ≡ false) → Reached (k + 1)
   reached-next k r none d h =
-      let e = exponent_of (number d) (power d h).0 (power d h).1 in
+      let e = power-exponent (number d) (power d h).0 (power d h).1 in
       elim (cases_lt k e.0) [
         | inl more ↦ let m : 2 ^ (k + 1) ≤ 2 ^ e.0 = pow_mono (omega arith) in omega arith
         | inr less ↦ let m : 2 ^ e.0 ≤ 2 ^ k = pow_mono less in

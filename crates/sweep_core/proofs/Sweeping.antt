@@ -22,7 +22,7 @@ use Rattle.cache_core.specs.Geometry.{Shape}
 use Rattle.profile_core.specs.State.{empty, fed_of}
 use Rattle.sweep_core.specs.declared.request.Request.{Request}
 use Rattle.sweep_core.specs.declared.profiles.PairProfile.{PairProfile}
-use Rattle.sweep_core.specs.SweepText.{table_text, all_of, rows_of, sweep_text, sweep_task}
+use Rattle.sweep_core.specs.SweepText.{table_text, configs_of, rows_of, sweep_text, sweep_task}
 use Rattle.sweep_core.specs.Work.{pairs, shape_of_pair, work, sweep_work}
 use Rattle.sweep_core.specs.Pass.{Swept, Feeds, begun_for, made_for, all_after}
 use Rattle.sweep_core.proofs.Passes.{all_after-nil}
@@ -34,7 +34,7 @@ empty-fed g = omega (arith, sum_by-replicate (λ x. x) g.e 0, sum_by-replicate (
 -- new profiles were fed nothing
 pub unfed : (r : Request) (xs : List PairProfile) → Swept r [] xs → All (λ x. fed_of x.profile ≤ 0) xs
 unfed r xs swept =
-    let all = all_of r in
+    let all = configs_of r in
     subst (All (λ x. fed_of x.profile ≤ 0)) (sym (swept.fed ∙ all_after-nil (made_for all (rows_of r))))
     (All-map (λ x. fed_of x.profile ≤ 0) (begun_for all) (pairs (rows_of r)) (λ k d h. empty-fed (shape_of_pair all (get_or (pairs (rows_of r)) k d))))
 
@@ -48,7 +48,7 @@ pub swept-after : {r : Request} {format : Format} {limit : ℕ} {start now : Sou
 swept-after {r = r} begin same run end = record {
   space = begin.space;
   sound = begin.sound;
-  fed = end ∙ run.fed ∙ ap (all_after (fed_events r run.read)) (same ∙ begin.fed ∙ all_after-nil (made_for (all_of r) (rows_of r)));
+  fed = end ∙ run.fed ∙ ap (all_after (fed_events r run.read)) (same ∙ begin.fed ∙ all_after-nil (made_for (configs_of r) (rows_of r)));
 }
 
 module _ (r : Request) {start now : SourceView} {new p : Progress} {xs ys : List PairProfile} (begins : new ≡ begun r.format r.max_lines)
@@ -79,5 +79,5 @@ module _ (r : Request) {start now : SourceView} {new p : Progress} {xs ys : List
   unfolding sweep_work
   sweep-works n ended swept is = if_known start.remaining (λ text. n ≡ sweep_work r text) (λ text told.
       let end = Reached-end r.format r.max_lines text start now run.read p told reached ended in
-      is ∙ ap (sum_by (λ x. x.profile.probes)) swept.fed ∙ work-is (all_of r) (rows_of r) (fed_events r run.read) swept.sound
-      ∙ ap (λ es. work (flat_map (events_of r.kind) es) (all_of r) (rows_of r)) (entries-reading r.format r.max_lines text run.read end))
+      is ∙ ap (sum_by (λ x. x.profile.probes)) swept.fed ∙ work-is (configs_of r) (rows_of r) (fed_events r run.read) swept.sound
+      ∙ ap (λ es. work (flat_map (events_of r.kind) es) (configs_of r) (rows_of r)) (entries-reading r.format r.max_lines text run.read end))

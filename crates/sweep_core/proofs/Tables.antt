@@ -1,47 +1,15 @@
 -- Rising lists of configurations.
-use Rattle.std.proofs.Common.{◌≡◌, ℕ, suc, zero, ◌+◌, ◌-◌, ◌^◌, ◌<◌, ◌≤◌, Bool, true, false, cond, List, [], ◌∷◌, ◌++◌, map, refl, sym, ap, ◌∙◌, arith, subst}
-use Rattle.std.specs.Prelude.{◌⊎◌, filter, flat_map, ⊤}
+use Rattle.std.proofs.Common.{◌≡◌, ℕ, suc, zero, ◌+◌, ◌-◌, ◌^◌, ◌<◌, ◌≤◌, Bool, true, false, List, [], ◌∷◌, ◌++◌, map, refl, sym, ap, ◌∙◌, arith}
+use Rattle.std.specs.Prelude.{filter, flat_map, ⊤}
 use Rattle.std.proofs.Common.{inl, inr}
 use Rattle.std.specs.List.{range_with_len, AllByRecursion as Each}
-use Rattle.std.proofs.lemmas.Bool.{cases_Bool, false≢true, cond-true, cond-false, cases_lt}
+use Rattle.std.proofs.lemmas.Bool.{cases_Bool, false≢true, cond-true, cond-false}
 use Rattle.std.proofs.Math.Pow.{pow-lt}
 use Rattle.sweep_core.specs.declared.space.Config.{Config}
 use Rattle.sweep_core.specs.Table.{IsRising, is_less, powers_of_two, numbers, all_configs}
 use Rattle.sweep_core.specs.Space.{config}
+use Rattle.sweep_core.proofs.Lists.{Member, Each-member, Each-weaker, Each-append, Each-flat_map, Member-flat_map, Member-map, Member-range, filter-agree}
 use Rattle.sweep_core.proofs.Orders.{is_less-asym, is_less-same, is_less-from}
-
-abbrev pub Member : {A : Type 0} → A → List A → Type 0
-Member a [] = ⊥
-Member a (x ∷ xs) = (x ≡ a) ⊎ Member a xs
-
-pub Each-member : {A : Type 0} (P : A → Type 0) (a : A) (xs : List A) → Each P xs → Member a xs → P a
-Each-member P a [] all m = absurd m
-Each-member P a (x ∷ xs) all (inl e) = subst P e all.0
-Each-member P a (x ∷ xs) all (inr m) = Each-member P a xs all.1 m
-
-pub Each-weaker : {A : Type 0} (P Q : A → Type 0) → ((a : A) → P a → Q a) → (xs : List A) → Each P xs → Each Q xs
-Each-weaker P Q w [] all = tt
-Each-weaker P Q w (x ∷ xs) all = (w x all.0, Each-weaker P Q w xs all.1)
-
-pub Each-both : {A : Type 0} (P Q R : A → Type 0) → ((a : A) → P a → Q a → R a) → (xs : List A) → Each P xs → Each Q xs → Each R xs
-Each-both P Q R f [] p q = tt
-Each-both P Q R f (x ∷ xs) p q = (f x p.0 q.0, Each-both P Q R f xs p.1 q.1)
-
-pub Each-append : {A : Type 0} (P : A → Type 0) (xs ys : List A) → Each P xs → Each P ys → Each P (xs ++ ys)
-Each-append P [] ys p q = q
-Each-append P (x ∷ xs) ys p q = (p.0, Each-append P xs ys p.1 q)
-
-pub Each-flat_map : {A B : Type 0} (P : B → Type 0) (f : A → List B) → (xs : List A) → Each (λ x. Each P (f x)) xs → Each P (flat_map f xs)
-Each-flat_map P f [] h = tt
-Each-flat_map P f (x ∷ xs) h = Each-append P (f x) (flat_map f xs) h.0 (Each-flat_map P f xs h.1)
-
-pub filter-agree : {A : Type 0} (p q : A → Bool) (xs : List A) → Each (λ x. p x ≡ q x) xs → filter p xs ≡ filter q xs
-filter-agree p q [] h = refl
-filter-agree p q (x ∷ xs) h = rw h.0 (ap (λ l. cond (q x) (x ∷ l) l) (filter-agree p q xs h.1))
-
-pub filter-none : {A : Type 0} (p : A → Bool) → ((x : A) → p x ≡ false) → (xs : List A) → filter p xs ≡ []
-filter-none p h [] = refl
-filter-none p h (x ∷ xs) = cond-false _ _ _ (h x) ∙ filter-none p h xs
 
 -- the least that passes p stands first, and then those that pass q, which are the greater ones
 pub filter-peel : (p q : Config → Bool) (c : Config) → p c ≡ true → ((d : Config) → p d ≡ true → is_less d c ≡ false)
@@ -119,30 +87,6 @@ unfolding all_configs
 all_configs-rise range =
     Rising-flat_map (λ b c. c.bsize ≡ b) (of_bsize range) (bsize_rises range) (bsize_told range)
     (λ x y c d lt kc kd. is_less-from c d (inl (omega arith))) powers_of_two (Grows-powers 0 21)
-
-Member-append_left : {A : Type 0} (a : A) (xs ys : List A) → Member a xs → Member a (xs ++ ys)
-Member-append_left a [] ys m = absurd m
-Member-append_left a (x ∷ xs) ys (inl e) = inl e
-Member-append_left a (x ∷ xs) ys (inr m) = inr (Member-append_left a xs ys m)
-
-Member-append_right : {A : Type 0} (a : A) (xs ys : List A) → Member a ys → Member a (xs ++ ys)
-Member-append_right a [] ys m = m
-Member-append_right a (x ∷ xs) ys m = inr (Member-append_right a xs ys m)
-
-Member-flat_map : {A B : Type 0} (f : A → List B) (a : A) (b : B) (xs : List A) → Member a xs → Member b (f a) → Member b (flat_map f xs)
-Member-flat_map f a b [] m k = absurd m
-Member-flat_map f a b (x ∷ xs) (inl e) k = Member-append_left b (f x) (flat_map f xs) (subst (λ y. Member b (f y)) (sym e) k)
-Member-flat_map f a b (x ∷ xs) (inr m) k = Member-append_right b (f x) (flat_map f xs) (Member-flat_map f a b xs m k)
-
-pub Member-map : {A B : Type 0} (f : A → B) (a : A) (xs : List A) → Member a xs → Member (f a) (map f xs)
-Member-map f a [] m = absurd m
-Member-map f a (x ∷ xs) (inl e) = inl (ap f e)
-Member-map f a (x ∷ xs) (inr m) = inr (Member-map f a xs m)
-
-Member-range : (k a n : ℕ) → a ≤ k → k < a + n → Member k (range_with_len a n)
-Member-range k a zero from below = absurd (omega arith)
-Member-range k a (suc n) from below =
-    elim (cases_lt a k) [ inl later ↦ inr (Member-range k (a + 1) n (omega arith) (omega arith)) | inr here ↦ inl (omega arith) ]
 
 -- what stands in the list of all
 pub all_configs-member : (range : ℕ × ℕ) (i j e : ℕ) → i < 21 → j < 21 → range.0 ≤ e → e ≤ range.1 → Member (config (2 ^ i) (2 ^ j) e) (all_configs range)

@@ -9,8 +9,8 @@ use Rattle.std.specs.Int.{div_ceil}
 use Rattle.sweep_core.specs.declared.space.Config.{Config}
 use Rattle.sweep_core.specs.declared.space.Which.{Which}
 use Rattle.sweep_core.specs.declared.space.Cause.{Cause}
-use Rattle.sweep_core.specs.Space.{Ranges, is_power, is_in_range, bytes_of, is_valid, limit_cause, power_cause, first_cause, fault_of, config}
-use Rattle.sweep_core.proofs.Powers.{power_of}
+use Rattle.sweep_core.specs.Space.{Ranges, is_power, is_in_range, bytes_of, is_valid, limit_cause, power_cause, first_cause, space_fault, config}
+use Rattle.sweep_core.proofs.Powers.{power-of}
 
 abbrev pub Within : ℕ × ℕ → ℕ → Type 0
 Within range n = (range.0 ≤ n) × (n ≤ range.1)
@@ -25,8 +25,8 @@ pub record IsValid (space : Ranges) (c : Config) : Type 0 where
   pub way_power : space.powers ≡ true → is_power c.assoc ≡ true
   pub lines : c.assoc * c.sets ≤ 2 ^ 22
 
-pub within_of : (range : ℕ × ℕ) (n : ℕ) → is_in_range range n ≡ true → Within range n
-within_of range n h = let w = and_parts _ _ h in (leb-true _ _ w.0, leb-true _ _ w.1)
+pub in_range-within : (range : ℕ × ℕ) (n : ℕ) → is_in_range range n ≡ true → Within range n
+in_range-within range n h = let w = and_parts _ _ h in (leb-true _ _ w.0, leb-true _ _ w.1)
 
 pub is_in_range-from : (range : ℕ × ℕ) (n : ℕ) → Within range n → is_in_range range n ≡ true
 is_in_range-from range n h = and_from _ _ (le-leb _ _ h.0) (le-leb _ _ h.1)
@@ -44,10 +44,10 @@ valid_of space c h =
     let a = and_parts _ _ h in let b = and_parts _ _ a.0 in let d = and_parts _ _ b.0 in let e = and_parts _ _ d.0 in
     let f = and_parts _ _ e.0 in let g = and_parts _ _ f.0 in let i = and_parts _ _ g.0 in
     record {
-      bsize = within_of _ _ i.0;
-      sets = within_of _ _ i.1;
-      assoc = within_of _ _ g.1;
-      size = within_of _ _ f.1;
+      bsize = in_range-within _ _ i.0;
+      sets = in_range-within _ _ i.1;
+      assoc = in_range-within _ _ g.1;
+      size = in_range-within _ _ f.1;
       block_power = e.1;
       set_power = d.1;
       way_power = implied _ _ b.1;
@@ -76,19 +76,19 @@ unless false x c h = cc
 
 limit_none : (most : ℕ) (range : ℕ × ℕ) → limit_cause most range ≡ None → (1 ≤ range.0) × (range.1 ≤ most)
 limit_none most range h =
-    let w = unless _ _ _ h in let v = and_parts _ _ w.0 in ((within_of (1, most) _ v.0).0, (within_of (1, most) _ v.1).1)
+    let w = unless _ _ _ h in let v = and_parts _ _ w.0 in ((in_range-within (1, most) _ v.0).0, (in_range-within (1, most) _ v.1).1)
 
 power_none : (most : ℕ) (range : ℕ × ℕ) → power_cause most range ≡ None → (1 ≤ range.0) × (range.1 ≤ most)
 power_none most range h = limit_none most range (unless _ _ _ h).1
 
-pub limits_of : (space : Ranges) → fault_of space ≡ None → IsLimited space
-limits_of space h =
+pub space-limited : (space : Ranges) → space_fault space ≡ None → IsLimited space
+space-limited space h =
     let a = first_none _ _ _ h in let b = first_none _ _ _ a.1 in let c = first_none _ _ _ b.1 in
     record { bsize = power_none 1048576 space.bsize a.0; sets = power_none 1048576 space.sets b.0; assoc = limit_none 65536 space.assoc c.0 }
 
 -- the exponent of a power of two up to 2^20
-pub exponent_of : (n : ℕ) → is_power n ≡ true → n ≤ 1048576 → (k : ℕ) × (k < 21) × (n ≡ 2 ^ k)
-exponent_of n h small = let k = power_of n h in (k.0, below k.0 k.2, k.2)
+pub power-exponent : (n : ℕ) → is_power n ≡ true → n ≤ 1048576 → (k : ℕ) × (k < 21) × (n ≡ 2 ^ k)
+power-exponent n h small = let k = power-of n h in (k.0, below k.0 k.2, k.2)
   where
     below : (i : ℕ) → n ≡ 2 ^ i → i < 21
     below i e = elim (cases_lt i 21) [ inl lt ↦ lt | inr ge ↦ let m : 2 ^ 21 ≤ 2 ^ i = pow_mono ge in absurd (omega arith) ]
@@ -145,7 +145,7 @@ valid-between space b s n e least low some is from below power v =
 -- the product of a pair fits
 pub pair-products : (space : Ranges) (b s : ℕ) → IsLimited space → is_in_range space.bsize b ≡ true → is_in_range space.sets s ≡ true → (0 < b * s) × (b * s < 2 ^ 64)
 pair-products space b s l p q =
-    let hb : Within space.bsize b = within_of _ _ p in let hs : Within space.sets s = within_of _ _ q in
+    let hb : Within space.bsize b = in_range-within _ _ p in let hs : Within space.sets s = in_range-within _ _ q in
     let bs : b * s ≤ 1048576 * 1048576 = mul-le-mul {n₁ = b} {m₁ = s} {n₂ = 1048576} {m₂ = 1048576} (omega arith) (omega arith) in
     let one : 1 * 1 ≤ b * s = mul-le-mul {n₁ = 1} {m₁ = 1} {n₂ = b} {m₂ = s} (omega arith) (omega arith) in
     (omega arith, omega arith)
@@ -156,9 +156,9 @@ pub record PairFacts (r : Ranges) (b s : ℕ) : Type 0 where
   pub some : 0 < b * s
   pub fits : b * s < 2 ^ 64
 
-pub pair-facts : (r now : Ranges) (b s : ℕ) → r ≡ now → fault_of r ≡ None → is_in_range now.bsize b ≡ true → is_in_range now.sets s ≡ true → PairFacts r b s
+pub pair-facts : (r now : Ranges) (b s : ℕ) → r ≡ now → space_fault r ≡ None → is_in_range now.bsize b ≡ true → is_in_range now.sets s ≡ true → PairFacts r b s
 pair-facts r now b s same sound block set =
-    let l = limits_of r sound in
+    let l = space-limited r sound in
     let p = pair-products r b s l (ap (λ x. is_in_range x.bsize b) same ∙ block) (ap (λ x. is_in_range x.sets s) same ∙ set) in
     record { limits = l; some = p.0; fits = p.1 }
 
@@ -170,9 +170,9 @@ pub record OwnFacts (r : Ranges) (c : Config) : Type 0 where
   pub some : 0 < c.bsize * c.sets
   pub fits : c.bsize * c.sets < 2 ^ 64
 
-pub own-facts : (r now : Ranges) (c : Config) → r ≡ now → fault_of r ≡ None → is_valid now c ≡ true → OwnFacts r c
+pub own-facts : (r now : Ranges) (c : Config) → r ≡ now → space_fault r ≡ None → is_valid now c ≡ true → OwnFacts r c
 own-facts r now c same sound own =
-    let l = limits_of r sound in
+    let l = space-limited r sound in
     let v = valid_of r c (ap (λ x. is_valid x c) same ∙ own) in
     let p = products r c.bsize c.sets c.assoc l v.bsize v.sets v.assoc in
     record { limits = l; valid = v; set = omega (arith, v.sets.0, l.sets.0); some = p.0; fits = p.1 }

@@ -1,27 +1,20 @@
 -- What the pairs and the depths of rows are, and how many comparisons a sweep makes at most.
-use Rattle.std.proofs.Common.{◌≡◌, ℕ, ◌+◌, ◌*◌, ◌≤◌, max, Bool, true, not, cond, List, [], ◌∷◌, ◌++◌, map, length, fold, refl, sym, ap, ◌∙◌, inl, inr, arith, subst, mul-add}
-use Rattle.std.specs.Prelude.{◌⊎◌, ◌≢◌, ◌↔◌, filter, Contains, AllPairs, sum_by}
-use Rattle.std.proofs.lemmas.Bool.{cases_Bool, cond-true, cond-false, and_parts, and_from, eqb-true, eq-eqb, false≢true, not_from_false, not-true, cases_lt}
+use Rattle.std.proofs.Common.{◌≡◌, ℕ, suc, ◌*◌, ◌≤◌, Bool, true, not, List, [], ◌∷◌, ◌++◌, map, length, refl, sym, ap, ◌∙◌, inl, inr, arith, subst}
+use Rattle.std.specs.Prelude.{◌≢◌, ◌↔◌, filter, Contains, AllPairs, sum_by}
+use Rattle.std.proofs.lemmas.Bool.{cases_Bool, false≢true, not_from_false, not-true}
 use Rattle.std.proofs.lemmas.List.Elements.{All-weaker, filter_passes}
 use Rattle.std.proofs.lemmas.List.Kept.{AllPairs-cons, AllPairs-filter}
-use Rattle.std.proofs.lemmas.List.Sums.{sum_by-cons, sum_by_from, sum_by-le-sum_by}
+use Rattle.std.proofs.lemmas.List.Sums.{sum_by-le-sum_by}
 use Rattle.trace_core.specs.declared.events.Event.{Event}
 use Rattle.trace_core.specs.declared.events.Event.TheVariants as event
 use Rattle.cache_core.specs.Geometry.{Shape}
-use Rattle.cache_core.specs.Windows.{places, places_after, probes, is_flush}
+use Rattle.cache_core.specs.Systems.{references_in}
+use Rattle.cache_core.specs.Windows.{places, places_after, probes}
 use Rattle.sweep_core.specs.declared.space.Config.{Config}
-use Rattle.sweep_core.specs.Work.{pair_of, has_pair, pairs, depth, shape_of_pair, work, references_in, total_depth}
-use Rattle.sweep_core.proofs.Tables.{Member}
-use Rattle.sweep_core.proofs.Members.{contains-of, member-of, kept-of}
+use Rattle.sweep_core.specs.Work.{pair_of, has_pair, pairs, depth, shape_of_pair, work, total_depth}
+use Rattle.sweep_core.proofs.Lists.{Member, Member-mapped, contains-of, member-of, kept-of, Member-filter, max-reached, sum-times}
 use Rattle.sweep_core.proofs.Depths.{depth-above}
-
--- the test of a pair is that it is the configuration's
-pub has_pair-is : (p : ℕ × ℕ) (c : Config) → has_pair p c ≡ true → pair_of c ≡ p
-has_pair-is p c h =
-    let w = and_parts _ _ h in ap (λ b. (b, c.sets)) (eqb-true _ _ w.0) ∙ ap (λ s. (p.0, s)) (eqb-true _ _ w.1)
-
-has_pair-from : (p : ℕ × ℕ) (c : Config) → pair_of c ≡ p → has_pair p c ≡ true
-has_pair-from p c e = and_from _ _ (eq-eqb _ _ (ap (λ q. q.0) e)) (eq-eqb _ _ (ap (λ q. q.1) e))
+use Rattle.sweep_core.proofs.Pairs.{has_pair-is, has_pair-from}
 
 -- each pair stands once
 pub pairs-distinct : (cs : List Config) → AllPairs (λ p q. p ≢ q) (pairs cs)
@@ -33,20 +26,6 @@ pairs-distinct (c ∷ cs) =
     (All-weaker (λ p. other p ≡ true) (λ p. pair_of c ≢ p) (λ p h e. false≢true (sym (not-true _ h) ∙ has_pair-from p c e))
     (filter other (pairs cs)) (filter_passes other (pairs cs)))
     (AllPairs-filter (λ p q. p ≢ q) other (pairs cs) (pairs-distinct cs))
-
--- what a filter keeps was there, and passes
-Member-filter : {A : Type 0} (p : A → Bool) (a : A) (xs : List A) → Member a (filter p xs) → Member a xs × (p a ≡ true)
-Member-filter p a [] m = absurd m
-Member-filter p a (x ∷ xs) m =
-    elim (cases_Bool (p x)) [
-      | inl passes ↦ kept passes (Member-filter p a xs) (subst (Member a) (cond-true _ _ _ passes) m)
-      | inr fails ↦ let w = Member-filter p a xs (subst (Member a) (cond-false _ _ _ fails) m) in (inr w.0, w.1)
-    ]
-  where
-    kept : p x ≡ true → (Member a (filter p xs) → Member a xs × (p a ≡ true)) → Member a (x ∷ filter p xs)
-        → Member a (x ∷ xs) × (p a ≡ true)
-    kept passes later (inl e) = (inl e, ap p (sym e) ∙ passes)
-    kept passes later (inr k) = (inr (later k).0, (later k).1)
 
 -- a configuration of a pair among others
 abbrev OfPair : List Config → ℕ × ℕ → Type 0
@@ -79,26 +58,6 @@ pairs-members cs p = (
 pub depth-most : (all : List Config) (c : Config) → Contains all c → c.assoc ≤ depth all (pair_of c)
 depth-most all c m = depth-above all c (member-of c all m)
 
-max-reached : (a : ℕ) (xs : List ℕ) → (fold max a xs ≡ a) ⊎ Member (fold max a xs) xs
-max-reached a [] = inl refl
-max-reached a (x ∷ xs) =
-    elim (max-reached (max a x) xs) [
-      | inl same ↦ first same
-      | inr later ↦ inr (inr later)
-    ]
-  where
-    first : fold max (max a x) xs ≡ max a x → (fold max a (x ∷ xs) ≡ a) ⊎ Member (fold max a (x ∷ xs)) (x ∷ xs)
-    first same =
-        elim (cases_lt a x) [
-          | inl less ↦ inr (inl (omega (arith, same)))
-          | inr more ↦ inl (omega (arith, same))
-        ]
-
-Member-mapped : {A : Type 0} (f : A → ℕ) (n : ℕ) (xs : List A) → Member n (map f xs) → (a : A) × Member a xs × (f a ≡ n)
-Member-mapped f n [] m = absurd m
-Member-mapped f n (x ∷ xs) (inl e) = (x, inl refl, e)
-Member-mapped f n (x ∷ xs) (inr m) = let w = Member-mapped f n xs m in (w.0, inr w.1, w.2)
-
 -- a configuration of a pair that is as deep as the pair
 abbrev AsDeep : List Config → ℕ × ℕ → Type 0
 AsDeep all p = (c : Config) × Contains all c × (pair_of c ≡ p) × (c.assoc ≡ depth all p)
@@ -120,25 +79,19 @@ depth-reached all p m =
     lowest low none = omega arith
 
 -- one place for each reference
-places-length : (g : Shape) (before es : List Event) → length (places_after g before es) ≡ references_in es
+places-length : (g : Shape) (before es : List Event) → length (places_after g before es) ≡ length (references_in es)
 unfolding places_after
 places-length g before [] = refl
-places-length g before (event.Reference r ∷ es) =
-    omega (arith, places-length g (before ++ event.Reference r ∷ []) es, sum_by_from (λ e. cond (not (is_flush e)) 1 0) 1 es)
+places-length g before (event.Reference r ∷ es) = ap suc (places-length g (before ++ event.Reference r ∷ []) es)
 places-length g before (event.Flush ∷ es) = places-length g (before ++ event.Flush ∷ []) es
 
--- a factor of each term is one of the sum
-sum-times : {A : Type 0} (n : ℕ) (f : A → ℕ) (xs : List A) → sum_by (λ x. n * f x) xs ≡ n * sum_by f xs
-sum-times n f [] = omega arith
-sum-times n f (x ∷ xs) =
-    sum_by-cons (λ y. n * f y) x xs ∙ ap (λ s. n * f x + s) (sum-times n f xs)
-    ∙ sym (mul-add n (f x) (sum_by f xs)) ∙ ap (λ s. n * s) (sym (sum_by-cons f x xs))
-
+-- at most so many comparisons a reference as its profile is deep
 pub work-most : (es : List Event) (all rows : List Config) → ((g : Shape) → probes g es ≤ length (places g es) * g.e)
-    → work es all rows ≤ references_in es * total_depth all rows
+    → work es all rows ≤ length (references_in es) * total_depth all rows
 unfolding work
 work-most es all rows most =
-    let n = references_in es in
-    let each : (p : ℕ × ℕ) → probes (shape_of_pair all p) es ≤ n * depth all p = λ p. rw (sym (places-length (shape_of_pair all p) [] es)) (most (shape_of_pair all p)) in
+    let n = length (references_in es) in
+    let each : (p : ℕ × ℕ) → probes (shape_of_pair all p) es ≤ n * depth all p =
+    λ p. rw (sym (places-length (shape_of_pair all p) [] es)) (most (shape_of_pair all p)) in
     let sum : sum_by (λ p. n * depth all p) (pairs rows) ≡ n * total_depth all rows = sum-times n (depth all) (pairs rows) in
     omega (arith, sum_by-le-sum_by (λ p. probes (shape_of_pair all p) es) (λ p. n * depth all p) (pairs rows) each, sum)

@@ -19,8 +19,8 @@ use Rattle.profile_core.specs.State.{empty, after_reference, after_flush, after_
 use Rattle.sweep_core.specs.declared.space.Config.{Config}
 use Rattle.sweep_core.specs.declared.request.Request.{Request}
 use Rattle.sweep_core.specs.declared.profiles.PairProfile.{PairProfile}
-use Rattle.sweep_core.specs.Space.{fault_of}
-use Rattle.sweep_core.specs.SweepText.{all_of, rows_of}
+use Rattle.sweep_core.specs.Space.{space_fault}
+use Rattle.sweep_core.specs.SweepText.{configs_of, rows_of}
 use Rattle.sweep_core.specs.Work.{pairs, shape_of_pair}
 
 -- the profile of a pair after a reference to an address
@@ -57,9 +57,9 @@ HasGeometry all p = IsGeometry (shape_of_pair all p)
 
 -- the profiles of a sweep after some events
 pub record Swept (r : Request) (es : List Event) (profiles : List PairProfile) : Type 0 where
-  pub space : fault_of r.space ≡ None
-  pub sound : AllByRecursion (HasGeometry (all_of r)) (pairs (rows_of r))
-  pub fed : profiles ≡ all_after es (made_for (all_of r) (rows_of r))
+  pub space : space_fault r.space ≡ None
+  pub sound : AllByRecursion (HasGeometry (configs_of r)) (pairs (rows_of r))
+  pub fed : profiles ≡ all_after es (made_for (configs_of r) (rows_of r))
 
 -- the state in which a reader ends that answers this
 abbrev pub state_after : Result (Unit {0}) TraceFault → ReaderState

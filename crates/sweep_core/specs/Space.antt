@@ -72,8 +72,8 @@ first_cause ((which, None) ∷ more) = first_cause more
 first_cause ((which, Some cause) ∷ more) = Some (record { which = which; cause = cause })
 
 -- why these ranges make no space, if they make none
-abbrev pub fault_of : Ranges → Option SpaceFault
-fault_of space = first_cause (
+abbrev pub space_fault : Ranges → Option SpaceFault
+space_fault space = first_cause (
     (Bsize, power_cause (2 ^ 20) space.bsize)
     ∷ (Sets, power_cause (2 ^ 20) space.sets)
     ∷ (Assoc, limit_cause 65536 space.assoc)
@@ -87,4 +87,4 @@ ranges_or space (Some fault) = Err fault
 -- the space of some ranges
 abbrev pub space_of : ℕ × ℕ → ℕ × ℕ → ℕ × ℕ → ℕ × ℕ → Bool → Result Ranges SpaceFault
 space_of bsize sets assoc size powers =
-    let space = ranges bsize sets assoc size powers in ranges_or space (fault_of space)
+    let space = ranges bsize sets assoc size powers in ranges_or space (space_fault space)

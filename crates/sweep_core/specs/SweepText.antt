@@ -26,12 +26,12 @@ abbrev pub row_counts : List Event → Config → Counts
 row_counts es c = counts (shape_of_config c) es
 
 -- numbers in decimal, with commas between them, and an LF
-abbrev pub line_of : List ℕ → List ℕ
-line_of numbers = join_with_byte 44 (map decimal numbers) ++ 10 ∷ []
+abbrev pub csv_line : List ℕ → List ℕ
+csv_line numbers = join_with_byte 44 (map decimal numbers) ++ 10 ∷ []
 
 -- the row of a configuration
 abbrev pub row_of : Config → Counts → List ℕ
-row_of c n = line_of (c.bsize ∷ c.sets ∷ c.assoc ∷ bytes_of c ∷ n.hits ∷ n.misses ∷ n.evictions ∷ [])
+row_of c n = csv_line (c.bsize ∷ c.sets ∷ c.assoc ∷ bytes_of c ∷ n.hits ∷ n.misses ∷ n.evictions ∷ [])
 
 -- the header, which stands only where a sweep begins at the first configuration
 abbrev pub header_of : Option Config → List ℕ
@@ -43,12 +43,12 @@ unfoldable pub rows_text : List Event → List Config → List ℕ
 rows_text es rows = flat_map (λ c. row_of c (row_counts es c)) rows
 
 -- the configurations that a request may write
-abbrev pub all_of : Request → List Config
-all_of r = table r.space r.after
+abbrev pub configs_of : Request → List Config
+configs_of r = table r.space r.after
 
 -- those that it writes
 abbrev pub rows_of : Request → List Config
-rows_of r = first_rows r.rows (all_of r)
+rows_of r = first_rows r.rows (configs_of r)
 
 -- the table that a request asks for over a trace: the header, and a row for each configuration
 abbrev pub table_text : Request → List Event → List ℕ
@@ -65,8 +65,8 @@ sweep_task r = record { format = r.format; limit = r.max_lines; writes_early = f
 -- A sweep in pages of n rows: the first page, and then those after its last row, until no configuration follows.
 abbrev pub ArePages : ℕ → Request → List Request → Type 0
 ArePages n r [] = ⊥
-ArePages n r (page ∷ []) = (page ≡ record r { rows = Some n }) × (drop n (all_of r) ≡ [])
+ArePages n r (page ∷ []) = (page ≡ record r { rows = Some n }) × (drop n (configs_of r) ≡ [])
 ArePages n r (page ∷ next ∷ more) =
     (page ≡ record r { rows = Some n })
-    × (front : List Config) × (last : Config) × (take n (all_of r) ≡ front ++ last ∷ [])
+    × (front : List Config) × (last : Config) × (take n (configs_of r) ≡ front ++ last ∷ [])
     × ArePages n (record r { after = Some last }) (next ∷ more)

@@ -1,12 +1,12 @@
 -- How many comparisons a sweep makes.
-use Rattle.std.specs.Prelude.{ℕ, ◌==◌, ◌&&◌, not, max, Bool, List, [], ◌∷◌, map, filter, fold, sum_by, count_by}
+use Rattle.std.specs.Prelude.{ℕ, ◌==◌, ◌&&◌, not, max, Bool, List, [], ◌∷◌, map, filter, fold, sum_by}
 use Rattle.trace_core.specs.declared.events.Event.{Event}
 use Rattle.trace_core.specs.Reading.{events}
 use Rattle.cache_core.specs.Geometry.{Shape, shape}
-use Rattle.cache_core.specs.Windows.{is_flush, probes}
+use Rattle.cache_core.specs.Windows.{probes}
 use Rattle.sweep_core.specs.declared.space.Config.{Config}
 use Rattle.sweep_core.specs.declared.request.Request.{Request}
-use Rattle.sweep_core.specs.SweepText.{log2, all_of, rows_of}
+use Rattle.sweep_core.specs.SweepText.{log2, configs_of, rows_of}
 
 -- the pair of block size and set count of a configuration
 abbrev pub pair_of : Config → ℕ × ℕ
@@ -35,11 +35,7 @@ work es all rows = sum_by (λ p. probes (shape_of_pair all p) es) (pairs rows)
 
 -- the comparisons that a sweep of a text makes
 unfoldable pub sweep_work : Request → List ℕ → ℕ
-sweep_work r text = work (events r.format r.kind text) (all_of r) (rows_of r)
-
--- how many references some events have
-abbrev pub references_in : List Event → ℕ
-references_in es = count_by (λ e. not (is_flush e)) es
+sweep_work r text = work (events r.format r.kind text) (configs_of r) (rows_of r)
 
 -- the depths of the pairs of some rows, summed up
 abbrev pub total_depth : List Config → List Config → ℕ

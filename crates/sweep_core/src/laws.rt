@@ -1,14 +1,15 @@
 //! Laws over the definitions: each is the contract of a function with no code, so that the gate proves it. Proofs above
 //! may cite the lemma behind it.
-ghost use Rattle.std.specs.Prelude.{◌≡◌, ◌≢◌, ◌≤◌, ◌*◌, ◌^◌, ℕ, List, [], ◌∷◌, ◌++◌, flat_map, true, Option, None, Some, ◌↔◌, IsTrue, Contains, AllPairs};
+ghost use Rattle.std.specs.Prelude.{◌≡◌, ◌≢◌, ◌≤◌, ◌*◌, ◌^◌, ℕ, List, [], ◌∷◌, ◌++◌, flat_map, true, Option, None, Some, ◌↔◌, IsTrue, Contains, AllPairs, length};
 ghost use Rattle.trace_core.specs.Reading.{events};
 ghost use Rattle.cache_core.specs.Geometry.{IsGeometry, size_of};
+ghost use Rattle.cache_core.specs.Systems.{references_in};
 ghost use Rattle.sweep_core.specs.declared.space.Config.{Config};
 ghost use Rattle.sweep_core.specs.declared.request.Request.{Request};
-ghost use Rattle.sweep_core.specs.Space.{Ranges, is_power, is_valid, fault_of, bytes_of};
+ghost use Rattle.sweep_core.specs.Space.{Ranges, is_power, is_valid, space_fault, bytes_of};
 ghost use Rattle.sweep_core.specs.Table.{table, first_rows, more_rows, is_less, is_after, IsRising};
-ghost use Rattle.sweep_core.specs.SweepText.{log2, shape_of_config, sweep_text, all_of, rows_of, ArePages};
-ghost use Rattle.sweep_core.specs.Work.{pair_of, pairs, depth, references_in, total_depth, sweep_work};
+ghost use Rattle.sweep_core.specs.SweepText.{log2, shape_of_config, sweep_text, configs_of, rows_of, ArePages};
+ghost use Rattle.sweep_core.specs.Work.{pair_of, pairs, depth, total_depth, sweep_work};
 
 use crate::space::Config;
 use profile_core::laws::probes_bounded;
@@ -17,7 +18,7 @@ use profile_core::laws::probes_bounded;
 /// list does both.
 pub fn table_is()
     ensures rises { (space : Ranges) (after : Option Config) → IsRising (table space after) }
-    ensures members { (space : Ranges) (after : Option Config) (c : Config) → fault_of space ≡ None →
+    ensures members { (space : Ranges) (after : Option Config) (c : Config) → space_fault space ≡ None →
         Contains (table space after) c ↔ (IsTrue (is_valid space c) × IsTrue (is_after after c)) }
     ensures unique { (cs ds : List Config) → IsRising cs → IsRising ds
         → ((c : Config) → Contains cs c ↔ Contains ds c) → cs ≡ ds }
@@ -37,9 +38,9 @@ pub fn log2_is()
 
 /// Each configuration of a space is a cache within the limits, and its shape has as many bytes.
 pub fn configs_are_geometries()
-    ensures limits { (space : Ranges) (c : Config) → fault_of space ≡ None → is_valid space c ≡ true
+    ensures limits { (space : Ranges) (c : Config) → space_fault space ≡ None → is_valid space c ≡ true
         → IsGeometry (shape_of_config c) }
-    ensures bytes { (space : Ranges) (c : Config) → fault_of space ≡ None → is_valid space c ≡ true
+    ensures bytes { (space : Ranges) (c : Config) → space_fault space ≡ None → is_valid space c ≡ true
         → size_of (shape_of_config c) ≡ bytes_of c }
 {}
 
@@ -76,7 +77,7 @@ pub fn depth_is()
 /// A sweep makes at most as many comparisons as its kept references times the depths of its pairs, summed up.
 pub fn work_is_bounded()
     ensures { (r : Request) (text : List ℕ) → sweep_work r text
-        ≤ references_in (events r.format r.kind text) * total_depth (all_of r) (rows_of r) }
+        ≤ length (references_in (events r.format r.kind text)) * total_depth (configs_of r) (rows_of r) }
 {
     probes_bounded();
 }

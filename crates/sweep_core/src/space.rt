@@ -94,13 +94,13 @@ pub struct Space {
 
 impl Model for Space {
     ghost use Rattle.std.specs.Prelude.{◌≡◌, None};
-    ghost use Rattle.sweep_core.specs.Space.{Ranges, ranges, fault_of};
+    ghost use Rattle.sweep_core.specs.Space.{Ranges, ranges, space_fault};
 
     ghost Value = { Ranges };
 
     ghost view = { λ s. ranges s.bsize s.sets s.assoc s.size s.powers };
 
-    ghost invariant = { λ s. fault_of (ranges s.bsize s.sets s.assoc s.size s.powers) ≡ None };
+    ghost invariant = { λ s. space_fault (ranges s.bsize s.sets s.assoc s.size s.powers) ≡ None };
 
     ghost inverse = { λ r. record {
       bsize = r.bsize;
@@ -113,7 +113,7 @@ impl Model for Space {
 
 impl Space {
     ghost use Rattle.std.specs.Prelude.{◌≡◌, None};
-    ghost use Rattle.sweep_core.specs.Space.{is_valid, space_of, fault_of};
+    ghost use Rattle.sweep_core.specs.Space.{is_valid, space_of, space_fault};
 
     /// The space of these ranges, each a lowest and a greatest value, or the first of them that is refused. Block sizes
     /// and sizes are in bytes. Block sizes and set counts are powers of two up to 2^20, associativities 1 to 65,536,
@@ -142,7 +142,7 @@ impl Space {
 
     /// States that the ranges are accepted ones, for a caller whose proof needs it. It computes nothing.
     pub fn limits(&self)
-        ensures { fault_of self.now ≡ None }
+        ensures { space_fault self.now ≡ None }
     {
         let _ = &self.powers;
     }

@@ -4,7 +4,8 @@ use Rattle.std.proofs.lemmas.Result.{err_from_is_err_and}
 use Rattle.trace_core.specs.Device.{Wrote, WrotePart}
 use Rattle.sweep_core.specs.declared.space.Config.{Config}
 use Rattle.sweep_core.specs.SweepText.{rows_of, row_of}
-use Rattle.sweep_core.proofs.Covering.{walks-start, no-rows, none-first, tally-of}
+use Rattle.sweep_core.proofs.Lists.{none-first}
+use Rattle.sweep_core.proofs.Covering.{walks-start, no-rows, tally-of}
 use Rattle.sweep_core.proofs.Writing.{WroteBefore, rows-begin, row-written, rows-written, row-failed}
 use Rattle.sweep_core.proofs.table.write_rows.Goals as goal
 

@@ -1,7 +1,7 @@
 use Rattle.std.proofs.Common.{◌≡◌, ℕ, ◌*◌, false, sym, ap, ◌∙◌, arith, subst, max}
 use Rattle.std.specs.Int.{div_ceil}
 use Rattle.sweep_core.specs.Space.{Ranges, ranges, is_valid, config}
-use Rattle.sweep_core.proofs.Validity.{PairFacts, pair-facts, limits_of, valid_of, low-le, none-above, none-from}
+use Rattle.sweep_core.proofs.Validity.{PairFacts, pair-facts, space-limited, valid_of, low-le, none-above, none-from}
 use Rattle.sweep_core.proofs.space.Space.first_assoc.Goals as goal
 
 pub overflow_mul-bsize : goal.overflow_mul-bsize
@@ -11,7 +11,7 @@ pub div_ceil-requires : goal.div_ceil-requires
 div_ceil-requires c = let f = pair-facts _ c.args.self.now c.args.bsize c.args.sets c.self.view_is c.self.invariant c.requires.block c.requires.set in omega (arith, f.some)
 
 pub least_assoc-assoc-requires : goal.least_assoc-assoc-requires
-least_assoc-assoc-requires c = let l = limits_of (ranges c.self.inside.bsize c.self.inside.sets c.self.inside.assoc c.self.inside.size c.self.inside.powers) c.self.invariant in omega arith
+least_assoc-assoc-requires c = let l = space-limited (ranges c.self.inside.bsize c.self.inside.sets c.self.inside.assoc c.self.inside.size c.self.inside.powers) c.self.invariant in omega arith
 
 -- the lowest associativity that may be, as it is put together
 lowest : (least ways size pair m n low : ℕ) → m ≡ max least ways → n ≡ div_ceil size pair → low ≡ max m n → low ≡ max (max least ways) (div_ceil size pair)

@@ -1,7 +1,7 @@
 use Rattle.std.proofs.Common.{◌≡◌, ◌*◌, ◌^◌, ◌<◌, None, true, sym, ◌∙◌, arith}
-use Rattle.sweep_core.specs.Space.{Ranges, ranges, is_in_range, fault_of}
+use Rattle.sweep_core.specs.Space.{Ranges, ranges, is_in_range, space_fault}
 use Rattle.sweep_core.specs.declared.space.Config.{Config}
-use Rattle.sweep_core.proofs.Validity.{limits_of, within_of, products}
+use Rattle.sweep_core.proofs.Validity.{space-limited, in_range-within, products}
 use Rattle.sweep_core.proofs.space.Space.has.Goals as goal
 
 -- the products of numbers in the ranges fit
@@ -10,9 +10,9 @@ record Fit (c : Config) : Type 0 where
   size : c.bsize * c.sets * c.assoc < 2 ^ 64
   lines : c.assoc * c.sets < 2 ^ 64
 
-fit : (r : Ranges) (c : Config) → fault_of r ≡ None → is_in_range r.bsize c.bsize ≡ true → is_in_range r.sets c.sets ≡ true → is_in_range r.assoc c.assoc ≡ true → Fit c
+fit : (r : Ranges) (c : Config) → space_fault r ≡ None → is_in_range r.bsize c.bsize ≡ true → is_in_range r.sets c.sets ≡ true → is_in_range r.assoc c.assoc ≡ true → Fit c
 fit r c sound block set way =
-    let p = products r c.bsize c.sets c.assoc (limits_of r sound) (within_of _ _ block) (within_of _ _ set) (within_of _ _ way) in
+    let p = products r c.bsize c.sets c.assoc (space-limited r sound) (in_range-within _ _ block) (in_range-within _ _ set) (in_range-within _ _ way) in
     record { pair = p.1; size = p.2; lines = p.3 }
 
 pub overflow_mul-bsize : goal.overflow_mul-bsize
