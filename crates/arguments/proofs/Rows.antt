@@ -5,7 +5,7 @@ use Rattle.clap.proofs.OnLiterals.{clap_on_literals}
 use Rattle.clap.specs.Words.{Text, takes}
 use Rattle.clap.specs.Faults.{fault_of}
 use Rattle.clap.specs.declared.error.kind.ErrorKind.TheVariants as kind
-use Rattle.cache_core.specs.Levels.{exponent_of}
+use Rattle.cache_core.specs.Plans.{exponent_of}
 use Rattle.cache_core.specs.declared.outcome.AllocMode.TheVariants.{Always, Never}
 use Rattle.cache_core.specs.declared.outcome.Repl.TheVariants.{Lru, Fifo, Random}
 use Rattle.cache_core.specs.declared.outcome.WriteMode.TheVariants.{Back, Through}

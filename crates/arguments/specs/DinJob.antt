@@ -5,7 +5,7 @@ use Rattle.sweep_core.specs.Space.{is_power}
 use Rattle.std.specs.Result.{result_map_both}
 use Rattle.std.specs.Str.{bytes_eq}
 use Rattle.clap.specs.Words.{Row, Text}
-use Rattle.cache_core.specs.Levels.{Levels, plan_of}
+use Rattle.cache_core.specs.Plans.{PlannedCaches, plan_of}
 use Rattle.trace_core.specs.declared.line.Format.TheVariants.{Din as DinFormat}
 use Rattle.cache_core.specs.declared.outcome.AllocMode.{AllocMode}
 use Rattle.cache_core.specs.declared.outcome.AllocMode.TheVariants.{Always, Never}
@@ -87,7 +87,7 @@ cache_of cache r = if is_given r
     else Ok None
 
 -- The plan of what was given of the four caches, or the first fault: caches that lack size or bsize, then the plan's.
-abbrev pub plan_given : CacheReading → CacheReading → CacheReading → CacheReading → Result Levels Judgement
+abbrev pub plan_given : CacheReading → CacheReading → CacheReading → CacheReading → Result PlannedCaches Judgement
 plan_given i d u second =
     and_then (cache_of L1I i) (λ i.
     and_then (cache_of L1D d) (λ d.

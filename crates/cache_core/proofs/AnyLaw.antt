@@ -16,11 +16,11 @@ use Rattle.cache_core.specs.declared.outcome.Slot.{Slot}
 use Rattle.cache_core.specs.declared.outcome.Outcome.{Outcome}
 use Rattle.cache_core.specs.declared.outcome.Design.{Design}
 use Rattle.cache_core.specs.declared.outcome.Repl.{Repl}
-use Rattle.cache_core.specs.Geometry.{Shape, block_of, set_of_block, set_of}
+use Rattle.cache_core.specs.Geometry.{GeometryValue, block_of, set_of_block, set_of}
 use Rattle.cache_core.specs.Outcomes.{Answer, outcome_of, on_placing, on_passing, dirties, allocates}
 use Rattle.cache_core.specs.Machine.{Machine, MachineState, Line, slot_of, option_slot, is_block, lines_of_set, is_full, with_block, touch, placing}
 use Rattle.cache_core.specs.Machine.{step_at, answer_at}
-use Rattle.cache_core.specs.Order.{Visits, Fills, Passes, Hits, TakesIn, slots_of, position_of, marked}
+use Rattle.cache_core.specs.Order.{Visits, Fills, PassesOn, Hits, TakesIn, slots_of, position_of, marked}
 use Rattle.cache_core.specs.Stands.{Absent, Distinct}
 use Rattle.cache_core.specs.AnyPolicy.{MayLeave, AnyStartLaw, AnyAccessLaw, AnyFlushLaw}
 use Rattle.cache_core.proofs.Lawful.{marked_length, lawful_touch, lawful_place}
@@ -31,7 +31,7 @@ use Rattle.cache_core.proofs.FlushLaw.{none_anywhere, dirty_all}
 use Rattle.cache_core.proofs.LruSet.{blocks_of, place_none}
 use Rattle.cache_core.proofs.DownLaw.{any_clean, any_few}
 use Rattle.cache_core.proofs.Lists.{is}
-use Rattle.cache_core.proofs.SlotSums.{agree, same, same_is, one_for, one_self, by_sums, line_sum, sum_split, absent_sum, line_of, touch_sum}
+use Rattle.cache_core.proofs.SlotSums.{agree, same, same_is, one_for, one_self, by_sums, line_sum, sum_split, absent_sum, line_for, touch_sum}
 use Rattle.cache_core.proofs.SlotSums.{touch_distinct, insert_sum, insert_distinct, exchange_sum, exchange_distinct}
 
 -- what a step has to do: the set of the block agrees again, the others stay
@@ -79,7 +79,7 @@ hit_agrees : (m : Machine) (st : MachineState) (ref : Ref) (line : Line) (rule :
     Agrees m st k false (λ gone. step_at m ref b gone st (Some line)) (λ gone. answer_at m ref b gone (Some line)) new outcome
 hit_agrees m st ref line rule words outcome slots new rest d perm e v = by_place (position_of (block_of m.design.geometry ref.addr) slots) refl v
   where
-    g : Shape
+    g : GeometryValue
     g = m.design.geometry
 
     b : ℕ
@@ -90,7 +90,7 @@ hit_agrees m st ref line rule words outcome slots new rest d perm e v = by_place
 
     by_place : (o : Option ℕ) → position_of b slots ≡ o →
         MatchOption o
-        (MatchBool (allocates m.design.allocate ref.access) (Fills m.design rule words ref slots outcome new rest) (Passes words ref slots outcome new rest))
+        (MatchBool (allocates m.design.allocate ref.access) (Fills m.design rule words ref slots outcome new rest) (PassesOn words ref slots outcome new rest))
         (λ at. Hits m.design rule words ref at slots outcome new rest) →
         Agrees m st k false (λ gone. step_at m ref b gone st (Some line)) (λ gone. answer_at m ref b gone (Some line)) new outcome
     by_place None q u =
@@ -193,7 +193,7 @@ fill_agrees m st ref word outcome slots new (Some x) d perm a t o =
     let full : ltb (length here) g.e ≡ false = le-ltb (length here) g.e (omega (arith, t.0, long)) in
     let left : (f : Slot → ℕ) → f x + sum_by f others ≡ line_sum f here =
     λ f. omega (arith, sum_by-IsPermutation f slots (x ∷ others) t.1.1, sum_by-cons f x others, sum_by-IsPermutation f slots (map slot_of here) perm) in
-    let r = line_of x here (omega (arith, left (one_for x), one_self x)) in
+    let r = line_for x here (omega (arith, left (one_for x), one_self x)) in
     let dr : Distinct (r.front ++ r.line ∷ r.back) = subst Distinct r.split d in
     let front = distinct_front r.front r.line r.back dr in
     let back = distinct_back r.front r.line r.back dr in
@@ -228,7 +228,7 @@ fills_agree : (m : Machine) (st : MachineState) (ref : Ref) (rule : Option Repl)
     let g = m.design.geometry in let b = block_of g ref.addr in let k = set_of_block g b in
     1 ≤ g.e → Distinct (lines_of_set g k st.lines) → IsPermutation slots (map slot_of (lines_of_set g k st.lines)) →
     Absent b (lines_of_set g k st.lines) →
-    MatchBool fills (Fills m.design rule words ref slots outcome new rest) (Passes words ref slots outcome new rest) →
+    MatchBool fills (Fills m.design rule words ref slots outcome new rest) (PassesOn words ref slots outcome new rest) →
     Agrees m st k (fills && is_full m st k) (λ gone. cond fills (placing m ref b gone st) (record st { clock = st.clock + 1 }))
     (λ gone. cond fills (on_placing g m.design.write ref b (option_slot gone)) (on_passing ref)) new outcome
 fills_agree m st ref rule words outcome slots new rest true some d perm a v =
@@ -252,7 +252,7 @@ miss_agrees : (m : Machine) (st : MachineState) (ref : Ref) (rule : Option Repl)
     new outcome
 miss_agrees m st ref rule words outcome slots new rest some d perm e v = by_place (position_of (block_of m.design.geometry ref.addr) slots) refl v
   where
-    g : Shape
+    g : GeometryValue
     g = m.design.geometry
 
     b : ℕ
@@ -263,7 +263,7 @@ miss_agrees m st ref rule words outcome slots new rest some d perm e v = by_plac
 
     by_place : (o : Option ℕ) → position_of b slots ≡ o →
         MatchOption o
-        (MatchBool (allocates m.design.allocate ref.access) (Fills m.design rule words ref slots outcome new rest) (Passes words ref slots outcome new rest))
+        (MatchBool (allocates m.design.allocate ref.access) (Fills m.design rule words ref slots outcome new rest) (PassesOn words ref slots outcome new rest))
         (λ at. Hits m.design rule words ref at slots outcome new rest) →
         Agrees m st k (allocates m.design.allocate ref.access && is_full m st k) (λ gone. step_at m ref b gone st None)
         (λ gone. answer_at m ref b gone None) new outcome

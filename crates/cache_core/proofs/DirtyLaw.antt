@@ -15,8 +15,8 @@ use Rattle.cache_core.specs.declared.outcome.WriteMode.TheVariants.{Back, Throug
 use Rattle.cache_core.specs.declared.outcome.Repl.{Repl}
 use Rattle.cache_core.specs.Geometry.{block_of}
 use Rattle.cache_core.specs.Outcomes.{is_write, dirties, allocates}
-use Rattle.cache_core.specs.Order.{Visits, Hits, Fills, Passes, TakesIn, marked, position_of, dirty_in, is_dirty, one_if, dirty_slots, DirtiesByWrites}
-use Rattle.cache_core.specs.Slab.{IsSlab, sets_of}
+use Rattle.cache_core.specs.Order.{Visits, Hits, Fills, PassesOn, TakesIn, marked, position_of, dirty_in, is_dirty, one_if, dirty_slots, DirtiesByWrites}
+use Rattle.cache_core.specs.Slab.{IsCacheSlab, sets_of}
 use Rattle.cache_core.proofs.Slabs.{slab_read, slab_written, length-sets_of}
 use borrow.Rule.Slice.PartMut.{put_mid}
 use Rattle.cache_core.proofs.Lawful.{marked_length, lawful_touch, lawful_insert, lawful_exchange}
@@ -48,7 +48,7 @@ fills_dirty rule word room old slot (Some gone) new r p =
 
 miss_dirty : (d : Design) (rule : Option Repl) (words rest : ℕ → ℕ) (ref : Ref) (old : List Slot) (outcome : Outcome) (new : List Slot) (fills : Bool)
     →
-    0 < d.geometry.e → MatchBool fills (Fills d rule words ref old outcome new rest) (Passes words ref old outcome new rest) →
+    0 < d.geometry.e → MatchBool fills (Fills d rule words ref old outcome new rest) (PassesOn words ref old outcome new rest) →
     dirty_in new + one_if (is_dirty outcome.evicted) ≤ dirty_in old + one_if (is_write ref.access)
 miss_dirty d rule words rest ref old outcome new true e v =
     omega (arith, fills_dirty rule (words 0) d.geometry.e old _ outcome.evicted new e v.order, by_write d.write ref.access)
@@ -72,7 +72,7 @@ pub visit_dirty : (d : Design) (rule : Option Repl) (words rest : ℕ → ℕ) (
 visit_dirty d rule words rest ref old outcome new e v = by_place (position_of (block_of d.geometry ref.addr) old) refl v
   where
     by_place : (o : Option ℕ) → position_of (block_of d.geometry ref.addr) old ≡ o →
-        MatchOption o (MatchBool (allocates d.allocate ref.access) (Fills d rule words ref old outcome new rest) (Passes words ref old outcome new rest))
+        MatchOption o (MatchBool (allocates d.allocate ref.access) (Fills d rule words ref old outcome new rest) (PassesOn words ref old outcome new rest))
         (λ at. Hits d rule words ref at old outcome new rest) →
         dirty_in new + one_if (is_dirty outcome.evicted) ≤ dirty_in old + one_if (is_write ref.access)
     by_place None q u = miss_dirty d rule words rest ref old outcome new (allocates d.allocate ref.access) e u
@@ -87,7 +87,7 @@ sets_dirty sets k new more less h v =
 -- one access to a slab
 pub slab_dirty : (d : Design) (rule : Option Repl) (words words' : ℕ → ℕ) (filled : List ℕ) (k n ways : ℕ) (slots room : List Slot) (ref : Ref)
     (outcome : Outcome) →
-    IsSlab d slots filled → k < 2 ^ d.geometry.s → ways ≡ d.geometry.e → length room ≡ d.geometry.e → n ≤ d.geometry.e →
+    IsCacheSlab d slots filled → k < 2 ^ d.geometry.s → ways ≡ d.geometry.e → length room ≡ d.geometry.e → n ≤ d.geometry.e →
     Visits d rule words ref (take (get_or filled k 0) (take (k * ways + ways - k * ways) (drop (k * ways) slots))) outcome (take n room) words' →
     DirtiesByWrites (sets_of d.geometry.e slots filled) ref outcome
     (sets_of d.geometry.e (put_mid (k * ways) (k * ways + ways - k * ways) slots room) (set filled k n))
@@ -99,7 +99,7 @@ slab_dirty d rule words words' filled k n ways slots room ref outcome i h e r m 
     let written : sets_of g.e (put_mid (k * ways) (k * ways + ways - k * ways) slots room) (set filled k n) ≡ set (sets_of g.e slots filled) k (take n room) =
     rw e (slab_written g.e (2 ^ g.s) filled k n slots room i.segments i.sets i.within h r m) in
     let here = subst (λ xs. dirty_in (take n room) + one_if (is_dirty outcome.evicted) ≤ dirty_in xs + one_if (is_write ref.access)) read
-    (visit_dirty d rule words words' ref _ outcome (take n room) (omega (arith, i.shape.some)) v) in
+    (visit_dirty d rule words words' ref _ outcome (take n room) (omega (arith, i.geometry.some)) v) in
     subst (λ xs. DirtiesByWrites (sets_of g.e slots filled) ref outcome xs) (sym written)
     (sets_dirty (sets_of g.e slots filled) k (take n room) (one_if (is_write ref.access)) (one_if (is_dirty outcome.evicted))
     (omega (arith, length-sets_of g.e filled slots, i.sets)) here)

@@ -3,7 +3,7 @@ use Rattle.std.proofs.Common.{◌≡◌, ℕ, zero, suc, ◌<◌, false, not, �
 use Rattle.std.specs.List.{remove, filter, list_any, before_first, position_or_len}
 use Rattle.std.proofs.lemmas.Bool.{eqb-true, eq-eqb}
 use Rattle.cache_core.specs.Windows.{distinct, distinct_of_set, Place, has_last, distance}
-use Rattle.cache_core.specs.Geometry.{Shape, set_of_block}
+use Rattle.cache_core.specs.Geometry.{GeometryValue, set_of_block}
 use Rattle.cache_core.proofs.Lists.{cases, other, is, IsOnce, IsOnce-filter, filter-cons_yes, filter-cons_no, filter_comm, filter_other_no, filter_passes}
 use Rattle.cache_core.proofs.Lists.{filter-before_first, before_first-cons, eqb_flip, IsOnce-take, remove_is, take_without, list_any-filter}
 use Rattle.cache_core.proofs.Lists.{length-before_first}
@@ -13,16 +13,16 @@ unfolding distinct
 IsOnce-distinct [] = tt
 IsOnce-distinct (x ∷ w) = (filter_passes (other x) (distinct w), IsOnce-filter (other x) (distinct w) (IsOnce-distinct w))
 
-pub IsOnce-distinct_of_set : (g : Shape) (k : ℕ) (w : List ℕ) → IsOnce (distinct_of_set g k w)
+pub IsOnce-distinct_of_set : (g : GeometryValue) (k : ℕ) (w : List ℕ) → IsOnce (distinct_of_set g k w)
 unfolding distinct_of_set
 IsOnce-distinct_of_set g k w = IsOnce-filter _ _ (IsOnce-distinct w)
 
-pub distinct_of_set-nil : (g : Shape) (k : ℕ) → distinct_of_set g k [] ≡ []
+pub distinct_of_set-nil : (g : GeometryValue) (k : ℕ) → distinct_of_set g k [] ≡ []
 unfolding distinct_of_set distinct
 distinct_of_set-nil g k = refl
 
 -- a reference brings its block to the front of its set
-pub distinct_of_set-same : (g : Shape) (k x : ℕ) (w : List ℕ) → set_of_block g x ≡ k →
+pub distinct_of_set-same : (g : GeometryValue) (k x : ℕ) (w : List ℕ) → set_of_block g x ≡ k →
     distinct_of_set g k (x ∷ w) ≡ x ∷ filter (other x) (distinct_of_set g k w)
 unfolding distinct_of_set distinct
 distinct_of_set-same g k x w e =
@@ -30,7 +30,7 @@ distinct_of_set-same g k x w e =
     ∙ ap (λ r. x ∷ r) (filter_comm (λ y. eqb (set_of_block g y) k) (other x) (distinct w))
 
 -- and leaves the other sets
-pub distinct_of_set-other : (g : Shape) (k x : ℕ) (w : List ℕ) → eqb (set_of_block g x) k ≡ false →
+pub distinct_of_set-other : (g : GeometryValue) (k x : ℕ) (w : List ℕ) → eqb (set_of_block g x) k ≡ false →
     distinct_of_set g k (x ∷ w) ≡ distinct_of_set g k w
 unfolding distinct_of_set distinct
 distinct_of_set-other g k x w e =
@@ -51,7 +51,7 @@ distinct-before_first x (y ∷ ys) =
     refl
     ∙ sym (before_first-cons (is x) y (filter (other y) (distinct ys)))
 
-distinct_of_set-before_first : (g : Shape) (x : ℕ) (w : List ℕ) →
+distinct_of_set-before_first : (g : GeometryValue) (x : ℕ) (w : List ℕ) →
     distinct_of_set g (set_of_block g x) (before_first (is x) w) ≡ before_first (is x) (distinct_of_set g (set_of_block g x) w)
 unfolding distinct_of_set
 distinct_of_set-before_first g x w =
@@ -59,7 +59,7 @@ distinct_of_set-before_first g x w =
     ∙ filter-before_first (λ y. eqb (set_of_block g y) (set_of_block g x)) x (distinct w) (eq-eqb _ _ refl)
 
 -- the distance is the block's place among them
-pub distance_is : (g : Shape) (p : Place) → distance g p ≡ position_or_len (is p.block) (distinct_of_set g (set_of_block g p.block) p.window)
+pub distance_is : (g : GeometryValue) (p : Place) → distance g p ≡ position_or_len (is p.block) (distinct_of_set g (set_of_block g p.block) p.window)
 distance_is g p =
     ap length (distinct_of_set-before_first g p.block p.window) ∙ length-before_first (is p.block) (distinct_of_set g (set_of_block g p.block) p.window)
 
@@ -73,7 +73,7 @@ list_any-distinct x (y ∷ ys) =
     ∙ list_any-distinct x ys)
     refl
 
-pub has_last_is : (g : Shape) (p : Place) → has_last p ≡ list_any (is p.block) (distinct_of_set g (set_of_block g p.block) p.window)
+pub has_last_is : (g : GeometryValue) (p : Place) → has_last p ≡ list_any (is p.block) (distinct_of_set g (set_of_block g p.block) p.window)
 unfolding distinct_of_set
 has_last_is g p =
     sym (list_any-filter (λ y. eqb (set_of_block g y) (set_of_block g p.block)) (is p.block) (distinct p.window)
@@ -81,7 +81,7 @@ has_last_is g p =
     ∙ list_any-distinct p.block p.window)
 
 -- a reference moves the first n blocks of its set on by themselves
-pub take-distinct_of_set-same : (g : Shape) (n x : ℕ) (w : List ℕ) → 0 < n
+pub take-distinct_of_set-same : (g : GeometryValue) (n x : ℕ) (w : List ℕ) → 0 < n
     → take n (x ∷ remove (take n (distinct_of_set g (set_of_block g x) w)) (position_or_len (is x) (take n (distinct_of_set g (set_of_block g x) w))))
     ≡ take n (distinct_of_set g (set_of_block g x) (x ∷ w))
 take-distinct_of_set-same g zero x w h = refl

@@ -13,7 +13,7 @@ use Rattle.cache_core.specs.declared.outcome.Repl.{Repl}
 use Rattle.cache_core.specs.declared.outcome.Repl.TheVariants.{Lru, Fifo, Random}
 use Rattle.cache_core.specs.declared.outcome.WriteMode.{WriteMode}
 use Rattle.cache_core.specs.declared.outcome.WriteMode.TheVariants.{Back, Through}
-use Rattle.cache_core.specs.Geometry.{Shape, block_of, set_of, address_of}
+use Rattle.cache_core.specs.Geometry.{GeometryValue, block_of, set_of, address_of}
 use Rattle.cache_core.specs.Outcomes.{is_write, dirties, allocates, writes_through, writes_back, fill_access, on_placing, on_passing}
 use Rattle.cache_core.specs.Machine.{Machine, MachineState, Line, option_slot, is_block, lines_of_set, exchange, least, lesser, victim, touch, with_block}
 use Rattle.cache_core.specs.Machine.{leaves, placing, start, step, step_at, step_with, answer_at, answer_with, next, run, dirty_count}
@@ -128,15 +128,15 @@ through_most : (w : WriteMode) (ref : Ref) → length (writes_through w ref) ≤
 through_most Back ref = omega arith
 through_most Through ref = one_at_most (is_write ref.access) ref
 
-back_most : (g : Shape) (v : Option Slot) → length (writes_back g v) ≤ 1
+back_most : (g : GeometryValue) (v : Option Slot) → length (writes_back g v) ≤ 1
 back_most g None = omega arith
 back_most g (Some v) = one_at_most v.dirty _
 
-back_clean : (g : Shape) (o : Option Line) → ((line : Line) → o ≡ Some line → line.dirty ≡ false) → length (writes_back g (option_slot o)) ≡ 0
+back_clean : (g : GeometryValue) (o : Option Line) → ((line : Line) → o ≡ Some line → line.dirty ≡ false) → length (writes_back g (option_slot o)) ≡ 0
 back_clean g None h = refl
 back_clean g (Some line) h = rw (h line refl) refl
 
-placing_most : (w : WriteMode) (g : Shape) (ref : Ref) (block : ℕ) (o : Option Line) →
+placing_most : (w : WriteMode) (g : GeometryValue) (ref : Ref) (block : ℕ) (o : Option Line) →
     (w ≡ Through → (line : Line) → o ≡ Some line → line.dirty ≡ false) → length (on_placing g w ref block (option_slot o)).down ≤ 2
 placing_most Back g ref block o h =
     omega (

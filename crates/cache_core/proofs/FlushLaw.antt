@@ -11,10 +11,10 @@ use Rattle.std.proofs.lemmas.Nat.{mod_below}
 use Rattle.cache_core.specs.declared.outcome.Slot.{Slot}
 use Rattle.cache_core.specs.declared.outcome.Repl.{Repl}
 use Rattle.cache_core.specs.declared.outcome.Repl.TheVariants.{Lru, Fifo, Random}
-use Rattle.cache_core.specs.Geometry.{Shape, set_of_block}
+use Rattle.cache_core.specs.Geometry.{GeometryValue, set_of_block}
 use Rattle.cache_core.specs.Machine.{Machine, MachineState, Line, slot_of, lines_of_set, start, dirty_count}
 use Rattle.cache_core.specs.Order.{Contents, Flushes, slots_of, dirty_in, dirty_slots}
-use Rattle.cache_core.specs.Stands.{IsState, IsGood, IsSound}
+use Rattle.cache_core.specs.Stands.{IsState, IsGood, IsSoundState}
 use Rattle.cache_core.proofs.Lines.{ne-eqb}
 
 -- no set has a slot
@@ -32,7 +32,7 @@ none_dirty (x ∷ xs) h =
     let rest = none_dirty xs (λ k. h (suc k)) in
     omega (arith, sum_by-cons dirty_in x xs, here, rest)
 
-pub dirty_all : (g : Shape) (lines : List Line) (sets : List (List Slot)) → length sets ≡ 2 ^ g.s →
+pub dirty_all : (g : GeometryValue) (lines : List Line) (sets : List (List Slot)) → length sets ≡ 2 ^ g.s →
     ((k : ℕ) → dirty_in (slots_of sets k) ≡ dirty_in (map slot_of (lines_of_set g k lines))) →
     dirty_slots sets ≡ count_by (λ (line : Line). line.dirty) lines
 dirty_all g [] sets l h = none_dirty sets h
@@ -61,7 +61,7 @@ empty_good m c = good m.policy
     good Fifo = record { distinct = tt; order = tt }
     good Random = record { distinct = tt; order = tt }
 
-pub start_sound : (m : Machine) → IsSound m start
+pub start_sound : (m : Machine) → IsSoundState m start
 start_sound m k = empty_good m 0
 
 pub start_state : (m : Machine) (c : Contents) → c.design ≡ m.design → c.rule ≡ Some m.policy → c.words ≡ m.words →
@@ -78,7 +78,7 @@ start_state m c d r w e = record {
 pub record FlushFollows (m : Machine) (st : MachineState) (dirty : ℕ) (new : Contents) : Type 0 where
   pub state : IsState m (record st { lines = [] }) new
   pub told : dirty ≡ dirty_count st
-  pub sound : IsSound m (record st { lines = [] })
+  pub sound : IsSoundState m (record st { lines = [] })
 
 pub flush_law : (m : Machine) (st : MachineState) (old : Contents) (dirty : ℕ) (new : Contents) → IsState m st old → Flushes old dirty new →
     FlushFollows m st dirty new

@@ -18,7 +18,7 @@ pub mod LruSet
 pub mod LruRun
 pub mod Pushes
 pub mod Exponents
-pub mod ShapeLaw
+pub mod GeometryLaw
 pub mod Counters
 pub mod SystemPushes
 pub mod FirstLevelLaw

@@ -3,7 +3,7 @@ use Rattle.std.proofs.Common.{◌≡◌, ◌≢◌, ℕ, ◌+◌, ◌<◌, ◌�
 use Rattle.std.proofs.Common.{length, Some, None, sym, ◌∙◌, ap, refl, subst, arith, ⊎_elim, find}
 use Rattle.std.proofs.lemmas.Bool.{eq-eqb, le-ltb}
 use Rattle.std.proofs.lemmas.Bool.Decides.{eqb_tells}
-use Rattle.cache_core.specs.Geometry.{Shape, set_of_block}
+use Rattle.cache_core.specs.Geometry.{GeometryValue, set_of_block}
 use Rattle.cache_core.specs.Machine.{Line, is_block, lines_of_set, without, exchange, least}
 use Rattle.cache_core.specs.Stands.{Falls, CountsUp, Absent, Distinct}
 
@@ -93,7 +93,7 @@ exchange_split b new [] x ys e f h = rw (eq-eqb x.block b e) (ap (λ zs. new ∷
 exchange_split b new (z ∷ xs) x ys e f h = rw (ne-eqb z.block b f.0) (ap (λ zs. z ∷ zs) (exchange_split b new xs x ys e f.1 h))
 
 -- the lines of a set
-pub find_in_set : (g : Shape) (b : ℕ) (ls : List Line) → find (is_block b) (lines_of_set g (set_of_block g b) ls) ≡ find (is_block b) ls
+pub find_in_set : (g : GeometryValue) (b : ℕ) (ls : List Line) → find (is_block b) (lines_of_set g (set_of_block g b) ls) ≡ find (is_block b) ls
 find_in_set g b [] = refl
 find_in_set g b (l ∷ ls) = ⊎_elim
     (λ t. let s : eqb (set_of_block g l.block) (set_of_block g b) ≡ true = eq-eqb _ _ (ap (set_of_block g) t.1) in
@@ -104,14 +104,14 @@ find_in_set g b (l ∷ ls) = ⊎_elim
     (eqb_tells (set_of_block g l.block) (set_of_block g b))))
     (eqb_tells l.block b)
 
-pub absent_other : (g : Shape) (k b : ℕ) (ls : List Line) → k ≢ set_of_block g b → Absent b (lines_of_set g k ls)
+pub absent_other : (g : GeometryValue) (k b : ℕ) (ls : List Line) → k ≢ set_of_block g b → Absent b (lines_of_set g k ls)
 absent_other g k b [] ne = tt
 absent_other g k b (l ∷ ls) ne = ⊎_elim
     (λ t. rw t.0 ((λ e. ne (sym t.1 ∙ ap (set_of_block g) e)), absent_other g k b ls ne))
     (λ f. rw f.0 (absent_other g k b ls ne))
     (eqb_tells (set_of_block g l.block) k)
 
-pub set_without : (g : Shape) (k b : ℕ) (ls : List Line) → lines_of_set g k (without b ls) ≡ without b (lines_of_set g k ls)
+pub set_without : (g : GeometryValue) (k b : ℕ) (ls : List Line) → lines_of_set g k (without b ls) ≡ without b (lines_of_set g k ls)
 set_without g k b [] = refl
 set_without g k b (l ∷ ls) = ⊎_elim
     (λ t. rw t.0 (⊎_elim (λ s. rw (s.0, t.0) (set_without g k b ls)) (λ o. rw o.0 (set_without g k b ls)) (eqb_tells (set_of_block g l.block) k)))
@@ -119,7 +119,7 @@ set_without g k b (l ∷ ls) = ⊎_elim
     (eqb_tells (set_of_block g l.block) k)))
     (eqb_tells l.block b)
 
-pub set_exchange : (g : Shape) (k b : ℕ) (new : Line) (ls : List Line) → set_of_block g new.block ≡ set_of_block g b →
+pub set_exchange : (g : GeometryValue) (k b : ℕ) (new : Line) (ls : List Line) → set_of_block g new.block ≡ set_of_block g b →
     lines_of_set g k (exchange b new ls) ≡ exchange b new (lines_of_set g k ls)
 set_exchange g k b new [] e = refl
 set_exchange g k b new (l ∷ ls) e = ⊎_elim

@@ -14,10 +14,10 @@ use Rattle.trace_core.specs.declared.events.Event.TheVariants as event
 use Rattle.cache_core.specs.declared.outcome.Outcome.{Outcome}
 use Rattle.cache_core.specs.declared.outcome.WriteMode.{WriteMode}
 use Rattle.cache_core.specs.declared.outcome.Repl.TheVariants.{Lru}
-use Rattle.cache_core.specs.Geometry.{Shape, block_of, set_of_block}
+use Rattle.cache_core.specs.Geometry.{GeometryValue, block_of, set_of_block}
 use Rattle.cache_core.specs.Outcomes.{Answer}
 use Rattle.cache_core.specs.Machine.{Machine, MachineState, Line, slot_of, is_block, lines_of_set, start, step, answer, next, run, answered_from, answers}
-use Rattle.cache_core.specs.Stands.{IsSound}
+use Rattle.cache_core.specs.Stands.{IsSoundState}
 use Rattle.cache_core.specs.Windows.{window, window_after, distinct_of_set, has_last, distance, is_hit, is_evict, places, counts}
 use Rattle.cache_core.specs.LruLaws.{lru_machine, holds, HitLaw, VictimLaw, CountLaw, NextLaw, HitInclusion, HeldInclusion}
 use Rattle.cache_core.proofs.Lists.{is}
@@ -40,8 +40,8 @@ blocks_slots [] = refl
 blocks_slots (l ∷ ls) = ap (λ xs. l.block ∷ xs) (blocks_slots ls)
 
 -- a sound state whose sets hold the fronts of the window's stacks
-pub record IsStacked (g : Shape) (write : WriteMode) (w : List ℕ) (st : MachineState) : Type 0 where
-  pub sound : IsSound (lru_machine g write) st
+pub record IsStacked (g : GeometryValue) (write : WriteMode) (w : List ℕ) (st : MachineState) : Type 0 where
+  pub sound : IsSoundState (lru_machine g write) st
   pub few : IsFew (lru_machine g write) st
   pub fronts : (k : ℕ) → blocks_in (lines_of_set g k st.lines) ≡ take g.e (distinct_of_set g k w)
 
@@ -49,7 +49,7 @@ take_nil : (n : ℕ) → take {A = ℕ} n [] ≡ []
 take_nil zero = refl
 take_nil (suc n) = refl
 
-pub stacked_start : (g : Shape) (write : WriteMode) → IsStacked g write [] start
+pub stacked_start : (g : GeometryValue) (write : WriteMode) → IsStacked g write [] start
 stacked_start g write = record {
   sound = start_sound (lru_machine g write);
   few = λ k. omega arith;
@@ -57,12 +57,12 @@ stacked_start g write = record {
 }
 
 -- one reference
-record Follows (g : Shape) (write : WriteMode) (w : List ℕ) (st : MachineState) (ref : Ref) : Type 0 where
+record Follows (g : GeometryValue) (write : WriteMode) (w : List ℕ) (st : MachineState) (ref : Ref) : Type 0 where
   stacked : IsStacked g write (block_of g ref.addr ∷ w) (step (lru_machine g write) st ref)
   hits : (answer (lru_machine g write) st ref).hit ≡ is_hit g (record { block = block_of g ref.addr; window = w })
   evicts : is_some (answer (lru_machine g write) st ref).evicted ≡ is_evict g (record { block = block_of g ref.addr; window = w })
 
-follows : (g : Shape) (write : WriteMode) (w : List ℕ) (st : MachineState) (ref : Ref) → 1 ≤ g.e → IsStacked g write w st → Follows g write w st ref
+follows : (g : GeometryValue) (write : WriteMode) (w : List ℕ) (st : MachineState) (ref : Ref) → 1 ≤ g.e → IsStacked g write w st → Follows g write w st ref
 follows g write w st ref some h =
     let m : Machine = lru_machine g write in
     let x : ℕ = block_of g ref.addr in
@@ -87,20 +87,20 @@ follows g write w st ref some h =
       evicts = ap (λ (o : Outcome). is_some o.evicted) (sym a.told) ∙ moved.evicts;
     }
 
-stacked_next : (g : Shape) (write : WriteMode) (w : List ℕ) (st : MachineState) (event : Event) → 1 ≤ g.e → IsStacked g write w st →
+stacked_next : (g : GeometryValue) (write : WriteMode) (w : List ℕ) (st : MachineState) (event : Event) → 1 ≤ g.e → IsStacked g write w st →
     IsStacked g write (window_after g w event) (next (lru_machine g write) st event)
 stacked_next g write w st (event.Reference ref) some h = (follows g write w st ref some h).stacked
 stacked_next g write w st event.Flush some h =
     let after = sound_next (lru_machine g write) st event.Flush some h.sound h.few in
     record { sound = after.0; few = after.1; fronts = λ k. sym (take_nil g.e) ∙ ap (take g.e) (sym (distinct_of_set-nil g k)) }
 
-pub stacked_run : (g : Shape) (write : WriteMode) (w : List ℕ) (st : MachineState) (events : List Event) → 1 ≤ g.e → IsStacked g write w st →
+pub stacked_run : (g : GeometryValue) (write : WriteMode) (w : List ℕ) (st : MachineState) (events : List Event) → 1 ≤ g.e → IsStacked g write w st →
     IsStacked g write (fold (window_after g) w events) (fold (next (lru_machine g write)) st events)
 stacked_run g write w st [] some h = h
 stacked_run g write w st (v ∷ events) some h =
     stacked_run g write (window_after g w v) (next (lru_machine g write) st v) events some (stacked_next g write w st v some h)
 
-pub hits_from : (g : Shape) (write : WriteMode) (w : List ℕ) (st : MachineState) (events : List Event) → 1 ≤ g.e → IsStacked g write w st →
+pub hits_from : (g : GeometryValue) (write : WriteMode) (w : List ℕ) (st : MachineState) (events : List Event) → 1 ≤ g.e → IsStacked g write w st →
     map (λ a. a.hit) (answers_from (lru_machine g write) st events) ≡ map (is_hit g) (places_from g w events)
 unfolding places_from
 hits_from g write w st [] some h = refl
@@ -113,7 +113,7 @@ hits_from g write w st (event.Reference ref ∷ events) some h =
 hits_from g write w st (event.Flush ∷ events) some h =
     hits_from g write [] (next (lru_machine g write) st event.Flush) events some (stacked_next g write w st event.Flush some h)
 
-pub victims_from : (g : Shape) (write : WriteMode) (w : List ℕ) (st : MachineState) (events : List Event) → 1 ≤ g.e → IsStacked g write w st →
+pub victims_from : (g : GeometryValue) (write : WriteMode) (w : List ℕ) (st : MachineState) (events : List Event) → 1 ≤ g.e → IsStacked g write w st →
     map (λ a. is_some a.evicted) (answers_from (lru_machine g write) st events) ≡ map (is_evict g) (places_from g w events)
 unfolding places_from
 victims_from g write w st [] some h = refl
@@ -139,7 +139,7 @@ count_by-not p (x ∷ xs) =
     ∙ sym (sum_by-cons (λ b. cond (not b) 1 0) (p x) (map p xs))
 
 -- a block is held if it is among the front of its set's stack
-any_set : (g : Shape) (x : ℕ) (lines : List Line) → list_any (is_block x) lines ≡ list_any (is x) (blocks_in (lines_of_set g (set_of_block g x) lines))
+any_set : (g : GeometryValue) (x : ℕ) (lines : List Line) → list_any (is_block x) lines ≡ list_any (is x) (blocks_in (lines_of_set g (set_of_block g x) lines))
 any_set g x [] = refl
 any_set g x (l ∷ ls) = ⊎_elim
     (λ t. let s : eqb (set_of_block g l.block) (set_of_block g x) ≡ true = eq-eqb _ _ (ap (set_of_block g) t.1) in rw (s, t.0) refl)
@@ -149,7 +149,7 @@ any_set g x (l ∷ ls) = ⊎_elim
     (eqb_tells (set_of_block g l.block) (set_of_block g x))))
     (eqb_tells l.block x)
 
-pub holds_is : (g : Shape) (write : WriteMode) (w : List ℕ) (st : MachineState) (x : ℕ) → IsStacked g write w st →
+pub holds_is : (g : GeometryValue) (write : WriteMode) (w : List ℕ) (st : MachineState) (x : ℕ) → IsStacked g write w st →
     holds st x ≡ list_any (is x) (take g.e (distinct_of_set g (set_of_block g x) w))
 holds_is g write w st x h = any_set g x st.lines ∙ ap (list_any (is x)) (h.fronts (set_of_block g x))
 
@@ -173,14 +173,14 @@ count_law g write events some =
     cc (hits, misses, evictions)
 
 -- the window of a list, carried along
-window_folds : (g : Shape) (before es : List Event) → fold (window_after g) (window g before) es ≡ window g (before ++ es)
+window_folds : (g : GeometryValue) (before es : List Event) → fold (window_after g) (window g before) es ≡ window g (before ++ es)
 window_folds g before [] = ap (window g) (sym (append-nil before))
 window_folds g before (e ∷ es) =
     ap (λ w. fold (window_after g) w es) (sym (window-push g before e)) ∙ window_folds g (before ++ e ∷ []) es
     ∙ ap (window g) (append_assoc before (e ∷ []) es)
 
 -- the state after a list holds the fronts of its window's stacks
-pub run_stacked : (g : Shape) (write : WriteMode) (events : List Event) → 1 ≤ g.e → IsStacked g write (window g events) (run (lru_machine g write) events)
+pub run_stacked : (g : GeometryValue) (write : WriteMode) (events : List Event) → 1 ≤ g.e → IsStacked g write (window g events) (run (lru_machine g write) events)
 run_stacked g write events some =
     subst (λ w. IsStacked g write w (run (lru_machine g write) events))
     (ap (λ w. fold (window_after g) w events) (sym (window-nil g)) ∙ window_folds g [] events)
@@ -195,7 +195,7 @@ next_law g write events ref some =
 pub held_law : HeldInclusion
 unfolding window distinct_of_set
 held_law g write events x some h =
-    let bigger : Shape = record g { e = g.e + 1 } in
+    let bigger : GeometryValue = record g { e = g.e + 1 } in
     let fewer = holds_is g write (window g events) (run (lru_machine g write) events) x (run_stacked g write events some) in
     let more = holds_is bigger write (window g events) (run (lru_machine bigger write) events) x (run_stacked bigger write events (omega arith)) in
     more ∙ list_any_kept (is x) (distinct_of_set g (set_of_block g x) (window g events)) g.e (sym fewer ∙ h)

@@ -15,7 +15,7 @@ use Rattle.cache_core.specs.declared.outcome.Outcome.{Outcome}
 use Rattle.cache_core.specs.declared.outcome.WriteMode.{WriteMode}
 use Rattle.cache_core.specs.declared.outcome.AllocMode.TheVariants.{Always}
 use Rattle.cache_core.specs.declared.outcome.Repl.TheVariants.{Lru}
-use Rattle.cache_core.specs.Geometry.{Shape, block_of, set_of_block}
+use Rattle.cache_core.specs.Geometry.{GeometryValue, block_of, set_of_block}
 use Rattle.cache_core.specs.Outcomes.{dirties}
 use Rattle.cache_core.specs.Order.{Visits, Hits, Fills, Touches, TakesIn, marked, position_of}
 use Rattle.cache_core.specs.Windows.{Place, distinct_of_set, distance, seen, is_hit, is_evict}
@@ -99,7 +99,7 @@ hit_within : (d n m : ℕ) → d ≤ n → (ltb d n && ltb d m) ≡ ltb (min d m
 hit_within d n m h = grind (arith, nat_tests)
 
 -- a hit, by the front of the stack
-pub is_hit_is : (g : Shape) (p : Place) → is_hit g p ≡ list_any (is p.block) (take g.e (distinct_of_set g (set_of_block g p.block) p.window))
+pub is_hit_is : (g : GeometryValue) (p : Place) → is_hit g p ≡ list_any (is p.block) (take g.e (distinct_of_set g (set_of_block g p.block) p.window))
 is_hit_is g p =
     let st : List ℕ = distinct_of_set g (set_of_block g p.block) p.window in
     let place : ℕ = position_or_len (is p.block) st in
@@ -111,13 +111,13 @@ is_hit_is g p =
     ∙ sym (list_any_is (is p.block) (take g.e st))
 
 -- what a visit by a reference leads to
-pub record Moves (g : Shape) (p : Place) (outcome : Outcome) (new : List Slot) : Type 0 where
+pub record Moves (g : GeometryValue) (p : Place) (outcome : Outcome) (new : List Slot) : Type 0 where
   pub front : blocks_of new ≡ take g.e (distinct_of_set g (set_of_block g p.block) (p.block ∷ p.window))
   pub hits : outcome.hit ≡ is_hit g p
   pub evicts : is_some outcome.evicted ≡ is_evict g p
 
 -- a block that is held comes to the front
-hit_moves : (g : Shape) (p : Place) (d : Bool) (old new : List Slot) (at : ℕ) → 1 ≤ g.e →
+hit_moves : (g : GeometryValue) (p : Place) (d : Bool) (old new : List Slot) (at : ℕ) → 1 ≤ g.e →
     blocks_of old ≡ take g.e (distinct_of_set g (set_of_block g p.block) p.window) → FoundAt p.block old at →
     Touches (Some Lru) (marked d old at) at new →
     blocks_of new ≡ take g.e (distinct_of_set g (set_of_block g p.block) (p.block ∷ p.window))
@@ -139,7 +139,7 @@ hit_moves g p d old new at some h f t =
     ∙ sym (take_all g.e (p.block ∷ remove front (position_or_len (is p.block) front)) short) ∙ take-distinct_of_set-same g g.e p.block p.window some
 
 -- the stack's front after a block that it doesn't hold
-miss_front : (g : Shape) (p : Place) → 1 ≤ g.e → list_any (is p.block) (take g.e (distinct_of_set g (set_of_block g p.block) p.window)) ≡ false →
+miss_front : (g : GeometryValue) (p : Place) → 1 ≤ g.e → list_any (is p.block) (take g.e (distinct_of_set g (set_of_block g p.block) p.window)) ≡ false →
     take g.e (p.block ∷ take g.e (distinct_of_set g (set_of_block g p.block) p.window))
     ≡ take g.e (distinct_of_set g (set_of_block g p.block) (p.block ∷ p.window))
 miss_front g p some none =
@@ -156,7 +156,7 @@ full : (e n : ℕ) → min e n ≡ e → leb e n ≡ true
 full e n h = grind (arith, nat_tests)
 
 -- a block that isn't held is put in front, and the last leaves a full set
-fill_moves : (g : Shape) (word : ℕ) (p : Place) (d : Bool) (old new : List Slot) (outcome : Outcome) (evicted : Option Slot) → 1 ≤ g.e →
+fill_moves : (g : GeometryValue) (word : ℕ) (p : Place) (d : Bool) (old new : List Slot) (outcome : Outcome) (evicted : Option Slot) → 1 ≤ g.e →
     blocks_of old ≡ take g.e (distinct_of_set g (set_of_block g p.block) p.window) → list_any (is p.block) (blocks_of old) ≡ false →
     TakesIn (Some Lru) word g.e old (record { block = p.block; dirty = d }) evicted new → outcome.hit ≡ false → outcome.evicted ≡ evicted →
     Moves g p outcome new
@@ -191,7 +191,7 @@ fill_moves g word p d old new outcome (Some gone) some h none places hit left =
     }
 
 -- a visit of a set that holds the front of its stack
-pub visit_moves : (g : Shape) (write : WriteMode) (words : ℕ → ℕ) (ref : Ref) (w : List ℕ) (old : List Slot) (outcome : Outcome) (new : List Slot)
+pub visit_moves : (g : GeometryValue) (write : WriteMode) (words : ℕ → ℕ) (ref : Ref) (w : List ℕ) (old : List Slot) (outcome : Outcome) (new : List Slot)
     (rest : ℕ → ℕ) →
     1 ≤ g.e →
     blocks_of old ≡ take g.e (distinct_of_set g (set_of_block g (block_of g ref.addr)) w) →

@@ -5,19 +5,19 @@ use Rattle.cache_core.specs.declared.outcome.WriteMode.TheVariants.{Back}
 use Rattle.cache_core.specs.declared.outcome.AllocMode.TheVariants.{Always}
 use Rattle.cache_core.specs.declared.outcome.Repl.TheVariants.{Lru}
 use Rattle.cache_core.specs.declared.plan.CacheSpec.{CacheSpec}
-use Rattle.cache_core.specs.declared.plan.Level.{Level}
+use Rattle.cache_core.specs.declared.plan.PlannedCache.{PlannedCache}
 use Rattle.cache_core.specs.declared.plan.FirstLevel.{FirstLevel}
 use Rattle.cache_core.specs.declared.plan.CacheName.TheVariants.{L1D, L1U, L2U}
 use Rattle.cache_core.specs.declared.plan.PlanFault.TheVariants.{NoFirst, MixedFirst, BadGeometry, SmallBlock}
-use Rattle.cache_core.specs.Geometry.{shape}
-use Rattle.cache_core.specs.Levels.{plan_of, shape_of, exponent_of}
+use Rattle.cache_core.specs.Geometry.{geometry_value}
+use Rattle.cache_core.specs.Plans.{plan_of, geometry_for, exponent_of}
 
 -- a cache of this size, block size and associativity
 abbrev spec : ℕ → ℕ → ℕ → CacheSpec
 spec size bsize assoc = record { size = size; bsize = bsize; assoc = assoc; repl = Lru; wback = Back; walloc = Always }
 
-abbrev level : ℕ → ℕ → ℕ → Level
-level s e b = record { design = record { geometry = shape s e b; write = Back; allocate = Always }; repl = Lru }
+abbrev planned : ℕ → ℕ → ℕ → PlannedCache
+planned s e b = record { design = record { geometry = geometry_value s e b; write = Back; allocate = Always }; repl = Lru }
 
 abbrev unified : CacheSpec → FirstLevel
 unified u = record { i = None; d = None; u = Some u }
@@ -45,18 +45,18 @@ unfolding exponent_of
 smaller_blocks_below = refl
 
 equal_blocks_below : plan_of (unified (spec 32 32 1)) (Some (spec 64 32 1))
-    ≡ Ok (record { i = None; d = None; u = Some (level 0 1 5); second = Some (level 1 1 5) })
+    ≡ Ok (record { i = None; d = None; u = Some (planned 0 1 5); second = Some (planned 1 1 5) })
 unfolding exponent_of
 equal_blocks_below = refl
 
-three_ways : shape_of (spec 96 16 3) ≡ Some (shape 1 3 4)
+three_ways : geometry_for (spec 96 16 3) ≡ Some (geometry_value 1 3 4)
 unfolding exponent_of
 three_ways = refl
 
-most_lines : shape_of (spec (2 ^ 42) (2 ^ 20) 65536) ≡ Some (shape 6 65536 20)
+most_lines : geometry_for (spec (2 ^ 42) (2 ^ 20) 65536) ≡ Some (geometry_value 6 65536 20)
 unfolding exponent_of
 most_lines = refl
 
-too_many_lines : shape_of (spec (2 ^ 43) (2 ^ 20) 65536) ≡ None
+too_many_lines : geometry_for (spec (2 ^ 43) (2 ^ 20) 65536) ≡ None
 unfolding exponent_of
 too_many_lines = refl

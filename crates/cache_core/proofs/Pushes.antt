@@ -12,8 +12,8 @@ use Rattle.cache_core.specs.declared.outcome.Counts.{Counts}
 use Rattle.cache_core.specs.Outcomes.{Answer, outcome_of}
 use Rattle.cache_core.specs.Machine.{Machine, MachineState, start, run, next, step, answer, answered_from, answered, answers, counts_in}
 use Rattle.cache_core.specs.Order.{Contents, Accesses, one_if}
-use Rattle.cache_core.specs.Stands.{StandsFor}
-use Rattle.cache_core.specs.LruLaws.{counted}
+use Rattle.cache_core.specs.Stands.{CacheStandsFor}
+use Rattle.cache_core.specs.LruLaws.{counts_after}
 use Rattle.cache_core.proofs.RunLaw.{access_run}
 
 pub count_by_push : {X : Type 0} (p : X → Bool) (xs : List X) (x : X) → count_by p (xs ++ x ∷ []) ≡ count_by p xs + cond (p x) 1 0
@@ -44,7 +44,7 @@ answers_push m events ref =
     ap (map (λ p. p.1)) (answered_push m events ref)
     ∙ map-append (λ (p : Ref × Answer). p.1) (answered m events) ((ref, answer m (run m events) ref) ∷ [])
 
-counts_in_push : (all : List Answer) (a : Answer) → counts_in (all ++ a ∷ []) ≡ counted (counts_in all) (outcome_of a)
+counts_in_push : (all : List Answer) (a : Answer) → counts_in (all ++ a ∷ []) ≡ counts_after (counts_in all) (outcome_of a)
 counts_in_push all a =
     let hits = count_by_push (λ (x : Answer). x.hit) all a in
     let misses = count_by_push (λ (x : Answer). not x.hit) all a in
@@ -53,16 +53,16 @@ counts_in_push all a =
 
 -- one access of an LRU cache adds its answer to the counts
 pub record Simulated (m : Machine) (events : List Event) (c : Counts) (contents : Contents) : Type 0 where
-  pub stands : StandsFor m events contents
+  pub stands : CacheStandsFor m events contents
   pub counts : c ≡ counts_in (answers m events)
 
 pub simulated_more : (m : Machine) (events : List Event) (c : Counts) (old new : Contents) (ref : Ref) (outcome : Outcome) → 1 ≤ m.design.geometry.e →
-    Simulated m events c old → Accesses old ref outcome new → Simulated m (events ++ event.Reference ref ∷ []) (counted c outcome) new
+    Simulated m events c old → Accesses old ref outcome new → Simulated m (events ++ event.Reference ref ∷ []) (counts_after c outcome) new
 simulated_more m events c old new ref outcome some h a =
     let r = access_run m events old ref outcome new some h.stands a in
     record {
       stands = r.0;
-      counts = ap (λ x. counted x outcome) h.counts ∙ ap (counted (counts_in (answers m events))) r.1
+      counts = ap (λ x. counts_after x outcome) h.counts ∙ ap (counts_after (counts_in (answers m events))) r.1
           ∙ sym (ap counts_in (answers_push m events ref) ∙ counts_in_push (answers m events) (answer m (run m events) ref));
     }
 
@@ -79,8 +79,8 @@ one_most : (b : Bool) → one_if b ≤ 1
 one_most true = omega arith
 one_most false = omega arith
 
-pub accesses_more : (c : Counts) (outcome : Outcome) → (counted c outcome).hits + (counted c outcome).misses ≡ c.hits + c.misses + 1
+pub accesses_more : (c : Counts) (outcome : Outcome) → (counts_after c outcome).hits + (counts_after c outcome).misses ≡ c.hits + c.misses + 1
 accesses_more c outcome = omega (arith, one_both outcome.hit)
 
-pub evictions_more : (c : Counts) (outcome : Outcome) → (counted c outcome).evictions ≤ c.evictions + 1
+pub evictions_more : (c : Counts) (outcome : Outcome) → (counts_after c outcome).evictions ≤ c.evictions + 1
 evictions_more c outcome = omega (arith, one_most (is_some outcome.evicted))

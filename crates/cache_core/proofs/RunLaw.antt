@@ -5,7 +5,7 @@ use Rattle.trace_core.specs.declared.events.Event.{Event}
 use Rattle.trace_core.specs.declared.events.Event.TheVariants as event
 use Rattle.cache_core.specs.Machine.{Machine, start, next, run}
 use Rattle.cache_core.proofs.SoundLaw.{run_sound}
-use Rattle.cache_core.specs.Stands.{OrderLaw, IsState, StandsFor, StartLaw, AccessLaw, FlushLaw, RunLaw}
+use Rattle.cache_core.specs.Stands.{OrderLaw, IsState, CacheStandsFor, StartLaw, AccessLaw, FlushLaw, RunLaw}
 use Rattle.cache_core.proofs.StateLaw.{access_law}
 use Rattle.cache_core.proofs.FlushLaw.{start_state, flush_law}
 
@@ -30,10 +30,10 @@ pub order_run : OrderLaw
 order_run m events ways = (run_sound m events ways).0
 
 pub runs_law : RunLaw
-runs_law m events [] old new ways i r = subst (λ es. StandsFor m es new) (sym (append-nil events)) (subst (StandsFor m events) (sym r) i)
+runs_law m events [] old new ways i r = subst (λ es. CacheStandsFor m es new) (sym (append-nil events)) (subst (CacheStandsFor m events) (sym r) i)
 runs_law m events (event.Reference ref ∷ more) old new ways i (outcome, half, a, r) =
-    subst (λ es. StandsFor m es new) (append_assoc events (event.Reference ref ∷ []) more)
+    subst (λ es. CacheStandsFor m es new) (append_assoc events (event.Reference ref ∷ []) more)
     (runs_law m (events ++ event.Reference ref ∷ []) more half new ways (access_run m events old ref outcome half ways i a).0 r)
 runs_law m events (event.Flush ∷ more) old new ways i (dirty, half, f, r) =
-    subst (λ es. StandsFor m es new) (append_assoc events (event.Flush ∷ []) more)
+    subst (λ es. CacheStandsFor m es new) (append_assoc events (event.Flush ∷ []) more)
     (runs_law m (events ++ event.Flush ∷ []) more half new ways (flush_run m events old dirty half i f).0 r)

@@ -14,7 +14,7 @@ use Rattle.cache_core.specs.declared.outcome.Outcome.{Outcome}
 use Rattle.cache_core.specs.declared.outcome.Repl.{Repl}
 use Rattle.cache_core.specs.Geometry.{set_of, IsGeometry}
 use Rattle.cache_core.specs.Order.{Visits, Accesses, slots_of}
-use Rattle.cache_core.specs.Slab.{sets_of, IsSlab, Addressable, slab_contents}
+use Rattle.cache_core.specs.Slab.{sets_of, IsCacheSlab, Addressable, slab_contents}
 
 pub length-sets_of : (ways : ℕ) (filled : List ℕ) (slots : List Slot) → length (sets_of ways slots filled) ≡ length filled
 length-sets_of ways [] slots = refl
@@ -91,14 +91,14 @@ length-put a w slots room h r =
       length-drop a slots,
     )
 
-pub slab_kept : (d : Design) (filled : List ℕ) (k n ways : ℕ) (slots room : List Slot) → IsSlab d slots filled → ways ≡ d.geometry.e →
+pub slab_kept : (d : Design) (filled : List ℕ) (k n ways : ℕ) (slots room : List Slot) → IsCacheSlab d slots filled → ways ≡ d.geometry.e →
     k < 2 ^ d.geometry.s → length room ≡ d.geometry.e → n ≤ d.geometry.e → Addressable d.geometry.b (take n room) →
-    IsSlab d (put_mid (k * ways) (k * ways + ways - k * ways) slots room) (set filled k n)
+    IsCacheSlab d (put_mid (k * ways) (k * ways + ways - k * ways) slots room) (set filled k n)
 slab_kept d filled k n ways slots room i e h r m a =
     let w : k * ways + ways - k * ways ≡ ways = omega arith in
     let b : k * d.geometry.e + d.geometry.e ≤ d.geometry.e * 2 ^ d.geometry.s = start_le k d.geometry.e (2 ^ d.geometry.s) h in
     rw (w, e) record {
-      shape = i.shape;
+      geometry = i.geometry;
       segments = length-put (k * d.geometry.e) d.geometry.e slots room (omega (arith, i.segments)) r ∙ i.segments;
       sets = length-set filled k n ∙ i.sets;
       within = All-set (λ m. m ≤ d.geometry.e) filled k n m i.within;
@@ -110,7 +110,7 @@ slab_kept d filled k n ways slots room i e h r m a =
 -- one access to a slab, by a visit of a room
 pub slab_access : (d : Design) (rule rule' : Option Repl) (words words' : ℕ → ℕ) (filled : List ℕ) (k n ways : ℕ) (slots room : List Slot)
     (ref : Ref) (outcome : Outcome) →
-    IsSlab d slots filled → k ≡ set_of d.geometry ref.addr → k < 2 ^ d.geometry.s → ways ≡ d.geometry.e → length room ≡ d.geometry.e →
+    IsCacheSlab d slots filled → k ≡ set_of d.geometry ref.addr → k < 2 ^ d.geometry.s → ways ≡ d.geometry.e → length room ≡ d.geometry.e →
     n ≤ d.geometry.e → rule' ≡ rule →
     Visits d rule words ref (take (get_or filled k 0) (take (k * ways + ways - k * ways) (drop (k * ways) slots))) outcome (take n room) words' →
     Accesses (slab_contents d rule words slots filled) ref outcome
@@ -143,9 +143,9 @@ sets_of-empty ways zero slots = refl
 sets_of-empty ways (suc n) slots = ap (λ (xs : List (List Slot)). [] ∷ xs) (sets_of-empty ways n (drop ways slots))
 
 pub slab_made : (d : Design) (slots : List Slot) (filled : List ℕ) → IsGeometry d.geometry → length slots ≡ d.geometry.e * 2 ^ d.geometry.s →
-    filled ≡ replicate (2 ^ d.geometry.s) 0 → IsSlab d slots filled
+    filled ≡ replicate (2 ^ d.geometry.s) 0 → IsCacheSlab d slots filled
 slab_made d slots filled i l f = rw f record {
-  shape = i;
+  geometry = i;
   segments = l;
   sets = length-replicate (2 ^ d.geometry.s) 0;
   within = All-replicate (λ m. m ≤ d.geometry.e) (2 ^ d.geometry.s) 0 (omega arith);

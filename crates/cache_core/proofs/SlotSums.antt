@@ -113,12 +113,12 @@ pub record LineAt (x : Slot) (ls : List Line) : Type 0 where
   pub split : ls ≡ front ++ line ∷ back
   pub slot : slot_of line ≡ x
 
-pub line_of : (x : Slot) (ls : List Line) → 1 ≤ line_sum (one_for x) ls → LineAt x ls
-line_of x [] h = absurd (omega arith)
-line_of x (l ∷ ls) h =
+pub line_for : (x : Slot) (ls : List Line) → 1 ≤ line_sum (one_for x) ls → LineAt x ls
+line_for x [] h = absurd (omega arith)
+line_for x (l ∷ ls) h =
     cases (λ b. (same x (slot_of l) ≡ b) → (1 ≤ cond b 1 0 + line_sum (one_for x) ls) → LineAt x (l ∷ ls)) (same x (slot_of l))
     (λ _ t _. record { front = []; line = l; back = ls; split = refl; slot = same_is x (slot_of l) t })
-    (λ _ t m. let r = line_of x ls (omega (arith, m)) in
+    (λ _ t m. let r = line_for x ls (omega (arith, m)) in
     record { front = l ∷ r.front; line = r.line; back = r.back; split = ap (λ zs. l ∷ zs) r.split; slot = r.slot })
     refl (omega (arith, h, sum_by-cons (one_for x) (slot_of l) (map slot_of ls)))
 

@@ -19,8 +19,8 @@ use Rattle.cache_core.specs.declared.outcome.Repl.TheVariants.{Lru, Fifo, Random
 use Rattle.cache_core.specs.Geometry.{set_of_block, block_of}
 use Rattle.cache_core.specs.Outcomes.{outcome_of, on_hit, on_placing, on_passing, dirties, allocates}
 use Rattle.cache_core.specs.Machine.{Machine, MachineState, slot_of, is_block, lines_of_set, start, step, next, run}
-use Rattle.cache_core.specs.Order.{Visits, Hits, Fills, Passes, Touches, TakesIn, marked, position_of, words_after}
-use Rattle.cache_core.specs.Stands.{IsSound}
+use Rattle.cache_core.specs.Order.{Visits, Hits, Fills, PassesOn, Touches, TakesIn, marked, position_of, words_after}
+use Rattle.cache_core.specs.Stands.{IsSoundState}
 use Rattle.cache_core.proofs.StateLaw.{step_agrees, sound_step}
 use Rattle.cache_core.proofs.FlushLaw.{start_sound, empty_good}
 use Rattle.cache_core.proofs.Lawful.{marked_length}
@@ -106,7 +106,7 @@ visit_exists d p words ref slots r l = by_place (position_of (block_of d.geometr
   where
     by_alloc : (al : Bool) →
         (outcome : Outcome) × (new : List Slot) × (rest : ℕ → ℕ)
-        × MatchBool al (Fills d (Some p) words ref slots outcome new rest) (Passes words ref slots outcome new rest) × (length new ≤ d.geometry.e)
+        × MatchBool al (Fills d (Some p) words ref slots outcome new rest) (PassesOn words ref slots outcome new rest) × (length new ≤ d.geometry.e)
     by_alloc true =
         let x = place_exists p (words 0) d.geometry.e slots (record { block = block_of d.geometry ref.addr; dirty = dirties d.write ref.access }) r l in (
           outcome_of (on_placing d.geometry d.write ref (block_of d.geometry ref.addr) x.evicted),
@@ -126,7 +126,7 @@ visit_exists d p words ref slots r l = by_place (position_of (block_of d.geometr
           rest = x.2;
           visit = subst
               (λ o. MatchOption o
-              (MatchBool (allocates d.allocate ref.access) (Fills d (Some p) words ref slots x.0 x.1 x.2) (Passes words ref slots x.0 x.1 x.2))
+              (MatchBool (allocates d.allocate ref.access) (Fills d (Some p) words ref slots x.0 x.1 x.2) (PassesOn words ref slots x.0 x.1 x.2))
               (λ at. Hits d (Some p) words ref at slots x.0 x.1 x.2))
               (sym e) x.3;
           few = x.4;
@@ -143,7 +143,7 @@ visit_exists d p words ref slots r l = by_place (position_of (block_of d.geometr
           rest = words;
           visit = subst
               (λ o. MatchOption o
-              (MatchBool (allocates d.allocate ref.access) (Fills d (Some p) words ref slots out x.0 words) (Passes words ref slots out x.0 words))
+              (MatchBool (allocates d.allocate ref.access) (Fills d (Some p) words ref slots out x.0 words) (PassesOn words ref slots out x.0 words))
               (λ n. Hits d (Some p) words ref n slots out x.0 words))
               (sym e) (record { order = x.1; undrawn = refl; answers = refl });
           few = omega (arith, x.2, marked_length (dirties d.write ref.access) slots at);
@@ -153,8 +153,8 @@ visit_exists d p words ref slots r l = by_place (position_of (block_of d.geometr
 abbrev pub IsFew : Machine → MachineState → Type 0
 IsFew m st = (k : ℕ) → length (lines_of_set m.design.geometry k st.lines) ≤ m.design.geometry.e
 
-pub sound_ref : (m : Machine) (st : MachineState) (ref : Ref) → 0 < m.design.geometry.e → IsSound m st → IsFew m st →
-    IsSound m (step m st ref) × IsFew m (step m st ref)
+pub sound_ref : (m : Machine) (st : MachineState) (ref : Ref) → 0 < m.design.geometry.e → IsSoundState m st → IsFew m st →
+    IsSoundState m (step m st ref) × IsFew m (step m st ref)
 sound_ref m st ref r s f =
     let g = m.design.geometry in
     let b = block_of g ref.addr in
@@ -171,15 +171,15 @@ sound_ref m st ref r s f =
           (eqb_tells j k),
     )
 
-pub sound_next : (m : Machine) (st : MachineState) (e : Event) → 0 < m.design.geometry.e → IsSound m st → IsFew m st →
-    IsSound m (next m st e) × IsFew m (next m st e)
+pub sound_next : (m : Machine) (st : MachineState) (e : Event) → 0 < m.design.geometry.e → IsSoundState m st → IsFew m st →
+    IsSoundState m (next m st e) × IsFew m (next m st e)
 sound_next m st (event.Reference ref) r s f = sound_ref m st ref r s f
 sound_next m st event.Flush r s f = ((λ k. empty_good m st.clock), (λ k. omega arith))
 
-fold_sound : (m : Machine) (st : MachineState) (events : List Event) → 0 < m.design.geometry.e → IsSound m st → IsFew m st →
-    IsSound m (fold (next m) st events) × IsFew m (fold (next m) st events)
+fold_sound : (m : Machine) (st : MachineState) (events : List Event) → 0 < m.design.geometry.e → IsSoundState m st → IsFew m st →
+    IsSoundState m (fold (next m) st events) × IsFew m (fold (next m) st events)
 fold_sound m st [] r s f = (s, f)
 fold_sound m st (e ∷ events) r s f = let n = sound_next m st e r s f in fold_sound m (next m st e) events r n.0 n.1
 
-pub run_sound : (m : Machine) (events : List Event) → 0 < m.design.geometry.e → IsSound m (run m events) × IsFew m (run m events)
+pub run_sound : (m : Machine) (events : List Event) → 0 < m.design.geometry.e → IsSoundState m (run m events) × IsFew m (run m events)
 run_sound m events r = fold_sound m start events r (start_sound m) (λ k. omega arith)

@@ -12,31 +12,31 @@ use Rattle.cache_core.specs.declared.outcome.Outcome.{Outcome}
 use Rattle.cache_core.specs.declared.outcome.Design.{Design}
 use Rattle.cache_core.specs.declared.outcome.Repl.{Repl}
 use Rattle.cache_core.specs.declared.outcome.Repl.TheVariants.{Lru, Fifo, Random}
-use Rattle.cache_core.specs.Geometry.{Shape, set_of_block, block_of, set_of}
+use Rattle.cache_core.specs.Geometry.{GeometryValue, set_of_block, block_of, set_of}
 use Rattle.cache_core.specs.Outcomes.{Answer, outcome_of, on_placing, on_passing, dirties, allocates}
 use Rattle.cache_core.specs.Machine.{Machine, MachineState, Line, slot_of, option_slot, is_block, lines_of_set, without, victim, touch, with_block, leaves}
 use Rattle.cache_core.specs.Machine.{placing, draws, step_at, answer_at, step, answer}
-use Rattle.cache_core.specs.Order.{Contents, Accesses, Visits, Fills, Passes, Hits, TakesIn, words_after, slots_of}
-use Rattle.cache_core.specs.Stands.{IsState, Absent, IsGood, IsSound}
+use Rattle.cache_core.specs.Order.{Contents, Accesses, Visits, Fills, PassesOn, Hits, TakesIn, words_after, slots_of}
+use Rattle.cache_core.specs.Stands.{IsState, Absent, IsGood, IsSoundState}
 use Rattle.cache_core.proofs.Lines.{ne-eqb, not_found, find_in_set, absent_other, set_without, set_exchange, without_absent, exchange_absent, Found, found}
 use Rattle.cache_core.proofs.Lines.{absent_right, falls_weaker}
 use Rattle.cache_core.proofs.SetLaw.{touched, with_mark, place_absent, insert_law, insert_good, exchange_law}
 
 -- a line of a set, and one of another
-cons_here : (g : Shape) (k : ℕ) (x : Line) (ls : List Line) → set_of_block g x.block ≡ k → lines_of_set g k (x ∷ ls) ≡ x ∷ lines_of_set g k ls
+cons_here : (g : GeometryValue) (k : ℕ) (x : Line) (ls : List Line) → set_of_block g x.block ≡ k → lines_of_set g k (x ∷ ls) ≡ x ∷ lines_of_set g k ls
 cons_here g k x ls e = rw (eq-eqb (set_of_block g x.block) k e) refl
 
-cons_other : (g : Shape) (k : ℕ) (x : Line) (ls : List Line) → k ≢ set_of_block g x.block → lines_of_set g k (x ∷ ls) ≡ lines_of_set g k ls
+cons_other : (g : GeometryValue) (k : ℕ) (x : Line) (ls : List Line) → k ≢ set_of_block g x.block → lines_of_set g k (x ∷ ls) ≡ lines_of_set g k ls
 cons_other g k x ls e = rw (ne-eqb (set_of_block g x.block) k (λ q. e (sym q))) refl
 
 -- a touch changes the set of its block, and no other
-pub touch_here : (p : Repl) (c : ℕ) (g : Shape) (k : ℕ) (x : Line) (ls : List Line) → set_of_block g x.block ≡ k →
+pub touch_here : (p : Repl) (c : ℕ) (g : GeometryValue) (k : ℕ) (x : Line) (ls : List Line) → set_of_block g x.block ≡ k →
     lines_of_set g k (touch p c x ls) ≡ touch p c x (lines_of_set g k ls)
 touch_here Lru c g k x ls e = cons_here g k (record x { key = c }) (without x.block ls) e ∙ ap (λ s. record x { key = c } ∷ s) (set_without g k x.block ls)
 touch_here Fifo c g k x ls e = set_exchange g k x.block x ls refl
 touch_here Random c g k x ls e = set_exchange g k x.block x ls refl
 
-pub touch_other : (p : Repl) (c : ℕ) (g : Shape) (k : ℕ) (x : Line) (ls : List Line) → k ≢ set_of_block g x.block →
+pub touch_other : (p : Repl) (c : ℕ) (g : GeometryValue) (k : ℕ) (x : Line) (ls : List Line) → k ≢ set_of_block g x.block →
     lines_of_set g k (touch p c x ls) ≡ lines_of_set g k ls
 touch_other Lru c g k x ls e =
     cons_other g k (record x { key = c }) (without x.block ls) e ∙ set_without g k x.block ls
@@ -45,7 +45,7 @@ touch_other Fifo c g k x ls e = set_exchange g k x.block x ls refl ∙ exchange_
 touch_other Random c g k x ls e = set_exchange g k x.block x ls refl ∙ exchange_absent x.block x (lines_of_set g k ls) (absent_other g k x.block ls e)
 
 -- so does a placing
-pub insert_here : (p : Repl) (c n : ℕ) (g : Shape) (k : ℕ) (new : Slot) (ls : List Line) → set_of_block g new.block ≡ k →
+pub insert_here : (p : Repl) (c n : ℕ) (g : GeometryValue) (k : ℕ) (new : Slot) (ls : List Line) → set_of_block g new.block ≡ k →
     lines_of_set g k (with_block p c n new None ls) ≡ with_block p c n new None (lines_of_set g k ls)
 insert_here Lru c n g k new ls e = cons_here g k (record { block = new.block; key = c; dirty = new.dirty }) ls e
 insert_here Fifo c n g k new ls e = cons_here g k (record { block = new.block; key = c; dirty = new.dirty }) ls e
@@ -53,7 +53,7 @@ insert_here Random c n g k new ls e =
     let x : Line = record { block = new.block; key = n; dirty = new.dirty } in
     filter-append (λ line. set_of_block g line.block == k) ls (x ∷ []) ∙ ap (λ s. lines_of_set g k ls ++ s) (cons_here g k x [] e)
 
-pub insert_other : (p : Repl) (c n : ℕ) (g : Shape) (k : ℕ) (new : Slot) (ls : List Line) → k ≢ set_of_block g new.block →
+pub insert_other : (p : Repl) (c n : ℕ) (g : GeometryValue) (k : ℕ) (new : Slot) (ls : List Line) → k ≢ set_of_block g new.block →
     lines_of_set g k (with_block p c n new None ls) ≡ lines_of_set g k ls
 insert_other Lru c n g k new ls e = cons_other g k (record { block = new.block; key = c; dirty = new.dirty }) ls e
 insert_other Fifo c n g k new ls e = cons_other g k (record { block = new.block; key = c; dirty = new.dirty }) ls e
@@ -62,7 +62,7 @@ insert_other Random c n g k new ls e =
     filter-append (λ line. set_of_block g line.block == k) ls (x ∷ []) ∙ ap (λ s. lines_of_set g k ls ++ s) (cons_other g k x [] e)
     ∙ append-nil (lines_of_set g k ls)
 
-pub exchange_here : (p : Repl) (c n : ℕ) (g : Shape) (k : ℕ) (new : Slot) (gone : Line) (ls : List Line) → set_of_block g new.block ≡ k →
+pub exchange_here : (p : Repl) (c n : ℕ) (g : GeometryValue) (k : ℕ) (new : Slot) (gone : Line) (ls : List Line) → set_of_block g new.block ≡ k →
     set_of_block g gone.block ≡ k → lines_of_set g k (with_block p c n new (Some gone) ls) ≡ with_block p c n new (Some gone) (lines_of_set g k ls)
 exchange_here Lru c n g k new gone ls e f =
     cons_here g k (record { block = new.block; key = c; dirty = new.dirty }) (without gone.block ls) e
@@ -72,7 +72,7 @@ exchange_here Fifo c n g k new gone ls e f =
     ∙ ap (λ s. record { block = new.block; key = c; dirty = new.dirty } ∷ s) (set_without g k gone.block ls)
 exchange_here Random c n g k new gone ls e f = set_exchange g k gone.block (record { block = new.block; key = gone.key; dirty = new.dirty }) ls (e ∙ sym f)
 
-pub exchange_other : (p : Repl) (c n : ℕ) (g : Shape) (k : ℕ) (new : Slot) (gone : Line) (ls : List Line) →
+pub exchange_other : (p : Repl) (c n : ℕ) (g : GeometryValue) (k : ℕ) (new : Slot) (gone : Line) (ls : List Line) →
     set_of_block g gone.block ≡ set_of_block g new.block → k ≢ set_of_block g new.block →
     lines_of_set g k (with_block p c n new (Some gone) ls) ≡ lines_of_set g k ls
 exchange_other Lru c n g k new gone ls e f =
@@ -96,7 +96,7 @@ pub record Agrees (m : Machine) (st next : MachineState) (k : ℕ) (slots : List
 
 hit_agrees : (m : Machine) (st : MachineState) (ref : Ref) (line : Line) (words : ℕ → ℕ) (outcome : Outcome) (slots : List Slot) (rest : ℕ → ℕ) →
     let g = m.design.geometry in let b = block_of g ref.addr in let k = set_of_block g b in
-    IsSound m st → words ≡ (λ n. m.words (st.drawn + n)) → find (is_block b) st.lines ≡ Some line →
+    IsSoundState m st → words ≡ (λ n. m.words (st.drawn + n)) → find (is_block b) st.lines ≡ Some line →
     Visits m.design (Some m.policy) words ref (map slot_of (lines_of_set g k st.lines)) outcome slots rest →
     Agrees m st (step_at m ref b (leaves m st k) st (Some line)) k slots rest outcome (answer_at m ref b (leaves m st k) (Some line))
 hit_agrees m st ref line words outcome slots rest s w h v =
@@ -111,7 +111,7 @@ hit_agrees m st ref line words outcome slots rest s w h v =
     subst
     (λ o. MatchOption o
     (MatchBool (allocates m.design.allocate ref.access) (Fills m.design (Some m.policy) words ref (map slot_of here) outcome slots rest)
-    (Passes words ref (map slot_of here) outcome slots rest))
+    (PassesOn words ref (map slot_of here) outcome slots rest))
     (λ at. Hits m.design (Some m.policy) words ref at (map slot_of here) outcome slots rest))
     t.place v in
     let in_set : set_of_block g line.block ≡ k = ap (set_of_block g) (found b here line f).here in
@@ -126,7 +126,7 @@ hit_agrees m st ref line words outcome slots rest s w h v =
     }
 
 -- a line among those of a set is of that set
-pub member_set : (g : Shape) (k : ℕ) (x : Line) (ls : List Line) → Found x.block (lines_of_set g k ls) x → set_of_block g x.block ≡ k
+pub member_set : (g : GeometryValue) (k : ℕ) (x : Line) (ls : List Line) → Found x.block (lines_of_set g k ls) x → set_of_block g x.block ≡ k
 member_set g k x ls r = ⊎_elim
     (λ t. t.1)
     (λ f. let a : Absent x.block (r.front ++ x ∷ r.back) = subst (Absent x.block) r.split (absent_other g k x.block ls (λ q. f.1 (sym q))) in
@@ -152,7 +152,7 @@ fill_agrees : (m : Machine) (st : MachineState) (ref : Ref) (words : ℕ → ℕ
     let b = block_of g ref.addr in
     let k = set_of_block g b in
     let new : Slot = record { block = b; dirty = dirties m.design.write ref.access } in
-    IsSound m st → words ≡ (λ n. m.words (st.drawn + n)) → Absent b (lines_of_set g k st.lines) →
+    IsSoundState m st → words ≡ (λ n. m.words (st.drawn + n)) → Absent b (lines_of_set g k st.lines) →
     TakesIn (Some m.policy) (words 0) g.e (map slot_of (lines_of_set g k st.lines)) new evicted slots →
     rest ≡ words_after (Some m.policy) evicted words → outcome ≡ outcome_of (on_placing g m.design.write ref b evicted) →
     Agrees m st (placing m ref b (leaves m st k) st) k slots rest outcome (on_placing g m.design.write ref b (option_slot (leaves m st k)))
@@ -200,8 +200,8 @@ later Fifo c ls i = record { distinct = i.distinct; order = falls_weaker (c + 1)
 later Random c ls i = record { distinct = i.distinct; order = i.order }
 
 pass_agrees : (m : Machine) (st : MachineState) (ref : Ref) (words : ℕ → ℕ) (outcome : Outcome) (slots : List Slot) (rest : ℕ → ℕ) (k : ℕ) →
-    IsSound m st → words ≡ (λ n. m.words (st.drawn + n)) →
-    Passes words ref (map slot_of (lines_of_set m.design.geometry k st.lines)) outcome slots rest →
+    IsSoundState m st → words ≡ (λ n. m.words (st.drawn + n)) →
+    PassesOn words ref (map slot_of (lines_of_set m.design.geometry k st.lines)) outcome slots rest →
     Agrees m st (record st { clock = st.clock + 1 }) k slots rest outcome (on_passing ref)
 pass_agrees m st ref words outcome slots rest k s w v = record {
   held = v.order;
@@ -215,8 +215,8 @@ pass_agrees m st ref words outcome slots rest k s w v = record {
 miss_agrees : (m : Machine) (st : MachineState) (ref : Ref) (words : ℕ → ℕ) (outcome : Outcome) (slots : List Slot) (rest : ℕ → ℕ)
     (fills : Bool) →
     let g = m.design.geometry in let b = block_of g ref.addr in let k = set_of_block g b in let here = map slot_of (lines_of_set g k st.lines) in
-    IsSound m st → words ≡ (λ n. m.words (st.drawn + n)) → Absent b (lines_of_set g k st.lines) →
-    MatchBool fills (Fills m.design (Some m.policy) words ref here outcome slots rest) (Passes words ref here outcome slots rest) →
+    IsSoundState m st → words ≡ (λ n. m.words (st.drawn + n)) → Absent b (lines_of_set g k st.lines) →
+    MatchBool fills (Fills m.design (Some m.policy) words ref here outcome slots rest) (PassesOn words ref here outcome slots rest) →
     Agrees m st (cond fills (placing m ref b (leaves m st k) st) (record st { clock = st.clock + 1 })) k slots rest outcome
     (cond fills (on_placing g m.design.write ref b (option_slot (leaves m st k))) (on_passing ref))
 miss_agrees m st ref words outcome slots rest true s w a v = fill_agrees m st ref words outcome slots rest outcome.evicted s w a v.order v.undrawn v.answers
@@ -225,7 +225,7 @@ miss_agrees m st ref words outcome slots rest false s w a v = pass_agrees m st r
 pub step_agrees : (m : Machine) (st : MachineState) (ref : Ref) (words : ℕ → ℕ) (outcome : Outcome) (slots : List Slot) (rest : ℕ → ℕ)
     (o : Option Line) →
     let g = m.design.geometry in let b = block_of g ref.addr in let k = set_of_block g b in
-    IsSound m st → words ≡ (λ n. m.words (st.drawn + n)) → find (is_block b) st.lines ≡ o →
+    IsSoundState m st → words ≡ (λ n. m.words (st.drawn + n)) → find (is_block b) st.lines ≡ o →
     Visits m.design (Some m.policy) words ref (map slot_of (lines_of_set g k st.lines)) outcome slots rest →
     Agrees m st (step_at m ref b (leaves m st k) st o) k slots rest outcome (answer_at m ref b (leaves m st k) o)
 step_agrees m st ref words outcome slots rest (Some line) s w e v = hit_agrees m st ref line words outcome slots rest s w e v
@@ -239,13 +239,13 @@ step_agrees m st ref words outcome slots rest None s w e v =
     (subst
     (λ o. MatchOption o
     (MatchBool (allocates m.design.allocate ref.access) (Fills m.design (Some m.policy) words ref (map slot_of here) outcome slots rest)
-    (Passes words ref (map slot_of here) outcome slots rest))
+    (PassesOn words ref (map slot_of here) outcome slots rest))
     (λ at. Hits m.design (Some m.policy) words ref at (map slot_of here) outcome slots rest))
     (place_absent b here a) v)
 
 -- the machine stays sound
 pub sound_step : (m : Machine) (st next : MachineState) (k : ℕ) (slots : List Slot) (rest : ℕ → ℕ) (outcome : Outcome) (a : Answer) →
-    IsSound m st → Agrees m st next k slots rest outcome a → IsSound m next
+    IsSoundState m st → Agrees m st next k slots rest outcome a → IsSoundState m next
 sound_step m st next k slots rest outcome a s r j = ⊎_elim
     (λ t. subst (λ i. IsGood m.policy next.clock (lines_of_set m.design.geometry i next.lines)) (sym t.1) r.good)
     (λ f. rw (r.others j f.1, r.clock) (later m.policy st.clock (lines_of_set m.design.geometry j st.lines) (s j)))
@@ -255,9 +255,9 @@ sound_step m st next k slots rest outcome a s r j = ⊎_elim
 pub record Follows (m : Machine) (st : MachineState) (ref : Ref) (outcome : Outcome) (new : Contents) : Type 0 where
   pub state : IsState m (step m st ref) new
   pub told : outcome ≡ outcome_of (answer m st ref)
-  pub sound : IsSound m (step m st ref)
+  pub sound : IsSoundState m (step m st ref)
 
-pub access_law : (m : Machine) (st : MachineState) (old : Contents) (ref : Ref) (outcome : Outcome) (new : Contents) → IsSound m st →
+pub access_law : (m : Machine) (st : MachineState) (old : Contents) (ref : Ref) (outcome : Outcome) (new : Contents) → IsSoundState m st →
     IsState m st old → Accesses old ref outcome new → Follows m st ref outcome new
 access_law m st old ref outcome new s i a =
     let g = m.design.geometry in

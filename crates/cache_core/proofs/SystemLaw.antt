@@ -6,27 +6,27 @@ use Rattle.std.proofs.lemmas.List.Sums.{sum_by-cons, sum_by-append}
 use Rattle.trace_core.specs.declared.events.Ref.{Ref}
 use Rattle.trace_core.specs.declared.events.Event.{Event}
 use Rattle.trace_core.specs.declared.events.Event.TheVariants as event
-use Rattle.cache_core.specs.declared.plan.Level.{Level}
+use Rattle.cache_core.specs.declared.plan.PlannedCache.{PlannedCache}
 use Rattle.cache_core.specs.declared.plan.CacheName.{CacheName}
 use Rattle.cache_core.specs.declared.plan.CacheName.TheVariants.{L1I, L1D, L1U}
-use Rattle.cache_core.specs.declared.plan.CacheStats.{CacheStats}
-use Rattle.cache_core.specs.declared.plan.Stats.{Stats}
-use Rattle.cache_core.specs.declared.stage.Stage.{Stage}
+use Rattle.cache_core.specs.declared.stats.CacheStats.{CacheStats}
+use Rattle.cache_core.specs.declared.stats.Stats.{Stats}
+use Rattle.cache_core.specs.declared.system_cache.SystemCache.{SystemCache}
 use Rattle.cache_core.specs.declared.system.Memory.{Memory}
 use Rattle.cache_core.specs.Outcomes.{is_write}
 use Rattle.cache_core.specs.Machine.{Machine, run, dirty_count}
 use Rattle.cache_core.specs.Order.{one_if}
-use Rattle.cache_core.specs.Levels.{Levels, IsLevel}
-use Rattle.cache_core.specs.Stages.{contents_of_stage, Empties}
-use Rattle.cache_core.specs.Systems.{machine_of, takes, events_for, sent, below, cache_stats, level_flushed, references_in, to_memory, is_taken}
-use Rattle.cache_core.specs.SystemSteps.{listed, reaches, all_reach, Descends, AllDescend, EmptiesLevel, IsNewStage, IsNewLevel}
+use Rattle.cache_core.specs.Plans.{PlannedCaches, IsPlannedCache}
+use Rattle.cache_core.specs.SystemCaches.{system_cache_contents, Empties}
+use Rattle.cache_core.specs.Systems.{machine_of, takes, events_for, sent, below, cache_stats, flushed_if_planned, references_in, to_memory, is_taken}
+use Rattle.cache_core.specs.SystemSteps.{listed, reaches, all_reach, Descends, AllDescend, EmptiesCache, IsNewSystemCache, IsNewCache}
 use Rattle.cache_core.specs.SystemStands.{SystemStands, NewSystemLaw, StepLaw, SystemFlushLaw, SystemRunLaw}
 use Rattle.cache_core.proofs.Lists.{cases}
 use Rattle.cache_core.proofs.RunLaw.{start_law, flush_run}
 use Rattle.cache_core.proofs.Pushes.{count_by_push}
 use Rattle.cache_core.proofs.SystemPushes.{counts_flush, flushed_flush, events_taken, events_left, events_flush, references_push, references_flush}
-use Rattle.cache_core.proofs.SystemPushes.{below_push, below_flush, level_down, memory_push, memory_flush, level_flushed_push}
-use Rattle.cache_core.proofs.FirstLevelLaw.{Kept, enters, KeptLevel, with_counts, stands_of, counts_is, down_list, first_keeps}
+use Rattle.cache_core.proofs.SystemPushes.{below_push, below_flush, down_if_planned, memory_push, memory_flush, flushed_if_planned_push}
+use Rattle.cache_core.proofs.FirstLevelLaw.{Kept, enters, KeptIfPlanned, with_counts, stands_of, counts_is, down_list, first_keeps}
 
 -- memory
 abbrev is_read_of : Ref → Bool
@@ -53,79 +53,79 @@ reach_writes memory (r ∷ refs) =
     omega (arith, reach_writes (reaches memory r) refs, first, sum_by-cons (λ (x : Ref). cond (is_write_of x) 1 0) r refs)
 
 -- the second level and memory, where so many lines were flushed
-record Lower (seed : ℕ) (level : Option Level) (events : List Event) (flushed : ℕ) (stage : Option Stage) (memory : Memory) : Type 0 where
-  kept : KeptLevel seed level events stage
-  reads : memory.reads ≡ count_by is_read_of (to_memory seed level events)
-  writes : memory.writes ≡ count_by is_write_of (to_memory seed level events) + flushed
+record Lower (seed : ℕ) (planned : Option PlannedCache) (events : List Event) (flushed : ℕ) (cache : Option SystemCache) (memory : Memory) : Type 0 where
+  kept : KeptIfPlanned seed planned events cache
+  reads : memory.reads ≡ count_by is_read_of (to_memory seed planned events)
+  writes : memory.writes ≡ count_by is_write_of (to_memory seed planned events) + flushed
 
-reached : (seed : ℕ) (level : Option Level) (events : List Event) (flushed : ℕ) (stage next : Option Stage) (memory after : Memory) (ref : Ref) →
-    Lower seed level events flushed stage memory →
-    KeptLevel seed level (events ++ event.Reference ref ∷ []) next → after ≡ all_reach memory (level_down seed level events ref) →
-    Lower seed level (events ++ event.Reference ref ∷ []) flushed next after
-reached seed level events flushed stage next memory after ref l k e =
-    let down = level_down seed level events ref in
-    let before = to_memory seed level events in
-    let more : (p : Ref → Bool) → count_by p (to_memory seed level (events ++ event.Reference ref ∷ [])) ≡ count_by p before + count_by p down =
-    λ p. ap (count_by p) (memory_push seed level events ref) ∙ sum_by-append (λ x. cond (p x) 1 0) before down in
+reached : (seed : ℕ) (planned : Option PlannedCache) (events : List Event) (flushed : ℕ) (cache next : Option SystemCache) (memory after : Memory) (ref : Ref) →
+    Lower seed planned events flushed cache memory →
+    KeptIfPlanned seed planned (events ++ event.Reference ref ∷ []) next → after ≡ all_reach memory (down_if_planned seed planned events ref) →
+    Lower seed planned (events ++ event.Reference ref ∷ []) flushed next after
+reached seed planned events flushed cache next memory after ref l k e =
+    let down = down_if_planned seed planned events ref in
+    let before = to_memory seed planned events in
+    let more : (p : Ref → Bool) → count_by p (to_memory seed planned (events ++ event.Reference ref ∷ [])) ≡ count_by p before + count_by p down =
+    λ p. ap (count_by p) (memory_push seed planned events ref) ∙ sum_by-append (λ x. cond (p x) 1 0) before down in
     let reads : after.reads ≡ memory.reads + count_by is_read_of down = ap (λ (m : Memory). m.reads) e ∙ reach_reads memory down in
     let writes : after.writes ≡ memory.writes + count_by is_write_of down = ap (λ (m : Memory). m.writes) e ∙ reach_writes memory down in
     record { kept = k; reads = omega (arith, reads, l.reads, more is_read_of); writes = omega (arith, writes, l.writes, more is_write_of) }
 
-descends : (seed : ℕ) (level : Option Level) (events : List Event) (flushed : ℕ) (stage next : Option Stage) (memory after : Memory) (ref : Ref) →
-    IsLevel level → Lower seed level events flushed stage memory →
-    Descends ref stage memory next after → Lower seed level (events ++ event.Reference ref ∷ []) flushed next after
-descends seed None events flushed stage next memory after ref l low d =
-    let e = subst (λ (s : Option Stage). Descends ref s memory next after) low.kept d in
-    reached seed None events flushed stage next memory after ref low e.0 e.1
-descends seed (Some level) events flushed stage next memory after ref l low d =
-    let e = subst (λ (s : Option Stage). Descends ref s memory next after) low.kept.1 d in
-    let r = enters (machine_of seed level) events low.kept.0 ref e.0 e.1 l.some low.kept.2 e.2 in
-    reached seed (Some level) events flushed stage next memory after ref low (e.1, e.3, r.kept) (e.4 ∙ ap (all_reach memory) r.sends)
+descends : (seed : ℕ) (planned : Option PlannedCache) (events : List Event) (flushed : ℕ) (cache next : Option SystemCache) (memory after : Memory) (ref : Ref) →
+    IsPlannedCache planned → Lower seed planned events flushed cache memory →
+    Descends ref cache memory next after → Lower seed planned (events ++ event.Reference ref ∷ []) flushed next after
+descends seed None events flushed cache next memory after ref l low d =
+    let e = subst (λ (s : Option SystemCache). Descends ref s memory next after) low.kept d in
+    reached seed None events flushed cache next memory after ref low e.0 e.1
+descends seed (Some planned) events flushed cache next memory after ref l low d =
+    let e = subst (λ (s : Option SystemCache). Descends ref s memory next after) low.kept.1 d in
+    let r = enters (machine_of seed planned) events low.kept.0 ref e.0 e.1 l.some low.kept.2 e.2 in
+    reached seed (Some planned) events flushed cache next memory after ref low (e.1, e.3, r.kept) (e.4 ∙ ap (all_reach memory) r.sends)
 
-all_descend : (seed : ℕ) (level : Option Level) (events : List Event) (flushed : ℕ) (stage next : Option Stage) (memory after : Memory)
+all_descend : (seed : ℕ) (planned : Option PlannedCache) (events : List Event) (flushed : ℕ) (cache next : Option SystemCache) (memory after : Memory)
     (refs : List Ref) →
-    IsLevel level → Lower seed level events flushed stage memory →
-    AllDescend refs stage memory next after → Lower seed level (events ++ map (λ x. event.Reference x) refs) flushed next after
-all_descend seed level events flushed stage next memory after [] l low d =
-    let here : Lower seed level events flushed next memory = subst (λ (s : Option Stage). Lower seed level events flushed s memory) (sym d.0) low in
-    subst (λ (es : List Event). Lower seed level es flushed next after) (sym (append-nil events))
-    (subst (λ (m : Memory). Lower seed level events flushed next m) (sym d.1) here)
-all_descend seed level events flushed stage next memory after (ref ∷ refs) l low d =
-    let one = descends seed level events flushed stage d.0 memory d.1 ref l low d.2 in
-    subst (λ (es : List Event). Lower seed level es flushed next after) (append_assoc events (event.Reference ref ∷ []) (map (λ x. event.Reference x) refs))
-    (all_descend seed level (events ++ event.Reference ref ∷ []) flushed d.0 next d.1 after refs l one d.3)
+    IsPlannedCache planned → Lower seed planned events flushed cache memory →
+    AllDescend refs cache memory next after → Lower seed planned (events ++ map (λ x. event.Reference x) refs) flushed next after
+all_descend seed planned events flushed cache next memory after [] l low d =
+    let here : Lower seed planned events flushed next memory = subst (λ (s : Option SystemCache). Lower seed planned events flushed s memory) (sym d.0) low in
+    subst (λ (es : List Event). Lower seed planned es flushed next after) (sym (append-nil events))
+    (subst (λ (m : Memory). Lower seed planned events flushed next m) (sym d.1) here)
+all_descend seed planned events flushed cache next memory after (ref ∷ refs) l low d =
+    let one = descends seed planned events flushed cache d.0 memory d.1 ref l low d.2 in
+    subst (λ (es : List Event). Lower seed planned es flushed next after) (append_assoc events (event.Reference ref ∷ []) (map (λ x. event.Reference x) refs))
+    (all_descend seed planned (events ++ event.Reference ref ∷ []) flushed d.0 next d.1 after refs l one d.3)
 
-flushed_refs : (seed : ℕ) (level : Option Level) (events : List Event) (refs : List Ref) →
-    level_flushed seed level (events ++ map (λ x. event.Reference x) refs) ≡ level_flushed seed level events
-flushed_refs seed level events [] = ap (level_flushed seed level) (append-nil events)
-flushed_refs seed level events (ref ∷ refs) =
-    ap (level_flushed seed level) (sym (append_assoc events (event.Reference ref ∷ []) (map (λ x. event.Reference x) refs)))
-    ∙ flushed_refs seed level (events ++ event.Reference ref ∷ []) refs ∙ level_flushed_push seed level events ref
+flushed_refs : (seed : ℕ) (planned : Option PlannedCache) (events : List Event) (refs : List Ref) →
+    flushed_if_planned seed planned (events ++ map (λ x. event.Reference x) refs) ≡ flushed_if_planned seed planned events
+flushed_refs seed planned events [] = ap (flushed_if_planned seed planned) (append-nil events)
+flushed_refs seed planned events (ref ∷ refs) =
+    ap (flushed_if_planned seed planned) (sym (append_assoc events (event.Reference ref ∷ []) (map (λ x. event.Reference x) refs)))
+    ∙ flushed_refs seed planned (events ++ event.Reference ref ∷ []) refs ∙ flushed_if_planned_push seed planned events ref
 
-flushed_name : (seed : ℕ) (name : CacheName) (level : Option Level) (events : List Event) (ref : Ref) →
-    level_flushed seed level (events_for name (events ++ event.Reference ref ∷ [])) ≡ level_flushed seed level (events_for name events)
-flushed_name seed name level events ref =
+flushed_name : (seed : ℕ) (name : CacheName) (planned : Option PlannedCache) (events : List Event) (ref : Ref) →
+    flushed_if_planned seed planned (events_for name (events ++ event.Reference ref ∷ [])) ≡ flushed_if_planned seed planned (events_for name events)
+flushed_name seed name planned events ref =
     cases
     (λ b. (takes name ref ≡ b) →
-    level_flushed seed level (events_for name (events ++ event.Reference ref ∷ [])) ≡ level_flushed seed level (events_for name events))
+    flushed_if_planned seed planned (events_for name (events ++ event.Reference ref ∷ [])) ≡ flushed_if_planned seed planned (events_for name events))
     (takes name ref)
-    (λ t _. ap (level_flushed seed level) (events_taken name events ref t) ∙ level_flushed_push seed level (events_for name events) ref)
-    (λ t _. ap (level_flushed seed level) (events_left name events ref t)) refl
+    (λ t _. ap (flushed_if_planned seed planned) (events_taken name events ref t) ∙ flushed_if_planned_push seed planned (events_for name events) ref)
+    (λ t _. ap (flushed_if_planned seed planned) (events_left name events ref t)) refl
 
-lower_after : (seed : ℕ) (level : Option Level) (events : List Event) (flushed : ℕ) (stage next : Option Stage) (memory after : Memory)
+lower_after : (seed : ℕ) (planned : Option PlannedCache) (events : List Event) (flushed : ℕ) (cache next : Option SystemCache) (memory after : Memory)
     (down : Option (List (Option Ref))) →
-    IsLevel level → Lower seed level events flushed stage memory →
-    MatchOption down ((next ≡ stage) × (after ≡ memory)) (λ refs. AllDescend (listed refs) stage memory next after) →
-    Lower seed level (events ++ map (λ x. event.Reference x) (down_list down)) flushed next after
-lower_after seed level events flushed stage next memory after None l low d = all_descend seed level events flushed stage next memory after [] l low d
-lower_after seed level events flushed stage next memory after (Some down) l low d =
-    all_descend seed level events flushed stage next memory after (listed down) l low d
+    IsPlannedCache planned → Lower seed planned events flushed cache memory →
+    MatchOption down ((next ≡ cache) × (after ≡ memory)) (λ refs. AllDescend (listed refs) cache memory next after) →
+    Lower seed planned (events ++ map (λ x. event.Reference x) (down_list down)) flushed next after
+lower_after seed planned events flushed cache next memory after None l low d = all_descend seed planned events flushed cache next memory after [] l low d
+lower_after seed planned events flushed cache next memory after (Some down) l low d =
+    all_descend seed planned events flushed cache next memory after (listed down) l low d
 
 -- all flushed lines
-abbrev flushed_all : Levels → ℕ → List Event → ℕ
+abbrev flushed_all : PlannedCaches → ℕ → List Event → ℕ
 flushed_all plan seed events =
-    level_flushed seed plan.i (events_for L1I events) + level_flushed seed plan.d (events_for L1D events)
-    + level_flushed seed plan.u (events_for L1U events) + level_flushed seed plan.second (below plan seed events)
+    flushed_if_planned seed plan.i (events_for L1I events) + flushed_if_planned seed plan.d (events_for L1D events)
+    + flushed_if_planned seed plan.u (events_for L1U events) + flushed_if_planned seed plan.second (below plan seed events)
 
 pub step_law : StepLaw
 step_law plan seed events old ref new ip s t =
@@ -151,7 +151,7 @@ step_law plan seed events old ref new ip s t =
       flushed_name seed L1I plan.i events ref,
       flushed_name seed L1D plan.d events ref,
       flushed_name seed L1U plan.u events ref,
-      ap (level_flushed seed plan.second) (below_push plan seed events ref)
+      ap (flushed_if_planned seed plan.second) (below_push plan seed events ref)
           ∙ flushed_refs seed plan.second (below plan seed events) (sent plan seed events ref),
     ) in
     let writes : new.memory.writes ≡ count_by is_write_of (to_memory seed plan.second (below plan seed all)) + flushed_all plan seed all =
@@ -175,26 +175,26 @@ step_law plan seed events old ref new ip s t =
     }
 
 -- a new system
-new_level : (seed : ℕ) (level : Option Level) (stage : Option Stage) → IsNewLevel seed level stage → KeptLevel seed level [] stage
-new_level seed None stage n = n
-new_level seed (Some level) stage n =
-    let new : IsNewStage seed level n.0 = n.2 in
-    (n.0, n.1, record { stands = start_law (machine_of seed level) (contents_of_stage n.0) new.design new.rule new.words new.empty; counts = new.counts })
+new_cache : (seed : ℕ) (planned : Option PlannedCache) (cache : Option SystemCache) → IsNewCache seed planned cache → KeptIfPlanned seed planned [] cache
+new_cache seed None cache n = n
+new_cache seed (Some planned) cache n =
+    let new : IsNewSystemCache seed planned n.0 = n.2 in
+    (n.0, n.1, record { stands = start_law (machine_of seed planned) (system_cache_contents n.0) new.design new.rule new.words new.empty; counts = new.counts })
 
-memory_nil : (seed : ℕ) (level : Option Level) → to_memory seed level [] ≡ []
+memory_nil : (seed : ℕ) (planned : Option PlannedCache) → to_memory seed planned [] ≡ []
 memory_nil seed None = refl
-memory_nil seed (Some level) = refl
+memory_nil seed (Some planned) = refl
 
-flushed_nil : (seed : ℕ) (level : Option Level) → level_flushed seed level [] ≡ 0
+flushed_nil : (seed : ℕ) (planned : Option PlannedCache) → flushed_if_planned seed planned [] ≡ 0
 flushed_nil seed None = refl
-flushed_nil seed (Some level) = refl
+flushed_nil seed (Some planned) = refl
 
 pub new_law : NewSystemLaw
 new_law plan seed v n =
-    let i = new_level seed plan.i v.i n.i in
-    let d = new_level seed plan.d v.d n.d in
-    let u = new_level seed plan.u v.u n.u in
-    let second = new_level seed plan.second v.second n.second in
+    let i = new_cache seed plan.i v.i n.i in
+    let d = new_cache seed plan.d v.d n.d in
+    let u = new_cache seed plan.u v.u n.u in
+    let second = new_cache seed plan.second v.second n.second in
     let reads : v.memory.reads ≡ count_by is_read_of (to_memory seed plan.second []) =
     ap (λ (m : Memory). m.reads) n.memory ∙ sym (ap (count_by is_read_of) (memory_nil seed plan.second)) in
     let none : count_by is_write_of (to_memory seed plan.second []) ≡ 0 = ap (count_by is_write_of) (memory_nil seed plan.second) in
@@ -219,14 +219,14 @@ new_law plan seed v n =
     }
 
 -- a flush
-record Emptied (m : Machine) (events : List Event) (dirty : ℕ) (new : Stage) : Type 0 where
+record Emptied (m : Machine) (events : List Event) (dirty : ℕ) (new : SystemCache) : Type 0 where
   kept : Kept m (events ++ event.Flush ∷ []) new
   found : dirty ≡ dirty_count (run m events)
 
-empties : (m : Machine) (events : List Event) (old : Stage) (dirty : ℕ) (new : Stage) → Kept m events old → Empties old dirty new →
+empties : (m : Machine) (events : List Event) (old : SystemCache) (dirty : ℕ) (new : SystemCache) → Kept m events old → Empties old dirty new →
     Emptied m events dirty new
 empties m events old dirty new k e =
-    let r = flush_run m events (contents_of_stage old) dirty (contents_of_stage new) k.stands e.flush in
+    let r = flush_run m events (system_cache_contents old) dirty (system_cache_contents new) k.stands e.flush in
     record {
       kept = record {
         stands = r.0;
@@ -236,51 +236,51 @@ empties m events old dirty new k e =
       found = r.1;
     }
 
-record EmptiedLevel (seed : ℕ) (level : Option Level) (events : List Event) (dirty : ℕ) (new : Option Stage) : Type 0 where
-  kept : KeptLevel seed level (events ++ event.Flush ∷ []) new
-  found : level_flushed seed level (events ++ event.Flush ∷ []) ≡ level_flushed seed level events + dirty
+record EmptiedIfPlanned (seed : ℕ) (planned : Option PlannedCache) (events : List Event) (dirty : ℕ) (new : Option SystemCache) : Type 0 where
+  kept : KeptIfPlanned seed planned (events ++ event.Flush ∷ []) new
+  found : flushed_if_planned seed planned (events ++ event.Flush ∷ []) ≡ flushed_if_planned seed planned events + dirty
 
-empties_level : (seed : ℕ) (level : Option Level) (events : List Event) (stage : Option Stage) (dirty : ℕ) (new : Option Stage) →
-    KeptLevel seed level events stage → EmptiesLevel stage dirty new → EmptiedLevel seed level events dirty new
-empties_level seed None events stage dirty new k e =
-    let f = subst (λ (s : Option Stage). EmptiesLevel s dirty new) k e in
+emptied_if_planned : (seed : ℕ) (planned : Option PlannedCache) (events : List Event) (cache : Option SystemCache) (dirty : ℕ) (new : Option SystemCache) →
+    KeptIfPlanned seed planned events cache → EmptiesCache cache dirty new → EmptiedIfPlanned seed planned events dirty new
+emptied_if_planned seed None events cache dirty new k e =
+    let f = subst (λ (s : Option SystemCache). EmptiesCache s dirty new) k e in
     record { kept = f.0; found = omega (arith, f.1) }
-empties_level seed (Some level) events stage dirty new k e =
-    let m = machine_of seed level in
-    let f = subst (λ (s : Option Stage). EmptiesLevel s dirty new) k.1 e in
+emptied_if_planned seed (Some planned) events cache dirty new k e =
+    let m = machine_of seed planned in
+    let f = subst (λ (s : Option SystemCache). EmptiesCache s dirty new) k.1 e in
     let r = empties m events k.0 dirty f.0 k.2 f.2 in
-    record { kept = (f.0, f.1, r.kept); found = flushed_flush m events ∙ ap (λ n. level_flushed seed (Some level) events + n) (sym r.found) }
+    record { kept = (f.0, f.1, r.kept); found = flushed_flush m events ∙ ap (λ n. flushed_if_planned seed (Some planned) events + n) (sym r.found) }
 
-kept_flush : (seed : ℕ) (name : CacheName) (level : Option Level) (events : List Event) (dirty : ℕ) (stage : Option Stage) →
-    EmptiedLevel seed level (events_for name events) dirty stage → KeptLevel seed level (events_for name (events ++ event.Flush ∷ [])) stage
-kept_flush seed name level events dirty stage e = subst (λ (es : List Event). KeptLevel seed level es stage) (sym (events_flush name events)) e.kept
+kept_flush : (seed : ℕ) (name : CacheName) (planned : Option PlannedCache) (events : List Event) (dirty : ℕ) (cache : Option SystemCache) →
+    EmptiedIfPlanned seed planned (events_for name events) dirty cache → KeptIfPlanned seed planned (events_for name (events ++ event.Flush ∷ [])) cache
+kept_flush seed name planned events dirty cache e = subst (λ (es : List Event). KeptIfPlanned seed planned es cache) (sym (events_flush name events)) e.kept
 
-found_flush : (seed : ℕ) (name : CacheName) (level : Option Level) (events : List Event) (dirty : ℕ) (stage : Option Stage) →
-    EmptiedLevel seed level (events_for name events) dirty stage →
-    level_flushed seed level (events_for name (events ++ event.Flush ∷ [])) ≡ level_flushed seed level (events_for name events) + dirty
-found_flush seed name level events dirty stage e = ap (level_flushed seed level) (events_flush name events) ∙ e.found
+found_flush : (seed : ℕ) (name : CacheName) (planned : Option PlannedCache) (events : List Event) (dirty : ℕ) (cache : Option SystemCache) →
+    EmptiedIfPlanned seed planned (events_for name events) dirty cache →
+    flushed_if_planned seed planned (events_for name (events ++ event.Flush ∷ [])) ≡ flushed_if_planned seed planned (events_for name events) + dirty
+found_flush seed name planned events dirty cache e = ap (flushed_if_planned seed planned) (events_flush name events) ∙ e.found
 
 pub flush_law : SystemFlushLaw
 flush_law plan seed events old new s t =
     let all = events ++ event.Flush ∷ [] in
     let ei =
-    empties_level seed plan.i (events_for L1I events) old.i t.dirty_i new.i
+    emptied_if_planned seed plan.i (events_for L1I events) old.i t.dirty_i new.i
     (with_counts seed plan.i (events_for L1I events) old.i s.i (ap (λ (x : Stats). x.l1i) s.stats)) t.i in
     let ed =
-    empties_level seed plan.d (events_for L1D events) old.d t.dirty_d new.d
+    emptied_if_planned seed plan.d (events_for L1D events) old.d t.dirty_d new.d
     (with_counts seed plan.d (events_for L1D events) old.d s.d (ap (λ (x : Stats). x.l1d) s.stats)) t.d in
     let eu =
-    empties_level seed plan.u (events_for L1U events) old.u t.dirty_u new.u
+    emptied_if_planned seed plan.u (events_for L1U events) old.u t.dirty_u new.u
     (with_counts seed plan.u (events_for L1U events) old.u s.u (ap (λ (x : Stats). x.l1u) s.stats)) t.u in
     let lower = below plan seed events in
     let es =
-    empties_level seed plan.second lower old.second t.dirty_second new.second
+    emptied_if_planned seed plan.second lower old.second t.dirty_second new.second
     (with_counts seed plan.second lower old.second s.second (ap (λ (x : Stats). x.l2u) s.stats)) t.second in
     let i = kept_flush seed L1I plan.i events t.dirty_i new.i ei in
     let d = kept_flush seed L1D plan.d events t.dirty_d new.d ed in
     let u = kept_flush seed L1U plan.u events t.dirty_u new.u eu in
-    let second : KeptLevel seed plan.second (below plan seed all) new.second =
-    subst (λ (x : List Event). KeptLevel seed plan.second x new.second) (sym (below_flush plan seed events)) es.kept in
+    let second : KeptIfPlanned seed plan.second (below plan seed all) new.second =
+    subst (λ (x : List Event). KeptIfPlanned seed plan.second x new.second) (sym (below_flush plan seed events)) es.kept in
     let same : to_memory seed plan.second (below plan seed all) ≡ to_memory seed plan.second lower =
     ap (to_memory seed plan.second) (below_flush plan seed events) ∙ memory_flush seed plan.second lower in
     let reads : new.memory.reads ≡ count_by is_read_of (to_memory seed plan.second (below plan seed all)) =
@@ -297,7 +297,7 @@ flush_law plan seed events old new s t =
       found_flush seed L1I plan.i events t.dirty_i new.i ei,
       found_flush seed L1D plan.d events t.dirty_d new.d ed,
       found_flush seed L1U plan.u events t.dirty_u new.u eu,
-      ap (level_flushed seed plan.second) (below_flush plan seed events) ∙ es.found,
+      ap (flushed_if_planned seed plan.second) (below_flush plan seed events) ∙ es.found,
     ) in
     let untaken : Ref → Bool = λ r. not (is_taken plan r) in
     let bypassed : new.bypassed ≡ count_by untaken (references_in all) =

@@ -7,15 +7,15 @@ use Rattle.std.proofs.lemmas.List.Elements.{filter-append}
 use Rattle.trace_core.specs.declared.events.Ref.{Ref}
 use Rattle.trace_core.specs.declared.events.Event.{Event}
 use Rattle.trace_core.specs.declared.events.Event.TheVariants as event
-use Rattle.cache_core.specs.declared.plan.Level.{Level}
+use Rattle.cache_core.specs.declared.plan.PlannedCache.{PlannedCache}
 use Rattle.cache_core.specs.declared.plan.CacheName.{CacheName}
 use Rattle.cache_core.specs.Outcomes.{Answer, is_write, outcome_of}
 use Rattle.cache_core.specs.Machine.{Machine, MachineState, start, run, next, step, answer, answered, dirty_count}
 use Rattle.cache_core.specs.Order.{is_dirty, one_if}
-use Rattle.cache_core.specs.Levels.{Levels}
+use Rattle.cache_core.specs.Plans.{PlannedCaches}
 use Rattle.cache_core.specs.Systems.{machine_of, is_fetch, is_read, takes, takes_event, events_for, sent, below_from, below, flushed_from, flushed}
-use Rattle.cache_core.specs.Systems.{cache_stats, level_flushed, references_in, to_memory}
-use Rattle.cache_core.specs.Stages.{tally}
+use Rattle.cache_core.specs.Systems.{cache_stats, flushed_if_planned, references_in, to_memory}
+use Rattle.cache_core.specs.SystemCaches.{tally}
 use Rattle.cache_core.proofs.Pushes.{count_by_push, answered_push, answered_flush}
 
 -- the dirty blocks that its flushes find
@@ -108,7 +108,7 @@ references_flush (event.Reference r ∷ events) = ap (λ xs. r ∷ xs) (referenc
 references_flush (event.Flush ∷ events) = references_flush events
 
 -- what goes down from the first level
-below_push_from : (plan : Levels) (seed : ℕ) (earlier events : List Event) (ref : Ref) →
+below_push_from : (plan : PlannedCaches) (seed : ℕ) (earlier events : List Event) (ref : Ref) →
     below_from plan seed earlier (events ++ event.Reference ref ∷ [])
     ≡ below_from plan seed earlier events ++ map (λ x. event.Reference x) (sent plan seed (earlier ++ events) ref)
 below_push_from plan seed earlier [] ref =
@@ -126,11 +126,11 @@ below_push_from plan seed earlier (event.Flush ∷ events) ref =
     ∙ ap (λ es. event.Flush ∷ (below_from plan seed (earlier ++ event.Flush ∷ []) events ++ map (λ x. event.Reference x) (sent plan seed es ref)))
     (append_assoc earlier (event.Flush ∷ []) events)
 
-pub below_push : (plan : Levels) (seed : ℕ) (events : List Event) (ref : Ref) →
+pub below_push : (plan : PlannedCaches) (seed : ℕ) (events : List Event) (ref : Ref) →
     below plan seed (events ++ event.Reference ref ∷ []) ≡ below plan seed events ++ map (λ x. event.Reference x) (sent plan seed events ref)
 below_push plan seed events ref = below_push_from plan seed [] events ref
 
-below_flush_from : (plan : Levels) (seed : ℕ) (earlier events : List Event) →
+below_flush_from : (plan : PlannedCaches) (seed : ℕ) (earlier events : List Event) →
     below_from plan seed earlier (events ++ event.Flush ∷ []) ≡ below_from plan seed earlier events ++ event.Flush ∷ []
 below_flush_from plan seed earlier [] = refl
 below_flush_from plan seed earlier (event.Reference r ∷ events) =
@@ -139,30 +139,30 @@ below_flush_from plan seed earlier (event.Reference r ∷ events) =
     (event.Flush ∷ []))
 below_flush_from plan seed earlier (event.Flush ∷ events) = ap (λ es. event.Flush ∷ es) (below_flush_from plan seed (earlier ++ event.Flush ∷ []) events)
 
-pub below_flush : (plan : Levels) (seed : ℕ) (events : List Event) →
+pub below_flush : (plan : PlannedCaches) (seed : ℕ) (events : List Event) →
     below plan seed (events ++ event.Flush ∷ []) ≡ below plan seed events ++ event.Flush ∷ []
 below_flush plan seed events = below_flush_from plan seed [] events
 
 -- what reaches memory
-abbrev pub level_down : ℕ → Option Level → List Event → Ref → List Ref
-level_down seed None events ref = ref ∷ []
-level_down seed (Some level) events ref = (answer (machine_of seed level) (run (machine_of seed level) events) ref).down
+abbrev pub down_if_planned : ℕ → Option PlannedCache → List Event → Ref → List Ref
+down_if_planned seed None events ref = ref ∷ []
+down_if_planned seed (Some planned) events ref = (answer (machine_of seed planned) (run (machine_of seed planned) events) ref).down
 
-pub memory_push : (seed : ℕ) (level : Option Level) (events : List Event) (ref : Ref) →
-    to_memory seed level (events ++ event.Reference ref ∷ []) ≡ to_memory seed level events ++ level_down seed level events ref
+pub memory_push : (seed : ℕ) (planned : Option PlannedCache) (events : List Event) (ref : Ref) →
+    to_memory seed planned (events ++ event.Reference ref ∷ []) ≡ to_memory seed planned events ++ down_if_planned seed planned events ref
 memory_push seed None events ref = references_push events ref
-memory_push seed (Some level) events ref =
-    let m = machine_of seed level in
+memory_push seed (Some planned) events ref =
+    let m = machine_of seed planned in
     let down : Ref × Answer → List Ref = λ p. p.1.down in
     ap (flat_map down) (answered_push m events ref) ∙ flat_map-append down (answered m events) ((ref, answer m (run m events) ref) ∷ [])
     ∙ ap (λ xs. flat_map down (answered m events) ++ xs) (append-nil (answer m (run m events) ref).down)
 
-pub memory_flush : (seed : ℕ) (level : Option Level) (events : List Event) →
-    to_memory seed level (events ++ event.Flush ∷ []) ≡ to_memory seed level events
+pub memory_flush : (seed : ℕ) (planned : Option PlannedCache) (events : List Event) →
+    to_memory seed planned (events ++ event.Flush ∷ []) ≡ to_memory seed planned events
 memory_flush seed None events = references_flush events
-memory_flush seed (Some level) events = ap (flat_map (λ p. p.1.down)) (answered_flush (machine_of seed level) events)
+memory_flush seed (Some planned) events = ap (flat_map (λ p. p.1.down)) (answered_flush (machine_of seed planned) events)
 
-pub level_flushed_push : (seed : ℕ) (level : Option Level) (events : List Event) (ref : Ref) →
-    level_flushed seed level (events ++ event.Reference ref ∷ []) ≡ level_flushed seed level events
-level_flushed_push seed None events ref = refl
-level_flushed_push seed (Some level) events ref = flushed_push (machine_of seed level) events ref
+pub flushed_if_planned_push : (seed : ℕ) (planned : Option PlannedCache) (events : List Event) (ref : Ref) →
+    flushed_if_planned seed planned (events ++ event.Reference ref ∷ []) ≡ flushed_if_planned seed planned events
+flushed_if_planned_push seed None events ref = refl
+flushed_if_planned_push seed (Some planned) events ref = flushed_push (machine_of seed planned) events ref

@@ -5,7 +5,7 @@ use Rattle.trace_core.specs.declared.events.Event.{Event}
 use Rattle.trace_core.specs.declared.events.Event.TheVariants as event
 use Rattle.cache_core.specs.declared.outcome.Counts.{Counts}
 use Rattle.cache_core.specs.declared.outcome.WriteMode.TheVariants.{Back}
-use Rattle.cache_core.specs.Geometry.{Shape, shape}
+use Rattle.cache_core.specs.Geometry.{GeometryValue, geometry_value}
 use Rattle.cache_core.specs.Windows.{window, places, places_after, distinct, distinct_of_set, has_last, distance, seen, counts, probes, held}
 use Rattle.cache_core.specs.Machine.{answers, counts_in}
 use Rattle.cache_core.specs.LruLaws.{lru_machine}
@@ -13,12 +13,12 @@ use Rattle.cache_core.specs.LruLaws.{lru_machine}
 abbrev read : ℕ → Event
 read a = event.Reference (record { access = Read; addr = a })
 
-abbrev counted : ℕ → ℕ → ℕ → Counts
-counted h m e = record { hits = h; misses = m; evictions = e }
+abbrev counts_are : ℕ → ℕ → ℕ → Counts
+counts_are h m e = record { hits = h; misses = m; evictions = e }
 
 -- 2^s sets of e lines of 16 bytes
-abbrev sets_of_lines : ℕ → ℕ → Shape
-sets_of_lines s e = shape s e 4
+abbrev sets_of_lines : ℕ → ℕ → GeometryValue
+sets_of_lines s e = geometry_value s e 4
 
 -- the counts of the machine
 abbrev machine : ℕ → ℕ → List Event → Counts
@@ -38,18 +38,18 @@ unfolding window places_after distinct distinct_of_set
 nine_seen = refl
 
 nine_in_one_set : map (λ e. counts (sets_of_lines 0 e) nine) (1 ∷ 2 ∷ 3 ∷ 4 ∷ [])
-    ≡ counted 3 6 5 ∷ counted 4 5 3 ∷ counted 5 4 1 ∷ counted 5 4 0 ∷ []
+    ≡ counts_are 3 6 5 ∷ counts_are 4 5 3 ∷ counts_are 5 4 1 ∷ counts_are 5 4 0 ∷ []
 unfolding counts window places_after distinct distinct_of_set
 nine_in_one_set = refl
 
-nine_in_two_sets : map (λ e. counts (sets_of_lines 1 e) nine) (1 ∷ 2 ∷ []) ≡ counted 4 5 3 ∷ counted 4 5 2 ∷ []
+nine_in_two_sets : map (λ e. counts (sets_of_lines 1 e) nine) (1 ∷ 2 ∷ []) ≡ counts_are 4 5 3 ∷ counts_are 4 5 2 ∷ []
 unfolding counts window places_after distinct distinct_of_set
 nine_in_two_sets = refl
 
-nine_by_machine : map (λ e. machine 0 e nine) (1 ∷ 2 ∷ 3 ∷ 4 ∷ []) ≡ counted 3 6 5 ∷ counted 4 5 3 ∷ counted 5 4 1 ∷ counted 5 4 0 ∷ []
+nine_by_machine : map (λ e. machine 0 e nine) (1 ∷ 2 ∷ 3 ∷ 4 ∷ []) ≡ counts_are 3 6 5 ∷ counts_are 4 5 3 ∷ counts_are 5 4 1 ∷ counts_are 5 4 0 ∷ []
 nine_by_machine = refl
 
-nine_by_machine_in_two_sets : map (λ e. machine 1 e nine) (1 ∷ 2 ∷ []) ≡ counted 4 5 3 ∷ counted 4 5 2 ∷ []
+nine_by_machine_in_two_sets : map (λ e. machine 1 e nine) (1 ∷ 2 ∷ []) ≡ counts_are 4 5 3 ∷ counts_are 4 5 2 ∷ []
 nine_by_machine_in_two_sets = refl
 
 nine_probes : map (λ e. probes (sets_of_lines 0 e) nine) (1 ∷ 2 ∷ 3 ∷ []) ≡ 8 ∷ 12 ∷ 14 ∷ []
@@ -65,11 +65,11 @@ abbrev pub twelve : List Event
 twelve = map (λ a. read (16 * a)) (1 ∷ 2 ∷ 3 ∷ 4 ∷ 1 ∷ 2 ∷ 5 ∷ 1 ∷ 2 ∷ 3 ∷ 4 ∷ 5 ∷ [])
 
 twelve_counts : map (λ e. counts (sets_of_lines 0 e) twelve) (1 ∷ 2 ∷ 3 ∷ 4 ∷ 5 ∷ [])
-    ≡ counted 0 12 11 ∷ counted 0 12 10 ∷ counted 2 10 7 ∷ counted 4 8 4 ∷ counted 7 5 0 ∷ []
+    ≡ counts_are 0 12 11 ∷ counts_are 0 12 10 ∷ counts_are 2 10 7 ∷ counts_are 4 8 4 ∷ counts_are 7 5 0 ∷ []
 unfolding counts window places_after distinct distinct_of_set
 twelve_counts = refl
 
-twelve_by_machine : map (λ e. machine 0 e twelve) (3 ∷ 4 ∷ 5 ∷ []) ≡ counted 2 10 7 ∷ counted 4 8 4 ∷ counted 7 5 0 ∷ []
+twelve_by_machine : map (λ e. machine 0 e twelve) (3 ∷ 4 ∷ 5 ∷ []) ≡ counts_are 2 10 7 ∷ counts_are 4 8 4 ∷ counts_are 7 5 0 ∷ []
 twelve_by_machine = refl
 
 twelve_probes : probes (sets_of_lines 0 5) twelve ≡ 39
@@ -84,11 +84,11 @@ twelve_held = refl
 abbrev flushed : List Event
 flushed = read 0x10 ∷ read 0x20 ∷ event.Flush ∷ read 0x10 ∷ []
 
-flushed_counts : map (λ e. counts (sets_of_lines 0 e) flushed) (1 ∷ 2 ∷ []) ≡ counted 0 3 1 ∷ counted 0 3 0 ∷ []
+flushed_counts : map (λ e. counts (sets_of_lines 0 e) flushed) (1 ∷ 2 ∷ []) ≡ counts_are 0 3 1 ∷ counts_are 0 3 0 ∷ []
 unfolding counts window places_after distinct distinct_of_set
 flushed_counts = refl
 
-flushed_by_machine : map (λ e. machine 0 e flushed) (1 ∷ 2 ∷ []) ≡ counted 0 3 1 ∷ counted 0 3 0 ∷ []
+flushed_by_machine : map (λ e. machine 0 e flushed) (1 ∷ 2 ∷ []) ≡ counts_are 0 3 1 ∷ counts_are 0 3 0 ∷ []
 flushed_by_machine = refl
 
 flushed_probes : probes (sets_of_lines 0 3) flushed ≡ 1

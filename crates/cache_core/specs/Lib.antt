@@ -8,9 +8,9 @@ pub mod Slab
 pub mod Touched
 pub mod Stands
 pub mod LruLaws
-pub mod Levels
+pub mod Plans
 pub mod Systems
-pub mod Stages
+pub mod SystemCaches
 pub mod SystemSteps
 pub mod SystemStands
 pub mod AnyPolicy

@@ -9,14 +9,14 @@ use Rattle.cache_core.specs.declared.outcome.Repl.TheVariants.{Lru}
 use Rattle.cache_core.specs.declared.outcome.Counts.{Counts}
 use Rattle.cache_core.specs.declared.outcome.Outcome.{Outcome}
 use Rattle.cache_core.specs.declared.replacement.Lru.{Lru as LruPolicy}
-use Rattle.cache_core.specs.Geometry.{Shape, block_of}
+use Rattle.cache_core.specs.Geometry.{GeometryValue, block_of}
 use Rattle.cache_core.specs.Machine.{Machine, MachineState, run, answer, answers, counts_in, is_block}
 use Rattle.cache_core.specs.Order.{Contents, one_if}
 use Rattle.cache_core.specs.Slab.{CacheValue, contents_of}
 use Rattle.cache_core.specs.Windows.{Place, window, places, is_hit, is_evict, counts}
 
 -- the machine of an LRU cache with write-allocate
-abbrev pub lru_machine : Shape → WriteMode → Machine
+abbrev pub lru_machine : GeometryValue → WriteMode → Machine
 lru_machine g write = record {
   design = record { geometry = g; write = write; allocate = Always };
   policy = Lru;
@@ -28,8 +28,8 @@ abbrev pub lru_contents : CacheValue LruPolicy → Contents
 lru_contents cache = contents_of (λ _. Some Lru) (λ _ _. 0) cache
 
 -- the counts after one more access
-abbrev pub counted : Counts → Outcome → Counts
-counted c outcome = record {
+abbrev pub counts_after : Counts → Outcome → Counts
+counts_after c outcome = record {
   hits = c.hits + one_if outcome.hit;
   misses = c.misses + one_if (not outcome.hit);
   evictions = c.evictions + one_if (is_some outcome.evicted);
@@ -40,36 +40,36 @@ abbrev pub holds : MachineState → ℕ → Bool
 holds st block = list_any (is_block block) st.lines
 
 -- the place of one more reference
-abbrev pub place_after : Shape → List Event → Ref → Place
+abbrev pub place_after : GeometryValue → List Event → Ref → Place
 place_after g events ref = record { block = block_of g ref.addr; window = window g events }
 
 -- for one more reference the machine's answer is the windows'
 abbrev pub NextLaw : Type 0
-NextLaw = (g : Shape) (write : WriteMode) (events : List Event) (ref : Ref) → 1 ≤ g.e → let m = lru_machine g write in
+NextLaw = (g : GeometryValue) (write : WriteMode) (events : List Event) (ref : Ref) → 1 ≤ g.e → let m = lru_machine g write in
     ((answer m (run m events) ref).hit ≡ is_hit g (place_after g events ref))
     × (is_some (answer m (run m events) ref).evicted ≡ is_evict g (place_after g events ref))
 
 -- the machine hits exactly where the windows say so
 abbrev pub HitLaw : Type 0
-HitLaw = (g : Shape) (write : WriteMode) (events : List Event) → 1 ≤ g.e
+HitLaw = (g : GeometryValue) (write : WriteMode) (events : List Event) → 1 ≤ g.e
     → map (λ a. a.hit) (answers (lru_machine g write) events) ≡ map (is_hit g) (places g events)
 
 -- a block leaves exactly where the windows say so
 abbrev pub VictimLaw : Type 0
-VictimLaw = (g : Shape) (write : WriteMode) (events : List Event) → 1 ≤ g.e
+VictimLaw = (g : GeometryValue) (write : WriteMode) (events : List Event) → 1 ≤ g.e
     → map (λ a. is_some a.evicted) (answers (lru_machine g write) events) ≡ map (is_evict g) (places g events)
 
 -- so the counts are equal
 abbrev pub CountLaw : Type 0
-CountLaw = (g : Shape) (write : WriteMode) (events : List Event) → 1 ≤ g.e
+CountLaw = (g : GeometryValue) (write : WriteMode) (events : List Event) → 1 ≤ g.e
     → counts_in (answers (lru_machine g write) events) ≡ counts g events
 
 -- what a cache hits, one with a line more in each set hits
 abbrev pub HitInclusion : Type 0
-HitInclusion = (g : Shape) (p : Place) → IsTrue (is_hit g p) → IsTrue (is_hit (record g { e = g.e + 1 }) p)
+HitInclusion = (g : GeometryValue) (p : Place) → IsTrue (is_hit g p) → IsTrue (is_hit (record g { e = g.e + 1 }) p)
 
 -- what a cache holds after a list of events, one with a line more in each set holds (Mattson and others 1970)
 abbrev pub HeldInclusion : Type 0
-HeldInclusion = (g : Shape) (write : WriteMode) (events : List Event) (block : ℕ) → 1 ≤ g.e
+HeldInclusion = (g : GeometryValue) (write : WriteMode) (events : List Event) (block : ℕ) → 1 ≤ g.e
     → IsTrue (holds (run (lru_machine g write) events) block)
     → IsTrue (holds (run (lru_machine (record g { e = g.e + 1 }) write) events) block)

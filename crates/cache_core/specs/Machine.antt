@@ -10,7 +10,7 @@ use Rattle.cache_core.specs.declared.outcome.Counts.{Counts}
 use Rattle.cache_core.specs.declared.outcome.Design.{Design}
 use Rattle.cache_core.specs.declared.outcome.Repl.{Repl}
 use Rattle.cache_core.specs.declared.outcome.Repl.TheVariants.{Lru, Fifo, Random}
-use Rattle.cache_core.specs.Geometry.{Shape, block_of, set_of_block, set_of}
+use Rattle.cache_core.specs.Geometry.{GeometryValue, block_of, set_of_block, set_of}
 use Rattle.cache_core.specs.Outcomes.{Answer, on_hit, on_placing, on_passing, dirties, allocates}
 
 -- a block that is held. Its key is the clock of the last touch or placing (LRU), the clock of placing
@@ -20,7 +20,7 @@ pub record Line : Type 0 where
   pub key : ℕ
   pub dirty : Bool
 
--- The clock, the blocks held, and how many random words were drawn. The lines of each set stand in the policy's order, which
+-- The clock, the blocks held, and how many random words were drawn. The lines of each set are in the policy's order, which
 -- is that of their keys (the law `sets_in_order`), so nothing hangs on how the lines of different sets are mixed.
 pub record MachineState : Type 0 where
   pub clock : ℕ
@@ -51,7 +51,7 @@ abbrev pub is_block : ℕ → Line → Bool
 is_block block line = line.block == block
 
 -- the lines of one set
-abbrev pub lines_of_set : Shape → ℕ → List Line → List Line
+abbrev pub lines_of_set : GeometryValue → ℕ → List Line → List Line
 lines_of_set g set lines = filter (λ line. set_of_block g line.block == set) lines
 
 -- the lines without that of a block
@@ -90,7 +90,7 @@ touch Lru clock line lines = record line { key = clock } ∷ without line.block 
 touch Fifo clock line lines = exchange line.block line lines
 touch Random clock line lines = exchange line.block line lines
 
--- a new block at this clock, where so many blocks stand in its set and this line leaves
+-- a new block at this clock, where so many blocks are in its set and this line leaves
 abbrev pub with_block : Repl → ℕ → ℕ → Slot → Option Line → List Line → List Line
 with_block Random clock count new None lines = lines ++ record { block = new.block; key = count; dirty = new.dirty } ∷ []
 with_block Random clock count new (Some gone) lines =

@@ -55,11 +55,11 @@ marked false slots at = slots
 marked true slots at =
     slice_set slots at (record (slice_index_or slots at (record { block = 0; dirty = false })) { dirty = true })
 
--- where a block stands among slots
+-- the place of a block among slots
 abbrev pub position_of : ℕ → List Slot → Option ℕ
 position_of block slots = position (λ x. x.block == block) slots
 
--- a reference whose block stands at a place of its set
+-- a reference whose block is at a place of its set
 pub record Hits (d : Design) (rule : Option Repl) (words : ℕ → ℕ) (ref : Ref) (at : ℕ) (old : List Slot) (outcome : Outcome) (new : List Slot)
     (rest : ℕ → ℕ) : Type 0 where
   pub order : Touches rule (marked (dirties d.write ref.access) old at) at new
@@ -74,7 +74,7 @@ pub record Fills (d : Design) (rule : Option Repl) (words : ℕ → ℕ) (ref : 
   pub answers : outcome ≡ outcome_of (on_placing d.geometry d.write ref (block_of d.geometry ref.addr) outcome.evicted)
 
 -- a reference that the cache passes on
-pub record Passes (words : ℕ → ℕ) (ref : Ref) (old : List Slot) (outcome : Outcome) (new : List Slot) (rest : ℕ → ℕ) : Type 0 where
+pub record PassesOn (words : ℕ → ℕ) (ref : Ref) (old : List Slot) (outcome : Outcome) (new : List Slot) (rest : ℕ → ℕ) : Type 0 where
   pub order : new ≡ old
   pub undrawn : rest ≡ words
   pub answers : outcome ≡ outcome_of (on_passing ref)
@@ -83,7 +83,7 @@ pub record Passes (words : ℕ → ℕ) (ref : Ref) (old : List Slot) (outcome :
 abbrev pub Visits : Design → Option Repl → (ℕ → ℕ) → Ref → List Slot → Outcome → List Slot → (ℕ → ℕ) → Type 0
 Visits d rule words ref old outcome new rest =
     MatchOption (position_of (block_of d.geometry ref.addr) old)
-    (MatchBool (allocates d.allocate ref.access) (Fills d rule words ref old outcome new rest) (Passes words ref old outcome new rest))
+    (MatchBool (allocates d.allocate ref.access) (Fills d rule words ref old outcome new rest) (PassesOn words ref old outcome new rest))
     (λ at. Hits d rule words ref at old outcome new rest)
 
 -- what a cache holds: its sets, each in its policy's order, and the random words still to come
@@ -114,7 +114,7 @@ dirty_in slots = count_by (λ slot. slot.dirty) slots
 abbrev pub dirty_slots : List (List Slot) → ℕ
 dirty_slots sets = sum_by dirty_in sets
 
--- a flush empties each set and keeps the words; it answers how many slots were dirty
+-- a flush empties each set and keeps the words; it returns how many slots were dirty
 pub record Flushes (old : Contents) (dirty : ℕ) (new : Contents) : Type 0 where
   pub empty : new.sets ≡ replicate (length old.sets) []
   pub words : new.words ≡ old.words

@@ -10,7 +10,7 @@ use Rattle.cache_core.specs.declared.outcome.WriteMode.{WriteMode}
 use Rattle.cache_core.specs.declared.outcome.WriteMode.TheVariants.{Back, Through}
 use Rattle.cache_core.specs.declared.outcome.AllocMode.{AllocMode}
 use Rattle.cache_core.specs.declared.outcome.AllocMode.TheVariants.{Always, Never}
-use Rattle.cache_core.specs.Geometry.{Shape, address_of}
+use Rattle.cache_core.specs.Geometry.{GeometryValue, address_of}
 
 -- whether an access is a write
 abbrev pub is_write : Access → Bool
@@ -34,7 +34,7 @@ writes_through Back ref = []
 writes_through Through ref = if is_write ref.access then ref ∷ [] else []
 
 -- a dirty victim is written back
-abbrev pub writes_back : Shape → Option Slot → List Ref
+abbrev pub writes_back : GeometryValue → Option Slot → List Ref
 writes_back g None = []
 writes_back g (Some victim) =
     if victim.dirty then record { access = Write; addr = address_of g victim.block } ∷ [] else []
@@ -57,7 +57,7 @@ abbrev pub on_hit : WriteMode → Ref → Answer
 on_hit write ref = record { hit = true; evicted = None; placed = false; down = writes_through write ref }
 
 -- a miss that places the block, where this victim left, if any
-abbrev pub on_placing : Shape → WriteMode → Ref → ℕ → Option Slot → Answer
+abbrev pub on_placing : GeometryValue → WriteMode → Ref → ℕ → Option Slot → Answer
 on_placing g write ref block victim = record {
   hit = false;
   evicted = victim;

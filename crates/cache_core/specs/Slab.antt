@@ -1,7 +1,7 @@
 -- A cache's sets in one array of slots: each has a segment of as many slots as it has ways, and the
 -- first of them are filled.
 use Rattle.std.specs.Prelude.{◌≡◌, ◌<◌, ◌≤◌, ℕ, ◌*◌, ◌^◌, List, [], ◌∷◌, Option, length, take, drop, All, replicate}
-use Rattle.cache_core.specs.Geometry.{Shape, IsGeometry}
+use Rattle.cache_core.specs.Geometry.{GeometryValue, IsGeometry}
 use Rattle.cache_core.specs.declared.outcome.Slot.{Slot}
 use Rattle.cache_core.specs.declared.outcome.Design.{Design}
 use Rattle.cache_core.specs.declared.outcome.Repl.{Repl}
@@ -17,8 +17,8 @@ abbrev pub Addressable : ℕ → List Slot → Type 0
 Addressable b slots = All (λ slot. slot.block * 2 ^ b < 2 ^ 64) slots
 
 -- what a cache keeps of its arrays
-pub record IsSlab (d : Design) (slots : List Slot) (filled : List ℕ) : Type 0 where
-  pub shape : IsGeometry d.geometry
+pub record IsCacheSlab (d : Design) (slots : List Slot) (filled : List ℕ) : Type 0 where
+  pub geometry : IsGeometry d.geometry
   pub segments : length slots ≡ d.geometry.e * 2 ^ d.geometry.s
   pub sets : length filled ≡ 2 ^ d.geometry.s
   pub within : All (λ n. n ≤ d.geometry.e) filled
@@ -39,5 +39,5 @@ abbrev pub contents_of : {P : Type 0} → (P → Option Repl) → (P → ℕ →
 contents_of rule words c = record { design = c.design; rule = rule c.policy; words = words c.policy; sets = c.sets }
 
 -- the sets of an empty cache
-abbrev pub empty_sets : Shape → List (List Slot)
+abbrev pub empty_sets : GeometryValue → List (List Slot)
 empty_sets g = replicate (2 ^ g.s) []

@@ -29,7 +29,7 @@ abbrev pub CountsUp : ℕ → List Line → Type 0
 CountsUp n [] = Unit {0}
 CountsUp n (line ∷ lines) = (line.key ≡ n) × CountsUp (n + 1) lines
 
--- the lines of a set stand in the policy's order: the newest key first, or way after way
+-- the lines of a set are in the policy's order: the newest key first, or way after way
 abbrev pub InOrder : Repl → ℕ → List Line → Type 0
 InOrder Lru clock lines = Falls (clock + 1) lines
 InOrder Fifo clock lines = Falls (clock + 1) lines
@@ -51,17 +51,17 @@ pub record IsGood (policy : Repl) (clock : ℕ) (ls : List Line) : Type 0 where
   pub order : InOrder policy clock ls
 
 -- each set of the machine is good
-abbrev pub IsSound : Machine → MachineState → Type 0
-IsSound m st = (k : ℕ) → IsGood m.policy st.clock (lines_of_set m.design.geometry k st.lines)
+abbrev pub IsSoundState : Machine → MachineState → Type 0
+IsSoundState m st = (k : ℕ) → IsGood m.policy st.clock (lines_of_set m.design.geometry k st.lines)
 
 -- a cache that holds what the machine holds after a list of events
-abbrev pub StandsFor : Machine → List Event → Contents → Type 0
-StandsFor m events c = IsState m (run m events) c
+abbrev pub CacheStandsFor : Machine → List Event → Contents → Type 0
+CacheStandsFor m events c = IsState m (run m events) c
 
 -- a new cache stands for no event
 abbrev pub StartLaw : Type 0
 StartLaw = (m : Machine) (c : Contents) →
-    c.design ≡ m.design → c.rule ≡ Some m.policy → c.words ≡ m.words → c.sets ≡ replicate (2 ^ m.design.geometry.s) [] → StandsFor m [] c
+    c.design ≡ m.design → c.rule ≡ Some m.policy → c.words ≡ m.words → c.sets ≡ replicate (2 ^ m.design.geometry.s) [] → CacheStandsFor m [] c
 
 -- a list of events at a cache, one after another
 abbrev pub Runs : Contents → List Event → Contents → Type 0
@@ -69,29 +69,29 @@ Runs old [] new = new ≡ old
 Runs old (event.Reference ref ∷ events) new = (outcome : Outcome) × (half : Contents) × Accesses old ref outcome half × Runs half events new
 Runs old (event.Flush ∷ events) new = (dirty : ℕ) × (half : Contents) × Flushes old dirty half × Runs half events new
 
--- an access leads from a list of events to that list with the reference, and answers as the machine does
+-- an access leads from a list of events to that list with the reference, and its outcome is the machine's
 abbrev pub AccessLaw : Type 0
 AccessLaw =
     (m : Machine) (events : List Event) (old : Contents) (ref : Ref) (outcome : Outcome) (new : Contents) →
-    1 ≤ m.design.geometry.e → StandsFor m events old → Accesses old ref outcome new →
-    StandsFor m (events ++ event.Reference ref ∷ []) new × (outcome ≡ outcome_of (answer m (run m events) ref))
+    1 ≤ m.design.geometry.e → CacheStandsFor m events old → Accesses old ref outcome new →
+    CacheStandsFor m (events ++ event.Reference ref ∷ []) new × (outcome ≡ outcome_of (answer m (run m events) ref))
 
--- a flush leads to that list with a flush, and answers how many blocks the machine holds dirty
+-- a flush leads to that list with a flush, and returns how many blocks the machine holds dirty
 abbrev pub FlushLaw : Type 0
 FlushLaw =
     (m : Machine) (events : List Event) (old : Contents) (dirty : ℕ) (new : Contents) →
-    StandsFor m events old → Flushes old dirty new →
-    StandsFor m (events ++ event.Flush ∷ []) new × (dirty ≡ dirty_count (run m events))
+    CacheStandsFor m events old → Flushes old dirty new →
+    CacheStandsFor m (events ++ event.Flush ∷ []) new × (dirty ≡ dirty_count (run m events))
 
 -- so a list of events leads to that list with the others behind it
 abbrev pub RunLaw : Type 0
 RunLaw = (m : Machine) (events more : List Event) (old new : Contents) →
-    1 ≤ m.design.geometry.e → StandsFor m events old → Runs old more new → StandsFor m (events ++ more) new
+    1 ≤ m.design.geometry.e → CacheStandsFor m events old → Runs old more new → CacheStandsFor m (events ++ more) new
 
--- Each set of the machine has one line at most for a block, and stands in the policy's order: for LRU
+-- Each set of the machine has one line at most for a block, and is in the policy's order: for LRU
 -- and FIFO the newest key first, for random way after way.
 abbrev pub OrderLaw : Type 0
-OrderLaw = (m : Machine) (events : List Event) → 1 ≤ m.design.geometry.e → IsSound m (run m events)
+OrderLaw = (m : Machine) (events : List Event) → 1 ≤ m.design.geometry.e → IsSoundState m (run m events)
 
 -- never more than two references go down
 abbrev pub DownLaw : Type 0

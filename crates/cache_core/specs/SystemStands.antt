@@ -3,27 +3,27 @@ use Rattle.std.specs.Prelude.{◌≡◌, ℕ, List, [], ◌∷◌, ◌++◌, len
 use Rattle.trace_core.specs.declared.events.Ref.{Ref}
 use Rattle.trace_core.specs.declared.events.Event.{Event}
 use Rattle.trace_core.specs.declared.events.Event.TheVariants as event
-use Rattle.cache_core.specs.declared.plan.Level.{Level}
+use Rattle.cache_core.specs.declared.plan.PlannedCache.{PlannedCache}
 use Rattle.cache_core.specs.declared.plan.CacheName.TheVariants.{L1I, L1D, L1U}
-use Rattle.cache_core.specs.declared.stage.Stage.{Stage}
-use Rattle.cache_core.specs.Levels.{Levels, IsPlan}
-use Rattle.cache_core.specs.Stands.{StandsFor}
-use Rattle.cache_core.specs.Stages.{contents_of_stage}
+use Rattle.cache_core.specs.declared.system_cache.SystemCache.{SystemCache}
+use Rattle.cache_core.specs.Plans.{PlannedCaches, IsPlan}
+use Rattle.cache_core.specs.Stands.{CacheStandsFor}
+use Rattle.cache_core.specs.SystemCaches.{system_cache_contents}
 use Rattle.cache_core.specs.Systems.{machine_of, events_for, below, system_run}
 use Rattle.cache_core.specs.SystemSteps.{SystemValue, IsNewSystem, Steps, FlushStep, stats_of}
 
 -- a cache of a system stands for the events that come to it
-abbrev pub LevelStands : ℕ → Option Level → List Event → Option Stage → Type 0
-LevelStands seed None events stage = stage ≡ None
-LevelStands seed (Some level) events stage =
-    (there : Stage) × (stage ≡ Some there) × StandsFor (machine_of seed level) events (contents_of_stage there)
+abbrev pub PlannedStandsFor : ℕ → Option PlannedCache → List Event → Option SystemCache → Type 0
+PlannedStandsFor seed None events cache = cache ≡ None
+PlannedStandsFor seed (Some planned) events cache =
+    (there : SystemCache) × (cache ≡ Some there) × CacheStandsFor (machine_of seed planned) events (system_cache_contents there)
 
 -- a system stands for a list of events
-pub record SystemStands (plan : Levels) (seed : ℕ) (events : List Event) (v : SystemValue) : Type 0 where
-  pub i : LevelStands seed plan.i (events_for L1I events) v.i
-  pub d : LevelStands seed plan.d (events_for L1D events) v.d
-  pub u : LevelStands seed plan.u (events_for L1U events) v.u
-  pub second : LevelStands seed plan.second (below plan seed events) v.second
+pub record SystemStands (plan : PlannedCaches) (seed : ℕ) (events : List Event) (v : SystemValue) : Type 0 where
+  pub i : PlannedStandsFor seed plan.i (events_for L1I events) v.i
+  pub d : PlannedStandsFor seed plan.d (events_for L1D events) v.d
+  pub u : PlannedStandsFor seed plan.u (events_for L1U events) v.u
+  pub second : PlannedStandsFor seed plan.second (below plan seed events) v.second
   pub stats : stats_of v ≡ system_run plan seed events
   pub steps : v.steps ≡ length events
 
@@ -35,19 +35,19 @@ SystemRuns old (event.Flush ∷ events) new = (half : SystemValue) × FlushStep 
 
 -- a new system stands for no event
 abbrev pub NewSystemLaw : Type 0
-NewSystemLaw = (plan : Levels) (seed : ℕ) (v : SystemValue) → IsNewSystem plan seed v → SystemStands plan seed [] v
+NewSystemLaw = (plan : PlannedCaches) (seed : ℕ) (v : SystemValue) → IsNewSystem plan seed v → SystemStands plan seed [] v
 
 -- a step adds its reference to the list
 abbrev pub StepLaw : Type 0
-StepLaw = (plan : Levels) (seed : ℕ) (events : List Event) (old : SystemValue) (ref : Ref) (new : SystemValue) →
+StepLaw = (plan : PlannedCaches) (seed : ℕ) (events : List Event) (old : SystemValue) (ref : Ref) (new : SystemValue) →
     IsPlan plan → SystemStands plan seed events old → Steps old ref new → SystemStands plan seed (events ++ event.Reference ref ∷ []) new
 
 -- a flush adds itself
 abbrev pub SystemFlushLaw : Type 0
-SystemFlushLaw = (plan : Levels) (seed : ℕ) (events : List Event) (old new : SystemValue) →
+SystemFlushLaw = (plan : PlannedCaches) (seed : ℕ) (events : List Event) (old new : SystemValue) →
     SystemStands plan seed events old → FlushStep old new → SystemStands plan seed (events ++ event.Flush ∷ []) new
 
 -- so a list of events adds itself
 abbrev pub SystemRunLaw : Type 0
-SystemRunLaw = (plan : Levels) (seed : ℕ) (events more : List Event) (old new : SystemValue) →
+SystemRunLaw = (plan : PlannedCaches) (seed : ℕ) (events more : List Event) (old new : SystemValue) →
     IsPlan plan → SystemStands plan seed events old → SystemRuns old more new → SystemStands plan seed (events ++ more) new

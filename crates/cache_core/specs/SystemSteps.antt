@@ -3,17 +3,18 @@ use Rattle.std.specs.Prelude.{◌≡◌, ◌≤◌, ℕ, ◌+◌, ◌*◌, ◌^�
 use Rattle.std.specs.Prelude.{MatchOption, MatchBool, is_some, is_none}
 use Rattle.trace_core.specs.declared.events.Ref.{Ref}
 use Rattle.cache_core.specs.declared.outcome.Outcome.{Outcome}
-use Rattle.cache_core.specs.declared.plan.CacheStats.{CacheStats}
-use Rattle.cache_core.specs.declared.plan.Stats.{Stats}
-use Rattle.cache_core.specs.declared.stage.Stage.{Stage}
+use Rattle.cache_core.specs.declared.stats.CacheStats.{CacheStats}
+use Rattle.cache_core.specs.declared.stats.Stats.{Stats}
+use Rattle.cache_core.specs.declared.system_cache.SystemCache.{SystemCache}
 use Rattle.cache_core.specs.declared.system.Memory.{Memory}
+use Rattle.cache_core.specs.declared.system.TheConstants.{MAX_STEPS}
 use Rattle.cache_core.specs.Order.{one_if}
 use Rattle.cache_core.specs.Outcomes.{is_write}
 use Rattle.cache_core.specs.Systems.{is_fetch, words_for}
-use Rattle.cache_core.specs.declared.plan.Level.{Level}
-use Rattle.cache_core.specs.Levels.{Levels}
+use Rattle.cache_core.specs.declared.plan.PlannedCache.{PlannedCache}
+use Rattle.cache_core.specs.Plans.{PlannedCaches}
 use Rattle.cache_core.specs.Slab.{empty_sets}
-use Rattle.cache_core.specs.Stages.{rule_of, words_of, Enters, Empties, LevelWithin}
+use Rattle.cache_core.specs.SystemCaches.{rule_of, random_words, Enters, Empties, CacheWithin}
 
 -- the references that are there, in order
 abbrev pub listed : List (Option Ref) → List Ref
@@ -31,53 +32,53 @@ all_reach memory [] = memory
 all_reach memory (ref ∷ refs) = all_reach (reaches memory ref) refs
 
 -- a reference comes down to the second level, or to memory where there is none
-abbrev pub Descends : Ref → Option Stage → Memory → Option Stage → Memory → Type 0
+abbrev pub Descends : Ref → Option SystemCache → Memory → Option SystemCache → Memory → Type 0
 Descends ref None memory second after = (second ≡ None) × (after ≡ reaches memory ref)
-Descends ref (Some stage) memory second after =
-    (outcome : Outcome) × (next : Stage) × Enters stage ref outcome next × (second ≡ Some next) × (after ≡ all_reach memory (listed outcome.down))
+Descends ref (Some cache) memory second after =
+    (outcome : Outcome) × (next : SystemCache) × Enters cache ref outcome next × (second ≡ Some next) × (after ≡ all_reach memory (listed outcome.down))
 
 -- a list of references comes down, one after another
-abbrev pub AllDescend : List Ref → Option Stage → Memory → Option Stage → Memory → Type 0
+abbrev pub AllDescend : List Ref → Option SystemCache → Memory → Option SystemCache → Memory → Type 0
 AllDescend [] second memory lower after = (lower ≡ second) × (after ≡ memory)
 AllDescend (ref ∷ refs) second memory lower after =
-    (mid : Option Stage) × (half : Memory) × Descends ref second memory mid half × AllDescend refs mid half lower after
+    (mid : Option SystemCache) × (half : Memory) × Descends ref second memory mid half × AllDescend refs mid half lower after
 
 -- what a first-level cache does with a reference, and what it sends down; none if it isn't there
-abbrev pub Answers : Option Stage → Ref → Option (List (Option Ref)) → Option Stage → Type 0
-Answers stage ref None next = (stage ≡ None) × (next ≡ None)
-Answers stage ref (Some down) next =
-    (old : Stage) × (new : Stage) × (outcome : Outcome) × (stage ≡ Some old) × (next ≡ Some new) × (down ≡ outcome.down)
+abbrev pub AccessesFirst : Option SystemCache → Ref → Option (List (Option Ref)) → Option SystemCache → Type 0
+AccessesFirst cache ref None next = (cache ≡ None) × (next ≡ None)
+AccessesFirst cache ref (Some down) next =
+    (old : SystemCache) × (new : SystemCache) × (outcome : Outcome) × (cache ≡ Some old) × (next ≡ Some new) × (down ≡ outcome.down)
     × Enters old ref outcome new
 
 -- a system: its caches, what reached memory, the references that no cache took, and its steps
 pub record SystemValue : Type 0 where
-  pub i : Option Stage
-  pub d : Option Stage
-  pub u : Option Stage
-  pub second : Option Stage
+  pub i : Option SystemCache
+  pub d : Option SystemCache
+  pub u : Option SystemCache
+  pub second : Option SystemCache
   pub memory : Memory
   pub bypassed : ℕ
   pub steps : ℕ
 
--- Which cache answers: a unified one if there is one, else the one for fetches or for data.
-abbrev pub FirstAnswers : Option Stage → Option Stage → Option Stage → Ref → Option (List (Option Ref)) → Option Stage → Option Stage →
-    Option Stage → Type 0
-FirstAnswers i d u ref down i' d' u' =
+-- Which cache is accessed: a unified one if there is one, else the one for fetches or for data.
+abbrev pub AccessesFirstLevel : Option SystemCache → Option SystemCache → Option SystemCache → Ref → Option (List (Option Ref)) → Option SystemCache → Option SystemCache →
+    Option SystemCache → Type 0
+AccessesFirstLevel i d u ref down i' d' u' =
     MatchBool (is_some u)
-    (Answers u ref down u' × (i' ≡ i) × (d' ≡ d))
+    (AccessesFirst u ref down u' × (i' ≡ i) × (d' ≡ d))
     (MatchBool (is_fetch ref.access)
-    (Answers i ref down i' × (d' ≡ d) × (u' ≡ u))
-    (Answers d ref down d' × (i' ≡ i) × (u' ≡ u)))
+    (AccessesFirst i ref down i' × (d' ≡ d) × (u' ≡ u))
+    (AccessesFirst d ref down d' × (i' ≡ i) × (u' ≡ u)))
 
 -- the copybacks of a cache
-abbrev pub copied : Option Stage → ℕ
+abbrev pub copied : Option SystemCache → ℕ
 copied None = 0
-copied (Some stage) = stage.stats.copybacks
+copied (Some cache) = cache.stats.copybacks
 
 -- one reference at a system
 pub record Steps (old : SystemValue) (ref : Ref) (new : SystemValue) : Type 0 where
   pub down : Option (List (Option Ref))
-  pub first : FirstAnswers old.i old.d old.u ref down new.i new.d new.u
+  pub first : AccessesFirstLevel old.i old.d old.u ref down new.i new.d new.u
   pub lower : MatchOption down ((new.second ≡ old.second) × (new.memory ≡ old.memory))
       (λ refs. AllDescend (listed refs) old.second old.memory new.second new.memory)
   pub bypassed : new.bypassed ≡ old.bypassed + one_if (is_none down)
@@ -85,19 +86,19 @@ pub record Steps (old : SystemValue) (ref : Ref) (new : SystemValue) : Type 0 wh
 
 -- What a system keeps: a first-level cache counts at most one access a step, the second level at most
 -- two, and at most four references reach memory a step, beside what is flushed.
-pub record IsCounted (v : SystemValue) : Type 0 where
-  pub steps : v.steps ≤ 2 ^ 41
-  pub i : LevelWithin v.steps v.i
-  pub d : LevelWithin v.steps v.d
-  pub u : LevelWithin v.steps v.u
-  pub second : LevelWithin (v.steps + v.steps) v.second
+pub record IsSystem (v : SystemValue) : Type 0 where
+  pub steps : v.steps ≤ MAX_STEPS
+  pub i : CacheWithin v.steps v.i
+  pub d : CacheWithin v.steps v.d
+  pub u : CacheWithin v.steps v.u
+  pub second : CacheWithin (v.steps + v.steps) v.second
   pub memory : v.memory.reads + v.memory.writes ≤ 4 * v.steps + copied v.i + copied v.d + copied v.u + copied v.second
   pub bypassed : v.bypassed ≤ v.steps
 
 -- a cache of a system is emptied; none has no dirty line
-abbrev pub EmptiesLevel : Option Stage → ℕ → Option Stage → Type 0
-EmptiesLevel None dirty new = (new ≡ None) × (dirty ≡ 0)
-EmptiesLevel (Some old) dirty new = (next : Stage) × (new ≡ Some next) × Empties old dirty next
+abbrev pub EmptiesCache : Option SystemCache → ℕ → Option SystemCache → Type 0
+EmptiesCache None dirty new = (new ≡ None) × (dirty ≡ 0)
+EmptiesCache (Some old) dirty new = (next : SystemCache) × (new ≡ Some next) × Empties old dirty next
 
 -- one flush of a system: each dirty line is a memory write
 pub record FlushStep (old new : SystemValue) : Type 0 where
@@ -105,18 +106,18 @@ pub record FlushStep (old new : SystemValue) : Type 0 where
   pub dirty_d : ℕ
   pub dirty_u : ℕ
   pub dirty_second : ℕ
-  pub i : EmptiesLevel old.i dirty_i new.i
-  pub d : EmptiesLevel old.d dirty_d new.d
-  pub u : EmptiesLevel old.u dirty_u new.u
-  pub second : EmptiesLevel old.second dirty_second new.second
+  pub i : EmptiesCache old.i dirty_i new.i
+  pub d : EmptiesCache old.d dirty_d new.d
+  pub u : EmptiesCache old.u dirty_u new.u
+  pub second : EmptiesCache old.second dirty_second new.second
   pub memory : new.memory ≡ record old.memory { writes = old.memory.writes + (dirty_i + dirty_d + dirty_u + dirty_second) }
   pub bypassed : new.bypassed ≡ old.bypassed
   pub steps : new.steps ≡ old.steps + 1
 
 -- the counts of a cache, where there is one
-abbrev pub stats_held : Option Stage → Option CacheStats
+abbrev pub stats_held : Option SystemCache → Option CacheStats
 stats_held None = None
-stats_held (Some stage) = Some stage.stats
+stats_held (Some cache) = Some cache.stats
 
 -- a cache, where there is one, copied back no more blocks than it took writes
 abbrev pub HasWritten : Option CacheStats → Type 0
@@ -140,24 +141,24 @@ abbrev pub no_counts : CacheStats
 no_counts = record { fetches = 0; fetch_misses = 0; reads = 0; read_misses = 0; writes = 0; write_misses = 0; evictions = 0; copybacks = 0 }
 
 -- a new cache of a system: empty, under its rule, with the words of the seed
-pub record IsNewStage (seed : ℕ) (level : Level) (stage : Stage) : Type 0 where
-  pub design : stage.cache.design ≡ level.design
-  pub rule : rule_of stage.cache.policy ≡ Some level.repl
-  pub words : words_of stage.cache.policy ≡ words_for level.repl seed
-  pub empty : stage.cache.sets ≡ empty_sets level.design.geometry
-  pub counts : stage.stats ≡ no_counts
+pub record IsNewSystemCache (seed : ℕ) (planned : PlannedCache) (cache : SystemCache) : Type 0 where
+  pub design : cache.cache.design ≡ planned.design
+  pub rule : rule_of cache.cache.policy ≡ Some planned.repl
+  pub words : random_words cache.cache.policy ≡ words_for planned.repl seed
+  pub empty : cache.cache.sets ≡ empty_sets planned.design.geometry
+  pub counts : cache.stats ≡ no_counts
 
 -- a new cache of a system exactly where the plan has one
-abbrev pub IsNewLevel : ℕ → Option Level → Option Stage → Type 0
-IsNewLevel seed None stage = stage ≡ None
-IsNewLevel seed (Some level) stage = (new : Stage) × (stage ≡ Some new) × IsNewStage seed level new
+abbrev pub IsNewCache : ℕ → Option PlannedCache → Option SystemCache → Type 0
+IsNewCache seed None cache = cache ≡ None
+IsNewCache seed (Some planned) cache = (new : SystemCache) × (cache ≡ Some new) × IsNewSystemCache seed planned new
 
 -- a new system: new caches, and nothing counted
-pub record IsNewSystem (plan : Levels) (seed : ℕ) (v : SystemValue) : Type 0 where
-  pub i : IsNewLevel seed plan.i v.i
-  pub d : IsNewLevel seed plan.d v.d
-  pub u : IsNewLevel seed plan.u v.u
-  pub second : IsNewLevel seed plan.second v.second
+pub record IsNewSystem (plan : PlannedCaches) (seed : ℕ) (v : SystemValue) : Type 0 where
+  pub i : IsNewCache seed plan.i v.i
+  pub d : IsNewCache seed plan.d v.d
+  pub u : IsNewCache seed plan.u v.u
+  pub second : IsNewCache seed plan.second v.second
   pub memory : v.memory ≡ record { reads = 0; writes = 0 }
   pub bypassed : v.bypassed ≡ 0
   pub steps : v.steps ≡ 0

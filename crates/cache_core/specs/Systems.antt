@@ -9,15 +9,15 @@ use Rattle.trace_core.specs.declared.events.Event.{Event}
 use Rattle.trace_core.specs.declared.events.Event.TheVariants as event
 use Rattle.cache_core.specs.declared.outcome.Repl.{Repl}
 use Rattle.cache_core.specs.declared.outcome.Repl.TheVariants.{Lru, Fifo, Random}
-use Rattle.cache_core.specs.declared.plan.Level.{Level}
+use Rattle.cache_core.specs.declared.plan.PlannedCache.{PlannedCache}
 use Rattle.cache_core.specs.declared.plan.CacheName.{CacheName}
 use Rattle.cache_core.specs.declared.plan.CacheName.TheVariants.{L1I, L1D, L1U, L2U}
-use Rattle.cache_core.specs.declared.plan.CacheStats.{CacheStats}
-use Rattle.cache_core.specs.declared.plan.Stats.{Stats}
+use Rattle.cache_core.specs.declared.stats.CacheStats.{CacheStats}
+use Rattle.cache_core.specs.declared.stats.Stats.{Stats}
 use Rattle.cache_core.specs.Outcomes.{is_write}
 use Rattle.cache_core.specs.Machine.{Machine, MachineState, start, step, answer, next, run, dirty_count, answered}
 use Rattle.cache_core.specs.Order.{is_dirty}
-use Rattle.cache_core.specs.Levels.{Levels}
+use Rattle.cache_core.specs.Plans.{PlannedCaches}
 use Rattle.cache_core.specs.Words.{word_of, seeded}
 
 -- the words of a policy: only random has a generator
@@ -27,8 +27,8 @@ words_for Fifo seed = λ n. 0
 words_for Random seed = word_of (seeded seed)
 
 -- each cache with random replacement has a generator of its own, of the same seed
-abbrev pub machine_of : ℕ → Level → Machine
-machine_of seed level = record { design = level.design; policy = level.repl; words = words_for level.repl seed }
+abbrev pub machine_of : ℕ → PlannedCache → Machine
+machine_of seed planned = record { design = planned.design; policy = planned.repl; words = words_for planned.repl seed }
 
 -- whether an access is an instruction fetch
 abbrev pub is_fetch : Access → Bool
@@ -59,25 +59,25 @@ abbrev pub events_for : CacheName → List Event → List Event
 events_for name events = filter (takes_event name) events
 
 -- what goes down from a cache of the first level for a reference, after earlier events
-abbrev pub sends : ℕ → CacheName → Option Level → List Event → Ref → List Ref
+abbrev pub sends : ℕ → CacheName → Option PlannedCache → List Event → Ref → List Ref
 sends seed name None earlier ref = []
-sends seed name (Some level) earlier ref =
-    if takes name ref then (answer (machine_of seed level) (run (machine_of seed level) (events_for name earlier)) ref).down else []
+sends seed name (Some planned) earlier ref =
+    if takes name ref then (answer (machine_of seed planned) (run (machine_of seed planned) (events_for name earlier)) ref).down else []
 
 -- what goes down from the first level for a reference
-abbrev pub sent : Levels → ℕ → List Event → Ref → List Ref
+abbrev pub sent : PlannedCaches → ℕ → List Event → Ref → List Ref
 sent plan seed earlier ref =
     sends seed L1I plan.i earlier ref ++ sends seed L1D plan.d earlier ref ++ sends seed L1U plan.u earlier ref
 
 -- what goes down from the first level for events that come after earlier ones, in order, with each flush at its place
-abbrev pub below_from : Levels → ℕ → List Event → List Event → List Event
+abbrev pub below_from : PlannedCaches → ℕ → List Event → List Event → List Event
 below_from plan seed earlier [] = []
 below_from plan seed earlier (event.Reference ref ∷ events) =
     map event.Reference (sent plan seed earlier ref) ++ below_from plan seed (earlier ++ event.Reference ref ∷ []) events
 below_from plan seed earlier (event.Flush ∷ events) = event.Flush ∷ below_from plan seed (earlier ++ event.Flush ∷ []) events
 
 -- the events of the second level: what goes down from the first for a whole list
-abbrev pub below : Levels → ℕ → List Event → List Event
+abbrev pub below : PlannedCaches → ℕ → List Event → List Event
 below plan seed events = below_from plan seed [] events
 
 -- how many dirty blocks the flushes of a list find, from a state
@@ -106,14 +106,14 @@ cache_stats m events =
     }
 
 -- what a cache counts over its events, if the plan has it
-abbrev pub level_counts : ℕ → Option Level → List Event → Option CacheStats
-level_counts seed None events = None
-level_counts seed (Some level) events = Some (cache_stats (machine_of seed level) events)
+abbrev pub counts_if_planned : ℕ → Option PlannedCache → List Event → Option CacheStats
+counts_if_planned seed None events = None
+counts_if_planned seed (Some planned) events = Some (cache_stats (machine_of seed planned) events)
 
 -- how many dirty blocks its flushes find, none if the plan doesn't have it
-abbrev pub level_flushed : ℕ → Option Level → List Event → ℕ
-level_flushed seed None events = 0
-level_flushed seed (Some level) events = flushed (machine_of seed level) events
+abbrev pub flushed_if_planned : ℕ → Option PlannedCache → List Event → ℕ
+flushed_if_planned seed None events = 0
+flushed_if_planned seed (Some planned) events = flushed (machine_of seed planned) events
 
 -- the references of a list of events
 abbrev pub references_in : List Event → List Ref
@@ -122,27 +122,27 @@ references_in (event.Reference ref ∷ events) = ref ∷ references_in events
 references_in (event.Flush ∷ events) = references_in events
 
 -- what goes down from the last level, where these events come to the second
-abbrev pub to_memory : ℕ → Option Level → List Event → List Ref
+abbrev pub to_memory : ℕ → Option PlannedCache → List Event → List Ref
 to_memory seed None events = references_in events
-to_memory seed (Some level) events = flat_map (λ p. p.1.down) (answered (machine_of seed level) events)
+to_memory seed (Some planned) events = flat_map (λ p. p.1.down) (answered (machine_of seed planned) events)
 
 -- whether some cache of the first level takes a reference
-abbrev pub is_taken : Levels → Ref → Bool
+abbrev pub is_taken : PlannedCaches → Ref → Bool
 is_taken plan ref = is_some plan.u || (is_some plan.i && takes L1I ref) || (is_some plan.d && takes L1D ref)
 
 -- the statistics of a system after a list of events
-abbrev pub system_run : Levels → ℕ → List Event → Stats
+abbrev pub system_run : PlannedCaches → ℕ → List Event → Stats
 system_run plan seed events =
     let lower = below plan seed events in
     let memory = to_memory seed plan.second lower in
     record {
-      l1i = level_counts seed plan.i (events_for L1I events);
-      l1d = level_counts seed plan.d (events_for L1D events);
-      l1u = level_counts seed plan.u (events_for L1U events);
-      l2u = level_counts seed plan.second lower;
+      l1i = counts_if_planned seed plan.i (events_for L1I events);
+      l1d = counts_if_planned seed plan.d (events_for L1D events);
+      l1u = counts_if_planned seed plan.u (events_for L1U events);
+      l2u = counts_if_planned seed plan.second lower;
       memory_reads = count_by (λ ref. not (is_write ref.access)) memory;
       memory_writes = count_by (λ ref. is_write ref.access) memory
-          + (level_flushed seed plan.i (events_for L1I events) + level_flushed seed plan.d (events_for L1D events)
-          + level_flushed seed plan.u (events_for L1U events) + level_flushed seed plan.second lower);
+          + (flushed_if_planned seed plan.i (events_for L1I events) + flushed_if_planned seed plan.d (events_for L1D events)
+          + flushed_if_planned seed plan.u (events_for L1U events) + flushed_if_planned seed plan.second lower);
       bypassed = count_by (λ ref. not (is_taken plan ref)) (references_in events);
     }

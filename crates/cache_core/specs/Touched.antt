@@ -23,7 +23,7 @@ pub record ListsFilled (sets counts : List ℕ) : Type 0 where
   pub within : All (λ set. set < length counts) sets
   pub others : (set : ℕ) → list_any (λ other. other == set) sets ≡ false → slice_index_or counts set 0 ≡ 0
 
--- a list that stands for counts tells each set whose count is not 0
+-- a list that stands for counts has each set whose count is not 0
 abbrev pub Covers : Touched → List ℕ → Type 0
 Covers touched counts = IfSome touched.listed (λ sets. ListsFilled sets counts)
 

@@ -5,7 +5,7 @@ use Rattle.std.specs.List.{before_first, list_any, range_with_len}
 use Rattle.trace_core.specs.declared.events.Event.{Event}
 use Rattle.trace_core.specs.declared.events.Event.TheVariants as event
 use Rattle.cache_core.specs.declared.outcome.Counts.{Counts}
-use Rattle.cache_core.specs.Geometry.{Shape, block_of, set_of_block}
+use Rattle.cache_core.specs.Geometry.{GeometryValue, block_of, set_of_block}
 
 -- whether an event is a flush
 abbrev pub is_flush : Event → Bool
@@ -13,12 +13,12 @@ is_flush (event.Reference r) = false
 is_flush event.Flush = true
 
 -- the block of a reference
-abbrev pub block_in : Shape → Event → Option ℕ
+abbrev pub block_in : GeometryValue → Event → Option ℕ
 block_in g (event.Reference r) = Some (block_of g r.addr)
 block_in g event.Flush = None
 
 -- the blocks referenced since the last flush, the most recent first
-unfoldable pub window : Shape → List Event → List ℕ
+unfoldable pub window : GeometryValue → List Event → List ℕ
 window g es = filter_map (block_in g) (before_first is_flush (reverse es))
 
 -- a place of a list of events that holds a reference: its block, and the window before it
@@ -27,14 +27,14 @@ pub record Place : Type 0 where
   pub window : List ℕ
 
 -- the places of a list of events that comes after another one, in order
-unfoldable pub places_after : Shape → List Event → List Event → List Place
+unfoldable pub places_after : GeometryValue → List Event → List Event → List Place
 places_after g before [] = []
 places_after g before (event.Reference r ∷ es) =
     record { block = block_of g r.addr; window = window g before } ∷ places_after g (before ++ event.Reference r ∷ []) es
 places_after g before (event.Flush ∷ es) = places_after g (before ++ event.Flush ∷ []) es
 
 -- the places of a list of events, in order: one for each reference
-abbrev pub places : Shape → List Event → List Place
+abbrev pub places : GeometryValue → List Event → List Place
 places g es = places_after g [] es
 
 -- the different numbers of a list, each at its first place
@@ -43,7 +43,7 @@ distinct [] = []
 distinct (x ∷ xs) = x ∷ filter (λ y. not (y == x)) (distinct xs)
 
 -- the different blocks of set k in a window, the most recent first
-unfoldable pub distinct_of_set : Shape → ℕ → List ℕ → List ℕ
+unfoldable pub distinct_of_set : GeometryValue → ℕ → List ℕ → List ℕ
 distinct_of_set g k w = filter (λ block. set_of_block g block == k) (distinct w)
 
 -- whether the block was referenced before, since the last flush
@@ -51,23 +51,23 @@ abbrev pub has_last : Place → Bool
 has_last p = list_any (λ block. block == p.block) p.window
 
 -- the stack distance: how many different blocks of its set were referenced since the last reference to the block
-abbrev pub distance : Shape → Place → ℕ
+abbrev pub distance : GeometryValue → Place → ℕ
 distance g p = length (distinct_of_set g (set_of_block g p.block) (before_first (λ block. block == p.block) p.window))
 
 -- how many different blocks of its set were referenced before, since the last flush
-abbrev pub seen : Shape → Place → ℕ
+abbrev pub seen : GeometryValue → Place → ℕ
 seen g p = length (distinct_of_set g (set_of_block g p.block) p.window)
 
--- an LRU cache of this shape hits there
-abbrev pub is_hit : Shape → Place → Bool
+-- an LRU cache of this geometry hits there
+abbrev pub is_hit : GeometryValue → Place → Bool
 is_hit g p = has_last p && nat_lt (distance g p) g.e
 
 -- a block leaves it there
-abbrev pub is_evict : Shape → Place → Bool
+abbrev pub is_evict : GeometryValue → Place → Bool
 is_evict g p = not (is_hit g p) && nat_le g.e (seen g p)
 
--- the counts of an LRU cache of this shape
-unfoldable pub counts : Shape → List Event → Counts
+-- the counts of an LRU cache of this geometry
+unfoldable pub counts : GeometryValue → List Event → Counts
 counts g es = record {
   hits = count_by (is_hit g) (places g es);
   misses = count_by (λ p. not (is_hit g p)) (places g es);
@@ -75,14 +75,14 @@ counts g es = record {
 }
 
 -- the comparisons that look for each block among the g.e most recent blocks of its set, from the most recent on
-unfoldable pub probes : Shape → List Event → ℕ
+unfoldable pub probes : GeometryValue → List Event → ℕ
 probes g es = sum_by (λ p. if is_hit g p then distance g p + 1 else min (seen g p) g.e) (places g es)
 
--- how many blocks stand in all sets, at most g.e in each
-unfoldable pub held : Shape → List Event → ℕ
+-- how many blocks are in all sets, at most g.e in each
+unfoldable pub held : GeometryValue → List Event → ℕ
 held g es = sum_by (λ k. min (length (distinct_of_set g k (window g es))) g.e) (range_with_len 0 (2 ^ g.s))
 
 -- the window after one more event
-abbrev pub window_after : Shape → List ℕ → Event → List ℕ
+abbrev pub window_after : GeometryValue → List ℕ → Event → List ℕ
 window_after g w (event.Reference r) = block_of g r.addr ∷ w
 window_after g w event.Flush = []

@@ -3,7 +3,7 @@ ghost use Rattle.std.specs.Prelude.{◌≡◌, ◌≤◌, ◌<◌, ◌+◌, ◌*
 ghost use Rattle.cache_core.specs.Geometry.{block_of, address_of};
 ghost use Rattle.cache_core.specs.Outcomes.{outcome_of, on_hit, on_placing, on_passing, dirties, allocates, writes_through, fill_access};
 ghost use Rattle.cache_core.specs.Order.{Touches, TakesIn, Visits, words_after, position_of, marked, Accesses, Flushes, dirty_slots, DirtiesByWrites};
-ghost use Rattle.cache_core.specs.Slab.{Addressable, IsSlab, slab_contents, sets_of};
+ghost use Rattle.cache_core.specs.Slab.{Addressable, IsCacheSlab, slab_contents, sets_of};
 ghost use Rattle.cache_core.specs.Touched.{Covers, ListsFilled, no_sets};
 
 use crate::geometry::Geometry;
@@ -15,7 +15,7 @@ use std::marker::Model;
 use std::mem;
 use trace_core::events::{Access, Ref};
 
-/// Where a block stands.
+/// The place of a block.
 #[inline(always)]
 fn find_block(slots: &[Slot], block: u64) -> Option<usize>
     ensures { result ≡ position_of block slots.now }
@@ -49,7 +49,7 @@ fn written_through(write: WriteMode, reference: Ref) -> Option<Ref>
 
 /// What goes down for the block: a fetch for a fetch, and otherwise a read.
 #[inline(always)]
-fn fill_of(geometry: Geometry, reference: Ref, block: u64) -> Ref
+fn block_load(geometry: Geometry, reference: Ref, block: u64) -> Ref
     requires { block * 2 ^ geometry.b < 2 ^ 64 }
     ensures access { result.access ≡ fill_access reference.access }
     ensures addr { result.addr ≡ address_of geometry block }
@@ -80,7 +80,7 @@ fn placing_outcome(design: Design, reference: Ref, block: u64, evicted: Option<S
     requires victim { IfSome evicted (λ slot. slot.block * 2 ^ design.geometry.b < 2 ^ 64) }
     ensures { result ≡ outcome_of (on_placing design.geometry design.write reference block evicted) }
 {
-    let fill = fill_of(design.geometry, reference, block);
+    let fill = block_load(design.geometry, reference, block);
     let down = match evicted {
         Some(victim) if victim.dirty => {
             let access = Access::Write;
@@ -124,7 +124,7 @@ fn use_slot<P: Replacement>(policy: &mut P, slots: &mut [Slot], at: usize, dirty
     policy.touch(slots, at);
 }
 
-/// One access, in the room of its set. Answers how many places are filled then, too.
+/// One access, in the room of its set. Returns how many places are filled then, too.
 #[inline(always)]
 fn visit<P: Replacement>(
     design: Design,
@@ -167,10 +167,10 @@ fn visit_slab<P: Replacement>(
     touched: &mut TouchedSets,
     reference: Ref,
 ) -> Outcome
-    requires slab { IsSlab design slots.old filled.old }
+    requires slab { IsCacheSlab design slots.old filled.old }
     requires touched { Covers touched.old filled.old }
     ensures touched { Covers touched.new filled.new }
-    ensures slab { IsSlab design slots.new filled.new }
+    ensures slab { IsCacheSlab design slots.new filled.new }
     ensures access { Accesses
         (slab_contents design (P.rule policy.old) (P.words policy.old) slots.old filled.old) reference result
         (slab_contents design (P.rule policy.new) (P.words policy.new) slots.new filled.new) }
@@ -220,7 +220,7 @@ fn clear(filled: &mut [u32])
     filled.fill(0);
 }
 
-/// Leaves no slot of the listed sets filled, which are all that have any, and answers how many were dirty. A set that is listed
+/// Leaves no slot of the listed sets filled, which are all that have any, and returns how many were dirty. A set that is listed
 /// again has none any more.
 fn empty_listed(slots: &[Slot], filled: &mut [u32], ways: usize, listed: &[u32]) -> u64
     requires segments { length slots.now ≡ ways * length filled.old }
@@ -240,7 +240,7 @@ fn empty_listed(slots: &[Slot], filled: &mut [u32], ways: usize, listed: &[u32])
     dirty
 }
 
-/// Leaves no slot of a slab filled, and answers how many were dirty. It goes to the listed sets alone where they are listed.
+/// Leaves no slot of a slab filled, and returns how many were dirty. It goes to the listed sets alone where they are listed.
 fn empty_slab(touched: &mut TouchedSets, slots: &[Slot], filled: &mut [u32], ways: usize) -> u64
     requires segments { length slots.now ≡ ways * length filled.old }
     requires within { All (λ n. n ≤ ways) filled.old }
@@ -269,7 +269,7 @@ fn no_slots(alloc: Global, sets: usize) -> Result<Vec<u32>, AllocError>
     vec![in alloc; 0; sets]
 }
 
-/// A cache under a policy. A set's slots stand in the policy's order in one array, each set in a segment of its own. `touched`
+/// A cache under a policy. A set's slots are in the policy's order in one array, each set in a segment of its own. `touched`
 /// lists the sets with filled slots, so that a flush goes to these alone.
 #[derive(Drop)]
 pub struct Cache<P> {
@@ -285,7 +285,7 @@ impl<P> Model for Cache<P> {
 
     ghost Value = { CacheValue P };
 
-    ghost use Rattle.cache_core.specs.Slab.{sets_of, IsSlab};
+    ghost use Rattle.cache_core.specs.Slab.{sets_of, IsCacheSlab};
     ghost use Rattle.cache_core.specs.Touched.{Covers};
 
     ghost view = { λ c. record {
@@ -294,7 +294,7 @@ impl<P> Model for Cache<P> {
       sets = sets_of c.design.geometry.e c.slots.items c.filled.items;
     } };
 
-    ghost invariant = { λ c. IsSlab c.design c.slots.items c.filled.items × Covers c.touched c.filled.items };
+    ghost invariant = { λ c. IsCacheSlab c.design c.slots.items c.filled.items × Covers c.touched c.filled.items };
 }
 
 impl<P: Replacement> Cache<P> {
@@ -352,7 +352,7 @@ impl<P: Replacement> Cache<P> {
         )
     }
 
-    /// Empties the cache, and answers how many dirty lines it held. Nothing is evicted, and a random policy goes on with its
+    /// Empties the cache, and returns how many dirty lines it held. Nothing is evicted, and a random policy goes on with its
     /// words.
     pub fn flush(&mut self) -> u64
         ensures { Flushes (contents_of P.rule P.words self.old) result

@@ -23,13 +23,13 @@ pub struct Geometry {
 
 impl Model for Geometry {
     ghost use Rattle.std.specs.Prelude.{◌≡◌, ◌-◌, ◌^◌};
-    ghost use Rattle.cache_core.specs.Geometry.{Shape, IsGeometry, shape};
+    ghost use Rattle.cache_core.specs.Geometry.{GeometryValue, IsGeometry, geometry_value};
 
-    ghost Value = { Shape };
+    ghost Value = { GeometryValue };
 
-    ghost view = { λ g. shape g.s g.e g.b };
+    ghost view = { λ g. geometry_value g.s g.e g.b };
 
-    ghost invariant = { λ g. IsGeometry (shape g.s g.e g.b) × (g.set_mask ≡ 2 ^ g.s - 1) };
+    ghost invariant = { λ g. IsGeometry (geometry_value g.s g.e g.b) × (g.set_mask ≡ 2 ^ g.s - 1) };
 
     ghost inverse = { λ g. record { s = g.s; e = g.e; b = g.b; set_mask = 2 ^ g.s - 1 } };
 }

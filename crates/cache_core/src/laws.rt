@@ -4,26 +4,26 @@ ghost use Rattle.std.specs.Prelude.{◌≡◌, ◌↔◌, true, List, [], ◌∷
 ghost use Rattle.trace_core.specs.declared.events.Ref.{Ref};
 ghost use Rattle.trace_core.specs.declared.events.Event.{Event};
 ghost use Rattle.trace_core.specs.declared.events.Event.TheVariants as event;
-ghost use Rattle.cache_core.specs.Geometry.{Shape, IsGeometry, is_geometry};
+ghost use Rattle.cache_core.specs.Geometry.{GeometryValue, IsGeometry, is_geometry};
 ghost use Rattle.cache_core.specs.Windows.{window, window_after, places};
 ghost use Rattle.cache_core.specs.Stands.{StartLaw, AccessLaw, FlushLaw, RunLaw, OrderLaw, DownLaw};
 ghost use Rattle.cache_core.specs.AnyPolicy.{AnyStartLaw, AnyAccessLaw, AnyFlushLaw};
 ghost use Rattle.cache_core.specs.LruLaws.{place_after, HitLaw, VictimLaw, CountLaw, NextLaw, HitInclusion, HeldInclusion};
-ghost use Rattle.cache_core.specs.Levels.{ShapeLaw};
+ghost use Rattle.cache_core.specs.Plans.{GeometryLaw};
 ghost use Rattle.cache_core.specs.SystemStands.{NewSystemLaw, StepLaw, SystemFlushLaw, SystemRunLaw};
 
 /// A reference puts its block in front of the window, and a flush empties it.
 pub fn window_grows()
-    ensures start { (g : Shape) → window g [] ≡ [] }
-    ensures more { (g : Shape) (events : List Event) (e : Event) →
+    ensures start { (g : GeometryValue) → window g [] ≡ [] }
+    ensures more { (g : GeometryValue) (events : List Event) (e : Event) →
         window g (events ++ e ∷ []) ≡ window_after g (window g events) e }
 {}
 
 /// One more reference is one more place, with the window of the list before it; a flush is none.
 pub fn places_grow()
-    ensures reference { (g : Shape) (events : List Event) (ref : Ref) →
+    ensures reference { (g : GeometryValue) (events : List Event) (ref : Ref) →
         places g (events ++ event.Reference ref ∷ []) ≡ places g events ++ place_after g events ref ∷ [] }
-    ensures flush { (g : Shape) (events : List Event) →
+    ensures flush { (g : GeometryValue) (events : List Event) →
         places g (events ++ event.Flush ∷ []) ≡ places g events }
 {}
 
@@ -37,7 +37,7 @@ pub fn access_stands()
     ensures { AccessLaw }
 {}
 
-/// A flush adds itself to the list, and answers the machine's number of dirty blocks.
+/// A flush adds itself to the list, and returns the machine's number of dirty blocks.
 pub fn flush_stands()
     ensures { FlushLaw }
 {}
@@ -47,7 +47,7 @@ pub fn run_stands()
     ensures { RunLaw }
 {}
 
-/// Each set of the machine stands in its policy's order.
+/// Each set of the machine is in its policy's order.
 pub fn sets_in_order()
     ensures { OrderLaw }
 {}
@@ -81,12 +81,12 @@ pub fn inclusion()
 
 /// The test of a geometry is that its limits hold.
 pub fn limits_are_tested()
-    ensures { (g : Shape) → (is_geometry g ≡ true) ↔ IsGeometry g }
+    ensures { (g : GeometryValue) → (is_geometry g ≡ true) ↔ IsGeometry g }
 {}
 
-/// The shape of a cache is the one that its numbers tell.
-pub fn shape_is()
-    ensures { ShapeLaw }
+/// The geometry of a cache is the one that its numbers give.
+pub fn geometry_is()
+    ensures { GeometryLaw }
 {}
 
 /// A new system stands for no event.

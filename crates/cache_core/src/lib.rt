@@ -8,6 +8,7 @@ pub mod outcome;
 pub mod plan;
 pub mod replacement;
 pub mod simulate;
-mod stage;
+pub mod stats;
 pub mod system;
+mod system_cache;
 pub mod touched;

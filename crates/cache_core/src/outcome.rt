@@ -60,14 +60,14 @@ pub struct Counts {
 
 impl Counts {
     ghost use Rattle.std.specs.Prelude.{◌≡◌, ◌<◌, ◌^◌, ◌+◌};
-    ghost use Rattle.cache_core.specs.LruLaws.{counted};
+    ghost use Rattle.cache_core.specs.LruLaws.{counts_after};
 
     /// Counts one access: a hit or a miss, and an eviction where a block left. No count may be at its type's limit.
     pub(crate) fn count(&mut self, outcome: &Outcome)
         requires hits { self.old.hits + 1 < 2 ^ 64 }
         requires misses { self.old.misses + 1 < 2 ^ 64 }
         requires evictions { self.old.evictions + 1 < 2 ^ 64 }
-        ensures { self.new ≡ counted self.old outcome.now }
+        ensures { self.new ≡ counts_after self.old outcome.now }
     {
         if outcome.hit {
             self.hits += 1;

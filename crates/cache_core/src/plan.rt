@@ -1,13 +1,12 @@
-//! Plans of a system of caches, and its statistics.
+//! Plans of a system of caches.
 ghost use Rattle.std.specs.Prelude.{◌≡◌, ◌≤◌, ◌<◌, ◌*◌, ◌^◌, true, false, IfSome, MatchResult, option_and_then};
-ghost use Rattle.cache_core.specs.Levels.{exponent_of, shape_of, level_of, lacks_shape, has_none, is_mixed, has_smaller_blocks_than, has_larger_blocks_than};
+ghost use Rattle.cache_core.specs.Plans.{exponent_of, geometry_for, planned_cache, lacks_geometry, has_none, is_mixed, has_smaller_blocks_than, has_larger_blocks_than};
 
 use crate::geometry::{Geometry, MAX_BITS};
-use crate::outcome::{AllocMode, Design, Outcome, Repl, WriteMode};
+use crate::outcome::{AllocMode, Design, Repl, WriteMode};
 use std::fmt::{self, Display, Formatter, Write};
 use std::marker::Model;
 use thiserror::Error;
-use trace_core::events::{Access, Ref};
 
 /// A cache as it is asked for: its size and block size in bytes, and its lines in a set; named as the options of Dinero IV.
 #[derive(Clone, Copy, Debug, PartialEq, Eq)]
@@ -42,7 +41,7 @@ pub enum CacheName {
 
 impl Display for CacheName {
     ghost use Rattle.std.specs.Prelude.{Some};
-    ghost use Rattle.cache_core.specs.Levels.{label_of};
+    ghost use Rattle.cache_core.specs.Plans.{label_of};
 
     ghost output = { λ name. Some (label_of name) };
 
@@ -58,94 +57,38 @@ impl Display for CacheName {
 
 /// A cache of a plan: its design, and the rule by which slots leave.
 #[derive(Clone, Copy, Debug)]
-pub struct Level {
+pub struct PlannedCache {
     pub design: Design,
     pub repl: Repl,
-}
-
-/// What one cache counted: its accesses and misses by kind, the blocks that left, and the dirty ones among those that left or
-/// were flushed.
-#[derive(Clone, Copy, Debug, PartialEq, Eq)]
-pub struct CacheStats {
-    pub fetches: u64,
-    pub fetch_misses: u64,
-    pub reads: u64,
-    pub read_misses: u64,
-    pub writes: u64,
-    pub write_misses: u64,
-    pub evictions: u64,
-    pub copybacks: u64,
-}
-
-impl CacheStats {
-    ghost use Rattle.cache_core.specs.Stages.{tally, IsBelow};
-
-    /// Counts one access by its kind.
-    pub(crate) fn count(&mut self, reference: Ref, outcome: &Outcome)
-        requires { IsBelow self.old (2 ^ 63) }
-        ensures { self.new ≡ tally self.old reference outcome.now }
-    {
-        let missed = !outcome.hit;
-        match reference.access {
-            Access::Fetch => {
-                self.fetches += 1;
-                self.fetch_misses += u64::from(missed);
-            }
-            Access::Read => {
-                self.reads += 1;
-                self.read_misses += u64::from(missed);
-            }
-            Access::Write => {
-                self.writes += 1;
-                self.write_misses += u64::from(missed);
-            }
-        }
-        if let Some(victim) = outcome.evicted {
-            self.evictions += 1;
-            self.copybacks += u64::from(victim.dirty);
-        }
-    }
-}
-
-/// What a system counted: for each of its caches, what came to memory, and the references that no first-level cache takes.
-#[derive(Clone, Copy, Debug, PartialEq, Eq)]
-pub struct Stats {
-    pub l1i: Option<CacheStats>,
-    pub l1d: Option<CacheStats>,
-    pub l1u: Option<CacheStats>,
-    pub l2u: Option<CacheStats>,
-    pub memory_reads: u64,
-    pub memory_writes: u64,
-    pub bypassed: u64,
 }
 
 /// Why a plan is refused: the first cause that applies, in this order.
 #[derive(Clone, Copy, Debug, PartialEq, Eq, Error)]
 pub enum PlanFault {
-    #[error("no first-level cache")]
+    #[error("no first-planned cache")]
     NoFirst,
-    #[error("unified cache beside a split first level")]
+    #[error("unified cache beside a split first planned")]
     MixedFirst,
     /// The first cache, in the order of the names, that has no geometry of its size, block size and associativity.
     #[error("{cache}: bad geometry")]
     BadGeometry { cache: CacheName },
-    #[error("l2-u: block size smaller than in the first level")]
+    #[error("l2-u: block size smaller than in the first planned")]
     SmallBlock,
 }
 
 /// The caches of a system, each with its geometry.
 #[derive(Clone, Copy, Debug)]
 pub struct Plan {
-    i: Option<Level>,
-    d: Option<Level>,
-    u: Option<Level>,
-    second: Option<Level>,
+    i: Option<PlannedCache>,
+    d: Option<PlannedCache>,
+    u: Option<PlannedCache>,
+    second: Option<PlannedCache>,
 }
 
 impl Model for Plan {
-    ghost use Rattle.cache_core.specs.Levels.{Levels, IsPlan};
+    ghost use Rattle.cache_core.specs.Plans.{PlannedCaches, IsPlan};
 
-    ghost Value = { Levels };
+    ghost Value = { PlannedCaches };
 
     ghost view = { λ p. record { i = p.i; d = p.d; u = p.u; second = p.second } };
 
@@ -158,7 +101,7 @@ impl Model for Plan {
 fn exponent_of(unit: u128, number: u64) -> Option<u64>
     requires { unit < 2 ^ 100 }
     ensures value { result ≡ exponent_of unit number }
-    ensures found { IfSome result (λ k. (k ≤ 20) × (unit * 2 ^ k ≡ number)) }
+    ensures found { IfSome result (λ k. (k ≤ MAX_BITS) × (unit * 2 ^ k ≡ number)) }
 {
     for k in 0..=MAX_BITS {
         if unit << k == u128::from(number) {
@@ -169,8 +112,8 @@ fn exponent_of(unit: u128, number: u64) -> Option<u64>
 }
 
 /// The geometry of a cache, if it has one.
-fn shape_of(spec: CacheSpec) -> Option<Geometry>
-    ensures { result ≡ shape_of spec }
+fn geometry_for(spec: CacheSpec) -> Option<Geometry>
+    ensures { result ≡ geometry_for spec }
 {
     let b = exponent_of(1, spec.bsize)?;
     let s = exponent_of(u128::from(spec.assoc) * u128::from(spec.bsize), spec.size)?;
@@ -178,22 +121,25 @@ fn shape_of(spec: CacheSpec) -> Option<Geometry>
 }
 
 /// The cache of this name, if it is asked for.
-fn level_for(cache: CacheName, spec: Option<CacheSpec>) -> Result<Option<Level>, PlanFault>
+fn planned_cache_for(
+    cache: CacheName,
+    spec: Option<CacheSpec>,
+) -> Result<Option<PlannedCache>, PlanFault>
     ensures { MatchResult result
-        (λ level. (lacks_shape spec ≡ false) × (level ≡ option_and_then level_of spec))
-        (λ fault. (lacks_shape spec ≡ true) × (fault ≡ PlanFault.BadGeometry cache)) }
+        (λ planned. (lacks_geometry spec ≡ false) × (planned ≡ option_and_then planned_cache spec))
+        (λ fault. (lacks_geometry spec ≡ true) × (fault ≡ PlanFault.BadGeometry cache)) }
 {
     let Some(spec) = spec else {
         return Ok(None);
     };
-    match shape_of(spec) {
+    match geometry_for(spec) {
         Some(geometry) => {
             let design = Design {
                 geometry,
                 write: spec.wback,
                 allocate: spec.walloc,
             };
-            Ok(Some(Level {
+            Ok(Some(PlannedCache {
                 design,
                 repl: spec.repl,
             }))
@@ -245,7 +191,7 @@ impl FirstLevel {
 }
 
 impl Plan {
-    ghost use Rattle.cache_core.specs.Levels.{plan_of, IsPlan};
+    ghost use Rattle.cache_core.specs.Plans.{plan_of, IsPlan};
 
     /// A plan of these caches, or the first cause against it.
     pub fn new(first: FirstLevel, second: Option<CacheSpec>) -> Result<Self, PlanFault>
@@ -257,10 +203,10 @@ impl Plan {
         if first.is_mixed() {
             return Err(PlanFault::MixedFirst);
         }
-        let i = level_for(CacheName::L1I, first.i)?;
-        let d = level_for(CacheName::L1D, first.d)?;
-        let u = level_for(CacheName::L1U, first.u)?;
-        let lower = level_for(CacheName::L2U, second)?;
+        let i = planned_cache_for(CacheName::L1I, first.i)?;
+        let d = planned_cache_for(CacheName::L1D, first.d)?;
+        let u = planned_cache_for(CacheName::L1U, first.u)?;
+        let lower = planned_cache_for(CacheName::L2U, second)?;
         if first.has_larger_blocks_than(second) {
             return Err(PlanFault::SmallBlock);
         }
@@ -281,28 +227,28 @@ impl Plan {
     }
 
     /// The cache for fetches.
-    pub(crate) fn first_i(&self) -> Option<Level>
+    pub(crate) fn first_i(&self) -> Option<PlannedCache>
         ensures { result ≡ self.now.i }
     {
         self.i
     }
 
     /// The cache for data.
-    pub(crate) fn first_d(&self) -> Option<Level>
+    pub(crate) fn first_d(&self) -> Option<PlannedCache>
         ensures { result ≡ self.now.d }
     {
         self.d
     }
 
     /// The unified cache.
-    pub(crate) fn first_u(&self) -> Option<Level>
+    pub(crate) fn first_u(&self) -> Option<PlannedCache>
         ensures { result ≡ self.now.u }
     {
         self.u
     }
 
     /// The cache of the second level.
-    pub(crate) fn second(&self) -> Option<Level>
+    pub(crate) fn second(&self) -> Option<PlannedCache>
         ensures { result ≡ self.now.second }
     {
         self.second

@@ -20,7 +20,7 @@ pub trait Replacement: Drop {
     /// The random words that it still has to draw.
     ghost words: { Self → ℕ → ℕ } = { λ _ _. 0 };
 
-    /// The slot at a place of the filled part is used. Answers where it stands then.
+    /// The slot at a place of the filled part is used. Returns where it is then.
     fn touch(&mut self, set: &mut [Slot], at: usize) -> usize
         requires { at < length set.old }
         ensures same_slots { IsPermutation set.old set.new }
@@ -29,7 +29,7 @@ pub trait Replacement: Drop {
         ensures words { words self.new ≡ words self.old }
         ensures rule { rule self.new ≡ rule self.old };
 
-    /// Puts a slot into a set whose first places are filled. Answers where it stands in the part that is filled then, and the
+    /// Puts a slot into a set whose first places are filled. Returns where it is in the part that is filled then, and the
     /// slot that left, which is one exactly if the set was full.
     fn place(&mut self, set: &mut [Slot], filled: usize, new: Slot) -> (usize, Option<Slot>)
         requires filled { filled ≤ length set.old }
@@ -43,7 +43,7 @@ pub trait Replacement: Drop {
         ensures rule { rule self.new ≡ rule self.old };
 }
 
-/// Least recently used: the most recent slot stands in front.
+/// Least recently used: the most recent slot is in front.
 #[derive(Clone, Copy, Debug)]
 pub struct Lru;
 
@@ -87,7 +87,7 @@ fn put_in_front(set: &mut [Slot], filled: usize, new: Slot) -> Option<Slot>
     gone
 }
 
-/// First in, first out: the slot that was placed last stands in front.
+/// First in, first out: the slot that was placed last is in front.
 #[derive(Clone, Copy, Debug)]
 pub struct Fifo;
 

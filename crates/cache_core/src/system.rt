@@ -1,11 +1,12 @@
 //! A system of caches.
 ghost use Rattle.std.specs.Prelude.{◌≡◌, ◌≤◌, ◌<◌, ◌+◌, ◌^◌, ℕ, List, length, ◌∷◌, [], IfOk};
-ghost use Rattle.cache_core.specs.SystemSteps.{listed, reaches, all_reach, Descends, AllDescend, Answers, FirstAnswers, EmptiesLevel, copied, stats_held, IsNewLevel};
-ghost use Rattle.cache_core.specs.Stages.{LevelWithin};
+ghost use Rattle.cache_core.specs.SystemSteps.{listed, reaches, all_reach, Descends, AllDescend, AccessesFirst, AccessesFirstLevel, EmptiesCache, copied, stats_held, IsNewCache};
+ghost use Rattle.cache_core.specs.SystemCaches.{CacheWithin};
 
 use crate::outcome::Outcome;
-use crate::plan::{CacheStats, Level, Plan, Stats};
-use crate::stage::Stage;
+use crate::plan::{Plan, PlannedCache};
+use crate::stats::{CacheStats, Stats};
+use crate::system_cache::SystemCache;
 use std::alloc::{AllocError, Global};
 use std::marker::Model;
 use trace_core::events::{Access, Ref};
@@ -52,40 +53,40 @@ impl Memory {
 }
 
 /// A reference comes down to the second level, or to memory.
-fn descend(second: &mut Option<Stage>, memory: &mut Memory, reference: Ref)
-    requires stage { LevelWithin (2 ^ 62) second.old }
+fn descend(second: &mut Option<SystemCache>, memory: &mut Memory, reference: Ref)
+    requires cache { CacheWithin (2 ^ 62) second.old }
     requires memory { memory.old.reads + memory.old.writes < 2 ^ 62 }
     ensures value { Descends reference second.old memory.old second.new memory.new }
-    ensures stage { (n : ℕ) → LevelWithin n second.old → LevelWithin (n + 1) second.new }
+    ensures cache { (n : ℕ) → CacheWithin n second.old → CacheWithin (n + 1) second.new }
     ensures memory { memory.new.reads + memory.new.writes ≤ memory.old.reads + memory.old.writes + 2 }
 {
     match second {
-        Some(stage) => {
-            let outcome = stage.access(reference);
+        Some(cache) => {
+            let outcome = cache.access(reference);
             memory.count_all(&outcome);
         }
         None => memory.count(reference),
     }
 }
 
-/// What a first-level cache sends down for a reference; None where there is no such cache.
-fn answer(stage: &mut Option<Stage>, reference: Ref) -> Option<[Option<Ref>; 2]>
-    requires { LevelWithin (2 ^ 62) stage.old }
-    ensures value { Answers stage.old reference result stage.new }
-    ensures within { (n : ℕ) → LevelWithin n stage.old → LevelWithin (n + 1) stage.new }
+/// One reference at a first-level cache, if it is there: what it sends down for it.
+fn access_first(cache: &mut Option<SystemCache>, reference: Ref) -> Option<[Option<Ref>; 2]>
+    requires { CacheWithin (2 ^ 62) cache.old }
+    ensures value { AccessesFirst cache.old reference result cache.new }
+    ensures within { (n : ℕ) → CacheWithin n cache.old → CacheWithin (n + 1) cache.new }
 {
-    match stage {
-        Some(stage) => Some(stage.access(reference).down),
+    match cache {
+        Some(cache) => Some(cache.access(reference).down),
         None => None,
     }
 }
 
 /// A reference comes down, if there is one.
-fn descend_if(second: &mut Option<Stage>, memory: &mut Memory, reference: Option<Ref>)
-    requires stage { LevelWithin (2 ^ 62) second.old }
+fn descend_if(second: &mut Option<SystemCache>, memory: &mut Memory, reference: Option<Ref>)
+    requires cache { CacheWithin (2 ^ 62) second.old }
     requires memory { memory.old.reads + memory.old.writes < 2 ^ 62 }
     ensures value { AllDescend (listed (reference ∷ [])) second.old memory.old second.new memory.new }
-    ensures stage { (n : ℕ) → LevelWithin n second.old → LevelWithin (n + 1) second.new }
+    ensures cache { (n : ℕ) → CacheWithin n second.old → CacheWithin (n + 1) second.new }
     ensures memory { memory.new.reads + memory.new.writes ≤ memory.old.reads + memory.old.writes + 2 }
 {
     if let Some(reference) = reference {
@@ -94,11 +95,11 @@ fn descend_if(second: &mut Option<Stage>, memory: &mut Memory, reference: Option
 }
 
 /// What goes down for one reference, one after another.
-fn descend_all(second: &mut Option<Stage>, memory: &mut Memory, down: [Option<Ref>; 2])
-    requires stage { LevelWithin (2 ^ 61) second.old }
+fn descend_all(second: &mut Option<SystemCache>, memory: &mut Memory, down: [Option<Ref>; 2])
+    requires cache { CacheWithin (2 ^ 61) second.old }
     requires memory { memory.old.reads + memory.old.writes < 2 ^ 61 }
     ensures value { AllDescend (listed down) second.old memory.old second.new memory.new }
-    ensures stage { (n : ℕ) → LevelWithin n second.old → LevelWithin (n + 1 + 1) second.new }
+    ensures cache { (n : ℕ) → CacheWithin n second.old → CacheWithin (n + 1 + 1) second.new }
     ensures memory { memory.new.reads + memory.new.writes ≤ memory.old.reads + memory.old.writes + 4 }
 {
     let [first, next] = down;
@@ -108,58 +109,62 @@ fn descend_all(second: &mut Option<Stage>, memory: &mut Memory, down: [Option<Re
 
 /// A reference at the first level. None if no cache takes it.
 fn first_level(
-    i: &mut Option<Stage>,
-    d: &mut Option<Stage>,
-    u: &mut Option<Stage>,
+    i: &mut Option<SystemCache>,
+    d: &mut Option<SystemCache>,
+    u: &mut Option<SystemCache>,
     reference: Ref,
 ) -> Option<[Option<Ref>; 2]>
-    requires i { LevelWithin (2 ^ 62) i.old }
-    requires d { LevelWithin (2 ^ 62) d.old }
-    requires u { LevelWithin (2 ^ 62) u.old }
-    ensures value { FirstAnswers i.old d.old u.old reference result i.new d.new u.new }
-    ensures i { (n : ℕ) → LevelWithin n i.old → LevelWithin (n + 1) i.new }
-    ensures d { (n : ℕ) → LevelWithin n d.old → LevelWithin (n + 1) d.new }
-    ensures u { (n : ℕ) → LevelWithin n u.old → LevelWithin (n + 1) u.new }
+    requires i { CacheWithin (2 ^ 62) i.old }
+    requires d { CacheWithin (2 ^ 62) d.old }
+    requires u { CacheWithin (2 ^ 62) u.old }
+    ensures value { AccessesFirstLevel i.old d.old u.old reference result i.new d.new u.new }
+    ensures i { (n : ℕ) → CacheWithin n i.old → CacheWithin (n + 1) i.new }
+    ensures d { (n : ℕ) → CacheWithin n d.old → CacheWithin (n + 1) d.new }
+    ensures u { (n : ℕ) → CacheWithin n u.old → CacheWithin (n + 1) u.new }
 {
     if u.is_some() {
-        return answer(u, reference);
+        return access_first(u, reference);
     }
     if reference.access == Access::Fetch {
-        return answer(i, reference);
+        return access_first(i, reference);
     }
-    answer(d, reference)
+    access_first(d, reference)
 }
 
-/// Empties a cache of a system, if it is there, and answers how many dirty lines it held.
-fn empty(stage: &mut Option<Stage>) -> u64
-    requires { LevelWithin (2 ^ 62) stage.old }
-    ensures value { EmptiesLevel stage.old result stage.new }
-    ensures within { (n : ℕ) → LevelWithin n stage.old → LevelWithin n stage.new }
-    ensures copied { copied stage.new ≡ copied stage.old + result }
+/// Empties a cache of a system, if it is there, and returns how many dirty lines it held.
+fn empty(cache: &mut Option<SystemCache>) -> u64
+    requires { CacheWithin (2 ^ 62) cache.old }
+    ensures value { EmptiesCache cache.old result cache.new }
+    ensures within { (n : ℕ) → CacheWithin n cache.old → CacheWithin n cache.new }
+    ensures copied { copied cache.new ≡ copied cache.old + result }
 {
-    match stage {
-        Some(stage) => stage.flush(),
+    match cache {
+        Some(cache) => cache.flush(),
         None => 0,
     }
 }
 
 /// What a cache of a system counted, if it is there.
-fn counts(stage: &Option<Stage>) -> Option<CacheStats>
-    ensures { result ≡ stats_held stage.now }
+fn counts(cache: &Option<SystemCache>) -> Option<CacheStats>
+    ensures { result ≡ stats_held cache.now }
 {
-    match stage {
-        Some(stage) => Some(stage.stats),
+    match cache {
+        Some(cache) => Some(cache.stats),
         None => None,
     }
 }
 
 /// A cache of a system, if the plan has it.
-fn new_level(alloc: Global, level: Option<Level>, seed: u64) -> Result<Option<Stage>, AllocError>
-    ensures value { IfOk result (IsNewLevel seed level) }
-    ensures within { IfOk result (LevelWithin 0) }
+fn new_cache(
+    alloc: Global,
+    planned: Option<PlannedCache>,
+    seed: u64,
+) -> Result<Option<SystemCache>, AllocError>
+    ensures value { IfOk result (IsNewCache seed planned) }
+    ensures within { IfOk result (CacheWithin 0) }
 {
-    match level {
-        Some(level) => Ok(Some(Stage::new(alloc, level, seed)?)),
+    match planned {
+        Some(planned) => Ok(Some(SystemCache::new(alloc, planned, seed)?)),
         None => Ok(None),
     }
 }
@@ -167,29 +172,29 @@ fn new_level(alloc: Global, level: Option<Level>, seed: u64) -> Result<Option<St
 /// A system of caches.
 #[derive(Drop)]
 pub struct System {
-    i: Option<Stage>,
-    d: Option<Stage>,
-    u: Option<Stage>,
-    second: Option<Stage>,
+    i: Option<SystemCache>,
+    d: Option<SystemCache>,
+    u: Option<SystemCache>,
+    second: Option<SystemCache>,
     memory: Memory,
     bypassed: u64,
     steps: u64,
 }
 
 impl Model for System {
-    ghost use Rattle.cache_core.specs.SystemSteps.{SystemValue, IsCounted};
+    ghost use Rattle.cache_core.specs.SystemSteps.{SystemValue, IsSystem};
 
     ghost Value = { SystemValue };
 
     ghost view = { λ s. record { i = s.i; d = s.d; u = s.u; second = s.second; memory = s.memory; bypassed = s.bypassed; steps = s.steps } };
 
-    ghost invariant = { λ s. IsCounted (record { i = s.i; d = s.d; u = s.u; second = s.second; memory = s.memory; bypassed = s.bypassed; steps = s.steps }) };
+    ghost invariant = { λ s. IsSystem (record { i = s.i; d = s.d; u = s.u; second = s.second; memory = s.memory; bypassed = s.bypassed; steps = s.steps }) };
 }
 
 impl System {
     ghost use Rattle.cache_core.specs.SystemSteps.{Steps, FlushStep, stats_of, HasWritten, IsNewSystem};
     ghost use Rattle.trace_core.specs.declared.events.Event.{Event};
-    ghost use Rattle.cache_core.specs.Levels.{Levels};
+    ghost use Rattle.cache_core.specs.Plans.{PlannedCaches};
     ghost use Rattle.cache_core.specs.Systems.{system_run};
     ghost use Rattle.cache_core.specs.SystemStands.{SystemStands};
 
@@ -198,10 +203,10 @@ impl System {
     pub fn new(alloc: Global, plan: Plan, seed: u64) -> Result<Self, AllocError>
         ensures { IfOk result (IsNewSystem plan seed) }
     {
-        let i = new_level(alloc, plan.first_i(), seed)?;
-        let d = new_level(alloc, plan.first_d(), seed)?;
-        let u = new_level(alloc, plan.first_u(), seed)?;
-        let second = new_level(alloc, plan.second(), seed)?;
+        let i = new_cache(alloc, plan.first_i(), seed)?;
+        let d = new_cache(alloc, plan.first_d(), seed)?;
+        let u = new_cache(alloc, plan.first_u(), seed)?;
+        let second = new_cache(alloc, plan.second(), seed)?;
         let memory = Memory {
             reads: 0,
             writes: 0,
@@ -220,7 +225,7 @@ impl System {
     /// How many steps it has made, flushes among them.
     pub fn steps(&self) -> u64
         ensures value { result ≡ self.now.steps }
-        ensures trace { (plan : Levels) (seed : ℕ) (events : List Event) →
+        ensures trace { (plan : PlannedCaches) (seed : ℕ) (events : List Event) →
             SystemStands plan seed events self.now → result ≡ length events }
     {
         self.steps
@@ -259,7 +264,7 @@ impl System {
         ensures value { result ≡ stats_of self.now }
         ensures copybacks { HasWritten result.l1i × HasWritten result.l1d
             × HasWritten result.l1u × HasWritten result.l2u }
-        ensures trace { (plan : Levels) (seed : ℕ) (events : List Event) →
+        ensures trace { (plan : PlannedCaches) (seed : ℕ) (events : List Event) →
             SystemStands plan seed events self.now → result ≡ system_run plan seed events }
     {
         Stats {

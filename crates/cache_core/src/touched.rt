@@ -12,7 +12,9 @@ const SETS_A_PLACE: usize = 16;
 /// The sets that got a block since the last flush, each by its number, as long as there are places for them.
 #[derive(Drop)]
 pub struct TouchedSets {
+    /// Room for the numbers of sets, as many as may be listed.
     places: Vec<u32>,
+    /// How many places are used; `None` once more sets were touched than there are places.
     used: Option<usize>,
 }
 
@@ -43,7 +45,7 @@ fn zero_listed(counts: &mut [u32], sets: &[u32])
 impl TouchedSets {
     /// An empty list for a number of sets. It takes all its places, and that alone can fail.
     pub fn new(alloc: Global, sets: usize) -> Result<TouchedSets, AllocError>
-        ensures { IfOk result (λ touched. touched ≡ record { room = sets / 16; listed = Some [] }) }
+        ensures { IfOk result (λ touched. touched ≡ record { room = sets / SETS_A_PLACE; listed = Some [] }) }
     {
         Ok(TouchedSets {
             places: vec![in alloc; 0; sets / SETS_A_PLACE]?,

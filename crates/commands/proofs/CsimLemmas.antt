@@ -8,7 +8,7 @@ use Rattle.trace_core.specs.declared.events.Event.{Event}
 use Rattle.trace_core.specs.declared.events.Kind.TheVariants.{DataOnly}
 use Rattle.trace_core.specs.declared.line.Format.TheVariants.{Lackey}
 use Rattle.trace_core.specs.declared.fault.TraceFault.{TraceFault}
-use Rattle.trace_core.specs.declared.reader.ReaderState.TheVariants as state
+use Rattle.trace_core.specs.declared.state.ReaderState.TheVariants as state
 use Rattle.trace_core.specs.Device.{SourceView, SinkView, Wrote, WrotePart}
 use Rattle.trace_core.specs.Events.{events_of}
 use Rattle.trace_core.specs.Reading.{entries}
@@ -19,7 +19,7 @@ use Rattle.trace_core.proofs.Runs.{Reached-start}
 use Rattle.trace_core.proofs.Tasks.{ReadWhole, WritesAlong}
 use Rattle.trace_core.proofs.Performing.{Stopped-at, WriteFailed-early}
 use Rattle.trace_core.proofs.Written.{Wrote-none, Wrote-more, WrotePart-after}
-use Rattle.cache_core.specs.Geometry.{Shape}
+use Rattle.cache_core.specs.Geometry.{GeometryValue}
 use Rattle.cache_core.specs.Windows.{counts}
 use Rattle.commands.specs.declared.simulation.Lookup.{Lookup}
 use Rattle.commands.specs.declared.simulation.Simulation.{Simulation}
@@ -30,7 +30,7 @@ use Rattle.commands.specs.Simulation.{Simulates, AreFew}
 abbrev pub data_of : List Entry → List Event
 data_of es = flat_map (events_of DataOnly) es
 
-lines_after-append : (g : Shape) (before : List Event) (xs ys : List Entry)
+lines_after-append : (g : GeometryValue) (before : List Event) (xs ys : List Entry)
     → lines_after g before (xs ++ ys) ≡ lines_after g before xs ++ lines_after g (before ++ data_of xs) ys
 unfolding lines_after
 lines_after-append g before [] ys = ap (λ b. lines_after g b ys) (sym (append-nil before))
@@ -42,28 +42,28 @@ lines_after-append g before (e ∷ xs) ys =
     ∙ ap (λ b. (line ++ lines_after g later xs) ++ lines_after g b ys) (append_assoc before (events_of DataOnly e) (data_of xs))
 
 -- the lines of later entries, where they are wanted
-abbrev later_lines : Shape → Bool → List Entry → List Entry → List ℕ
+abbrev later_lines : GeometryValue → Bool → List Entry → List Entry → List ℕ
 later_lines g verbose xs ys = cond verbose (lines_after g (data_of xs) ys) []
 
-csim_lines-append : (g : Shape) (verbose : Bool) (xs ys : List Entry) → csim_lines g verbose (xs ++ ys) ≡ csim_lines g verbose xs ++ later_lines g verbose xs ys
+csim_lines-append : (g : GeometryValue) (verbose : Bool) (xs ys : List Entry) → csim_lines g verbose (xs ++ ys) ≡ csim_lines g verbose xs ++ later_lines g verbose xs ys
 csim_lines-append g true xs ys = lines_after-append g [] xs ys
 csim_lines-append g false xs ys = refl
 
-one_line : (g : Shape) (verbose : Bool) (xs : List Entry) (e : Entry)
+one_line : (g : GeometryValue) (verbose : Bool) (xs : List Entry) (e : Entry)
     → later_lines g verbose xs (e ∷ []) ≡ cond verbose (line_of e (lookups_of g (data_of xs) e)) []
 unfolding lines_after
 one_line g true xs e = append-nil (line_of e (lookups_of g (data_of xs) e))
 one_line g false xs e = refl
 
 -- one entry more
-lines-more : (g : Shape) (verbose : Bool) (xs : List (ℕ × Entry)) (x : ℕ × Entry) (lookups : List Lookup) → lookups ≡ lookups_of g (data_of (entries_of xs)) x.1
+lines-more : (g : GeometryValue) (verbose : Bool) (xs : List (ℕ × Entry)) (x : ℕ × Entry) (lookups : List Lookup) → lookups ≡ lookups_of g (data_of (entries_of xs)) x.1
     → csim_lines g verbose (entries_of (xs ++ x ∷ [])) ≡ csim_lines g verbose (entries_of xs) ++ cond verbose (line_of x.1 lookups) []
 lines-more g verbose xs x lookups is =
     ap (csim_lines g verbose) (map_push (λ y. y.1) xs x) ∙ csim_lines-append g verbose (entries_of xs) (x.1 ∷ [])
     ∙ ap (λ l. csim_lines g verbose (entries_of xs) ++ l) (one_line g verbose (entries_of xs) x.1 ∙ ap (λ l. cond verbose (line_of x.1 l) []) (sym is))
 
 -- what is written of some entries comes before what is written of more, and of the whole text
-along : (g : Shape) (verbose : Bool) (limit : ℕ) → WritesAlong (csim_task g verbose limit)
+along : (g : GeometryValue) (verbose : Bool) (limit : ℕ) → WritesAlong (csim_task g verbose limit)
 unfolding csim_task
 along g verbose limit = record {
   partial = λ xs ys. (later_lines g verbose xs ys, csim_lines-append g verbose xs ys);
@@ -71,13 +71,13 @@ along g verbose limit = record {
 }
 
 -- of no entries nothing is written
-no-lines : (g : Shape) (verbose : Bool) → [] ≡ csim_lines g verbose []
+no-lines : (g : GeometryValue) (verbose : Bool) → [] ≡ csim_lines g verbose []
 unfolding lines_after
 no-lines g true = refl
 no-lines g false = refl
 
 -- the invariant of the loop: what was read, simulated and written
-pub record Simulated (g : Shape) (verbose : Bool) (limit : ℕ) (start now : SourceView) (sink sink' : SinkView) (p : Progress) (sim : Simulation) : Type 0 where
+pub record Simulated (g : GeometryValue) (verbose : Bool) (limit : ℕ) (start now : SourceView) (sink sink' : SinkView) (p : Progress) (sim : Simulation) : Type 0 where
   pub read : List (ℕ × Entry)
   pub reached : Reached Lackey limit start now read p
   pub wrote : Wrote sink sink' (csim_lines g verbose (entries_of read))
@@ -85,7 +85,7 @@ pub record Simulated (g : Shape) (verbose : Bool) (limit : ℕ) (start now : Sou
   pub few : AreFew (2 * p.lines) sim.counts
   pub limited : p.limit ≤ 2 ^ 40
 
-pub simulated_start : {g : Shape} {verbose : Bool} {limit : ℕ} {source : SourceView} {sink : SinkView} {p : Progress} {sim : Simulation}
+pub simulated_start : {g : GeometryValue} {verbose : Bool} {limit : ℕ} {source : SourceView} {sink : SinkView} {p : Progress} {sim : Simulation}
     → p ≡ begun Lackey limit → limit ≤ 2 ^ 40 → Simulates g [] sim → AreFew 0 sim.counts → Simulated g verbose limit source source sink sink p sim
 simulated_start {g} {verbose} {limit} {source} {sink} is few_lines stands few = record {
   read = [];
@@ -96,7 +96,7 @@ simulated_start {g} {verbose} {limit} {source} {sink} is few_lines stands few = 
   limited = rw is few_lines;
 }
 
-module _ {g : Shape} {verbose : Bool} {limit : ℕ} {start mid now : SourceView} {sink between sink' : SinkView} {p q : Progress} {sim : Simulation}
+module _ {g : GeometryValue} {verbose : Bool} {limit : ℕ} {start mid now : SourceView} {sink between sink' : SinkView} {p q : Progress} {sim : Simulation}
     (old : Simulated g verbose limit start mid sink between p sim) where
   -- the line of one entry more
   pub simulated_more : {sim' : Simulation} (x : ℕ × Entry) (lookups : List Lookup) → Reached Lackey limit start now (old.read ++ x ∷ []) q
@@ -122,14 +122,14 @@ module _ {g : Shape} {verbose : Bool} {limit : ℕ} {start mid now : SourceView}
       (subst (WrotePart sink sink') (sym (lines-more g verbose old.read x lookups stands)) (WrotePart-after old.wrote part))
 
 -- at a fault the lines of what was read stand written
-pub csim-stopped : {g : Shape} {verbose : Bool} {limit : ℕ} {start mid now : SourceView} {sink sink' : SinkView} {p q : Progress} {sim : Simulation}
+pub csim-stopped : {g : GeometryValue} {verbose : Bool} {limit : ℕ} {start mid now : SourceView} {sink sink' : SinkView} {p q : Progress} {sim : Simulation}
     (old : Simulated g verbose limit start mid sink sink' p sim) (x : TraceFault) → q.state ≡ state.Failed x → Reached Lackey limit start now old.read q
     → Stopped (csim_task g verbose limit) x start now sink sink'
 unfolding csim_task
 csim-stopped old x failed reached = Stopped-at x failed reached old.wrote
 
 -- at the end the lines and the summary are what has to be written
-pub csim-whole : {g : Shape} {verbose : Bool} {limit : ℕ} {start mid now : SourceView} {sink sink' : SinkView} {p q : Progress} {sim : Simulation}
+pub csim-whole : {g : GeometryValue} {verbose : Bool} {limit : ℕ} {start mid now : SourceView} {sink sink' : SinkView} {p q : Progress} {sim : Simulation}
     {bytes : List ℕ} (old : Simulated g verbose limit start mid sink sink' p sim) → q.state ≡ state.Ended → Reached Lackey limit start now old.read q
     → bytes ≡ summary sim.counts → ReadWhole (csim_task g verbose limit) start now (csim_lines g verbose (entries_of old.read) ++ bytes)
 unfolding csim_task

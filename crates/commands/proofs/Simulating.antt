@@ -14,7 +14,7 @@ use Rattle.trace_core.specs.Events.{keeps, references, events_of}
 use Rattle.cache_core.specs.declared.outcome.Counts.{Counts}
 use Rattle.cache_core.specs.declared.outcome.Outcome.{Outcome}
 use Rattle.cache_core.specs.declared.outcome.WriteMode.TheVariants.{Back}
-use Rattle.cache_core.specs.Geometry.{Shape}
+use Rattle.cache_core.specs.Geometry.{GeometryValue}
 use Rattle.cache_core.specs.LruLaws.{lru_machine, lru_contents, place_after}
 use Rattle.cache_core.specs.Order.{Accesses, Flushes}
 use Rattle.cache_core.specs.Windows.{Place, places, places_after, is_hit, is_evict, seen, counts}
@@ -38,7 +38,7 @@ tallied true full h m e = rw (add-zero, add-zero) refl
 tallied false true h m e = rw add-zero refl
 tallied false false h m e = rw (add-zero, add-zero) refl
 
-pub counts-reference : (g : Shape) (events : List Event) (r : Ref)
+pub counts-reference : (g : GeometryValue) (events : List Event) (r : Ref)
     → counts g (events ++ event.Reference r ∷ []) ≡ counted (counts g events) (lookup_at g (place_after g events r))
 unfolding counts
 counts-reference g events r =
@@ -48,12 +48,12 @@ counts-reference g events r =
     let evictions = sum_by-reference (λ q. cond (is_evict g q) 1 0) g events r in
     cc (hits, misses, evictions, tallied (is_hit g p) (leb g.e (seen g p)) (count_by (is_hit g) (places g events)) (count_by (λ q. not (is_hit g q)) (places g events)) (count_by (is_evict g) (places g events)))
 
-pub counts-flush : (g : Shape) (events : List Event) → counts g (events ++ event.Flush ∷ []) ≡ counts g events
+pub counts-flush : (g : GeometryValue) (events : List Event) → counts g (events ++ event.Flush ∷ []) ≡ counts g events
 unfolding counts
 counts-flush g events = rw (places-flush g events) refl
 
 -- one more reference
-pub simulates_more : (g : Shape) (events : List Event) (old new : Simulation) (r : Ref) (o : Outcome) → Accesses (lru_contents old.cache) r o (lru_contents new.cache)
+pub simulates_more : (g : GeometryValue) (events : List Event) (old new : Simulation) (r : Ref) (o : Outcome) → Accesses (lru_contents old.cache) r o (lru_contents new.cache)
     → new.counts ≡ counted old.counts (lookup_of o) → Simulates g events old
     → Simulates g (events ++ event.Reference r ∷ []) new × (lookup_of o ≡ lookup_at g (place_after g events r))
 simulates_more g events old new r o step count h =
@@ -66,28 +66,28 @@ simulates_more g events old new r o step count h =
     (record { some = h.some; cache = law.0; counts = count ∙ ap₂ counted h.counts lookup ∙ sym (counts-reference g events r) }, lookup)
 
 -- one more flush
-pub simulates_flush : (g : Shape) (events : List Event) (old new : Simulation) (dirty : ℕ) → Flushes (lru_contents old.cache) dirty (lru_contents new.cache)
+pub simulates_flush : (g : GeometryValue) (events : List Event) (old new : Simulation) (dirty : ℕ) → Flushes (lru_contents old.cache) dirty (lru_contents new.cache)
     → new.counts ≡ old.counts → Simulates g events old → Simulates g (events ++ event.Flush ∷ []) new
 simulates_flush g events old new dirty flush same h =
     let law = flush_run (lru_machine g Back) events (lru_contents old.cache) dirty (lru_contents new.cache) h.cache flush in
     record { some = h.some; cache = law.0; counts = same ∙ h.counts ∙ sym (counts-flush g events) }
 
 -- what a step of a simulation over some events shows
-abbrev pub Follows : Shape → List Event → Simulation → List Event → Simulation → List Lookup → Type 0
+abbrev pub Follows : GeometryValue → List Event → Simulation → List Event → Simulation → List Lookup → Type 0
 Follows g events old more new lookups = Simulates g events old
     → Simulates g (events ++ more) new × (lookups ≡ map (lookup_at g) (places_after g events more))
 
-pub follows_none : (g : Shape) (events : List Event) (sim : Simulation) (more : List Event) → more ≡ [] → Follows g events sim more sim []
+pub follows_none : (g : GeometryValue) (events : List Event) (sim : Simulation) (more : List Event) → more ≡ [] → Follows g events sim more sim []
 unfolding places_after
 follows_none g events sim more none h = rw (none, append-nil events) (h, refl)
 
-pub follows_one : (g : Shape) (events : List Event) (old new : Simulation) (r : Ref) (more : List Event) (lookup : Lookup) → more ≡ event.Reference r ∷ []
+pub follows_one : (g : GeometryValue) (events : List Event) (old new : Simulation) (r : Ref) (more : List Event) (lookup : Lookup) → more ≡ event.Reference r ∷ []
     → (Simulates g events old → Simulates g (events ++ event.Reference r ∷ []) new × (lookup ≡ lookup_at g (place_after g events r)))
     → Follows g events old more new (lookup ∷ [])
 unfolding places_after
 follows_one g events old new r more lookup one step h = let s = step h in rw one (s.0, ap (λ l. l ∷ []) s.1)
 
-pub follows_both : (g : Shape) (events : List Event) (old mid new : Simulation) (first second : List Event) (a b : List Lookup)
+pub follows_both : (g : GeometryValue) (events : List Event) (old mid new : Simulation) (first second : List Event) (a b : List Lookup)
     → Follows g events old first mid a → Follows g (events ++ first) mid second new b → Follows g events old (first ++ second) new (a ++ b)
 follows_both g events old mid new first second a b one two h =
     let s = one h in

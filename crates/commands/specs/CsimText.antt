@@ -14,14 +14,14 @@ use Rattle.trace_core.specs.Events.{events_of}
 use Rattle.trace_core.specs.Reading.{entries, events}
 use Rattle.trace_core.specs.Task.{Task}
 use Rattle.cache_core.specs.declared.outcome.Counts.{Counts}
-use Rattle.cache_core.specs.Geometry.{Shape}
+use Rattle.cache_core.specs.Geometry.{GeometryValue}
 use Rattle.cache_core.specs.Windows.{Place, places_after, is_hit, is_evict, counts}
 use Rattle.commands.specs.declared.simulation.Lookup.{Lookup}
 use Rattle.commands.specs.declared.simulation.Lookup.TheVariants.{Hit, Miss, MissEviction}
 use Rattle.commands.specs.Text.{hexadecimal}
 
 -- how a reference goes in an LRU cache
-abbrev pub lookup_at : Shape → Place → Lookup
+abbrev pub lookup_at : GeometryValue → Place → Lookup
 lookup_at g p = if is_hit g p then Hit else if is_evict g p then MissEviction else Miss
 
 -- the handout's words, each with a space in front
@@ -49,16 +49,16 @@ line_of (entry.Item item) lookups = item_line (letter_of item.op) item lookups
 line_of entry.Flush lookups = []
 
 -- how the data references of an entry go, which comes after these events
-abbrev pub lookups_of : Shape → List Event → Entry → List Lookup
+abbrev pub lookups_of : GeometryValue → List Event → Entry → List Lookup
 lookups_of g before e = map (lookup_at g) (places_after g before (events_of DataOnly e))
 
 -- the lines of entries that come after these events
-unfoldable pub lines_after : Shape → List Event → List Entry → List ℕ
+unfoldable pub lines_after : GeometryValue → List Event → List Entry → List ℕ
 lines_after g before [] = []
 lines_after g before (e ∷ es) = line_of e (lookups_of g before e) ++ lines_after g (before ++ events_of DataOnly e) es
 
 -- the lines of entries, where they are wanted
-abbrev pub csim_lines : Shape → Bool → List Entry → List ℕ
+abbrev pub csim_lines : GeometryValue → Bool → List Entry → List ℕ
 csim_lines g verbose es = if verbose then lines_after g [] es else []
 
 -- the handout's last line
@@ -66,9 +66,9 @@ abbrev pub summary : Counts → List ℕ
 summary c = codes "hits:" ++ decimal c.hits ++ codes " misses:" ++ decimal c.misses ++ codes " evictions:" ++ decimal c.evictions ++ codes "\n"
 
 -- all that `csim` writes of a text without a fault
-abbrev pub csim_text : Shape → Bool → List ℕ → List ℕ
+abbrev pub csim_text : GeometryValue → Bool → List ℕ → List ℕ
 csim_text g verbose text = csim_lines g verbose (entries Lackey text) ++ summary (counts g (events Lackey DataOnly text))
 
 -- `csim` reads lackey lines. At a fault the lines of the entries before it stand written, and no summary.
-unfoldable pub csim_task : Shape → Bool → ℕ → Task
+unfoldable pub csim_task : GeometryValue → Bool → ℕ → Task
 csim_task g verbose limit = record { format = Lackey; limit = limit; writes_early = true; whole = csim_text g verbose; partial = csim_lines g verbose }

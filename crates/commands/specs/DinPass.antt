@@ -8,7 +8,7 @@ use Rattle.trace_core.specs.Device.{SourceView}
 use Rattle.trace_core.specs.Events.{events_of}
 use Rattle.trace_core.specs.Reader.{Progress, Reached}
 use Rattle.trace_core.specs.Task.{entries_of}
-use Rattle.cache_core.specs.Levels.{Levels, IsPlan}
+use Rattle.cache_core.specs.Plans.{PlannedCaches, IsPlan}
 use Rattle.cache_core.specs.SystemSteps.{SystemValue}
 use Rattle.cache_core.specs.SystemStands.{SystemStands}
 
@@ -19,5 +19,5 @@ pub record StepsThrough (format : Format) (limit : ℕ) (start now : SourceView)
   -- the reader has come so far
   pub reached : Reached format limit start now read p
   -- what the system stands for
-  pub stands : (plan : Levels) (seed : ℕ) (events : List Event) → IsPlan plan → SystemStands plan seed events old →
+  pub stands : (plan : PlannedCaches) (seed : ℕ) (events : List Event) → IsPlan plan → SystemStands plan seed events old →
       SystemStands plan seed (events ++ flat_map (events_of All) (entries_of read)) new

@@ -6,9 +6,9 @@ use Rattle.trace_core.specs.declared.events.Kind.TheVariants.{All}
 use Rattle.trace_core.specs.declared.line.Format.{Format}
 use Rattle.trace_core.specs.Reading.{events}
 use Rattle.trace_core.specs.Task.{Task}
-use Rattle.cache_core.specs.declared.plan.CacheStats.{CacheStats}
-use Rattle.cache_core.specs.declared.plan.Stats.{Stats}
-use Rattle.cache_core.specs.Levels.{Levels}
+use Rattle.cache_core.specs.declared.stats.CacheStats.{CacheStats}
+use Rattle.cache_core.specs.declared.stats.Stats.{Stats}
+use Rattle.cache_core.specs.Plans.{PlannedCaches}
 use Rattle.cache_core.specs.Systems.{system_run}
 
 -- a name, and its number behind it
@@ -33,9 +33,9 @@ report_of s =
     ++ field (codes "bypassed=") s.bypassed ++ codes "\n"
 
 -- all that `din` writes of a text without a fault
-abbrev pub din_text : Levels → ℕ → Format → List ℕ → List ℕ
+abbrev pub din_text : PlannedCaches → ℕ → Format → List ℕ → List ℕ
 din_text plan seed format text = report_of (system_run plan seed (events format All text))
 
 -- At a fault `din` has written nothing.
-unfoldable pub din_task : Levels → ℕ → Format → ℕ → Task
+unfoldable pub din_task : PlannedCaches → ℕ → Format → ℕ → Task
 din_task plan seed format limit = record { format = format; limit = limit; writes_early = false; whole = din_text plan seed format; partial = λ es. [] }

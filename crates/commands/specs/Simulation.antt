@@ -9,9 +9,9 @@ use Rattle.trace_core.specs.Events.{keeps}
 use Rattle.cache_core.specs.declared.outcome.Counts.{Counts}
 use Rattle.cache_core.specs.declared.outcome.Outcome.{Outcome}
 use Rattle.cache_core.specs.declared.outcome.WriteMode.TheVariants.{Back}
-use Rattle.cache_core.specs.Geometry.{Shape}
+use Rattle.cache_core.specs.Geometry.{GeometryValue}
 use Rattle.cache_core.specs.LruLaws.{lru_machine, lru_contents}
-use Rattle.cache_core.specs.Stands.{StandsFor}
+use Rattle.cache_core.specs.Stands.{CacheStandsFor}
 use Rattle.cache_core.specs.Windows.{counts}
 use Rattle.commands.specs.declared.simulation.Lookup.{Lookup}
 use Rattle.commands.specs.declared.simulation.Lookup.TheVariants.{Hit, Miss, MissEviction}
@@ -34,9 +34,9 @@ pub record AreFew (n : ℕ) (c : Counts) : Type 0 where
   pub evictions : c.evictions ≤ n
 
 -- the cache and the counts are those of a list of events
-pub record Simulates (g : Shape) (events : List Event) (sim : Simulation) : Type 0 where
+pub record Simulates (g : GeometryValue) (events : List Event) (sim : Simulation) : Type 0 where
   pub some : 1 ≤ g.e
-  pub cache : StandsFor (lru_machine g Back) events (lru_contents sim.cache)
+  pub cache : CacheStandsFor (lru_machine g Back) events (lru_contents sim.cache)
   pub counts : sim.counts ≡ counts g events
 
 -- the event of a reference, if there is one and it is no fetch

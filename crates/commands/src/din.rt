@@ -4,7 +4,7 @@ ghost use Rattle.trace_core.specs.Events.{events_of};
 ghost use Rattle.trace_core.specs.Reader.{begun};
 ghost use Rattle.trace_core.specs.Task.{Performs};
 ghost use Rattle.trace_core.specs.declared.events.Event.{Event};
-ghost use Rattle.cache_core.specs.Levels.{Levels, IsPlan};
+ghost use Rattle.cache_core.specs.Plans.{PlannedCaches, IsPlan};
 ghost use Rattle.cache_core.specs.SystemSteps.{SystemValue, stats_of};
 ghost use Rattle.cache_core.specs.SystemStands.{SystemStands};
 ghost use Rattle.commands.specs.DinPass.{StepsThrough};
@@ -12,7 +12,8 @@ ghost use Rattle.commands.specs.DinText.{din_task};
 
 use crate::din_text::set_report;
 use crate::text::{Text, write_last};
-use cache_core::plan::{Plan, Stats};
+use cache_core::plan::Plan;
+use cache_core::stats::Stats;
 use cache_core::system::System;
 use std::alloc::Global;
 use trace_core::events::{Entry, Kind, refs_of};
@@ -25,7 +26,7 @@ use trace_core::reader::{Lines, MAX_LINES, ReaderState};
 #[inline(always)]
 fn step(system: &mut System, entry: Entry)
     requires { system.old.steps + 2 ≤ 2 ^ 41 }
-    ensures stands { (plan : Levels) (seed : ℕ) (events : List Event) → IsPlan plan → SystemStands plan seed events system.old →
+    ensures stands { (plan : PlannedCaches) (seed : ℕ) (events : List Event) → IsPlan plan → SystemStands plan seed events system.old →
         SystemStands plan seed (events ++ events_of Kind.All entry) system.new }
     ensures few { system.new.steps ≤ system.old.steps + 2 }
 {

@@ -3,7 +3,7 @@ ghost use Rattle.std.specs.Prelude.{◌≡◌, ◌+◌, ◌≤◌, ◌++◌, len
 ghost use Rattle.commands.specs.DinText.{field, cache_line, report_of};
 
 use crate::text::{CAPACITY, Text};
-use cache_core::plan::{CacheStats, Stats};
+use cache_core::stats::{CacheStats, Stats};
 
 /// Adds a name, and a number behind it.
 fn push_field(text: &mut Text, name: &[u8], number: u64)

@@ -3,7 +3,7 @@ ghost use Rattle.std.specs.Prelude.{◌≡◌, ℕ, ◌+◌, ◌^◌, List, [], 
 ghost use Rattle.std.specs.Option.{option_to_list};
 ghost use Rattle.commands.specs.CsimText.{words_of, lookup_at, lookups_of};
 ghost use Rattle.commands.specs.Simulation.{lookup_of, counted, AreFew, Simulates, data_events, lookups_of_pair};
-ghost use Rattle.cache_core.specs.Geometry.{Shape};
+ghost use Rattle.cache_core.specs.Geometry.{GeometryValue};
 ghost use Rattle.cache_core.specs.LruLaws.{place_after};
 ghost use Rattle.cache_core.specs.Windows.{places_after};
 ghost use Rattle.trace_core.specs.declared.events.Event.{Event};
@@ -97,7 +97,7 @@ impl Simulation {
     #[inline(always)]
     fn access(&mut self, reference: Ref) -> Lookup
         requires { AreFew (2 ^ 62) self.old.counts }
-        ensures stands { (g : Shape) (events : List Event) → Simulates g events self.old →
+        ensures stands { (g : GeometryValue) (events : List Event) → Simulates g events self.old →
             Simulates g (events ++ event.Reference reference ∷ []) self.new
             × (result ≡ lookup_at g (place_after g events reference)) }
         ensures few { (n : ℕ) → AreFew n self.old.counts → AreFew (n + 1) self.new.counts }
@@ -112,7 +112,7 @@ impl Simulation {
     #[inline(always)]
     fn access_data(&mut self, reference: Option<Ref>) -> Option<Lookup>
         requires { AreFew (2 ^ 62) self.old.counts }
-        ensures stands { (g : Shape) (events : List Event) → Simulates g events self.old →
+        ensures stands { (g : GeometryValue) (events : List Event) → Simulates g events self.old →
             Simulates g (events ++ data_events reference) self.new
             × (option_to_list result ≡ map (lookup_at g) (places_after g events (data_events reference))) }
         ensures few { (n : ℕ) → AreFew n self.old.counts → AreFew (n + 1) self.new.counts }
@@ -129,7 +129,7 @@ impl Simulation {
     #[inline(always)]
     pub(crate) fn step(&mut self, entry: Entry) -> (Option<Lookup>, Option<Lookup>)
         requires { AreFew (2 ^ 61) self.old.counts }
-        ensures stands { (g : Shape) (events : List Event) → Simulates g events self.old →
+        ensures stands { (g : GeometryValue) (events : List Event) → Simulates g events self.old →
             Simulates g (events ++ events_of Kind.DataOnly entry) self.new
             × (lookups_of_pair result ≡ lookups_of g events entry) }
         ensures few { (n : ℕ) → AreFew n self.old.counts → AreFew (n + 2) self.new.counts }

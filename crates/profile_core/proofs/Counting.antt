@@ -7,7 +7,7 @@ use Rattle.std.proofs.lemmas.List.Sums.{sum_by-cons, sum_by-take-drop, sum_by-le
 use Rattle.std.proofs.lemmas.List.FromFn.{fill_by_all, take-map-range_with_len}
 use Rattle.trace_core.specs.declared.events.Event.{Event}
 use Rattle.trace_core.specs.declared.events.Event.TheVariants as event
-use Rattle.cache_core.specs.Geometry.{Shape, block_of}
+use Rattle.cache_core.specs.Geometry.{GeometryValue, block_of}
 use Rattle.cache_core.specs.Windows.{Place, distinct_of_set, has_last, distance, seen, is_hit, window, places, probes, held, counts}
 use Rattle.cache_core.proofs.Places.{places_from, places-from}
 use Rattle.cache_core.specs.declared.outcome.Counts.{Counts}
@@ -34,14 +34,14 @@ sum_by-map f g [] = refl
 sum_by-map f g (x ∷ xs) = omega (arith, sum_by-cons f (g x) (map g xs), sum_by-cons (λ y. f (g y)) x xs, sum_by-map f g xs)
 
 -- each place looks back no further than what was seen
-looks_back : (g : Shape) (p : Place) → Finds g 0 p []
+looks_back : (g : GeometryValue) (p : Place) → Finds g 0 p []
 looks_back g p = finds g 0 p [] refl
 
 -- whether e lines a set are a hit there, and an eviction
-abbrev pub hit_at : Shape → ℕ → Place → Bool
+abbrev pub hit_at : GeometryValue → ℕ → Place → Bool
 hit_at g e p = has_last p && ltb (distance g p) e
 
-abbrev pub evict_at : Shape → ℕ → Place → Bool
+abbrev pub evict_at : GeometryValue → ℕ → Place → Bool
 evict_at g e p = not (hit_at g e p) && leb e (seen g p)
 
 yes_or_no : (b : Bool) → cond b 1 0 + cond (not b) 1 0 ≡ 1
@@ -74,7 +74,7 @@ fills_sum es v e h le =
     ∙ ap sum (take-map-range_with_len f 0 (g.e + 1) e le)
     ∙ sum-counts (λ p. not (is_hit g p)) (λ p. min (seen g p) g.e) (places g es) e
 
-all_of : (g : Shape) (e : ℕ) (ps : List Place) → count_by (hit_at g e) ps + count_by (λ p. not (hit_at g e p)) ps ≡ length ps
+all_of : (g : GeometryValue) (e : ℕ) (ps : List Place) → count_by (hit_at g e) ps + count_by (λ p. not (hit_at g e p)) ps ≡ length ps
 all_of g e ps = sum_by_parts (λ p. cond (hit_at g e p) 1 0) (λ p. cond (not (hit_at g e p)) 1 0) (λ _. 1) ps (λ p. yes_or_no (hit_at g e p)) ∙ sum_by_one ps
 
 pub fed_is : (es : List Event) (v : ProfileState) → StandsFor es v → fed_of v ≡ length (places v.geometry es)
@@ -88,7 +88,7 @@ fed_is es v h =
     ∙ sum_by_same (λ p. cond (not (is_hit g p) && ltb (min (seen g p) g.e) (g.e + 1)) 1 0) (λ p. cond (not (is_hit g p)) 1 0) ps (λ p. always (is_hit g p) (seen g p) g.e) in
     omega (arith, found, not_found, all_of g g.e ps)
 
-evicted : (g : Shape) (m e : ℕ) (p : Place) → e ≤ m →
+evicted : (g : GeometryValue) (m e : ℕ) (p : Place) → e ≤ m →
     cond (evict_at g e p) 1 0 + cond (not (hit_at g m p) && ltb (min (seen g p) m) e) 1 0 ≡ cond (not (hit_at g e p)) 1 0
 evicted g m e p le =
     let f = looks_back g p in
@@ -96,24 +96,24 @@ evicted g m e p le =
     (sym f.last) (in_or_out (distance g p) (seen g p) m e f.within le)
 
 -- the number of lines plays no part in places
-places_from_same : (g : Shape) (e : ℕ) (w : List ℕ) (es : List Event) → places_from (record g { e = e }) w es ≡ places_from g w es
+places_from_same : (g : GeometryValue) (e : ℕ) (w : List ℕ) (es : List Event) → places_from (record g { e = e }) w es ≡ places_from g w es
 unfolding places_from
 places_from_same g e w [] = refl
 places_from_same g e w (event.Reference r ∷ es) = ap (λ ps. record { block = block_of g r.addr; window = w } ∷ ps) (places_from_same g e (block_of g r.addr ∷ w) es)
 places_from_same g e w (event.Flush ∷ es) = places_from_same g e [] es
 
-places_same : (g : Shape) (e : ℕ) (es : List Event) → places (record g { e = e }) es ≡ places g es
+places_same : (g : GeometryValue) (e : ℕ) (es : List Event) → places (record g { e = e }) es ≡ places g es
 places_same g e es = places-from (record g { e = e }) es ∙ places_from_same g e [] es ∙ sym (places-from g es)
 
 -- the counts by places of the same shape with another number of lines
-counts_by : (g : Shape) (e : ℕ) (ps : List Place) → Counts
+counts_by : (g : GeometryValue) (e : ℕ) (ps : List Place) → Counts
 counts_by g e ps = record {
   hits = count_by (hit_at g e) ps;
   misses = count_by (λ p. not (hit_at g e p)) ps;
   evictions = count_by (evict_at g e) ps;
 }
 
-counts_same : (g : Shape) (e : ℕ) (es : List Event) → counts (record g { e = e }) es ≡ counts_by g e (places g es)
+counts_same : (g : GeometryValue) (e : ℕ) (es : List Event) → counts (record g { e = e }) es ≡ counts_by g e (places g es)
 unfolding counts distinct_of_set counts_by
 counts_same g e es = ap (counts_by g e) (places_same g e es)
 
@@ -148,11 +148,11 @@ held_is es v h =
 few : (last near : Bool) (d n m : ℕ) → (near ≡ ltb d m) → cond (last && near) (d + 1) (min n m) ≤ m
 few last near d n m e = grind (arith, nat_tests)
 
-at_most : (g : Shape) (p : Place) → cond (is_hit g p) (distance g p + 1) (min (seen g p) g.e) ≤ g.e
+at_most : (g : GeometryValue) (p : Place) → cond (is_hit g p) (distance g p + 1) (min (seen g p) g.e) ≤ g.e
 at_most g p = few (has_last p) (ltb (distance g p) g.e) (distance g p) (seen g p) g.e refl
 
 -- at most g.e comparisons a reference
-pub probes_at_most : (g : Shape) (es : List Event) → probes g es ≤ length (places g es) * g.e
+pub probes_at_most : (g : GeometryValue) (es : List Event) → probes g es ≤ length (places g es) * g.e
 unfolding probes
 probes_at_most g es =
     sum_by-le (λ p. cond (is_hit g p) (distance g p + 1) (min (seen g p) g.e)) g.e (places g es) (λ k p _. at_most g (get_or (places g es) k p))

@@ -5,7 +5,7 @@ use Rattle.std.proofs.lemmas.Bool.{ltb-true}
 use Rattle.std.proofs.lemmas.List.{get_or_read}
 use Rattle.std.proofs.lemmas.List.Sums.{sum_by-set, get_or-le-sum_by}
 use Rattle.cache_core.proofs.Lists.{list_any_is}
-use Rattle.cache_core.specs.Geometry.{Shape}
+use Rattle.cache_core.specs.Geometry.{GeometryValue}
 use Rattle.profile_core.specs.declared.recency.Touch.TheVariants.{Found, New}
 use Rattle.profile_core.specs.Moves.{place_of, is_in, touch_of}
 use Rattle.profile_core.specs.Slab.{Lists}
@@ -36,7 +36,7 @@ raised_fits ns i n lt read = omega (arith, get_or-le-sum_by (λ m. m) ns i 0 lt,
 at_most : (p p' m n d : ℕ) → p ≤ n → p' ≡ p + m → m ≤ d → p' ≤ n + d
 at_most p p' m n d h e k = omega arith
 
-pub fed_once : (g : Shape) (p p' m : ℕ) (was now : Lists) (ds fs ds' fs' : List ℕ) → IsSound g was ds fs p → now.depth ≡ was.depth → length now.lists ≡ length was.lists
+pub fed_once : (g : GeometryValue) (p p' m : ℕ) (was now : Lists) (ds fs ds' fs' : List ℕ) → IsSound g was ds fs p → now.depth ≡ was.depth → length now.lists ≡ length was.lists
     → length ds' ≡ length ds → length fs' ≡ length fs → sum ds' + sum fs' ≡ suc (sum ds + sum fs) → sum ds + sum fs < 2 ^ 41 → p' ≡ p + m → m ≤ g.e
     → IsSound g now ds' fs' p'
 fed_once g p p' m was now ds fs ds' fs' h depth set_count distance_count fill_count more fed counted few = record {

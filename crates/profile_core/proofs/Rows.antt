@@ -4,7 +4,7 @@ use Rattle.std.proofs.Common.{refl}
 use Rattle.trace_core.specs.declared.events.Access.TheVariants as access
 use Rattle.trace_core.specs.declared.events.Event.{Event}
 use Rattle.trace_core.specs.declared.events.Event.TheVariants as event
-use Rattle.cache_core.specs.Geometry.{shape}
+use Rattle.cache_core.specs.Geometry.{geometry_value}
 use Rattle.cache_core.specs.declared.outcome.Counts.{Counts}
 use Rattle.profile_core.specs.State.{ProfileState, empty, after_event, fed_of, held_of, counts_at}
 
@@ -13,7 +13,7 @@ reads addrs = map (λ addr. event.Reference (record { access = access.Read; addr
 
 -- one set of `depth` lines of 16 bytes, after some events
 abbrev fed_with : ℕ → List Event → ProfileState
-fed_with depth es = fold after_event (empty (shape 0 depth 4)) es
+fed_with depth es = fold after_event (empty (geometry_value 0 depth 4)) es
 
 abbrev hits_misses_evictions : ℕ → ℕ → ℕ → Counts
 hits_misses_evictions h m e = record { hits = h; misses = m; evictions = e }

@@ -3,7 +3,7 @@ use Rattle.std.proofs.Common.{◌≡◌, List, [], ◌∷◌, ◌++◌, refl, sy
 use Rattle.std.specs.Prelude.{fold}
 use Rattle.trace_core.specs.declared.events.Event.{Event}
 use Rattle.trace_core.specs.declared.events.Event.TheVariants as event
-use Rattle.cache_core.specs.Geometry.{Shape, IsGeometry}
+use Rattle.cache_core.specs.Geometry.{GeometryValue, IsGeometry}
 use Rattle.profile_core.specs.State.{ProfileState, empty, after_event}
 use Rattle.profile_core.specs.StandsFor.{StandsFor}
 use Rattle.profile_core.proofs.Stands.{new_stands, reference_stands, flush_stands}
@@ -17,7 +17,7 @@ pub stands_with : (before es : List Event) (v : ProfileState) → StandsFor befo
 stands_with before [] v h = subst (λ (xs : List Event). StandsFor xs v) (sym (append-nil before)) h
 stands_with before (e ∷ es) v h = subst (λ (xs : List Event). StandsFor xs (fold after_event (after_event v e) es)) (append_assoc before (e ∷ []) es) (stands_with (before ++ e ∷ []) es (after_event v e) (event_stands before v e h))
 
-pub stands_after : (g : Shape) (es : List Event) → IsGeometry g → StandsFor es (fold after_event (empty g) es)
+pub stands_after : (g : GeometryValue) (es : List Event) → IsGeometry g → StandsFor es (fold after_event (empty g) es)
 stands_after g es h = stands_with [] es (empty g) (new_stands g h)
 
 geometry_step : (v : ProfileState) (e : Event) → (after_event v e).geometry ≡ v.geometry

@@ -10,7 +10,7 @@ use Rattle.cache_core.proofs.Places.{places-flush, window-nil, window-push, sum_
 use Rattle.trace_core.specs.declared.events.Ref.{Ref}
 use Rattle.trace_core.specs.declared.events.Event.{Event}
 use Rattle.trace_core.specs.declared.events.Event.TheVariants as event
-use Rattle.cache_core.specs.Geometry.{Shape, IsGeometry, block_of, set_of_block}
+use Rattle.cache_core.specs.Geometry.{GeometryValue, IsGeometry, block_of, set_of_block}
 use Rattle.cache_core.specs.LruLaws.{place_after}
 use Rattle.cache_core.specs.Windows.{Place, distinct_of_set, has_last, distance, seen, is_hit, window, places, places_after, probes}
 use Rattle.profile_core.specs.Moves.{place_of, is_in, move_to_front}
@@ -109,7 +109,7 @@ flush_stands es v h =
       comparisons = h.comparisons ∙ ap (sum_by (λ p. cond (is_hit v.geometry p) (distance v.geometry p + 1) (min (seen v.geometry p) v.geometry.e))) same;
     }
 
-pub new_stands : (g : Shape) → IsGeometry g → StandsFor [] (empty g)
+pub new_stands : (g : GeometryValue) → IsGeometry g → StandsFor [] (empty g)
 unfolding probes places_after
 new_stands g h =
     record {

@@ -4,7 +4,7 @@ use Rattle.std.proofs.lemmas.Bool.Decides.{nat_tests}
 use Rattle.std.proofs.lemmas.List.Sums.{prefix_len-le-length}
 use Rattle.cache_core.proofs.Lists.{is, list_any_is, position_or_len-take}
 use Rattle.cache_core.proofs.Distances.{has_last_is, distance_is}
-use Rattle.cache_core.specs.Geometry.{Shape, set_of_block}
+use Rattle.cache_core.specs.Geometry.{GeometryValue, set_of_block}
 use Rattle.cache_core.specs.Windows.{Place, distinct_of_set, has_last, distance, seen}
 use Rattle.profile_core.specs.State.{raise}
 use Rattle.profile_core.specs.Moves.{place_of, is_in}
@@ -31,7 +31,7 @@ raise_unless true ns i d h = omega arith
 raise_unless false ns i d h = raise_at ns i d (h refl)
 
 -- what a reference finds at its place, by the first n different blocks of its set
-pub record Finds (g : Shape) (n : ℕ) (p : Place) (xs : List ℕ) : Type 0 where
+pub record Finds (g : GeometryValue) (n : ℕ) (p : Place) (xs : List ℕ) : Type 0 where
   pub last : has_last p ≡ ltb (distance g p) (seen g p)
   pub within : distance g p ≤ seen g p
   pub place : place_of p.block xs ≡ min (distance g p) n
@@ -39,7 +39,7 @@ pub record Finds (g : Shape) (n : ℕ) (p : Place) (xs : List ℕ) : Type 0 wher
   pub found : is_in p.block xs ≡ ltb (min (distance g p) n) (min n (seen g p))
   pub hit : (has_last p && ltb (distance g p) n) ≡ is_in p.block xs
 
-pub finds : (g : Shape) (n : ℕ) (p : Place) (xs : List ℕ) → xs ≡ take n (distinct_of_set g (set_of_block g p.block) p.window) → Finds g n p xs
+pub finds : (g : GeometryValue) (n : ℕ) (p : Place) (xs : List ℕ) → xs ≡ take n (distinct_of_set g (set_of_block g p.block) p.window) → Finds g n p xs
 finds g n p xs e =
     let st : List ℕ = distinct_of_set g (set_of_block g p.block) p.window in
     let d = distance_is g p in

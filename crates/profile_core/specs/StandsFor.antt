@@ -1,16 +1,16 @@
 -- The lists of events that a profile stands for.
 use Rattle.std.specs.Prelude.{ℕ, ◌≡◌, ◌≤◌, ◌<◌, ◌^◌, ◌+◌, ◌==◌, ◌&&◌, not, min, List, length, take, count_by, slice_index}
 use Rattle.trace_core.specs.declared.events.Event.{Event}
-use Rattle.cache_core.specs.Geometry.{Shape, IsGeometry}
+use Rattle.cache_core.specs.Geometry.{GeometryValue, IsGeometry}
 use Rattle.cache_core.specs.Windows.{window, places, distinct_of_set, has_last, distance, seen, is_hit, probes}
 use Rattle.profile_core.specs.State.{ProfileState, list_of}
 
 -- how many references found their block at stack distance d
-abbrev pub found_at : Shape → List Event → ℕ → ℕ
+abbrev pub found_at : GeometryValue → List Event → ℕ → ℕ
 found_at g es d = count_by (λ p. has_last p && (distance g p == d)) (places g es)
 
 -- how many did not find it among the first g.e blocks, where n of these had been seen
-abbrev pub not_found_at : Shape → List Event → ℕ → ℕ
+abbrev pub not_found_at : GeometryValue → List Event → ℕ → ℕ
 not_found_at g es n = count_by (λ p. not (is_hit g p) && (min (seen g p) g.e == n)) (places g es)
 
 -- each list is the first geometry.e of its set's different blocks since the last flush, the most recent first

@@ -3,21 +3,21 @@ use Rattle.std.specs.Prelude.{ℕ, ◌≡◌, ◌≤◌, ◌+◌, ◌*◌, ◌^�
 use Rattle.trace_core.specs.declared.events.Event.{Event}
 use Rattle.trace_core.specs.declared.events.Event.TheVariants as event
 use Rattle.cache_core.specs.declared.outcome.Counts.{Counts}
-use Rattle.cache_core.specs.Geometry.{Shape, block_of, set_of_block}
+use Rattle.cache_core.specs.Geometry.{GeometryValue, block_of, set_of_block}
 use Rattle.profile_core.specs.Slab.{Lists}
 use Rattle.profile_core.specs.Moves.{place_of, is_in, move_to_front}
 
 -- for each set a list of at most geometry.e blocks, the most recent first; how many references found their block at
 -- each place of its list; how many did not find it in a list of each length; and the comparisons made
 pub record ProfileState : Type 0 where
-  pub geometry : Shape
+  pub geometry : GeometryValue
   pub lists : List (List ℕ)
   pub distances : List ℕ
   pub fills : List ℕ
   pub probes : ℕ
 
 -- a profile to which nothing was fed
-abbrev pub empty : Shape → ProfileState
+abbrev pub empty : GeometryValue → ProfileState
 empty g = record {
   geometry = g;
   lists = replicate (2 ^ g.s) [];
@@ -85,7 +85,7 @@ abbrev pub tally_at : ProfileState → ℕ → TallyState
 tally_at v e = record { ways = e; hits = sum (take e v.distances); fills = sum (take e v.fills); fed = fed_of v }
 
 -- what is true of the fields of every profile
-pub record IsSound (g : Shape) (lists : Lists) (distances fills : List ℕ) (probes : ℕ) : Type 0 where
+pub record IsSound (g : GeometryValue) (lists : Lists) (distances fills : List ℕ) (probes : ℕ) : Type 0 where
   pub depth : lists.depth ≡ g.e
   pub set_count : length lists.lists ≡ 2 ^ g.s
   pub distance_count : length distances ≡ g.e

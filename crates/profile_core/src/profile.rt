@@ -1,7 +1,7 @@
 //! A profile: one pass over references that counts for every associativity up to a depth.
 ghost use Rattle.std.specs.Prelude.{◌≡◌, ◌+◌, ◌-◌, ◌*◌, ◌%◌, ◌^◌, ◌<◌, ◌≤◌, List, IfOk, length, sum};
 ghost use Rattle.trace_core.specs.declared.events.Event.{Event};
-ghost use Rattle.cache_core.specs.Geometry.{IsGeometry, shape, block_of};
+ghost use Rattle.cache_core.specs.Geometry.{IsGeometry, geometry_value, block_of};
 ghost use Rattle.cache_core.specs.Windows.{places, counts, probes, held};
 ghost use Rattle.profile_core.specs.State.{empty, after_reference, after_flush, fed_of, held_of, counts_at, tally_at};
 ghost use Rattle.profile_core.specs.StandsFor.{StandsFor};
@@ -64,8 +64,8 @@ impl Profile {
     /// for each of `depth * 2^s` blocks, 4 and a quarter for each set, and 16 for each associativity. Where memory
     /// is refused, nothing is kept.
     pub fn new(alloc: Global, b: u64, s: u64, depth: u64) -> Result<Profile, AllocError>
-        requires { IsGeometry (shape s depth b) }
-        ensures { IfOk result (λ profile. profile ≡ empty (shape s depth b)) }
+        requires { IsGeometry (geometry_value s depth b) }
+        ensures { IfOk result (λ profile. profile ≡ empty (geometry_value s depth b)) }
     {
         let Some(geometry) = Geometry::new(s, depth, b) else {
             unreachable!()

@@ -4,7 +4,7 @@ use Rattle.std.specs.List.{AllByRecursion as Each, slice_get}
 use Rattle.std.proofs.lemmas.Simd.{map-map}
 use Rattle.std.proofs.lemmas.Bool.{cases_Bool, and_from, eq-eqb}
 use Rattle.trace_core.specs.declared.events.Event.{Event}
-use Rattle.cache_core.specs.Geometry.{Shape, shape}
+use Rattle.cache_core.specs.Geometry.{GeometryValue, geometry_value}
 use Rattle.profile_core.specs.State.{TallyState, tally_at}
 use Rattle.sweep_core.specs.declared.space.Config.{Config}
 use Rattle.sweep_core.specs.declared.request.Request.{Request}
@@ -58,7 +58,7 @@ module _ (r : Request) (es : List Event) where
   serves c ways s low = record {
     pair = and_from _ _ (eq-eqb c.bsize c.bsize refl) (eq-eqb c.sets c.sets refl);
     some = s.some;
-    deep = subst (λ (g : Shape). c.assoc ≤ g.e) (sym (geometry-kept (configs_of r) es (pair_of c))) s.deep;
+    deep = subst (λ (g : GeometryValue). c.assoc ≤ g.e) (sym (geometry-kept (configs_of r) es (pair_of c))) s.deep;
     rising = low;
     fits = s.fits;
   }
@@ -87,7 +87,7 @@ module _ (r : Request) (es : List Event) where
   profiles-are (p ∷ ps) h = (
     record {
       stands = stands (configs_of r) es p h.0;
-      geometry = let k = geometry-kept (configs_of r) es p in k ∙ ap (λ g. shape (log2 p.1) g.e (log2 p.0)) (sym k);
+      geometry = let k = geometry-kept (configs_of r) es p in k ∙ ap (λ g. geometry_value (log2 p.1) g.e (log2 p.0)) (sym k);
     },
     profiles-are ps h.1,
   )

@@ -7,7 +7,7 @@ use Rattle.std.proofs.lemmas.List.Folds.{sum_by-replicate}
 use Rattle.trace_core.specs.declared.events.Event.{Event}
 use Rattle.trace_core.specs.declared.fault.TraceFault.{TraceFault}
 use Rattle.trace_core.specs.declared.line.Format.{Format}
-use Rattle.trace_core.specs.declared.reader.ReaderState.TheVariants as state
+use Rattle.trace_core.specs.declared.state.ReaderState.TheVariants as state
 use Rattle.trace_core.specs.declared.events.Entry.{Entry}
 use Rattle.trace_core.specs.Device.{SourceView, SinkView}
 use Rattle.trace_core.specs.Events.{events_of}
@@ -18,7 +18,7 @@ use Rattle.trace_core.proofs.Runs.{Reached-end, Reached-from}
 use Rattle.trace_core.proofs.Tasks.{ReadWhole, if_known}
 use Rattle.trace_core.proofs.Performing.{Stopped-at}
 use Rattle.trace_core.proofs.Written.{Wrote-none}
-use Rattle.cache_core.specs.Geometry.{Shape}
+use Rattle.cache_core.specs.Geometry.{GeometryValue}
 use Rattle.profile_core.specs.State.{empty, fed_of}
 use Rattle.sweep_core.specs.declared.request.Request.{Request}
 use Rattle.sweep_core.specs.declared.profiles.PairProfile.{PairProfile}
@@ -28,7 +28,7 @@ use Rattle.sweep_core.specs.Pass.{Swept, Feeds, begun_for, made_for, all_after}
 use Rattle.sweep_core.proofs.Passes.{all_after-nil}
 use Rattle.sweep_core.proofs.Standing.{work-is}
 
-empty-fed : (g : Shape) → fed_of (empty g) ≤ 0
+empty-fed : (g : GeometryValue) → fed_of (empty g) ≤ 0
 empty-fed g = omega (arith, sum_by-replicate (λ x. x) g.e 0, sum_by-replicate (λ x. x) (g.e + 1) 0)
 
 -- new profiles were fed nothing

@@ -12,8 +12,8 @@ use Rattle.trace_core.specs.declared.events.Entry.{Entry}
 use Rattle.trace_core.specs.declared.events.Kind.{Kind}
 use Rattle.trace_core.specs.declared.line.Format.{Format}
 use Rattle.trace_core.specs.declared.fault.TraceFault.{TraceFault}
-use Rattle.trace_core.specs.declared.reader.ReaderState.{ReaderState}
-use Rattle.trace_core.specs.declared.reader.ReaderState.TheVariants as state
+use Rattle.trace_core.specs.declared.state.ReaderState.{ReaderState}
+use Rattle.trace_core.specs.declared.state.ReaderState.TheVariants as state
 use Rattle.cache_core.specs.Geometry.{IsGeometry, block_of}
 use Rattle.profile_core.specs.State.{empty, after_reference, after_flush, after_event}
 use Rattle.sweep_core.specs.declared.space.Config.{Config}

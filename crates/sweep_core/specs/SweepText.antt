@@ -6,7 +6,7 @@ use Rattle.trace_core.specs.declared.events.Event.{Event}
 use Rattle.trace_core.specs.Reading.{events}
 use Rattle.trace_core.specs.Task.{Task}
 use Rattle.cache_core.specs.declared.outcome.Counts.{Counts}
-use Rattle.cache_core.specs.Geometry.{Shape, shape}
+use Rattle.cache_core.specs.Geometry.{GeometryValue, geometry_value}
 use Rattle.cache_core.specs.Windows.{counts}
 use Rattle.sweep_core.specs.declared.space.Config.{Config}
 use Rattle.sweep_core.specs.declared.request.Request.{Request}
@@ -18,8 +18,8 @@ abbrev pub log2 : ℕ → ℕ
 log2 n = trailing_zeros w64 n
 
 -- the shape of a configuration
-abbrev pub shape_of_config : Config → Shape
-shape_of_config c = shape (log2 c.sets) c.assoc (log2 c.bsize)
+abbrev pub shape_of_config : Config → GeometryValue
+shape_of_config c = geometry_value (log2 c.sets) c.assoc (log2 c.bsize)
 
 -- the counts of a configuration over a trace
 abbrev pub row_counts : List Event → Config → Counts

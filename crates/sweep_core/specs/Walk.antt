@@ -2,7 +2,7 @@
 use Rattle.std.specs.Prelude.{◌≡◌, ⊤, ◌⊎◌, ℕ, ◌<◌, ◌≤◌, ◌*◌, ◌^◌, ◌==◌, ◌&&◌, Bool, true, false, Option, None, Some, List, [], ◌∷◌}
 use Rattle.std.specs.List.{AllByRecursion}
 use Rattle.trace_core.specs.declared.events.Event.{Event}
-use Rattle.cache_core.specs.Geometry.{shape}
+use Rattle.cache_core.specs.Geometry.{geometry_value}
 use Rattle.profile_core.specs.State.{TallyState, tally_at}
 use Rattle.profile_core.specs.StandsFor.{StandsFor}
 use Rattle.sweep_core.specs.declared.space.Config.{Config}
@@ -44,7 +44,7 @@ ServeAll (x ∷ xs) ways (c ∷ cs) =
 -- a profile stands for a trace, and has the shape of its pair
 pub record IsProfileOf (es : List Event) (x : PairProfile) : Type 0 where
   pub stands : StandsFor es x.profile
-  pub geometry : x.profile.geometry ≡ shape (log2 x.sets) x.profile.geometry.e (log2 x.bsize)
+  pub geometry : x.profile.geometry ≡ geometry_value (log2 x.sets) x.profile.geometry.e (log2 x.bsize)
 
 -- a tally is that of the first profile
 abbrev pub IsTally : List PairProfile → TallyState → Type 0

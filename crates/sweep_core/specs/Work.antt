@@ -2,7 +2,7 @@
 use Rattle.std.specs.Prelude.{ℕ, ◌==◌, ◌&&◌, not, max, Bool, List, [], ◌∷◌, map, filter, fold, sum_by}
 use Rattle.trace_core.specs.declared.events.Event.{Event}
 use Rattle.trace_core.specs.Reading.{events}
-use Rattle.cache_core.specs.Geometry.{Shape, shape}
+use Rattle.cache_core.specs.Geometry.{GeometryValue, geometry_value}
 use Rattle.cache_core.specs.Windows.{probes}
 use Rattle.sweep_core.specs.declared.space.Config.{Config}
 use Rattle.sweep_core.specs.declared.request.Request.{Request}
@@ -26,8 +26,8 @@ unfoldable pub depth : List Config → ℕ × ℕ → ℕ
 depth all p = fold max 0 (map (λ c. c.assoc) (filter (has_pair p) all))
 
 -- the shape of the deepest cache of a pair
-abbrev pub shape_of_pair : List Config → ℕ × ℕ → Shape
-shape_of_pair all p = shape (log2 p.1) (depth all p) (log2 p.0)
+abbrev pub shape_of_pair : List Config → ℕ × ℕ → GeometryValue
+shape_of_pair all p = geometry_value (log2 p.1) (depth all p) (log2 p.0)
 
 -- the comparisons of one profile for each pair of the rows, as deep as the greatest associativity of that pair in all
 unfoldable pub work : List Event → List Config → List Config → ℕ

@@ -11,10 +11,10 @@ use Rattle.trace_core.specs.declared.line.Format.{Format}
 use Rattle.trace_core.specs.declared.line.LineFault.{LineFault}
 use Rattle.trace_core.specs.declared.fault.TraceFault.{TraceFault}
 use Rattle.trace_core.specs.declared.fault.TraceFault.TheVariants as fault
-use Rattle.trace_core.specs.declared.reader.ReaderState.{ReaderState}
-use Rattle.trace_core.specs.declared.reader.ReaderState.TheVariants as state
+use Rattle.trace_core.specs.declared.state.ReaderState.{ReaderState}
+use Rattle.trace_core.specs.declared.state.ReaderState.TheVariants as state
 use Rattle.trace_core.proofs.Readings.{reading-line, reading-last, reading-failed}
-use Rattle.trace_core.specs.declared.reader.TheConstants.{MAX_LINE}
+use Rattle.trace_core.specs.declared.limits.TheConstants.{MAX_LINE}
 
 abbrev pub at : Format → ℕ → ℕ → List ℕ → ReaderState → Progress
 at f limit n u s = record { format = f; limit = limit; lines = n; unread = u; state = s }

@@ -10,7 +10,7 @@ use Rattle.trace_core.specs.declared.line.Format.{Format}
 use Rattle.trace_core.specs.declared.line.LineFault.{LineFault}
 use Rattle.trace_core.specs.declared.fault.TraceFault.{TraceFault}
 use Rattle.trace_core.specs.declared.fault.TraceFault.TheVariants as fault
-use Rattle.trace_core.specs.declared.reader.TheConstants.{MAX_LINE}
+use Rattle.trace_core.specs.declared.limits.TheConstants.{MAX_LINE}
 
 pub judged-ok : (n : ℕ) (past long : Bool) (x y : TraceFault) (m : Result (Option Entry) LineFault) (o : Option Entry)
     → cond past (Err x) (cond long (Err y) (with_line n m)) ≡ Ok o → entry_in m ≡ o

@@ -12,7 +12,7 @@ use Rattle.trace_core.specs.declared.line.Format.{Format}
 use Rattle.trace_core.specs.declared.fault.TraceFault.{TraceFault}
 use Rattle.trace_core.specs.declared.fault.TraceFault.TheVariants as fault
 use Rattle.trace_core.proofs.Entries.{judged-ok}
-use Rattle.trace_core.specs.declared.reader.TheConstants.{MAX_LINE}
+use Rattle.trace_core.specs.declared.limits.TheConstants.{MAX_LINE}
 
 -- one byte more in front of some pieces
 pieces-cons : (feed : Bool) (c : ℕ) (pieces : List (List ℕ)) (x : List ℕ) (xs : List (List ℕ)) → pieces ≡ x ∷ xs

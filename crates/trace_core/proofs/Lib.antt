@@ -1,6 +1,6 @@
 pub mod Tables
 pub mod Fronts
-pub mod UsualLines
+pub mod FastLines
 pub mod Readings
 pub mod Buffers
 pub mod Splits

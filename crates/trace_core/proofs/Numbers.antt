@@ -7,7 +7,7 @@ use Rattle.std.specs.Str.Parse.{AllDigits, digits_value}
 use Rattle.std.proofs.Math.Nat.{pow-le-pow_right}
 use Rattle.std.proofs.lemmas.List.{length-take-le}
 use Rattle.std.proofs.lemmas.Int.Digits.{digits_value-lt, digits_value_more, digits_more}
-use Rattle.trace_core.specs.Fields.{number_of}
+use Rattle.trace_core.specs.Fields.{number_written}
 
 module _ (radix most : ℕ) (some : 0 < radix) where
   pub number-fits : (ds : List ℕ) (i : ℕ) → i < length ds → i < most → AllDigits radix (take i ds) → digit_value (get_or ds i 0) < radix
@@ -29,9 +29,9 @@ module _ (radix most : ℕ) (some : 0 < radix) where
       let first : ltb (digit_value c) radix ≡ true = search (rules, tests, digits.0) in
       rw first (all_digits cs digits.1)
 
-  pub number_of-some : (ds : List ℕ) → 1 ≤ length ds → length ds ≤ most → AllDigits radix ds
-      → number_of radix most ds ≡ Some (digits_value radix ds)
-  number_of-some ds low high digits =
+  pub number_written-some : (ds : List ℕ) → 1 ≤ length ds → length ds ≤ most → AllDigits radix ds
+      → number_written radix most ds ≡ Some (digits_value radix ds)
+  number_written-some ds low high digits =
       let at_least : leb 1 (length ds) ≡ true = search (rules, tests) in
       let at_most : leb (length ds) most ≡ true = search (rules, tests) in
       rw (at_least, at_most, all_digits ds digits) refl

@@ -6,8 +6,8 @@ use Rattle.trace_core.specs.declared.events.Entry.{Entry}
 use Rattle.trace_core.specs.declared.fault.RunFault.{RunFault}
 use Rattle.trace_core.specs.declared.fault.RunFault.TheVariants.{Trace, Write}
 use Rattle.trace_core.specs.declared.fault.TraceFault.{TraceFault}
-use Rattle.trace_core.specs.declared.reader.ReaderState.{ReaderState}
-use Rattle.trace_core.specs.declared.reader.ReaderState.TheVariants as state
+use Rattle.trace_core.specs.declared.state.ReaderState.{ReaderState}
+use Rattle.trace_core.specs.declared.state.ReaderState.TheVariants as state
 use Rattle.trace_core.specs.Device.{SourceView, SinkView, WritesPrefix, FlushesAfter, Wrote, WrotePart, WroteLast, WroteLastPart}
 use Rattle.trace_core.specs.Reading.{reading}
 use Rattle.trace_core.specs.Reader.{Progress, Reached}

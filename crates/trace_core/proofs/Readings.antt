@@ -7,7 +7,7 @@ use Rattle.trace_core.specs.Reading.{ends, judge, then_reads, read_lines, cut_of
 use Rattle.trace_core.specs.declared.line.Format.{Format}
 use Rattle.trace_core.specs.declared.fault.TraceFault.{TraceFault}
 use Rattle.trace_core.specs.declared.fault.TraceFault.TheVariants as fault
-use Rattle.trace_core.specs.declared.reader.TheConstants.{MAX_LINE}
+use Rattle.trace_core.specs.declared.limits.TheConstants.{MAX_LINE}
 
 pub NoFeed-from_places : (u : List ℕ) → ((k : ℕ) → k < length u → is_line_feed (get_or u k 0) ≡ false) → HoldsNoFeed u
 NoFeed-from_places [] h = tt

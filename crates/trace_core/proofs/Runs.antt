@@ -10,8 +10,8 @@ use Rattle.trace_core.specs.declared.events.Entry.{Entry}
 use Rattle.trace_core.specs.declared.line.Format.{Format}
 use Rattle.trace_core.specs.declared.fault.TraceFault.{TraceFault}
 use Rattle.trace_core.specs.declared.fault.TraceFault.TheVariants as fault
-use Rattle.trace_core.specs.declared.reader.ReaderState.{ReaderState}
-use Rattle.trace_core.specs.declared.reader.ReaderState.TheVariants as state
+use Rattle.trace_core.specs.declared.state.ReaderState.{ReaderState}
+use Rattle.trace_core.specs.declared.state.ReaderState.TheVariants as state
 use Rattle.trace_core.proofs.Deliveries.{Delivers-none, Delivers-then}
 use Rattle.trace_core.proofs.Advancing.{Advances-stays, Advances-then}
 

@@ -14,12 +14,12 @@ use Rattle.trace_core.specs.declared.line.Format.{Format}
 use Rattle.trace_core.specs.declared.line.LineFault.{LineFault}
 use Rattle.trace_core.specs.declared.fault.TraceFault.{TraceFault}
 use Rattle.trace_core.specs.declared.fault.TraceFault.TheVariants as fault
-use Rattle.trace_core.specs.declared.reader.ReaderState.{ReaderState}
-use Rattle.trace_core.specs.declared.reader.ReaderState.TheVariants as state
+use Rattle.trace_core.specs.declared.state.ReaderState.{ReaderState}
+use Rattle.trace_core.specs.declared.state.ReaderState.TheVariants as state
 use Rattle.trace_core.proofs.Searches.{fails-before, fails-all}
 use Rattle.trace_core.proofs.Readings.{NoFeed-from_places, reading-past, reading-long}
 use Rattle.trace_core.proofs.Advancing.{at, numbered, Advances-line, Advances-bad_line, Advances-fault, Advances-failed, Advances-last, Advances-bad_last}
-use Rattle.trace_core.specs.declared.reader.TheConstants.{MAX_LINE}
+use Rattle.trace_core.specs.declared.limits.TheConstants.{MAX_LINE}
 
 with_line-err : (n : ℕ) (r : Result (Option Entry) LineFault) (x : TraceFault) → with_line n r ≡ Err x → (y : LineFault) × (x ≡ fault.Line n y)
 with_line-err n (Ok o) x h = absurd cc

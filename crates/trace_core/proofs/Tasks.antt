@@ -6,7 +6,7 @@ use Rattle.std.specs.Io.KnownBytes.{Appends}
 use Rattle.trace_core.specs.declared.events.Entry.{Entry}
 use Rattle.trace_core.specs.declared.fault.TraceFault.{TraceFault}
 use Rattle.trace_core.specs.declared.fault.TraceFault.TheVariants as fault
-use Rattle.trace_core.specs.declared.reader.ReaderState.TheVariants as state
+use Rattle.trace_core.specs.declared.state.ReaderState.TheVariants as state
 use Rattle.trace_core.specs.Device.{SourceView, SinkView, WritesPrefix, Wrote}
 use Rattle.trace_core.specs.Reading.{Reading, reading, entries}
 use Rattle.trace_core.specs.Reader.{Progress, Reached, entries_then, device_failed}

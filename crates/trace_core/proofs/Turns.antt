@@ -7,8 +7,8 @@ use Rattle.trace_core.proofs.Advancing.{Advances-stays, Advances-then}
 use Rattle.std.specs.Io.KnownBytes.{IsAtEnd}
 use Rattle.trace_core.specs.Device.{SourceView, failures_after}
 use Rattle.trace_core.specs.declared.scan.Scan.{Scan}
-use Rattle.trace_core.specs.declared.reader.ReaderState.{ReaderState}
-use Rattle.trace_core.specs.declared.reader.ReaderState.TheVariants as state
+use Rattle.trace_core.specs.declared.state.ReaderState.{ReaderState}
+use Rattle.trace_core.specs.declared.state.ReaderState.TheVariants as state
 use Rattle.trace_core.specs.Scan.{progress, left_to_limit, Reads, Steps}
 use Rattle.trace_core.specs.Reader.{Advances, Delivers, device_failed}
 

@@ -1,7 +1,7 @@
 pub mod Events
 pub mod Fields
 pub mod Line
-pub mod Usual
+pub mod FastLine
 pub mod Device
 pub mod Devices
 pub mod Lines

@@ -1,7 +1,7 @@
 -- What one line stands for, or its fault.
 use Rattle.std.specs.Prelude.{ℕ, ◌==◌, nat_lt, ◌||◌, Bool, false, List, [], ◌∷◌, Option, None, Some, Result, Ok, Err, if◌then◌else◌}
 use Rattle.std.specs.List.{before_first, after_first}
-use Rattle.trace_core.specs.Fields.{trimmed, fields, number_of, without_0x}
+use Rattle.trace_core.specs.Fields.{trimmed, fields, number_written, without_0x}
 use Rattle.trace_core.specs.declared.events.Op.{Op}
 use Rattle.trace_core.specs.declared.events.Op.TheVariants.{Fetch, Load, Store, Modify}
 use Rattle.trace_core.specs.declared.events.Entry.{Entry}
@@ -33,7 +33,7 @@ din_entry label addr =
 -- the address in the second field, after an optional `0x`
 abbrev pub din_address : List (List ℕ) → Option ℕ
 din_address [] = None
-din_address (field ∷ further) = number_of 16 16 (without_0x field)
+din_address (field ∷ further) = number_written 16 16 (without_0x field)
 
 -- A din line by its fields: a label of one byte, an address, and whatever follows.
 abbrev pub din_meaning : List (List ℕ) → Result (Option Entry) LineFault
@@ -60,8 +60,8 @@ is_comma c = c == 44
 abbrev pub lackey_access : Op → List (List ℕ) → Result (Option Entry) LineFault
 lackey_access op [] = Err Address
 lackey_access op (field ∷ further) =
-    or_fault Address (number_of 16 16 (before_first is_comma field))
-    (λ addr. or_fault Size (number_of 10 9 (after_first is_comma field)) (λ size. Ok (item op addr size)))
+    or_fault Address (number_written 16 16 (before_first is_comma field))
+    (λ addr. or_fault Size (number_written 10 9 (after_first is_comma field)) (λ size. Ok (item op addr size)))
 
 -- A lackey line by its fields: an operation of one byte, an address and a size, and whatever follows.
 abbrev pub lackey_meaning : List (List ℕ) → Result (Option Entry) LineFault

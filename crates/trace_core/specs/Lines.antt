@@ -1,4 +1,4 @@
--- The lines of a text, by the usual rule.
+-- The lines of a text, as in any Unix text.
 use Rattle.std.specs.Prelude.{◌≡◌, ⊤, ℕ, suc, ◌==◌, Bool, false, List, [], ◌∷◌, if◌then◌else◌}
 use Rattle.std.specs.List.{onto_first}
 

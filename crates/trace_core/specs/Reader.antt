@@ -8,8 +8,8 @@ use Rattle.trace_core.specs.declared.events.Entry.{Entry}
 use Rattle.trace_core.specs.declared.line.Format.{Format}
 use Rattle.trace_core.specs.declared.fault.TraceFault.{TraceFault}
 use Rattle.trace_core.specs.declared.fault.TraceFault.TheVariants as fault
-use Rattle.trace_core.specs.declared.reader.ReaderState.{ReaderState}
-use Rattle.trace_core.specs.declared.reader.ReaderState.TheVariants as state
+use Rattle.trace_core.specs.declared.state.ReaderState.{ReaderState}
+use Rattle.trace_core.specs.declared.state.ReaderState.TheVariants as state
 
 -- How a reader stands: how many lines it has read, which bytes were delivered to it and not yet read, and whether it goes on.
 pub record Progress : Type 0 where
@@ -29,8 +29,8 @@ left_in (state.Failed f) r = ends (Some f)
 abbrev pub still_gives : Ending → Progress → List ℕ → Reading
 still_gives e p later = left_in p.state (reading_after e p.format p.limit p.lines (p.unread ++ later))
 
--- What may follow the bytes that led to a state, where `told` is what the source still tells of: anything while the reader is
--- open, nothing after the end or a failure, and after another fault what is told.
+-- What may follow the bytes that led to a state, where `told` is what the source still reports: anything while the reader is
+-- open, nothing after the end or a failure, and after another fault what is reported.
 abbrev pub MayFollow : Option (List ℕ) → ReaderState → Ending → List ℕ → Type 0
 MayFollow told state.Open e later = ⊤
 MayFollow told state.Ended e later = (e ≡ at_end) × (later ≡ [])
@@ -53,12 +53,12 @@ pub record Advances (told : Option (List ℕ)) (old new : Progress) (bytes : Lis
 abbrev pub begun : Format → ℕ → Progress
 begun format limit = record { format = format; limit = limit; lines = 0; unread = []; state = state.Open }
 
--- the entry of an answer
-abbrev pub answered : Result (Option (ℕ × Entry)) TraceFault → List (ℕ × Entry)
-answered (Ok x) = option_to_list x
-answered (Err f) = []
+-- the entry that a call returned, if it did
+abbrev pub entries_returned : Result (Option (ℕ × Entry)) TraceFault → List (ℕ × Entry)
+entries_returned (Ok x) = option_to_list x
+entries_returned (Err f) = []
 
--- the state tells what was answered: the end, a fault, or an entry
+-- the state tells what was returned: the end, a fault, or an entry
 abbrev pub Tells : ReaderState → Result (Option (ℕ × Entry)) TraceFault → Type 0
 Tells s (Ok None) = s ≡ state.Ended
 Tells s (Ok (Some x)) = (f : TraceFault) → s ≢ state.Failed f
@@ -73,12 +73,12 @@ device_failed (state.Failed (fault.TooLong n)) = false
 device_failed (state.Failed (fault.TooManyLines n)) = false
 device_failed (state.Failed (fault.Line n f)) = false
 
--- The source told of these bytes before they were delivered, and goes on telling unless it failed.
+-- The source reported these bytes before they were delivered, and goes on reporting unless it failed.
 abbrev pub Delivers : Option (List ℕ) → Option (List ℕ) → Bool → List ℕ → Type 0
 Delivers old new false bytes = Consumes old new bytes
 Delivers old new true bytes = IfSome old (λ before. IfSome new (λ later. before ≡ bytes ++ later))
 
--- the answer of a call in a state that isn't open
+-- what a call returns in a state that isn't open
 abbrev pub stopped_answer : ReaderState → Result (Option (ℕ × Entry)) TraceFault
 stopped_answer state.Open = Ok None
 stopped_answer state.Ended = Ok None

@@ -12,7 +12,7 @@ use Rattle.trace_core.specs.declared.events.Event.{Event}
 use Rattle.trace_core.specs.declared.events.Kind.{Kind}
 use Rattle.trace_core.specs.declared.line.Format.{Format}
 use Rattle.trace_core.specs.declared.line.LineFault.{LineFault}
-use Rattle.trace_core.specs.declared.reader.TheConstants.{MAX_LINE}
+use Rattle.trace_core.specs.declared.limits.TheConstants.{MAX_LINE}
 use Rattle.trace_core.specs.declared.fault.TraceFault.{TraceFault}
 use Rattle.trace_core.specs.declared.fault.TraceFault.TheVariants as fault
 

@@ -1,4 +1,4 @@
--- What a run over a trace reads, and what it owes its sink.
+-- What a run over a trace reads, and what it has to write.
 use Rattle.std.specs.Prelude.{◌≡◌, ℕ, List, [], ◌++◌, map, Option, None, Some, Bool, true, false, Result, Err, IfSome, OnOk}
 use Rattle.std.specs.Io.KnownBytes.{Appends, IsAtEnd}
 use Rattle.trace_core.specs.Device.{SourceView, SinkView, WritesPrefix, one_more, failures_after, FlushesAfter, FlushesAtMostOnce}
@@ -9,7 +9,7 @@ use Rattle.trace_core.specs.declared.line.Format.{Format}
 use Rattle.trace_core.specs.declared.fault.TraceFault.{TraceFault}
 use Rattle.trace_core.specs.declared.fault.RunFault.{RunFault}
 use Rattle.trace_core.specs.declared.fault.RunFault.TheVariants.{Memory, Trace, Write}
-use Rattle.trace_core.specs.declared.reader.ReaderState.TheVariants as state
+use Rattle.trace_core.specs.declared.state.ReaderState.TheVariants as state
 
 -- What a run over a trace reads, and what it has to write.
 pub record Task : Type 0 where
@@ -32,7 +32,7 @@ entries_of xs = map (λ x. x.1) xs
 abbrev pub entries_in : Reading → List Entry
 entries_in r = entries_of r.entries
 
--- what a run writes where these entries stand before the end of a text, or before its first fault
+-- what a run writes where these entries come before the end of a text, or before its first fault
 abbrev pub output_for : Task → List ℕ → List Entry → Option TraceFault → List ℕ
 output_for task text before None = task.whole text
 output_for task text before (Some f) = task.partial before

@@ -14,8 +14,11 @@ pub(crate) const CAPACITY: usize = 65536;
 /// The bytes that were delivered and not yet consumed.
 #[derive(Drop)]
 pub(crate) struct Buffer {
+    /// The room, always `CAPACITY` bytes.
     bytes: Vec<u8>,
+    /// Where the bytes that wait begin.
     start: usize,
+    /// Where they end.
     end: usize,
 }
 
@@ -59,8 +62,8 @@ impl Buffer {
         self.start += count;
     }
 
-    /// Asks for as many bytes as there is room for, and answers how many came.
-    pub(crate) fn fill<S: Source>(&mut self, source: &mut S) -> Result<usize, DeviceFault>
+    /// Asks for as many bytes as there is room for, and returns how many came.
+    pub(crate) fn refill<S: Source>(&mut self, source: &mut S) -> Result<usize, DeviceFault>
         requires { length self.old < CAPACITY }
         ensures more { IfOk result (λ n. (more : List ℕ) × (length more ≡ n) × (self.new ≡ self.old ++ more)
             × Consumes (S.view source.old).remaining (S.view source.new).remaining more) }

@@ -129,7 +129,7 @@ impl<'a> Source for TapeSource<'a> {
     }
 }
 
-/// A text that is given for ever. It tells nothing, and never fails.
+/// A text that is given for ever. It reports nothing, and never fails.
 #[derive(Drop)]
 pub struct LoopSource<'a> {
     text: &'a [u8],
@@ -161,7 +161,7 @@ impl<'a> Source for LoopSource<'a> {
     ghost view = { λ _. record { remaining = None; failures = 0 } };
 
     fn read(&mut self, into: &mut [u8]) -> Result<usize, DeviceFault>
-        // The source's clauses, which say little where nothing is told.
+        // The source's clauses, which say little where nothing is reported.
         ensures bound { IfOk result (λ n. n ≤ length into.new) }
         ensures gives { let view = ⟦<LoopSource<'a> as Source>⟧.view in
             Gives (view self.old) (view self.new) result into.new }

@@ -2,7 +2,7 @@
 ghost use Rattle.std.specs.Prelude.{◌≡◌, ℕ, ◌+◌, ◌*◌, ◌^◌, ◌<◌, ◌≤◌, ◌++◌, List, Some, false, length, take, slice_index, IfSome};
 ghost use Rattle.std.specs.Char.{digit_value, is_digit};
 ghost use Rattle.std.specs.Str.Parse.{AllDigits, digits_value};
-ghost use Rattle.trace_core.specs.Fields.{number_of};
+ghost use Rattle.trace_core.specs.Fields.{number_written};
 
 /// For each byte its value as a digit in base 36, or 36.
 static DIGITS: [u8; 256] = [
@@ -75,7 +75,7 @@ pub(crate) fn split_number(radix: u8, most: usize, text: &[u8]) -> Option<(u64, 
     requires some { 0 < radix }
     requires fits { radix ^ most ≤ 2 ^ 64 }
     ensures parts { IfSome result (λ parts. (digits : List ℕ) × (text.now ≡ digits ++ parts.1.now)
-        × (number_of radix most digits ≡ Some parts.0)) }
+        × (number_written radix most digits ≡ Some parts.0)) }
     ensures bound { IfSome result (λ parts. parts.0 < radix ^ most) }
 {
     let (value, len) = read_digits(radix, most, text);
@@ -91,7 +91,7 @@ pub(crate) fn split_number(radix: u8, most: usize, text: &[u8]) -> Option<(u64, 
 pub(crate) fn read_number(radix: u8, most: usize, digits: &[u8]) -> Option<u64>
     requires some { 0 < radix }
     requires fits { radix ^ most ≤ 2 ^ 64 }
-    ensures value { result ≡ number_of radix most digits.now }
+    ensures value { result ≡ number_written radix most digits.now }
     ensures bound { IfSome result (λ n. n < radix ^ most) }
 {
     let (value, len) = read_digits(radix, most, digits);

@@ -19,7 +19,7 @@ pub struct Item {
     pub op: Op,
     /// The address of its first byte.
     pub addr: u64,
-    /// How many bytes it touches; 0 in a din trace, which doesn't tell.
+    /// How many bytes it touches; 0 in a din trace, which doesn't say.
     pub size: u32,
 }
 
@@ -32,8 +32,8 @@ pub enum Entry {
 }
 
 impl Entry {
-    /// The same entry, put together from its fields. What a call that is not inlined answers lies
-    /// in memory, and so does what is merged with it; a cold call's answer goes through here, so
+    /// The same entry, put together from its fields. What a call that is not inlined returns lies
+    /// in memory, and so does what is merged with it; a cold call's result goes through here, so
     /// that the hot one stays in registers.
     #[inline(always)]
     pub(crate) fn rebuilt(self) -> Entry

@@ -3,8 +3,8 @@ ghost use Rattle.std.specs.Prelude.{◌≡◌};
 ghost use Rattle.trace_core.specs.declared.fault.RunFault.TheVariants.{Memory, Trace, Write};
 
 use crate::io::DeviceFault;
+use crate::limits::MAX_LINE;
 use crate::line::LineFault;
-use crate::reader::MAX_LINE;
 use std::alloc::AllocError;
 use thiserror::Error;
 
@@ -26,7 +26,7 @@ pub enum TraceFault {
 }
 
 /// Why a run stopped before its end. A run takes its memory, then reads its trace, and then writes
-/// what it still owes.
+/// what it still has to write.
 #[derive(Clone, Copy, Debug, PartialEq, Eq, Error)]
 pub enum RunFault {
     /// There was not enough memory.
@@ -56,7 +56,7 @@ impl From<TraceFault> for RunFault {
     }
 }
 
-/// A device's failure that comes to a run is its sink's: a reader tells that of its source as a
+/// A device's failure that comes to a run is its sink's: a reader reports that of its source as a
 /// fault of the trace.
 impl From<DeviceFault> for RunFault {
     ghost from_gives = { λ _ fault. fault ≡ Write };

@@ -14,7 +14,7 @@ pub trait Source {
     /// What contracts see of a source: the bytes still to come, and how often calls failed so far.
     ghost view: { Self → SourceView };
 
-    /// Puts bytes into the front of `into`, and answers how many. 0 for a nonempty slice means the
+    /// Puts bytes into the front of `into`, and returns how many. 0 for a nonempty slice means the
     /// end.
     fn read(&mut self, into: &mut [u8]) -> Result<usize, DeviceFault>
         ensures bound { IfOk result (λ n. n ≤ length into.new) }
@@ -27,7 +27,7 @@ pub trait Sink {
     /// called so far.
     ghost view: { Self → SinkView };
 
-    /// Takes bytes from the front of `from`, and answers how many.
+    /// Takes bytes from the front of `from`, and returns how many.
     fn write(&mut self, from: &[u8]) -> Result<usize, DeviceFault>
         ensures bound { IfOk result (λ n. n ≤ length from.now) }
         ensures some { IfOk result (λ n. 0 < length from.now → 0 < n) }
@@ -39,7 +39,7 @@ pub trait Sink {
 }
 
 /// A source over a reader. Every error of the reader, `Interrupted` included, is one failure, and
-/// it doesn't try again. It tells what the reader tells until a read fails, and nothing afterwards.
+/// it doesn't try again. It reports what the reader reports until a read fails, and nothing afterwards.
 #[derive(Drop)]
 pub struct FromRead<R: Drop> {
     reader: R,
@@ -71,7 +71,7 @@ impl<R: Read + Drop> Source for FromRead<R> {
         ensures gives { let view = ⟦<FromRead<R> as Source>⟧.view in
             Gives (view self.old) (view self.new) result into.new }
 
-        // What it answers was read of the reader, and nothing was at a fault, also after one.
+        // What it returns was read of the reader, and nothing was at a fault, also after one.
         ensures passed { ReadConsumes (R.remaining self.old.reader) (R.remaining self.new.reader) result into.new }
     {
         match self.reader.read(into) {
@@ -85,7 +85,7 @@ impl<R: Read + Drop> Source for FromRead<R> {
 }
 
 /// A sink over a writer. Every error of the writer is one failure, and so is `Ok(0)` for a nonempty
-/// slice. It tells what the writer tells until a call fails, and nothing afterwards.
+/// slice. It reports what the writer reports until a call fails, and nothing afterwards.
 #[derive(Drop)]
 pub struct ToWrite<W: Drop> {
     writer: W,
@@ -121,7 +121,7 @@ impl<W: Write + Drop> Sink for ToWrite<W> {
         ensures takes { let view = ⟦<ToWrite<W> as Sink>⟧.view in
             Takes (view self.old) (view self.new) result from.now }
 
-        // What it answers was written to the writer, and nothing was at a fault, also after one.
+        // What it returns was written to the writer, and nothing was at a fault, also after one.
         ensures passed { WriteAppends (W.contents self.old.writer) (W.contents self.new.writer) result from.now }
     {
         match self.writer.write(from) {

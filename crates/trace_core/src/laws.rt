@@ -14,7 +14,7 @@ ghost use Rattle.trace_core.specs.declared.fault.TraceFault.{TraceFault};
 ghost use Rattle.trace_core.specs.declared.line.Format.{Format};
 
 use crate::fault::TraceFault;
-use crate::reader::ReaderState;
+use crate::state::ReaderState;
 
 /// The lines of a text are the pieces between its LFs, without an empty last one.
 pub fn lines_are_pieces()

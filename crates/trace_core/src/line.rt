@@ -139,7 +139,7 @@ fn read_lackey_access(op: Op, rest: &[u8]) -> Result<Option<Entry>, LineFault>
     Ok(Some(Entry::Item(Item { op, addr, size })))
 }
 
-/// What stands before the first comma, and after it.
+/// What is before the first comma, and after it.
 fn split_comma(field: &[u8]) -> (&[u8], &[u8])
     ensures before { result.0.now ≡ before_first is_comma field.now }
     ensures after { result.1.now ≡ after_first is_comma field.now }

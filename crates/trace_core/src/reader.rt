@@ -6,24 +6,12 @@ use crate::buffer::Buffer;
 use crate::events::Entry;
 use crate::fault::TraceFault;
 use crate::io::Source;
+pub use crate::limits::{MAX_LINE, MAX_LINES};
 use crate::line::Format;
 use crate::scan::Scan;
+pub use crate::state::ReaderState;
 use std::alloc::{AllocError, Global};
 use std::marker::Model;
-
-/// The most bytes that a line may have before its LF.
-pub const MAX_LINE: usize = 4096;
-
-/// The most lines that a reader may be asked to take, 2^40.
-pub const MAX_LINES: u64 = 1_099_511_627_776;
-
-/// How a reader stands: it reads on, or it met the end or a fault.
-#[derive(Clone, Copy, Debug, PartialEq, Eq)]
-pub enum ReaderState {
-    Open,
-    Ended,
-    Failed(TraceFault),
-}
 
 /// A reader of the entries of a trace, whose source is given to each call.
 #[derive(Drop)]
@@ -42,7 +30,7 @@ impl Model for Lines {
 }
 
 impl Lines {
-    ghost use Rattle.trace_core.specs.Reader.{Progress, Reached, Tells, answered, begun, device_failed, stopped_answer};
+    ghost use Rattle.trace_core.specs.Reader.{Progress, Reached, Tells, entries_returned, begun, device_failed, stopped_answer};
 
     /// A reader of lines in a format, of which there may be at most `max_lines`. It takes one
     /// buffer of a fixed size, the same for every limit, and fails only where there is no memory
@@ -73,9 +61,9 @@ impl Lines {
         // What was read of a source is read on.
         ensures reached { (format : Format) (limit : ℕ) (start : SourceView)
             (xs : List (ℕ × Entry)) → Reached format limit start (S.view source.old) xs self.old →
-            Reached format limit start (S.view source.new) (xs ++ answered result) self.new }
+            Reached format limit start (S.view source.new) (xs ++ entries_returned result) self.new }
 
-        // The state tells what was answered, and after the end and after a fault it is answered
+        // The state tells what was returned, and after the end and after a fault it is returned
         // again, without a read.
         ensures tells { Tells self.new.state result }
         ensures stopped { self.old.state ≢ ReaderState.Open →

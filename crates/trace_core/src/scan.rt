@@ -4,24 +4,30 @@ ghost use Rattle.std.specs.Option.{option_to_list};
 ghost use Rattle.std.specs.Io.KnownBytes.{IsAtEnd};
 ghost use Rattle.memchr.specs.Find.{IsFirstByte, is_byte};
 ghost use Rattle.trace_core.specs.Device.{failures_after};
-ghost use Rattle.trace_core.specs.declared.reader.TheConstants.{MAX_LINES};
+ghost use Rattle.trace_core.specs.declared.limits.TheConstants.{MAX_LINES};
 
 use crate::buffer::Buffer;
 use crate::events::Entry;
+use crate::fast_line::read_fast_line;
 use crate::fault::TraceFault;
 use crate::io::{DeviceFault, Source};
+use crate::limits::MAX_LINE;
 use crate::line::{Format, read_line};
-use crate::reader::{MAX_LINE, ReaderState};
-use crate::usual::usual_line;
+use crate::state::ReaderState;
 use memchr::memchr;
 
 /// The fields of `Lines`, apart from its model, so that the contracts of its steps can name them.
 #[derive(Drop)]
 pub(crate) struct Scan {
+    /// How lines are read.
     pub(crate) format: Format,
+    /// The most lines that there may be.
     pub(crate) limit: u64,
+    /// How many lines were read, skipped ones among them.
     pub(crate) lines: u64,
+    /// The bytes that were delivered and not yet read.
     pub(crate) buffer: Buffer,
+    /// Whether it goes on, and why not.
     pub(crate) state: ReaderState,
     ghost limited: { limit ≤ MAX_LINES },
     ghost within: { lines ≤ limit },
@@ -67,7 +73,7 @@ impl Scan {
             self.state = ReaderState::Failed(TraceFault::TooManyLines { limit: self.limit });
             return None;
         }
-        match usual_line(self.format, unread) {
+        match read_fast_line(self.format, unread) {
             Some((item, at)) if at <= MAX_LINE => Some((self.pass_line(at + 1), Entry::Item(item))),
             _ => self
                 .step_any(source)
@@ -89,7 +95,7 @@ impl Scan {
         }
     }
 
-    /// Passes over a line of so many bytes, the LF included, and answers its number.
+    /// Passes over a line of so many bytes, the LF included, and returns its number.
     #[inline(always)]
     fn pass_line(&mut self, len: usize) -> u64
         requires within { len ≤ length self.old.buffer }
@@ -147,7 +153,7 @@ impl Scan {
             self.state = ReaderState::Failed(TraceFault::TooLong { line });
             return None;
         }
-        match self.buffer.fill(source) {
+        match self.buffer.refill(source) {
             Ok(0) => self.finish(),
             Ok(_) => None,
             Err(DeviceFault) => {

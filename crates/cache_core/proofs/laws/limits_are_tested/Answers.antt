@@ -1,4 +1,4 @@
-use Rattle.cache_core.proofs.ShapeLaw.{limits_of, within_of}
+use Rattle.cache_core.proofs.GeometryLaw.{limits_of, within_of}
 use Rattle.cache_core.proofs.laws.limits_are_tested.Goals as goal
 
 pub returns : goal.returns

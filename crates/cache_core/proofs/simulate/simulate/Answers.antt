@@ -6,7 +6,7 @@ use Rattle.trace_core.specs.declared.events.Ref.{Ref}
 use Rattle.trace_core.specs.declared.events.Access.TheVariants.{Fetch}
 use Rattle.cache_core.specs.declared.outcome.WriteMode.TheVariants.{Back}
 use Rattle.cache_core.specs.Windows.{counts}
-use Rattle.cache_core.specs.LruLaws.{lru_machine, lru_contents, counted}
+use Rattle.cache_core.specs.LruLaws.{lru_machine, lru_contents, counts_after}
 use Rattle.cache_core.proofs.LruRun.{count_law}
 use Rattle.cache_core.proofs.Pushes.{Simulated, simulated_more, taken_more, accesses_more, evictions_more}
 use Rattle.cache_core.proofs.simulate.simulate.Goals as goal
@@ -24,10 +24,10 @@ loop-reference-preserved c =
     let step =
     simulated_more m done before (lru_contents c.loop-reference.cache) contents (get_or refs i none) outcome c.limits.ensures.some
     c.loop-reference.invariant.simulated c.access-outcome.ensures.step in
-    let counted_now : c.count.new.self ≡ counted before outcome = c.count.ensures in
+    let counted_now : c.count.new.self ≡ counts_after before outcome = c.count.ensures in
     rw counted_now record {
       simulated =
-          subst (λ (events : List Event). Simulated m events (counted before outcome) contents) (sym (taken_more refs i none c.loop-reference-test.true))
+          subst (λ (events : List Event). Simulated m events (counts_after before outcome) contents) (sym (taken_more refs i none c.loop-reference-test.true))
           step;
       accesses = omega (arith, accesses_more before outcome, c.loop-reference.invariant.accesses);
       evictions = omega (arith, evictions_more before outcome, c.loop-reference.invariant.evictions);

@@ -2,7 +2,7 @@ use Rattle.std.proofs.Common.{◌++◌, [], Ok, sym, ap, ◌∙◌, subst, arith
 use Rattle.std.specs.List.{flat_map}
 use Rattle.trace_core.specs.declared.events.Kind.TheVariants.{All}
 use Rattle.trace_core.specs.Events.{events_of}
-use Rattle.trace_core.specs.Reader.{answered}
+use Rattle.trace_core.specs.Reader.{entries_returned}
 use Rattle.trace_core.specs.Task.{entries_of}
 use Rattle.trace_core.proofs.Collecting.{collected-more}
 use Rattle.trace_core.proofs.Runs.{Reached-begun}
@@ -26,7 +26,7 @@ loop-entry-preserved g c =
     let found = c.in_ok-entry.was ∙ ap Ok c.in-Some.is in
     let bears = rw c.in-Some.is at c.in_ok-entry.ensures.entry in (
       record {
-        read = so_far.read ++ answered c.next.result;
+        read = so_far.read ++ entries_returned c.next.result;
         reached = c.next.ensures.reached _ _ _ so_far.read so_far.reached;
         stands = λ plan seed events good stands.
             let before = flat_map (events_of All) (entries_of so_far.read) in

@@ -1,7 +1,7 @@
 use Rattle.std.proofs.Common.{◌≡◌, ◌++◌, [], Ok, sym, ap, ◌∙◌, arith, ◌*◌}
 use Rattle.std.specs.List.{flat_map}
 use Rattle.trace_core.specs.Events.{events_of}
-use Rattle.trace_core.specs.Reader.{answered}
+use Rattle.trace_core.specs.Reader.{entries_returned}
 use Rattle.trace_core.specs.Task.{entries_of}
 use Rattle.trace_core.proofs.Runs.{Reached-begun}
 use Rattle.trace_core.proofs.Collecting.{collected-more}
@@ -30,7 +30,7 @@ loop-entry-preserved g c =
     c.feed_entry.ensures.fed ∙ ap (all_after (events_of c.args.kind c.in-Some.entry)) so_far.fed
     ∙ sym (all_after-append before (events_of c.args.kind c.in-Some.entry) c.args.profiles.now) in (
       record {
-        read = so_far.read ++ answered c.next.result;
+        read = so_far.read ++ entries_returned c.next.result;
         reached = c.next.ensures.reached _ _ _ so_far.read so_far.reached;
         fed = rw found (fed ∙ ap (λ es. all_after es c.args.profiles.now)
             (sym (collected-more c.args.kind so_far.read (c.in-Some.field-0-0, c.in-Some.entry))));

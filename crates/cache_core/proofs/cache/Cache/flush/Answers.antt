@@ -15,7 +15,7 @@ none_left g c =
 pub invariant_of-self : goal.invariant_of-self
 invariant_of-self g c =
     let known = c.self.invariant.0 in
-    (slab_made _ _ _ known.shape known.segments (none_left g c), covers_none c.empty_slab.new.touched _ _ _ c.empty_slab.ensures.touched (none_left g c))
+    (slab_made _ _ _ known.geometry known.segments (none_left g c), covers_none c.empty_slab.new.touched _ _ _ c.empty_slab.ensures.touched (none_left g c))
 
 pub returns : goal.returns
 returns g c =

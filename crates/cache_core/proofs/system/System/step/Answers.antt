@@ -13,7 +13,7 @@ invariant_of-self c =
       i = c.first_level-down.ensures.i n i.i;
       d = c.first_level-down.ensures.d n i.d;
       u = c.first_level-down.ensures.u n i.u;
-      second = within_more (n + n + 1 + 1) (n + 1 + (n + 1)) c.descend_all.new.second (omega arith) (c.descend_all.ensures.stage (n + n) i.second);
+      second = within_more (n + n + 1 + 1) (n + 1 + (n + 1)) c.descend_all.new.second (omega arith) (c.descend_all.ensures.cache (n + n) i.second);
       memory = omega (
         arith,
         c.descend_all.ensures.memory,

@@ -9,7 +9,7 @@ use Rattle.trace_core.specs.declared.events.Entry.TheVariants as entry
 use Rattle.trace_core.proofs.Deliveries.{Consumes-none, Delivers-none}
 use Rattle.trace_core.proofs.Steps.{judge-ok, steps-line, steps-past}
 use Rattle.trace_core.proofs.scan.Scan.step.Goals as goal
-use Rattle.trace_core.specs.declared.reader.TheConstants.{MAX_LINE}
+use Rattle.trace_core.specs.declared.limits.TheConstants.{MAX_LINE}
 
 pub returns-then-not-is_empty-clause-advances : goal.returns-then-not-is_empty-clause-advances
 returns-then-not-is_empty-clause-advances g c =

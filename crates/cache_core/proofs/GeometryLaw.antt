@@ -1,4 +1,4 @@
--- The shape of a cache is the one that its numbers tell.
+-- The geometry of a cache is the one that its numbers give.
 use Rattle.std.proofs.Common.{◌≡◌, ◌≢◌, ℕ, zero, suc, ◌+◌, ◌*◌, ◌^◌, ◌<◌, ◌≤◌, ◌&&◌, Bool, true, cond, eqb, leb}
 use Rattle.std.proofs.Common.{Option, Some, None, sym, ◌∙◌, ap, refl, subst, arith, find}
 use Rattle.std.specs.Prelude.{option_and_then}
@@ -7,8 +7,8 @@ use Rattle.std.proofs.Math.Pow.{pow-lt}
 use Rattle.std.proofs.Math.Nat.{mul-le-mul, mul-le-mul_left, one-le-pow}
 use Rattle.std.proofs.lemmas.Bool.{eqb-true, and_parts, and_from, leb-true, le-leb}
 use Rattle.cache_core.specs.declared.plan.CacheSpec.{CacheSpec}
-use Rattle.cache_core.specs.Geometry.{Shape, IsGeometry, is_geometry, geometry_of}
-use Rattle.cache_core.specs.Levels.{exponent_of, shape_of, IsShapeOf, ShapeLaw}
+use Rattle.cache_core.specs.Geometry.{GeometryValue, IsGeometry, is_geometry, geometry_of}
+use Rattle.cache_core.specs.Plans.{exponent_of, geometry_for, IsGeometryFor, GeometryLaw}
 use Rattle.cache_core.proofs.Lists.{cases}
 use Rattle.cache_core.proofs.Exponents.{exponent_some}
 
@@ -36,7 +36,7 @@ exponent_is unit k some small = exponent_some unit (unit * 2 ^ k) k (omega arith
         let products : unit * (2 ^ j + 1) ≤ unit * 2 ^ k = mul-le-mul_left unit step in
         absurd (omega arith)
 
-pub limits_of : (g : Shape) → is_geometry g ≡ true → IsGeometry g
+pub limits_of : (g : GeometryValue) → is_geometry g ≡ true → IsGeometry g
 limits_of g t =
     let a = and_parts (leb g.s 20 && leb g.b 20 && leb 1 g.e && leb g.e 65536) (leb (g.e * 2 ^ g.s) (2 ^ 22)) t in
     let b = and_parts (leb g.s 20 && leb g.b 20 && leb 1 g.e) (leb g.e 65536) a.0 in
@@ -50,34 +50,34 @@ limits_of g t =
       lines = leb-true (g.e * 2 ^ g.s) (2 ^ 22) a.1;
     }
 
-pub within_of : (g : Shape) → IsGeometry g → is_geometry g ≡ true
+pub within_of : (g : GeometryValue) → IsGeometry g → is_geometry g ≡ true
 within_of g l =
     and_from (leb g.s 20 && leb g.b 20 && leb 1 g.e && leb g.e 65536) (leb (g.e * 2 ^ g.s) (2 ^ 22))
     (and_from (leb g.s 20 && leb g.b 20 && leb 1 g.e) (leb g.e 65536)
     (and_from (leb g.s 20 && leb g.b 20) (leb 1 g.e) (and_from (leb g.s 20) (leb g.b 20) (le-leb g.s 20 l.sets) (le-leb g.b 20 l.blocks)) (le-leb 1 g.e l.some))
     (le-leb g.e 65536 l.ways)) (le-leb (g.e * 2 ^ g.s) (2 ^ 22) l.lines)
 
-told : (spec : CacheSpec) (g h : Shape) → h.e ≡ spec.assoc → 1 * 2 ^ h.b ≡ spec.bsize → spec.assoc * spec.bsize * 2 ^ h.s ≡ spec.size →
-    geometry_of h.s h.e h.b ≡ Some g → IsShapeOf spec g
+told : (spec : CacheSpec) (g h : GeometryValue) → h.e ≡ spec.assoc → 1 * 2 ^ h.b ≡ spec.bsize → spec.assoc * spec.bsize * 2 ^ h.s ≡ spec.size →
+    geometry_of h.s h.e h.b ≡ Some g → IsGeometryFor spec g
 told spec g h e b s w =
-    cases (λ t. (is_geometry h ≡ t) → (cond t (Some h) None ≡ Some g) → IsShapeOf spec g) (is_geometry h)
-    (λ t _ q. let same : h ≡ g = cc in subst (IsShapeOf spec) same (record { bsize = omega arith; assoc = sym e; size = sym s; limits = limits_of h t }))
+    cases (λ t. (is_geometry h ≡ t) → (cond t (Some h) None ≡ Some g) → IsGeometryFor spec g) (is_geometry h)
+    (λ t _ q. let same : h ≡ g = cc in subst (IsGeometryFor spec) same (record { bsize = omega arith; assoc = sym e; size = sym s; limits = limits_of h t }))
     (λ t _ q. absurd cc)
     refl w
 
-by_sets : (spec : CacheSpec) (g : Shape) (b : ℕ) (o : Option ℕ) → exponent_of (spec.assoc * spec.bsize) spec.size ≡ o → 1 * 2 ^ b ≡ spec.bsize →
-    option_and_then (λ s. geometry_of s spec.assoc b) o ≡ Some g → IsShapeOf spec g
+by_sets : (spec : CacheSpec) (g : GeometryValue) (b : ℕ) (o : Option ℕ) → exponent_of (spec.assoc * spec.bsize) spec.size ≡ o → 1 * 2 ^ b ≡ spec.bsize →
+    option_and_then (λ s. geometry_of s spec.assoc b) o ≡ Some g → IsGeometryFor spec g
 by_sets spec g b None e h q = absurd cc
 by_sets spec g b (Some s) e h q = told spec g (record { s = s; e = spec.assoc; b = b }) refl h (exponent_sound (spec.assoc * spec.bsize) spec.size s e).0 q
 
-by_blocks : (spec : CacheSpec) (g : Shape) (o : Option ℕ) → exponent_of 1 spec.bsize ≡ o →
+by_blocks : (spec : CacheSpec) (g : GeometryValue) (o : Option ℕ) → exponent_of 1 spec.bsize ≡ o →
     option_and_then (λ b. option_and_then (λ s. geometry_of s spec.assoc b) (exponent_of (spec.assoc * spec.bsize) spec.size)) o ≡ Some g →
-    IsShapeOf spec g
+    IsGeometryFor spec g
 by_blocks spec g None e q = absurd cc
 by_blocks spec g (Some b) e q = by_sets spec g b (exponent_of (spec.assoc * spec.bsize) spec.size) refl (exponent_sound 1 spec.bsize b e).0 q
 
-shape_from : (spec : CacheSpec) (g : Shape) → IsShapeOf spec g → shape_of spec ≡ Some g
-shape_from spec g h =
+geometry_from : (spec : CacheSpec) (g : GeometryValue) → IsGeometryFor spec g → geometry_for spec ≡ Some g
+geometry_from spec g h =
     let blocks : exponent_of 1 spec.bsize ≡ Some g.b = ap (exponent_of 1) (omega (arith, h.bsize)) ∙ exponent_is 1 g.b (omega arith) h.limits.blocks in
     let one : 1 ≤ 2 ^ g.b = one-le-pow g.b 2 (omega arith) in
     let ways : 1 ≤ spec.assoc = omega (arith, h.assoc, h.limits.some) in
@@ -90,5 +90,5 @@ shape_from spec g h =
     ∙ ap (option_and_then (λ s. geometry_of s spec.assoc g.b)) sets
     ∙ ap (λ e. geometry_of g.s e g.b) h.assoc ∙ ap (λ t. cond t (Some g) None) (within_of g h.limits)
 
-pub shape_law : ShapeLaw
-shape_law spec g = (by_blocks spec g (exponent_of 1 spec.bsize) refl, shape_from spec g)
+pub geometry_law : GeometryLaw
+geometry_law spec g = (by_blocks spec g (exponent_of 1 spec.bsize) refl, geometry_from spec g)

@@ -1,12 +1,13 @@
 //! A cache of a system: under a policy that is known when it runs, and with what it counted.
 ghost use Rattle.std.specs.Prelude.{◌≡◌, ◌+◌, ◌^◌, ℕ, Some, IfOk};
-ghost use Rattle.cache_core.specs.Stages.{rule_of, words_of};
+ghost use Rattle.cache_core.specs.SystemCaches.{rule_of, random_words};
 ghost use Rattle.cache_core.specs.Systems.{words_for};
 
 use crate::cache::Cache;
 use crate::outcome::{Outcome, Repl, Slot};
-use crate::plan::{CacheStats, Level};
+use crate::plan::PlannedCache;
 use crate::replacement::{Fifo, Lru, Random, Replacement};
+use crate::stats::CacheStats;
 use std::alloc::{AllocError, Global};
 use trace_core::events::Ref;
 
@@ -19,11 +20,11 @@ pub(crate) enum Policy {
 }
 
 impl Replacement for Policy {
-    ghost use Rattle.cache_core.specs.Stages.{rule_of, words_of};
+    ghost use Rattle.cache_core.specs.SystemCaches.{rule_of, random_words};
 
     ghost rule = { rule_of };
 
-    ghost words = { words_of };
+    ghost words = { random_words };
 
     fn touch(&mut self, set: &mut [Slot], at: usize) -> usize {
         match self {
@@ -44,7 +45,7 @@ impl Replacement for Policy {
 
 /// A cache of a system, with what it counted.
 #[derive(Drop)]
-pub(crate) struct Stage {
+pub(crate) struct SystemCache {
     pub(crate) cache: Cache<Policy>,
     pub(crate) stats: CacheStats,
 }
@@ -52,7 +53,7 @@ pub(crate) struct Stage {
 /// The policy of a rule, with a generator of this seed.
 fn policy_of(repl: Repl, seed: u64) -> Policy
     ensures rule { rule_of result ≡ Some repl }
-    ensures words { words_of result ≡ words_for repl seed }
+    ensures words { random_words result ≡ words_for repl seed }
 {
     match repl {
         Repl::Lru => Policy::Lru(Lru::new()),
@@ -61,15 +62,15 @@ fn policy_of(repl: Repl, seed: u64) -> Policy
     }
 }
 
-impl Stage {
-    ghost use Rattle.cache_core.specs.Stages.{Enters, Empties, CountsWithin};
-    ghost use Rattle.cache_core.specs.SystemSteps.{IsNewStage};
+impl SystemCache {
+    ghost use Rattle.cache_core.specs.SystemCaches.{Enters, Empties, CountsWithin};
+    ghost use Rattle.cache_core.specs.SystemSteps.{IsNewSystemCache};
 
     /// A new cache of a system.
-    pub(crate) fn new(alloc: Global, level: Level, seed: u64) -> Result<Self, AllocError>
-        ensures { IfOk result (IsNewStage seed level) }
+    pub(crate) fn new(alloc: Global, planned: PlannedCache, seed: u64) -> Result<Self, AllocError>
+        ensures { IfOk result (IsNewSystemCache seed planned) }
     {
-        let Level { design, repl } = level;
+        let PlannedCache { design, repl } = planned;
         let policy = policy_of(repl, seed);
         let cache = Cache::new(
             alloc,
@@ -88,7 +89,7 @@ impl Stage {
             evictions: 0,
             copybacks: 0,
         };
-        Ok(Stage { cache, stats })
+        Ok(SystemCache { cache, stats })
     }
 
     /// One reference enters.

@@ -4,7 +4,7 @@ ghost use Rattle.std.specs.List.{list_all};
 ghost use Rattle.memchr.specs.Find.{IsFirstByte, is_byte};
 ghost use Rattle.trace_core.specs.Fields.{is_blank, ends_field};
 ghost use Rattle.trace_core.specs.Line.{meaning, din_entry, item};
-ghost use Rattle.trace_core.specs.Usual.{BeginsLine, BeginsLabel};
+ghost use Rattle.trace_core.specs.FastLine.{BeginsLine, BeginsLabel};
 ghost use Rattle.trace_core.specs.declared.events.Entry.TheVariants as entry;
 
 use crate::digits::split_number;
@@ -12,14 +12,14 @@ use crate::events::{Entry, Item, Op};
 use crate::line::{Format, lackey_op, without_0x};
 use memchr::memchr;
 
-/// The item of the line that a text begins with, where the line has the usual form, and the place
+/// The item of the line that a text begins with, where the line has the form of most, and the place
 /// of the line's LF.
 #[inline(always)]
-pub(crate) fn usual_line(format: Format, text: &[u8]) -> Option<(Item, usize)>
+pub(crate) fn read_fast_line(format: Format, text: &[u8]) -> Option<(Item, usize)>
     ensures line { IfSome result (λ found. IsFirstByte (is_byte 10) text.now (Some found.1)) }
     ensures item { IfSome result (λ found. meaning format (take found.1 text.now) ≡ Ok (Some (Entry.Item found.0))) }
 {
-    let (item, rest) = read_usual(format, text)?;
+    let (item, rest) = read_front(format, text)?;
     let end = line_end(rest)?;
     Some((item, text.len() - rest.len() + end))
 }
@@ -49,21 +49,21 @@ fn late_end(rest: &[u8]) -> Option<usize>
     }
 }
 
-/// The item of a line that begins like a text, if a field ends where the answered rest of the text
+/// The item of a line that begins like a text, if a field ends where the returned rest of the text
 /// begins.
 #[inline(always)]
-fn read_usual(format: Format, text: &[u8]) -> Option<(Item, &[u8])>
+fn read_front(format: Format, text: &[u8]) -> Option<(Item, &[u8])>
     ensures { IfSome result (λ found. BeginsLine format text.now found.1.now found.0) }
 {
     match format {
-        Format::Din => read_usual_din(text),
-        Format::Lackey => read_usual_lackey(text),
+        Format::Din => read_din_front(text),
+        Format::Lackey => read_lackey_front(text),
     }
 }
 
 /// A label and an address.
 #[inline(always)]
-fn read_usual_din(text: &[u8]) -> Option<(Item, &[u8])>
+fn read_din_front(text: &[u8]) -> Option<(Item, &[u8])>
     ensures { IfSome result (λ found. BeginsLine Format.Din text.now found.1.now found.0) }
 {
     let (label, rest) = split_label(text)?;
@@ -74,7 +74,7 @@ fn read_usual_din(text: &[u8]) -> Option<(Item, &[u8])>
 
 /// A label, an address, a comma and a size.
 #[inline(always)]
-fn read_usual_lackey(text: &[u8]) -> Option<(Item, &[u8])>
+fn read_lackey_front(text: &[u8]) -> Option<(Item, &[u8])>
     ensures { IfSome result (λ found. BeginsLine Format.Lackey text.now found.1.now found.0) }
 {
     let (label, rest) = split_label(text)?;

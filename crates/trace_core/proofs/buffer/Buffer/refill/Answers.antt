@@ -2,7 +2,7 @@ use Rattle.std.proofs.Common.{rules, ◌≡◌, ◌≤◌, ◌+◌, ◌-◌, ◌
 use Rattle.std.proofs.lemmas.List.{length-take-le, with_items_is}
 use borrow.Rule.Slice.PartMut.{put_mid}
 use Rattle.trace_core.proofs.Buffers.{grown}
-use Rattle.trace_core.proofs.buffer.Buffer.fill.Goals as goal
+use Rattle.trace_core.proofs.buffer.Buffer.refill.Goals as goal
 
 pub returns-clause-more : goal.returns-clause-more
 returns-clause-more g c =

@@ -4,10 +4,10 @@ use Rattle.trace_core.specs.declared.events.Ref.{Ref}
 use Rattle.cache_core.specs.declared.outcome.Outcome.{Outcome}
 use Rattle.cache_core.specs.declared.outcome.Repl.{Repl}
 use Rattle.cache_core.specs.declared.outcome.Repl.TheVariants.{Lru as LruRule, Fifo as FifoRule, Random as RandomRule}
-use Rattle.cache_core.specs.declared.plan.CacheStats.{CacheStats}
-use Rattle.cache_core.specs.declared.stage.Policy.{Policy}
-use Rattle.cache_core.specs.declared.stage.Policy.TheVariants.{Lru, Fifo, Random}
-use Rattle.cache_core.specs.declared.stage.Stage.{Stage}
+use Rattle.cache_core.specs.declared.stats.CacheStats.{CacheStats}
+use Rattle.cache_core.specs.declared.system_cache.Policy.{Policy}
+use Rattle.cache_core.specs.declared.system_cache.Policy.TheVariants.{Lru, Fifo, Random}
+use Rattle.cache_core.specs.declared.system_cache.SystemCache.{SystemCache}
 use Rattle.cache_core.specs.Order.{Contents, Accesses, Flushes, dirty_slots, is_dirty, one_if}
 use Rattle.cache_core.specs.Outcomes.{is_write}
 use Rattle.cache_core.specs.Slab.{contents_of}
@@ -21,10 +21,10 @@ rule_of (Fifo p) = Some FifoRule
 rule_of (Random p) = Some RandomRule
 
 -- the random words still to come: for Random those of its generator
-abbrev pub words_of : Policy → ℕ → ℕ
-words_of (Lru p) = λ n. 0
-words_of (Fifo p) = λ n. 0
-words_of (Random p) = word_of p
+abbrev pub random_words : Policy → ℕ → ℕ
+random_words (Lru p) = λ n. 0
+random_words (Fifo p) = λ n. 0
+random_words (Random p) = word_of p
 
 -- the counts after one more access
 abbrev pub tally : CacheStats → Ref → Outcome → CacheStats
@@ -51,31 +51,31 @@ pub record IsBelow (s : CacheStats) (n : ℕ) : Type 0 where
   pub copybacks : s.copybacks < n
 
 -- what the cache holds
-abbrev pub contents_of_stage : Stage → Contents
-contents_of_stage stage = contents_of rule_of words_of stage.cache
+abbrev pub system_cache_contents : SystemCache → Contents
+system_cache_contents cache = contents_of rule_of random_words cache.cache
 
 -- one reference at a cache of a system
-pub record Enters (old : Stage) (ref : Ref) (outcome : Outcome) (new : Stage) : Type 0 where
-  pub access : Accesses (contents_of_stage old) ref outcome (contents_of_stage new)
+pub record Enters (old : SystemCache) (ref : Ref) (outcome : Outcome) (new : SystemCache) : Type 0 where
+  pub access : Accesses (system_cache_contents old) ref outcome (system_cache_contents new)
   pub counts : new.stats ≡ tally old.stats ref outcome
 
 -- one flush of it: its dirty lines are copybacks
-pub record Empties (old : Stage) (dirty : ℕ) (new : Stage) : Type 0 where
-  pub flush : Flushes (contents_of_stage old) dirty (contents_of_stage new)
+pub record Empties (old : SystemCache) (dirty : ℕ) (new : SystemCache) : Type 0 where
+  pub flush : Flushes (system_cache_contents old) dirty (system_cache_contents new)
   pub counts : new.stats ≡ record old.stats { copybacks = old.stats.copybacks + dirty }
 
 -- Each count is at most n. Each copyback, and each dirty line that is held, comes of a write.
-pub record CountsWithin (n : ℕ) (stage : Stage) : Type 0 where
-  pub fetches : stage.stats.fetches ≤ n
-  pub fetch_misses : stage.stats.fetch_misses ≤ n
-  pub reads : stage.stats.reads ≤ n
-  pub read_misses : stage.stats.read_misses ≤ n
-  pub writes : stage.stats.writes ≤ n
-  pub write_misses : stage.stats.write_misses ≤ n
-  pub evictions : stage.stats.evictions ≤ n
-  pub copybacks : stage.stats.copybacks + dirty_slots stage.cache.sets ≤ stage.stats.writes
+pub record CountsWithin (n : ℕ) (cache : SystemCache) : Type 0 where
+  pub fetches : cache.stats.fetches ≤ n
+  pub fetch_misses : cache.stats.fetch_misses ≤ n
+  pub reads : cache.stats.reads ≤ n
+  pub read_misses : cache.stats.read_misses ≤ n
+  pub writes : cache.stats.writes ≤ n
+  pub write_misses : cache.stats.write_misses ≤ n
+  pub evictions : cache.stats.evictions ≤ n
+  pub copybacks : cache.stats.copybacks + dirty_slots cache.cache.sets ≤ cache.stats.writes
 
 -- the same of a cache that a system may have
-abbrev pub LevelWithin : ℕ → Option Stage → Type 0
-LevelWithin n None = Unit {0}
-LevelWithin n (Some stage) = CountsWithin n stage
+abbrev pub CacheWithin : ℕ → Option SystemCache → Type 0
+CacheWithin n None = Unit {0}
+CacheWithin n (Some cache) = CountsWithin n cache

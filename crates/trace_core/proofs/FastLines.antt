@@ -8,11 +8,11 @@ use Rattle.std.proofs.lemmas.Bool.{and_parts, false≢true, eqb-true}
 use Rattle.trace_core.proofs.Steps.{line-split, line-before}
 use Rattle.std.proofs.lemmas.List.{length-take-le, length-append, get_or_append_left}
 use Rattle.std.proofs.Math.Seq.{get_or-append_seam, take-append_seam, drop-append-add}
-use Rattle.trace_core.specs.Fields.{is_blank, is_trailing, trimmed, fields, ends_field, number_of, without_0x}
+use Rattle.trace_core.specs.Fields.{is_blank, is_trailing, trimmed, fields, ends_field, number_written, without_0x}
 use Rattle.trace_core.specs.Line.{meaning, din_entry, lackey_op, item, is_comma, is_message}
 use Rattle.memchr.specs.Find.{IsFirstByte, is_byte}
 use Rattle.trace_core.specs.Lines.{is_line_feed, HoldsNoFeed}
-use Rattle.trace_core.specs.Usual.{BeginsLine, BeginsLabel}
+use Rattle.trace_core.specs.FastLine.{BeginsLine, BeginsLabel}
 use Rattle.trace_core.specs.declared.events.Entry.TheVariants as entry
 use Rattle.trace_core.specs.declared.events.Item.{Item}
 use Rattle.trace_core.specs.declared.events.Op.{Op}
@@ -52,12 +52,12 @@ module _ (radix : ℕ) (small : nat_lt 36 radix ≡ false) where
       let both = and_parts (is_digit c radix) (list_all (λ d. is_digit d radix) cs) all in (other-byte 10 radix small c both.0, digits-unfed cs both.1)
 
 -- what writes a number is one or more digits
-number-digits : (radix most : ℕ) (ds : List ℕ) (n : ℕ) → number_of radix most ds ≡ Some n
+number-digits : (radix most : ℕ) (ds : List ℕ) (n : ℕ) → number_written radix most ds ≡ Some n
     → (1 ≤ length ds) × (list_all (λ c. is_digit c radix) ds ≡ true)
 number-digits radix most ds n is = by_case (nat_le 1 (length ds)) (nat_le (length ds) most) (list_all (λ c. is_digit c radix) ds) refl refl refl is
   where
     by_case : (low high all : Bool) → nat_le 1 (length ds) ≡ low → nat_le (length ds) most ≡ high → list_all (λ c. is_digit c radix) ds ≡ all
-        → number_of radix most ds ≡ Some n → (1 ≤ length ds) × (list_all (λ c. is_digit c radix) ds ≡ true)
+        → number_written radix most ds ≡ Some n → (1 ≤ length ds) × (list_all (λ c. is_digit c radix) ds ≡ true)
     by_case true true true low high all is = (search (rules, tests), all)
     by_case true true false low high all is = let absent : None ≡ Some n = (rw (low, high, all) at is) in absurd (cc)
     by_case true false all low high _ is = let absent : None ≡ Some n = (rw (low, high) at is) in absurd (cc)
@@ -133,10 +133,10 @@ begins-field text rest end field label begun plain_label splits some plain = (
       ∙ ap (λ fs. (label ∷ []) ∷ fs) (fields-field field more some plain ends),
 )
 
-pub din-usual : (text rest digits end : List ℕ) (label addr : ℕ) (op : Op) → 48 ≤ label → label ≤ 50 → din_entry label addr ≡ item op addr 0
-    → BeginsLabel text rest label → without_0x rest ≡ digits ++ end → number_of 16 16 digits ≡ Some addr
+pub din-front : (text rest digits end : List ℕ) (label addr : ℕ) (op : Op) → 48 ≤ label → label ≤ 50 → din_entry label addr ≡ item op addr 0
+    → BeginsLabel text rest label → without_0x rest ≡ digits ++ end → number_written 16 16 digits ≡ Some addr
     → BeginsLine Din text end (record { op = op; addr = addr; size = 0 })
-din-usual text rest digits end label addr op low high entry begun is number =
+din-front text rest digits end label addr op low high entry begun is number =
     let written = number-digits 16 16 digits addr number in
     let of = field-of rest digits end is written.0 (digits-plain 16 refl digits written.1) (digits-unfed 16 refl digits written.1) in
     let low_test : nat_lt label 48 ≡ false = search (rules, tests) in
@@ -202,12 +202,12 @@ op-byte label op is b none = by_case (label == b) refl
 op-plain : (label : ℕ) (op : Op) → lackey_op label ≡ Some op → is_trailing label ≡ false
 op-plain label op is = rw (op-byte label op is 32 refl, op-byte label op is 9 refl, op-byte label op is 13 refl) refl
 
-pub lackey-usual : (text rest more digits decimals end : List ℕ) (label addr size : ℕ) (op : Op)
+pub lackey-front : (text rest more digits decimals end : List ℕ) (label addr size : ℕ) (op : Op)
     → BeginsLabel text rest label → lackey_op label ≡ Some op
-    → rest ≡ digits ++ (44 ∷ more) → number_of 16 16 digits ≡ Some addr
-    → more ≡ decimals ++ end → number_of 10 9 decimals ≡ Some size
+    → rest ≡ digits ++ (44 ∷ more) → number_written 16 16 digits ≡ Some addr
+    → more ≡ decimals ++ end → number_written 10 9 decimals ≡ Some size
     → BeginsLine Lackey text end (record { op = op; addr = addr; size = size })
-lackey-usual text rest more digits decimals end label addr size op begun is comma number back number-2 =
+lackey-front text rest more digits decimals end label addr size op begun is comma number back number-2 =
     let written = number-digits 16 16 digits addr number in
     let written-2 = number-digits 10 9 decimals size number-2 in
     let f = digits ++ (44 ∷ decimals) in
@@ -226,9 +226,9 @@ lackey-usual text rest more digits decimals end label addr size op begun is comm
       no_line_feed = unfed-append begun.front f (begun.no_line_feed (op-byte label op is 10 refl)) unfed;
       means = λ later ends.
           let line-fields = begins.1 later ends in
-          let usual : is_message ((begun.front ++ f) ++ later) ≡ false =
+          let plain_line : is_message ((begun.front ++ f) ++ later) ≡ false =
           no-message ((begun.front ++ f) ++ later) label op (f ∷ fields (trimmed later)) line-fields is in
-          rw (usual, line-fields, is, before, number, after, number-2) refl;
+          rw (plain_line, line-fields, is, before, number, after, number-2) refl;
     }
 
 -- the place of an LF after bytes that hold none

@@ -1,8 +1,8 @@
 use Rattle.std.proofs.Common.{rules, tests, ◌≡◌, ◌∙◌, ◌-◌, ◌++◌, ◌∷◌, get_or, sym, ap, take, drop, length, Some}
 use Rattle.trace_core.specs.Line.{lackey_op}
 use Rattle.trace_core.proofs.Fronts.{one-front}
-use Rattle.trace_core.proofs.UsualLines.{lackey-usual}
-use Rattle.trace_core.proofs.usual.read_usual_lackey.Goals as goal
+use Rattle.trace_core.proofs.FastLines.{lackey-front}
+use Rattle.trace_core.proofs.fast_line.read_lackey_front.Goals as goal
 
 pub returns : goal.returns
 returns c =
@@ -12,7 +12,7 @@ returns c =
     let more = take (length rest - 1) (drop 1 rest) in
     let comma : get_or rest 0 0 ≡ 44 = search (rules, tests) in
     let op : lackey_op c.in_ok-label.label ≡ Some c.in_ok-op.op = sym c.in_ok-op.ensures in
-    lackey-usual c.args.text.now c.in_ok-label.rest.now more address.0 size.0 c.in_ok-size.rest.now c.in_ok-label.label c.in_ok-addr.addr c.in_ok-size.size
+    lackey-front c.args.text.now c.in_ok-label.rest.now more address.0 size.0 c.in_ok-size.rest.now c.in_ok-label.label c.in_ok-addr.addr c.in_ok-size.size
     c.in_ok-op.op
     c.in_ok-label.ensures op (address.1 ∙ ap (λ xs. address.0 ++ xs) (one-front rest c.in-44.len_at_least ∙ ap (λ b. b ∷ more) comma)) address.2
     size.1 size.2

@@ -1,16 +1,16 @@
--- The levels of a system of caches: as they are asked for, and as they are.
+-- The caches of a system: as they are asked for, and as they are planned.
 use Rattle.std.specs.Prelude.{◌≡◌, ℕ, ◌*◌, ◌^◌, Bool, true, false, ◌||◌, ◌&&◌, ◌==◌, nat_lt, if◌then◌else◌, Option, Some}
 use Rattle.std.specs.Prelude.{None, is_some, is_none, find, Result, Ok, Err, option_and_then, ◌↔◌, List, codes}
 use Rattle.std.specs.List.{range_with_len}
 use Rattle.std.specs.Option.{option_map}
-use Rattle.cache_core.specs.declared.plan.Level.{Level}
+use Rattle.cache_core.specs.declared.plan.PlannedCache.{PlannedCache}
 use Rattle.cache_core.specs.declared.plan.CacheSpec.{CacheSpec}
 use Rattle.cache_core.specs.declared.plan.FirstLevel.{FirstLevel}
 use Rattle.cache_core.specs.declared.plan.CacheName.{CacheName}
 use Rattle.cache_core.specs.declared.plan.CacheName.TheVariants.{L1I, L1D, L1U, L2U}
 use Rattle.cache_core.specs.declared.plan.PlanFault.{PlanFault}
 use Rattle.cache_core.specs.declared.plan.PlanFault.TheVariants.{NoFirst, MixedFirst, BadGeometry, SmallBlock}
-use Rattle.cache_core.specs.Geometry.{Shape, IsGeometry, geometry_of}
+use Rattle.cache_core.specs.Geometry.{GeometryValue, IsGeometry, geometry_of}
 
 -- the name of a cache, as the user writes it
 abbrev pub label_of : CacheName → List ℕ
@@ -19,33 +19,37 @@ label_of L1D = codes "l1-d"
 label_of L1U = codes "l1-u"
 label_of L2U = codes "l2-u"
 
--- the levels of a plan
-pub record Levels : Type 0 where
-  pub i : Option Level
-  pub d : Option Level
-  pub u : Option Level
-  pub second : Option Level
+-- the caches of a plan
+pub record PlannedCaches : Type 0 where
+  pub i : Option PlannedCache
+  pub d : Option PlannedCache
+  pub u : Option PlannedCache
+  pub second : Option PlannedCache
 
 -- the least k up to 20 for which unit * 2^k is the number
 unfoldable pub exponent_of : ℕ → ℕ → Option ℕ
 exponent_of unit number = find (λ k. unit * 2 ^ k == number) (range_with_len 0 21)
 
--- the shape of a cache: its bsize is 2^b, and its size assoc times bsize times 2^s
-abbrev pub shape_of : CacheSpec → Option Shape
-shape_of spec = option_and_then
+-- the geometry of a cache that is asked for: its bsize is 2^b, and its size assoc times bsize times 2^s
+abbrev pub geometry_for : CacheSpec → Option GeometryValue
+geometry_for spec = option_and_then
     (λ b. option_and_then (λ s. geometry_of s spec.assoc b) (exponent_of (spec.assoc * spec.bsize) spec.size))
     (exponent_of 1 spec.bsize)
 
 -- the same as a relation
-pub record IsShapeOf (spec : CacheSpec) (g : Shape) : Type 0 where
+pub record IsGeometryFor (spec : CacheSpec) (g : GeometryValue) : Type 0 where
   pub bsize : spec.bsize ≡ 2 ^ g.b
   pub assoc : spec.assoc ≡ g.e
   pub size : spec.size ≡ spec.assoc * spec.bsize * 2 ^ g.s
   pub limits : IsGeometry g
 
--- a cache that is asked for, with its shape; none if it has no shape
-abbrev pub level_of : CacheSpec → Option Level
-level_of spec = option_map (λ g. record { design = record { geometry = g; write = spec.wback; allocate = spec.walloc }; repl = spec.repl }) (shape_of spec)
+-- a cache that is asked for, with this geometry
+abbrev pub planned_with : CacheSpec → GeometryValue → PlannedCache
+planned_with spec g = record { design = record { geometry = g; write = spec.wback; allocate = spec.walloc }; repl = spec.repl }
+
+-- the same with its own geometry; none if it has none
+abbrev pub planned_cache : CacheSpec → Option PlannedCache
+planned_cache spec = option_map (planned_with spec) (geometry_for spec)
 
 -- no first-level cache is asked for
 abbrev pub has_none : FirstLevel → Bool
@@ -55,10 +59,10 @@ has_none first = is_none first.i && is_none first.d && is_none first.u
 abbrev pub is_mixed : FirstLevel → Bool
 is_mixed first = is_some first.u && (is_some first.i || is_some first.d)
 
--- a cache is asked for that has no shape
-abbrev pub lacks_shape : Option CacheSpec → Bool
-lacks_shape None = false
-lacks_shape (Some spec) = is_none (shape_of spec)
+-- a cache is asked for that has no geometry
+abbrev pub lacks_geometry : Option CacheSpec → Bool
+lacks_geometry None = false
+lacks_geometry (Some spec) = is_none (geometry_for spec)
 
 -- the second-level cache has smaller blocks than a first-level one, if that is asked for
 abbrev pub has_smaller_blocks_than : CacheSpec → Option CacheSpec → Bool
@@ -72,49 +76,49 @@ has_larger_blocks_than first (Some second) =
     has_smaller_blocks_than second first.i || has_smaller_blocks_than second first.d || has_smaller_blocks_than second first.u
 
 -- the first fault of a plan
-abbrev pub fault_of : FirstLevel → Option CacheSpec → Option PlanFault
-fault_of first second =
+abbrev pub plan_fault : FirstLevel → Option CacheSpec → Option PlanFault
+plan_fault first second =
     if has_none first then Some NoFirst
     else if is_mixed first then Some MixedFirst
-    else if lacks_shape first.i then Some (BadGeometry L1I)
-    else if lacks_shape first.d then Some (BadGeometry L1D)
-    else if lacks_shape first.u then Some (BadGeometry L1U)
-    else if lacks_shape second then Some (BadGeometry L2U)
+    else if lacks_geometry first.i then Some (BadGeometry L1I)
+    else if lacks_geometry first.d then Some (BadGeometry L1D)
+    else if lacks_geometry first.u then Some (BadGeometry L1U)
+    else if lacks_geometry second then Some (BadGeometry L2U)
     else if has_larger_blocks_than first second then Some SmallBlock
     else None
 
--- the caches that are asked for and have a shape
-abbrev pub levels_of : FirstLevel → Option CacheSpec → Levels
-levels_of first second = record {
-  i = option_and_then level_of first.i;
-  d = option_and_then level_of first.d;
-  u = option_and_then level_of first.u;
-  second = option_and_then level_of second;
+-- the caches that are asked for and have a geometry
+abbrev pub planned_caches : FirstLevel → Option CacheSpec → PlannedCaches
+planned_caches first second = record {
+  i = option_and_then planned_cache first.i;
+  d = option_and_then planned_cache first.d;
+  u = option_and_then planned_cache first.u;
+  second = option_and_then planned_cache second;
 }
 
--- the fault, if there is one, and otherwise the levels
-abbrev pub or_fault : Option PlanFault → Levels → Result Levels PlanFault
-or_fault None levels = Ok levels
-or_fault (Some fault) levels = Err fault
+-- the fault, if there is one, and otherwise the caches
+abbrev pub unless_fault : Option PlanFault → PlannedCaches → Result PlannedCaches PlanFault
+unless_fault None caches = Ok caches
+unless_fault (Some fault) caches = Err fault
 
 -- the plan that is asked for, or its first fault
-abbrev pub plan_of : FirstLevel → Option CacheSpec → Result Levels PlanFault
-plan_of first second = or_fault (fault_of first second) (levels_of first second)
+abbrev pub plan_of : FirstLevel → Option CacheSpec → Result PlannedCaches PlanFault
+plan_of first second = unless_fault (plan_fault first second) (planned_caches first second)
 
 -- a cache that a plan may have is within the limits
-abbrev pub IsLevel : Option Level → Type 0
-IsLevel None = Unit {0}
-IsLevel (Some level) = IsGeometry level.design.geometry
+abbrev pub IsPlannedCache : Option PlannedCache → Type 0
+IsPlannedCache None = Unit {0}
+IsPlannedCache (Some planned) = IsGeometry planned.design.geometry
 
 -- what a plan keeps: some first level, none beside a unified one, each cache within the limits
-pub record IsPlan (plan : Levels) : Type 0 where
-  pub i : IsLevel plan.i
-  pub d : IsLevel plan.d
-  pub u : IsLevel plan.u
-  pub second : IsLevel plan.second
+pub record IsPlan (plan : PlannedCaches) : Type 0 where
+  pub i : IsPlannedCache plan.i
+  pub d : IsPlannedCache plan.d
+  pub u : IsPlannedCache plan.u
+  pub second : IsPlannedCache plan.second
   pub some : (is_some plan.i || (is_some plan.d || is_some plan.u)) ≡ true
   pub apart : (is_some plan.u && (is_some plan.i || is_some plan.d)) ≡ false
 
--- the shape is the one that the relation tells
-abbrev pub ShapeLaw : Type 0
-ShapeLaw = (spec : CacheSpec) (g : Shape) → (shape_of spec ≡ Some g) ↔ IsShapeOf spec g
+-- the geometry is the one that the relation gives
+abbrev pub GeometryLaw : Type 0
+GeometryLaw = (spec : CacheSpec) (g : GeometryValue) → (geometry_for spec ≡ Some g) ↔ IsGeometryFor spec g

@@ -1,7 +1,7 @@
 use Rattle.std.proofs.Common.{rules, tests, ◌≡◌, true, get_or, refl}
 use Rattle.trace_core.specs.Fields.{is_blank}
 use Rattle.trace_core.proofs.Fronts.{label-front}
-use Rattle.trace_core.proofs.usual.split_label.Goals as goal
+use Rattle.trace_core.proofs.fast_line.split_label.Goals as goal
 
 pub returns-in-32 : goal.returns-in-32
 returns-in-32 c =

@@ -1,7 +1,7 @@
 use Rattle.std.proofs.Common.{rules, tests, ◌≡◌, true, get_or}
 use Rattle.trace_core.specs.Fields.{is_blank}
 use Rattle.trace_core.proofs.Fronts.{blanks-more}
-use Rattle.trace_core.proofs.usual.skip_blanks.Goals as goal
+use Rattle.trace_core.proofs.fast_line.skip_blanks.Goals as goal
 
 pub loop-rest-preserved : goal.loop-rest-preserved
 loop-rest-preserved c =

@@ -1,6 +1,6 @@
 use Rattle.std.proofs.Common.{refl}
-use Rattle.trace_core.proofs.UsualLines.{line-end}
-use Rattle.trace_core.proofs.usual.usual_line.Goals as goal
+use Rattle.trace_core.proofs.FastLines.{line-end}
+use Rattle.trace_core.proofs.fast_line.read_fast_line.Goals as goal
 
 pub returns-clause-line : goal.returns-clause-line
 returns-clause-line c =

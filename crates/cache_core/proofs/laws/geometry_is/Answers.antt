@@ -1,0 +1,5 @@
+use Rattle.cache_core.proofs.GeometryLaw.{geometry_law}
+use Rattle.cache_core.proofs.laws.geometry_is.Goals as goal
+
+pub returns : goal.returns
+returns c = geometry_law

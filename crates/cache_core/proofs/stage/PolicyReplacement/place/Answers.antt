@@ -1,9 +1,0 @@
-use Rattle.std.proofs.Common.{◌∙◌, ap, sym}
-use Rattle.cache_core.specs.declared.stage.Policy.{Policy}
-use Rattle.cache_core.specs.Order.{words_after}
-use Rattle.cache_core.specs.Stages.{words_of, rule_of}
-use Rattle.cache_core.proofs.stage.PolicyReplacement.place.Goals as goal
-
-pub returns-in-Random-clause-words : goal.returns-in-Random-clause-words
-returns-in-Random-clause-words c =
-    c.place-in-Random.ensures.words ∙ ap (λ (p : Policy). words_after (rule_of p) c.place-in-Random.result.1 (words_of p)) (sym c.in-Random.is)
