@@ -4,9 +4,17 @@
 #[cfg(test)]
 mod caches;
 #[cfg(test)]
+mod command_lines;
+#[cfg(test)]
+mod csim_lines;
+#[cfg(test)]
 mod devices;
 #[cfg(test)]
+mod din_lines;
+#[cfg(test)]
 mod memory;
+#[cfg(test)]
+mod parsing;
 #[cfg(test)]
 mod policies;
 #[cfg(test)]
@@ -17,6 +25,8 @@ mod reader;
 mod runs;
 #[cfg(test)]
 mod samples;
+#[cfg(test)]
+mod sweep_lines;
 #[cfg(test)]
 mod sweeps;
 #[cfg(test)]

@@ -1,6 +1,7 @@
-//! Runs over devices in memory, as tests: a source without end under a small limit on lines, and a sink that fails.
-ghost use Rattle.std.specs.Prelude.{◌<◌, length};
+//! Runs of `csim` and `din` over devices in memory: a source without end under a small limit on lines, and sinks that fail.
+ghost use Rattle.std.specs.Prelude.{◌<◌, ◌≤◌, length};
 
+use crate::csim_lines::{HANDOUT, HANDOUT_TEXT};
 use cache_core::geometry::Geometry;
 use cache_core::outcome::{AllocMode, Repl, WriteMode};
 use cache_core::plan::{CacheSpec, FirstLevel, Plan};
@@ -85,24 +86,144 @@ fn csim_writes_the_lines_before_a_bad_one(rt: HostRuntime) -> Result<(), Fail> {
     Ok(())
 }
 
+/// What `csim -v -s 4 -E 1 -b 4` answers over these devices. Where memory is refused, nothing was read or written, and that ends a test.
+fn lines_of(
+    rt: &impl Abort,
+    alloc: Global,
+    source: &mut TapeSource<'_>,
+    sink: &mut ArraySink,
+) -> Result<Result<(), RunFault>, Fail> {
+    let geometry = Geometry::new(4, 1, 4).ok_or("no geometry")?;
+    let answer = csim(alloc, geometry, true, MAX_LINES, source, sink);
+    if answer == Err(RunFault::Memory) {
+        assert!(rt; (source.calls(), sink.calls()) == (0, 0));
+        return Err(RunFault::Memory.into());
+    }
+    Ok(answer)
+}
+
+/// The same of `din` with a cache of one block.
+fn report_of(
+    rt: &impl Abort,
+    alloc: Global,
+    source: &mut TapeSource<'_>,
+    sink: &mut ArraySink,
+) -> Result<Result<(), RunFault>, Fail> {
+    let answer = din(
+        alloc,
+        one_block()?,
+        42,
+        Format::Din,
+        MAX_LINES,
+        source,
+        sink,
+    );
+    if answer == Err(RunFault::Memory) {
+        assert!(rt; (source.calls(), sink.calls()) == (0, 0));
+        return Err(RunFault::Memory.into());
+    }
+    Ok(answer)
+}
+
 #[test]
 fn csim_leaves_a_failed_sink_alone(rt: HostRuntime) -> Result<(), Fail> {
-    let geometry = Geometry::new(4, 1, 4).ok_or("no geometry")?;
     for before in 0..LINES.len() {
         let call = before as u64 + 1;
         let mut source = TapeSource::new(BAD, 100, 0);
         let mut sink = ArraySink::new(1, call);
-        let answer = csim(
-            rt.alloc(),
-            geometry,
-            true,
-            MAX_LINES,
-            &mut source,
-            &mut sink,
-        );
+        let answer = lines_of(&rt, rt.alloc(), &mut source, &mut sink)?;
         assert!(rt; answer == Err(RunFault::Write));
         assert!(rt; sink.held() == &LINES[..before]);
         assert!(rt; sink.calls() == call);
+    }
+    Ok(())
+}
+
+// The summary is written last, and the last call is the flush.
+#[test]
+fn a_sink_of_csim_fails_at_each_of_its_calls(rt: HostRuntime) -> Result<(), Fail> {
+    assert!(rt; HANDOUT_TEXT.len() == 147);
+    for before in 0..148usize {
+        let call = before as u64 + 1;
+        let mut source = TapeSource::new(HANDOUT, 100, 0);
+        let mut sink = ArraySink::new(1, call);
+        let answer = lines_of(&rt, rt.alloc(), &mut source, &mut sink)?;
+        assert!(rt; answer == Err(RunFault::Write));
+        assert!(rt; sink.held() == &HANDOUT_TEXT[..before]);
+        assert!(rt; sink.calls() == call);
+    }
+    let mut source = TapeSource::new(HANDOUT, 100, 0);
+    let mut sink = ArraySink::new(1, 149);
+    assert!(rt; lines_of(&rt, rt.alloc(), &mut source, &mut sink)? == Ok(()));
+    assert!(rt; sink.calls() == 148);
+    Ok(())
+}
+
+#[test]
+fn a_source_of_csim_fails_at_each_of_its_calls(rt: HostRuntime) -> Result<(), Fail> {
+    // how much of its text stands written, by how many of the first lines were read
+    let written = [0, 12, 28, 28];
+    for before in 0..BAD.len() {
+        let call = before as u64 + 1;
+        let mut source = TapeSource::new(BAD, 1, call);
+        let mut sink = ArraySink::new(100, 0);
+        let whole = BAD[..before].iter().filter(|byte| **byte == b'\n').count();
+        let line = (whole as u64).saturating_add(1);
+        let fault = RunFault::Trace(TraceFault::Read { line });
+        let answer = lines_of(&rt, rt.alloc(), &mut source, &mut sink)?;
+        assert!(rt; answer == Err(fault));
+        assert!(rt; source.calls() == call);
+        assert!(rt; sink.held() == &LINES[..written[whole.min(3)]]);
+    }
+    Ok(())
+}
+
+/// A write and a read of two blocks, and what `din` reports of them with a cache of one.
+const TWO_BLOCKS: &[u8] = b"1 0\n0 10\n";
+
+const REPORT: &[u8] =
+    b"l1-u fetches=0 fetch-misses=0 reads=1 read-misses=1 writes=1 write-misses=1 evictions=1 copybacks=1\nmemory reads=2 writes=1\nbypassed=0\n";
+
+#[test]
+fn din_reports_in_parts_of_any_size(rt: HostRuntime) -> Result<(), Fail> {
+    for most in [1, 3, 1024] {
+        let mut source = TapeSource::new(TWO_BLOCKS, most, 0);
+        let mut sink = ArraySink::new(most, 0);
+        assert!(rt; report_of(&rt, rt.alloc(), &mut source, &mut sink)? == Ok(()));
+        assert!(rt; sink.held() == REPORT);
+    }
+    Ok(())
+}
+
+#[test]
+fn a_sink_of_din_fails_at_each_of_its_calls(rt: HostRuntime) -> Result<(), Fail> {
+    for before in 0..=REPORT.len() {
+        let call = before as u64 + 1;
+        let mut source = TapeSource::new(TWO_BLOCKS, 100, 0);
+        let mut sink = ArraySink::new(1, call);
+        let answer = report_of(&rt, rt.alloc(), &mut source, &mut sink)?;
+        assert!(rt; answer == Err(RunFault::Write));
+        assert!(rt; sink.held() == &REPORT[..before]);
+        assert!(rt; sink.calls() == call);
+    }
+    Ok(())
+}
+
+#[test]
+fn a_source_of_din_fails_at_each_of_its_calls(rt: HostRuntime) -> Result<(), Fail> {
+    for before in 0..=TWO_BLOCKS.len() {
+        let call = before as u64 + 1;
+        let mut source = TapeSource::new(TWO_BLOCKS, 1, call);
+        let mut sink = ArraySink::new(100, 0);
+        let whole = TWO_BLOCKS[..before]
+            .iter()
+            .filter(|byte| **byte == b'\n')
+            .count();
+        let line = (whole as u64).saturating_add(1);
+        let fault = RunFault::Trace(TraceFault::Read { line });
+        let answer = report_of(&rt, rt.alloc(), &mut source, &mut sink)?;
+        assert!(rt; answer == Err(fault));
+        assert!(rt; sink.calls() == 0);
     }
     Ok(())
 }
