@@ -4,7 +4,7 @@
 #   make test-tools             builds the program and tests the tools and the package with it
 #   make strain                 what takes longer: more random cases, refused memory in the libraries too, Cachegrind, C code
 #   make refusals               of these, refused memory alone, for the program and for each call of the libraries
-#   make wrong-bodies           more wrong bodies than make test tries, each of which the prover must refuse
+#   make mutants                functions with a wrong body, each of which the prover must refuse at the goal that it names
 #   make tools                  compiles the C parts of the tools, which else are compiled at their first use
 #   make install PREFIX=/usr    builds the program and puts it, tools, manual, completion and documents below PREFIX (/usr/local)
 #   make uninstall PREFIX=/usr  removes what make install has put there
@@ -13,13 +13,13 @@
 #   make help                   writes this
 #
 # What proves or builds needs the kit's command rt, on the path or by RT=/its/path. make test, make refusals and make strain need
-# Python 3 and a C compiler too, make strain Valgrind, and make wrong-bodies Python 3 and a checkout of git. make test-tools and
+# Python 3 and a C compiler too, make strain Valgrind, and make mutants Python 3 and a checkout of git. make test-tools and
 # make deb name the Debian packages that they miss.
 
 PREFIX ?= /usr/local
 PROGRAM := crates/cachesim/out/cachesim
 
-.PHONY: build demo tools test test-tools strain refusals wrong-bodies install uninstall deb clean help kit
+.PHONY: build demo tools test test-tools strain refusals mutants install uninstall deb clean help kit
 
 build:
 	@tools/package/build
@@ -45,8 +45,8 @@ refusals: kit build
 	tests/refusals
 	@python3 tests/refusals-library
 
-wrong-bodies: kit build
-	@python3 tests/wrong-bodies
+mutants: kit build
+	@python3 tests/try-mutants
 
 install: build
 	@tools/package/install "$(DESTDIR)$(PREFIX)"

@@ -1,0 +1,87 @@
+"""What the scripts of this folder share: their words, runs of the program, and the sum of what passed."""
+
+import argparse
+import contextlib
+import os
+import pathlib
+import resource
+import subprocess
+import sys
+import tempfile
+
+TOP = pathlib.Path(__file__).resolve().parent.parent
+PROGRAM = TOP / "crates/cachesim/out/cachesim"
+RT = os.environ.get("RT", "rt")
+
+
+class Words(argparse.ArgumentParser):
+    """The words of a script, whose help is its own text: the second paragraph shows the call."""
+
+    def __init__(self, text):
+        super().__init__(usage=text.split("\n\n")[1].strip())
+        self.text = text
+
+    def format_help(self):
+        return self.text
+
+    def of_program(self):
+        """The words with --program, which gets the path of a program that can be run."""
+        self.add_argument("--program", type=pathlib.Path, default=PROGRAM)
+        asked = self.parse_args()
+        if not asked.program.is_file() or not os.access(asked.program, os.X_OK):
+            print(f"no program {asked.program}: make builds it\n0 passed, 1 failed")
+            sys.exit(1)
+        asked.program = str(asked.program.resolve())
+        return asked
+
+
+class Sum:
+    """Counts what passes and what fails."""
+
+    def __init__(self):
+        self.passed = self.failed = 0
+
+    def add(self, passed, failed):
+        self.passed, self.failed = self.passed + passed, self.failed + failed
+
+    def judge(self, name, good, seen=""):
+        """Counts a test and shows it, with what was seen where it failed."""
+        self.add(bool(good), not good)
+        print(f"ok {name}" if good else f"FAILED {name}: {seen}", flush=True)
+
+    def equal(self, name, got, wanted):
+        self.judge(name, got == wanted, f"wanted {wanted}, got {got}")
+
+    def end(self):
+        """Prints the last line, and returns the exit status. Where nothing was tested, something is wrong."""
+        if not self.passed + self.failed:
+            print("FAILED: nothing was tested")
+            self.failed = 1
+        print(f"{self.passed} passed, {self.failed} failed")
+        return 1 if self.failed else 0
+
+
+def run(program, words, **given):
+    """What a run writes to standard output and to standard error, and its status."""
+    stdin = {} if "input" in given else {"stdin": subprocess.DEVNULL}
+    streams = {"stdout": subprocess.PIPE, "stderr": subprocess.PIPE}
+    ran = subprocess.run([program, *words], **{**streams, **stdin, "timeout": 120, **given})
+    return ran.stdout or b"", ran.stderr, ran.returncode
+
+
+def timed(command, **given):
+    """A run of a command that must end well, and the seconds of the processor that it took."""
+    before = resource.getrusage(resource.RUSAGE_CHILDREN)
+    ran = subprocess.run(command, check=True, **given)
+    after = resource.getrusage(resource.RUSAGE_CHILDREN)
+    return ran, after.ru_utime + after.ru_stime - before.ru_utime - before.ru_stime
+
+
+@contextlib.contextmanager
+def preloads():
+    """Gives the variables that put preload.c into a program, given those that it reads."""
+    with tempfile.TemporaryDirectory(prefix="cachesim-preload-") as folder:
+        library = pathlib.Path(folder, "preload.so")
+        words = ["cc", "-O2", "-shared", "-fPIC", "-o", library, TOP / "tests/preload.c"]
+        subprocess.run(words, check=True)
+        yield lambda **given: {"LD_PRELOAD": str(library), **{key: str(it) for key, it in given.items()}}
