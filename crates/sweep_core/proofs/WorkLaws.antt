@@ -7,7 +7,7 @@ use Rattle.std.proofs.lemmas.List.Kept.{AllPairs-cons, AllPairs-filter}
 use Rattle.std.proofs.lemmas.List.Sums.{sum_by-le-sum_by}
 use Rattle.trace_core.specs.declared.events.Event.{Event}
 use Rattle.trace_core.specs.declared.events.Event.TheVariants as event
-use Rattle.cache_core.specs.Geometry.{Shape}
+use Rattle.cache_core.specs.Geometry.{GeometryValue}
 use Rattle.cache_core.specs.Systems.{references_in}
 use Rattle.cache_core.specs.Windows.{places, places_after, probes}
 use Rattle.sweep_core.specs.declared.space.Config.{Config}
@@ -79,14 +79,14 @@ depth-reached all p m =
     lowest low none = omega arith
 
 -- one place for each reference
-places-length : (g : Shape) (before es : List Event) → length (places_after g before es) ≡ length (references_in es)
+places-length : (g : GeometryValue) (before es : List Event) → length (places_after g before es) ≡ length (references_in es)
 unfolding places_after
 places-length g before [] = refl
 places-length g before (event.Reference r ∷ es) = ap suc (places-length g (before ++ event.Reference r ∷ []) es)
 places-length g before (event.Flush ∷ es) = places-length g (before ++ event.Flush ∷ []) es
 
 -- at most so many comparisons a reference as its profile is deep
-pub work-most : (es : List Event) (all rows : List Config) → ((g : Shape) → probes g es ≤ length (places g es) * g.e)
+pub work-most : (es : List Event) (all rows : List Config) → ((g : GeometryValue) → probes g es ≤ length (places g es) * g.e)
     → work es all rows ≤ length (references_in es) * total_depth all rows
 unfolding work
 work-most es all rows most =
