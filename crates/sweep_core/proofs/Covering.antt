@@ -37,8 +37,10 @@ sized r c l b d =
 
 pub rows-sized : (r : Request) → space_fault r.space ≡ None → Each (Sized r) (rows_of r)
 rows-sized r sound =
-    Each-both (Belongs r) (λ c. c.assoc ≤ depth (configs_of r) (pair_of c)) (Sized r) (λ c b d. sized r c (space-limited r.space sound) b d) (rows_of r) (rows-belong r)
-    (first-each (λ c. c.assoc ≤ depth (configs_of r) (pair_of c)) r.rows (configs_of r) (Each-self (λ c. c.assoc ≤ depth (configs_of r) (pair_of c)) (configs_of r) (λ c m. depth-above (configs_of r) c m)))
+    Each-both (Belongs r) (λ c. c.assoc ≤ depth (configs_of r) (pair_of c)) (Sized r) (λ c b d. sized r c (space-limited r.space sound) b d) (rows_of r)
+    (rows-belong r)
+    (first-each (λ c. c.assoc ≤ depth (configs_of r) (pair_of c)) r.rows (configs_of r)
+    (Each-self (λ c. c.assoc ≤ depth (configs_of r) (pair_of c)) (configs_of r) (λ c m. depth-above (configs_of r) c m)))
 
 -- of two configurations of a pair the greater one has more ways
 more-ways : (c d : Config) → pair_of c ≡ pair_of d → is_less c d ≡ true → c.assoc ≤ d.assoc
@@ -63,7 +65,8 @@ module _ (r : Request) (es : List Event) where
     fits = s.fits;
   }
 
-  covers-from : (c : Config) (cs : List Config) → IsRising (c ∷ cs) → Each (Sized r) cs → ServeAll (own (pair_of c) ∷ map own (left_pairs (Some c) cs)) c.assoc cs
+  covers-from : (c : Config) (cs : List Config) → IsRising (c ∷ cs) → Each (Sized r) cs
+      → ServeAll (own (pair_of c) ∷ map own (left_pairs (Some c) cs)) c.assoc cs
   covers-from c [] rise all = tt
   covers-from c (d ∷ cs) rise all =
       elim (cases_Bool (is_same_pair (Some c) d)) [
@@ -98,7 +101,8 @@ module _ (r : Request) (es : List Event) where
       record {
         fed = subst (Each (IsProfileOf es)) (sym is) (profiles-are (pairs (rows_of r)) swept.sound);
         tallied = of_first;
-        covers = subst (λ (l : List PairProfile). ServeAll l tally.ways (rows_of r)) (sym is) (subst (λ (n : ℕ). ServeAll (map own (pairs (rows_of r))) n (rows_of r)) (sym none) (covers (rows_of r) (rows-rise r) (rows-sized r swept.space)));
+        covers = subst (λ (l : List PairProfile). ServeAll l tally.ways (rows_of r)) (sym is)
+            (subst (λ (n : ℕ). ServeAll (map own (pairs (rows_of r))) n (rows_of r)) (sym none) (covers (rows_of r) (rows-rise r) (rows-sized r swept.space)));
       }
 
   -- without profiles there are no rows

@@ -10,7 +10,7 @@ use Rattle.std.proofs.Math.Pow.{pow-lt}
 use Rattle.std.proofs.Math.Nat.{mul_comm}
 use Rattle.sweep_core.proofs.Lists.{Member, Each-weaker, Each-both, Each-map, Each-filter, Member-map, passes-all, kept-of, max-is, max-above}
 use Rattle.sweep_core.proofs.Powers.{power-of}
-use Rattle.cache_core.specs.Geometry.{IsGeometry, size_of}
+use Rattle.cache_core.specs.Geometry.{IsGeometry, shape, size_of}
 use Rattle.sweep_core.specs.declared.space.Config.{Config}
 use Rattle.sweep_core.specs.Space.{Ranges, is_power, is_valid, bytes_of, config}
 use Rattle.sweep_core.specs.Table.{is_less, is_after, table, all_configs}
@@ -41,7 +41,13 @@ geometry-of space c l h =
     let li : log2 c.bsize ≡ i.0 = ap log2 i.2 ∙ log2-pow i.0 (omega (arith, i.1)) in
     let lj : log2 c.sets ≡ j.0 = ap log2 j.2 ∙ log2-pow j.0 (omega (arith, j.1)) in
     let back : c.assoc * 2 ^ log2 c.sets ≡ c.assoc * c.sets = ap (λ x. c.assoc * x) (log2-is c.sets v.set_power) in
-    record { sets = omega (arith, j.1); blocks = omega (arith, i.1); some = omega (arith, v.assoc.0, l.assoc.0); ways = omega (arith, v.assoc.1, l.assoc.1); lines = omega (arith, v.lines) }
+    record {
+      sets = omega (arith, j.1);
+      blocks = omega (arith, i.1);
+      some = omega (arith, v.assoc.0, l.assoc.0);
+      ways = omega (arith, v.assoc.1, l.assoc.1);
+      lines = omega (arith, v.lines);
+    }
 
 pub bytes-are : (space : Ranges) (c : Config) → is_valid space c ≡ true → size_of (shape_of_config c) ≡ bytes_of c
 bytes-are space c h =
@@ -60,7 +66,8 @@ wider-after (Some a) c n h w =
     ]
 
 pub depth-is : (space : Ranges) (after : Option Config) (c : Config) (n : ℕ) → IsLimited space → is_valid space c ≡ true → is_after after c ≡ true
-    → is_valid space (config c.bsize c.sets n) ≡ true → ((e : ℕ) → is_valid space (config c.bsize c.sets e) ≡ true → e ≤ n) → depth (table space after) (c.bsize, c.sets) ≡ n
+    → is_valid space (config c.bsize c.sets n) ≡ true → ((e : ℕ) → is_valid space (config c.bsize c.sets e) ≡ true → e ≤ n)
+    → depth (table space after) (c.bsize, c.sets) ≡ n
 unfolding depth table
 depth-is space after c n l valid later top greatest =
     let p : Config → Bool = λ d. is_valid space d && is_after after d in
@@ -70,15 +77,23 @@ depth-is space after c n l valid later top greatest =
     Each-weaker (λ d. (p d ≡ true) × (q d ≡ true)) (λ d. d.assoc ≤ n)
     (λ d h. let w = and_parts _ _ h.1 in greatest d.assoc (subst (λ (x : Config). is_valid space x ≡ true)
     (ap (λ x. config x d.sets d.assoc) (eqb-true _ _ w.0) ∙ ap (λ y. config c.bsize y d.assoc) (eqb-true _ _ w.1)) (and_parts _ _ h.0).0))
-    (filter q rows) (Each-both (λ d. p d ≡ true) (λ d. q d ≡ true) (λ d. (p d ≡ true) × (q d ≡ true)) (λ d h k. (h, k)) (filter q rows) (Each-filter (λ d. p d ≡ true) q rows (passes-all p (all_configs space.assoc))) (passes-all q rows)) in
+    (filter q rows) (Each-both (λ d. p d ≡ true) (λ d. q d ≡ true) (λ d. (p d ≡ true) × (q d ≡ true)) (λ d h k. (h, k)) (filter q rows)
+    (Each-filter (λ d. p d ≡ true) q rows (passes-all p (all_configs space.assoc))) (passes-all q rows)) in
     let member : Member (config c.bsize c.sets n) (filter q rows) =
     kept-of q (config c.bsize c.sets n) rows (and_from _ _ (eq-eqb c.bsize c.bsize refl) (eq-eqb c.sets c.sets refl))
-    (kept-of p (config c.bsize c.sets n) (all_configs space.assoc) (and_from _ _ top (wider-after after c n later (greatest c.assoc valid))) (valid-member space (config c.bsize c.sets n) l top)) in
-    max-is n (map (λ d. d.assoc) (filter q rows)) 0 (omega arith) (Each-map (λ x. x ≤ n) (λ d. d.assoc) (filter q rows) bound) (inr (Member-map (λ d. d.assoc) (config c.bsize c.sets n) (filter q rows) member))
+    (kept-of p (config c.bsize c.sets n) (all_configs space.assoc) (and_from _ _ top (wider-after after c n later (greatest c.assoc valid)))
+    (valid-member space (config c.bsize c.sets n) l top)) in
+    max-is n (map (λ d. d.assoc) (filter q rows)) 0 (omega arith) (Each-map (λ x. x ≤ n) (λ d. d.assoc) (filter q rows) bound)
+    (inr (Member-map (λ d. d.assoc) (config c.bsize c.sets n) (filter q rows) member))
 
 -- no configuration is deeper than its pair
 pub depth-above : (all : List Config) (c : Config) → Member c all → c.assoc ≤ depth all (c.bsize, c.sets)
 unfolding depth
 depth-above all c m =
     max-above c.assoc 0 (map (λ d. d.assoc) (filter (has_pair (c.bsize, c.sets)) all))
-    (inr (Member-map (λ d. d.assoc) c (filter (has_pair (c.bsize, c.sets)) all) (kept-of (has_pair (c.bsize, c.sets)) c all (and_from _ _ (eq-eqb c.bsize c.bsize refl) (eq-eqb c.sets c.sets refl)) m)))
+    (inr (Member-map (λ d. d.assoc) c (filter (has_pair (c.bsize, c.sets)) all)
+    (kept-of (has_pair (c.bsize, c.sets)) c all (and_from _ _ (eq-eqb c.bsize c.bsize refl) (eq-eqb c.sets c.sets refl)) m)))
+
+-- equal numbers give one shape
+pub shapes : {s t e d b k : ℕ} → s ≡ t → e ≡ d → b ≡ k → shape s e b ≡ shape t d k
+shapes p q r = rw (p, q, r) refl

@@ -158,7 +158,8 @@ unfolding sweep_text table all_configs is_power count_trailing_zeros rows_text c
 second_page-text = refl
 
 -- a trace on which first-in first-out has more misses with more ways
-twelve-text : sweep_text (sweep (ranges (16, 16) (1, 1) (3, 5) (0, 1024) false)) (codes "0 10\n0 20\n0 30\n0 40\n0 10\n0 20\n0 50\n0 10\n0 20\n0 30\n0 40\n0 50\n")
+twelve-text : sweep_text (sweep (ranges (16, 16) (1, 1) (3, 5) (0, 1024) false))
+    (codes "0 10\n0 20\n0 30\n0 40\n0 10\n0 20\n0 50\n0 10\n0 20\n0 30\n0 40\n0 50\n")
     ≡ header ++ codes "16,1,3,48,2,10,7\n16,1,4,64,4,8,4\n16,1,5,80,7,5,0\n"
 unfolding sweep_text table all_configs is_power count_trailing_zeros rows_text counts places_after window distinct distinct_of_set digits
 twelve-text = refl
@@ -204,7 +205,8 @@ unfolding sweep_text table all_configs is_power count_trailing_zeros rows_text c
 log_fetches-text = refl
 
 -- at the limits
-many_sets-text : sweep_text (sweep (ranges (1, 1) (1048576, 1048576) (1, 2) (1, 4194304) false)) [] ≡ header ++ codes "1,1048576,1,1048576,0,0,0\n1,1048576,2,2097152,0,0,0\n"
+many_sets-text : sweep_text (sweep (ranges (1, 1) (1048576, 1048576) (1, 2) (1, 4194304) false)) []
+    ≡ header ++ codes "1,1048576,1,1048576,0,0,0\n1,1048576,2,2097152,0,0,0\n"
 unfolding sweep_text table all_configs is_power count_trailing_zeros rows_text counts places_after window distinct distinct_of_set digits
 many_sets-text = refl
 

@@ -2,6 +2,7 @@ pub mod Lists
 pub mod Powers
 pub mod Orders
 pub mod Validity
+pub mod Ways
 pub mod Tables
 pub mod Search
 pub mod Next

@@ -1,5 +1,6 @@
 -- The profiles of a sweep, made one after another as its rows come.
-use Rattle.std.proofs.Common.{◌≡◌, ℕ, zero, suc, true, false, List, [], ◌∷◌, ◌++◌, map, take, refl, sym, ap, ◌∙◌, Option, None, Some, append-nil, append_assoc, subst}
+use Rattle.std.proofs.Common.{◌≡◌, ℕ, zero, suc, true, false, List, [], ◌∷◌, ◌++◌, map, take, refl, sym, ap, ◌∙◌, Option, None, Some}
+use Rattle.std.proofs.Common.{append-nil, append_assoc, subst}
 use Rattle.std.specs.List.{AllByRecursion as Each}
 use Rattle.cache_core.specs.Geometry.{IsGeometry}
 use Rattle.sweep_core.specs.declared.space.Config.{Config}
@@ -59,7 +60,8 @@ making-same r before made c left same m = record {
 }
 
 pub making-new : (r : Request) (before : Option Config) (made : List PairProfile) (x : PairProfile) (c : Config) (left : List Config)
-    → is_same_pair before c ≡ false → x ≡ begun_for (configs_of r) (pair_of c) → IsGeometry x.profile.geometry → Making r before made (c ∷ left) → Making r (Some c) (made ++ x ∷ []) left
+    → is_same_pair before c ≡ false → x ≡ begun_for (configs_of r) (pair_of c) → IsGeometry x.profile.geometry → Making r before made (c ∷ left)
+    → Making r (Some c) (made ++ x ∷ []) left
 making-new r before made x c left new is sound m = record {
   whole = m.whole ∙ ap (λ ps. made ++ map (begun_for (configs_of r)) ps) (left-new before c left m.rises new)
       ∙ ap (λ y. made ++ y ∷ map (begun_for (configs_of r)) (left_pairs (Some c) left)) (sym is)

@@ -24,7 +24,8 @@ pub table-rises : (space : Ranges) (after : Option Config) → IsRising (table s
 unfolding table
 table-rises space after = Rising-filter (λ c. is_valid space c && is_after after c) (all_configs space.assoc) (all_configs-rise space.assoc)
 
-pub table-has : (space : Ranges) (after : Option Config) (c : Config) → IsLimited space → is_valid space c ≡ true → is_after after c ≡ true → Contains (table space after) c
+pub table-has : (space : Ranges) (after : Option Config) (c : Config) → IsLimited space → is_valid space c ≡ true → is_after after c ≡ true
+    → Contains (table space after) c
 unfolding table
 table-has space after c l v a =
     contains-of c _ (kept-of (λ d. is_valid space d && is_after after d) c (all_configs space.assoc) (and_from _ _ v a) (valid-member space c l v))
@@ -33,7 +34,8 @@ pub table-only : (space : Ranges) (after : Option Config) (c : Config) → Conta
 unfolding table
 table-only space after c m =
     let p : Config → Bool = λ d. is_valid space d && is_after after d in
-    and_parts _ _ (subst (λ (d : Config). p d ≡ true) m.2 (Each-get_or (λ d. p d ≡ true) (filter p (all_configs space.assoc)) m.0 c m.1 (passes-all p (all_configs space.assoc))))
+    and_parts _ _ (subst (λ (d : Config). p d ≡ true) m.2
+    (Each-get_or (λ d. p d ≡ true) (filter p (all_configs space.assoc)) m.0 c m.1 (passes-all p (all_configs space.assoc))))
 
 no-loop : (c d : Config) → is_less c d ≡ true → is_less d c ≡ true → ⊥
 no-loop c d p q = false≢true (sym (is_less-asym c d p) ∙ q)
@@ -49,7 +51,8 @@ behind : (c d x : Config) (cs ds : List Config) → d ≡ c → IsRising (c ∷ 
 behind c d x cs ds same p m (inr n) = n
 behind c d x cs ds same p m (inl e) = absurd (false≢true (sym (is_less-same c) ∙ ap (is_less c) (sym same ∙ e) ∙ Each-member _ x cs p.0 m))
 
-same-members : (cs ds : List Config) → IsRising cs → IsRising ds → ((c : Config) → Member c cs → Member c ds) → ((c : Config) → Member c ds → Member c cs) → cs ≡ ds
+same-members : (cs ds : List Config) → IsRising cs → IsRising ds → ((c : Config) → Member c cs → Member c ds) → ((c : Config) → Member c ds → Member c cs)
+    → cs ≡ ds
 same-members [] [] p q f g = refl
 same-members [] (d ∷ ds) p q f g = absurd (g d (inl refl))
 same-members (c ∷ cs) [] p q f g = absurd (f c (inl refl))

@@ -27,17 +27,20 @@ few_ways : (space : Ranges) (c : Config) → IsLimited space → is_valid space 
 few_ways space c l h = let v = valid_of space c h in omega (arith, v.assoc.1, l.assoc.1)
 
 -- valid and after is valid and from on
-from_on : (space : Ranges) (from : Config) (after : Option Config) → IsLimited space → Begins from after → (c : Config) → (is_valid space c && is_after after c) ≡ true → is_from space from c ≡ true
+from_on : (space : Ranges) (from : Config) (after : Option Config) → IsLimited space → Begins from after → (c : Config)
+    → (is_valid space c && is_after after c) ≡ true → is_from space from c ≡ true
 from_on space from after l b c h =
     let w = and_parts _ _ h in
     and_from _ _ w.0 (not_from_false _ (b.is c (few_ways space c l w.0) ∙ not_from_true _ w.1))
 
-after_of : (space : Ranges) (from : Config) (after : Option Config) → IsLimited space → Begins from after → (c : Config) → is_from space from c ≡ true → (is_valid space c && is_after after c) ≡ true
+after_of : (space : Ranges) (from : Config) (after : Option Config) → IsLimited space → Begins from after → (c : Config) → is_from space from c ≡ true
+    → (is_valid space c && is_after after c) ≡ true
 after_of space from after l b c h =
     let w = and_parts _ _ h in
     and_from _ _ w.0 (not-false _ (sym (b.is c (few_ways space c l w.0)) ∙ not-true _ w.1))
 
-pub table-none : (space : Ranges) (from : Config) (after : Option Config) → IsLimited space → Begins from after → ((d : Config) → is_from space from d ≡ false) → table space after ≡ []
+pub table-none : (space : Ranges) (from : Config) (after : Option Config) → IsLimited space → Begins from after
+    → ((d : Config) → is_from space from d ≡ false) → table space after ≡ []
 unfolding table
 table-none space from after l b none =
     filter-none _ (λ c. false_from_ne_true _ (λ h. false≢true (sym (none c) ∙ from_on space from after l b c h))) (all_configs space.assoc)
@@ -47,7 +50,8 @@ pub later_after : (after : Option Config) (c d : Config) → is_after after c �
 later_after None c d p q = refl
 later_after (Some a) c d p q = is_less-trans a c d p q
 
-pub table-some : (space : Ranges) (from : Config) (after : Option Config) (c : Config) → IsLimited space → Begins from after → IsLeast (is_from space from) (Some c) → table space after ≡ c ∷ table space (Some c)
+pub table-some : (space : Ranges) (from : Config) (after : Option Config) (c : Config) → IsLimited space → Begins from after
+    → IsLeast (is_from space from) (Some c) → table space after ≡ c ∷ table space (Some c)
 unfolding table
 table-some space from after c l b least =
     let here = after_of space from after l b c least.0 in
@@ -58,7 +62,8 @@ table-some space from after c l b least =
     (λ d less. and_right _ _ less)
     (all_configs space.assoc) (all_configs-rise space.assoc) (valid-member space c l w.0)
 
-pub table-found : (space : Ranges) (from : Config) (after : Option Config) (found : Option Config) → IsLimited space → Begins from after → IsLeast (is_from space from) found
+pub table-found : (space : Ranges) (from : Config) (after : Option Config) (found : Option Config) → IsLimited space → Begins from after
+    → IsLeast (is_from space from) found
     → MatchOption found (table space after ≡ []) (λ c. table space after ≡ c ∷ table space (Some c))
 table-found space from after None l b least = table-none space from after l b least
 table-found space from after (Some c) l b least = table-some space from after c l b least

@@ -1,5 +1,6 @@
 -- What follows a member of the table is the table after it.
-use Rattle.std.proofs.Common.{◌≡◌, ℕ, Bool, true, false, ◌&&◌, List, [], ◌∷◌, ◌++◌, take, drop, take-append-drop, sym, ap, ◌∙◌, Option, None, Some, inl, inr, append_assoc, append-nil}
+use Rattle.std.proofs.Common.{◌≡◌, ℕ, Bool, true, false, ◌&&◌, List, [], ◌∷◌, ◌++◌, take, drop, take-append-drop, sym, ap, ◌∙◌, Option}
+use Rattle.std.proofs.Common.{None, Some, inl, inr, append_assoc, append-nil}
 use Rattle.std.specs.Prelude.{filter}
 use Rattle.std.proofs.lemmas.Bool.{cases_Bool, cond-true, cond-false, and_right, and_parts}
 use Rattle.sweep_core.specs.declared.space.Config.{Config}
@@ -43,7 +44,8 @@ rest-after p q c later earlier (g ∷ gs) xs ys r e =
       | inl passes ↦ kept (λ zs h. rest-after p q c later earlier gs zs ys r.1 h) xs (sym (cond-true _ _ _ passes) ∙ e)
       | inr fails ↦
           let more : filter p gs ≡ xs ++ c ∷ ys = sym (cond-false _ _ _ fails) ∙ e in
-          cond-false _ _ _ (earlier g (is_less-asym g c (Each-member _ c gs r.0 (kept-member p c gs xs ys more)))) ∙ rest-after p q c later earlier gs xs ys r.1 more
+          cond-false _ _ _ (earlier g (is_less-asym g c (Each-member _ c gs r.0 (kept-member p c gs xs ys more))))
+          ∙ rest-after p q c later earlier gs xs ys r.1 more
     ]
   where
     kept : ((zs : List Config) → filter p gs ≡ zs ++ c ∷ ys → filter q gs ≡ ys) → (zs : List Config) → g ∷ filter p gs ≡ zs ++ c ∷ ys → filter q (g ∷ gs) ≡ ys
@@ -79,8 +81,10 @@ pub first_rows-join : {A : Type 0} (n : ℕ) (m : Option ℕ) (xs : List A) → 
 first_rows-join n None xs = take-append-drop n xs
 first_rows-join n (Some m) xs = sym (take-add n m xs)
 
-pub rows-join : (space : Ranges) (after : Option Config) (n : ℕ) (m : Option ℕ) (c : Config) (front : List Config) (es : List Event) → take n (table space after) ≡ front ++ c ∷ []
-    → rows_text es (take n (table space after)) ++ rows_text es (first_rows m (table space (Some c))) ≡ rows_text es (first_rows (more_rows n m) (table space after))
+pub rows-join : (space : Ranges) (after : Option Config) (n : ℕ) (m : Option ℕ) (c : Config) (front : List Config) (es : List Event)
+    → take n (table space after) ≡ front ++ c ∷ []
+    → rows_text es (take n (table space after)) ++ rows_text es (first_rows m (table space (Some c)))
+    ≡ rows_text es (first_rows (more_rows n m) (table space after))
 unfolding rows_text
 rows-join space after n m c front es last =
     let whole : table space after ≡ front ++ c ∷ drop n (table space after) =
@@ -90,17 +94,20 @@ rows-join space after n m c front es last =
     ∙ ap (flat_map (λ d. row_of d (row_counts es d))) (ap (λ l. take n (table space after) ++ first_rows m l) rest ∙ first_rows-join n m (table space after))
 
 pub texts-join : (r : Request) (text : List ℕ) (n : ℕ) (m : Option ℕ) (front : List Config) (c : Config) → take n (configs_of r) ≡ front ++ c ∷ []
-    → sweep_text (record r { rows = Some n }) text ++ sweep_text (record r { after = Some c; rows = m }) text ≡ sweep_text (record r { rows = more_rows n m }) text
+    → sweep_text (record r { rows = Some n }) text ++ sweep_text (record r { after = Some c; rows = m }) text
+    ≡ sweep_text (record r { rows = more_rows n m }) text
 unfolding sweep_text
 texts-join r text n m front c last =
     let es = events r.format r.kind text in
     append_assoc (header_of r.after) (rows_text es (take n (configs_of r))) (rows_text es (first_rows m (table r.space (Some c))))
     ∙ ap (λ l. header_of r.after ++ l) (rows-join r.space r.after n m c front es last)
 
-last-page : (n : ℕ) (r : Request) (text : List ℕ) → drop n (configs_of r) ≡ [] → sweep_text (record r { rows = Some n }) text ≡ sweep_text (record r { rows = None }) text
+last-page : (n : ℕ) (r : Request) (text : List ℕ) → drop n (configs_of r) ≡ []
+    → sweep_text (record r { rows = Some n }) text ≡ sweep_text (record r { rows = None }) text
 unfolding sweep_text
 last-page n r text none =
-    ap (λ rows. header_of r.after ++ rows_text (events r.format r.kind text) rows) (sym (append-nil (take n (configs_of r))) ∙ ap (λ l. take n (configs_of r) ++ l) (sym none) ∙ take-append-drop n (configs_of r))
+    ap (λ rows. header_of r.after ++ rows_text (events r.format r.kind text) rows)
+    (sym (append-nil (take n (configs_of r))) ∙ ap (λ l. take n (configs_of r) ++ l) (sym none) ∙ take-append-drop n (configs_of r))
 
 pub pages-join : (n : ℕ) (r : Request) (pages : List Request) (text : List ℕ) → ArePages n r pages
     → flat_map (λ page. sweep_text page text) pages ≡ sweep_text (record r { rows = None }) text

@@ -46,7 +46,8 @@ left-same (Some c) d cs h =
 -- above a configuration of another pair none is of the first one's
 apart : (c d e : Config) → has_pair (pair_of d) c ≡ false → is_less c d ≡ true → is_less d e ≡ true → has_pair (pair_of e) c ≡ false
 apart c d e other p q =
-    false_from_ne_true _ (λ h. let w = and_parts _ _ h in let x : c.bsize ≡ e.bsize = eqb-true _ _ w.0 in let y : c.sets ≡ e.sets = eqb-true _ _ w.1 in no (less_of c d p) (less_of d e q) x y)
+    false_from_ne_true _ (λ h. let same = has_pair-is (pair_of e) c h in
+    no (less_of c d p) (less_of d e q) (ap (λ k. k.0) same) (ap (λ k. k.1) same))
   where
     no : Less c d → Less d e → c.bsize ≡ e.bsize → c.sets ≡ e.sets → ⊥
     no (inl a) (inl b) x y = omega arith
@@ -56,14 +57,16 @@ apart c d e other p q =
     no (inr (a, inl s)) (inr (b, inr (t, u))) x y = omega arith
     no (inr (a, inr (s, v))) k x y = false≢true (sym other ∙ and_from _ _ (eq-eqb _ _ a) (eq-eqb _ _ s))
 
-pub left-new : (before : Option Config) (d : Config) (cs : List Config) → RisesFrom before (d ∷ cs) → is_same_pair before d ≡ false → left_pairs before (d ∷ cs) ≡ pair_of d ∷ left_pairs (Some d) cs
+pub left-new : (before : Option Config) (d : Config) (cs : List Config) → RisesFrom before (d ∷ cs) → is_same_pair before d ≡ false
+    → left_pairs before (d ∷ cs) ≡ pair_of d ∷ left_pairs (Some d) cs
 unfolding pairs
 left-new None d cs r h = refl
 left-new (Some c) d cs r h =
     cond-true _ _ _ (not_from_false _ h)
     ∙ ap (λ l. pair_of d ∷ l) (filter-all (λ p. not (has_pair p c)) (filter (λ p. not (has_pair p d)) (pairs cs))
     (Each-filter (λ p. not (has_pair p c) ≡ true) (λ p. not (has_pair p d)) (pairs cs)
-    (Each-pairs (λ p. not (has_pair p c) ≡ true) cs (Each-weaker (λ e. is_less d e ≡ true) _ (λ e less. not_from_false _ (apart c d e h r.0.0 less)) cs r.1.0))))
+    (Each-pairs (λ p. not (has_pair p c) ≡ true) cs (Each-weaker (λ e. is_less d e ≡ true) _
+    (λ e less. not_from_false _ (apart c d e h r.0.0 less)) cs r.1.0))))
 
 pub rises-on : (before : Option Config) (d : Config) (cs : List Config) → RisesFrom before (d ∷ cs) → RisesFrom (Some d) cs
 rises-on None d cs r = r

@@ -59,7 +59,8 @@ pub is_power-is : (n : ℕ) → n < 2 ^ 64 → is_power_of_two n ≡ is_power n
 is_power-is n fits =
     elim (cases_Bool (is_power_of_two n)) [
       | inl one ↦ let k = log_of_ones n n (omega arith) (eqb-true _ _ one) in one ∙ sym (ap is_power k.1 ∙ is_power-pow k.0 (below-64 n k.0 fits k.1))
-      | inr other ↦ other ∙ sym (false_from_ne_true (is_power n) (λ h. let k = power-of n h in false≢true (sym other ∙ eq-eqb (count_ones n) 1 (ap count_ones k.2 ∙ ones-pow k.0))))
+      | inr other ↦ other ∙ sym (false_from_ne_true (is_power n)
+          (λ h. let k = power-of n h in false≢true (sym other ∙ eq-eqb (count_ones n) 1 (ap count_ones k.2 ∙ ones-pow k.0))))
     ]
 
 -- the least power of two above a number, or the number itself, is at most each such power

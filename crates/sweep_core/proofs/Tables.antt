@@ -43,7 +43,8 @@ Rising-flat_map : (K : ℕ → Config → Type 0) (f : ℕ → List Config) → 
 Rising-flat_map K f rises told less [] g = tt
 Rising-flat_map K f rises told less (x ∷ xs) g =
     Rising-append (f x) (flat_map f xs) (rises x) (Rising-flat_map K f rises told less xs g.1)
-    (Each-weaker (K x) _ (λ c kc. Each-flat_map _ f xs (Each-weaker (λ y. x < y) _ (λ y lt. Each-weaker (K y) _ (λ d kd. less x y c d lt kc kd) (f y) (told y)) xs g.0)) (f x) (told x))
+    (Each-weaker (K x) _ (λ c kc. Each-flat_map _ f xs
+    (Each-weaker (λ y. x < y) _ (λ y lt. Each-weaker (K y) _ (λ d kd. less x y c d lt kc kd) (f y) (told y)) xs g.0)) (f x) (told x))
 
 Grows-powers : (a n : ℕ) → Grows (map (λ k. 2 ^ k) (range_with_len a n))
 Grows-powers a zero = tt
@@ -70,8 +71,11 @@ of_bsize range b = flat_map (λ s. map (config b s) (numbers range)) powers_of_t
 
 sets_told : (range : ℕ × ℕ) (b : ℕ) (xs : List ℕ) → Each (λ s. Each (λ c. c.bsize ≡ b) (map (config b s) (numbers range))) xs
 sets_told range b [] = tt
-sets_told range b (s ∷ xs) =
-    (Each-weaker (λ c. (c.bsize ≡ b) × (c.sets ≡ s)) (λ c. c.bsize ≡ b) (λ c h. h.0) (map (config b s) (numbers range)) (ways_told b s range.0 (range.1 + 1 - range.0)), sets_told range b xs)
+sets_told range b (s ∷ xs) = (
+  Each-weaker (λ c. (c.bsize ≡ b) × (c.sets ≡ s)) (λ c. c.bsize ≡ b) (λ c h. h.0) (map (config b s) (numbers range))
+      (ways_told b s range.0 (range.1 + 1 - range.0)),
+  sets_told range b xs,
+)
 
 bsize_told : (range : ℕ × ℕ) (b : ℕ) → Each (λ c. c.bsize ≡ b) (of_bsize range b)
 bsize_told range b = Each-flat_map (λ c. c.bsize ≡ b) (λ s. map (config b s) (numbers range)) powers_of_two (sets_told range b powers_of_two)
@@ -93,5 +97,6 @@ pub all_configs-member : (range : ℕ × ℕ) (i j e : ℕ) → i < 21 → j < 2
 unfolding all_configs
 all_configs-member range i j e hi hj low high =
     Member-flat_map (of_bsize range) (2 ^ i) _ powers_of_two (Member-map (λ k. 2 ^ k) i (range_with_len 0 21) (Member-range i 0 21 (omega arith) (omega arith)))
-    (Member-flat_map (λ s. map (config (2 ^ i) s) (numbers range)) (2 ^ j) _ powers_of_two (Member-map (λ k. 2 ^ k) j (range_with_len 0 21) (Member-range j 0 21 (omega arith) (omega arith)))
+    (Member-flat_map (λ s. map (config (2 ^ i) s) (numbers range)) (2 ^ j) _ powers_of_two
+    (Member-map (λ k. 2 ^ k) j (range_with_len 0 21) (Member-range j 0 21 (omega arith) (omega arith)))
     (Member-map (config (2 ^ i) (2 ^ j)) e (numbers range) (Member-range e range.0 (range.1 + 1 - range.0) low (omega arith))))

@@ -1,5 +1,6 @@
 -- Which configurations a space has, and which ranges make a space.
-use Rattle.std.specs.Prelude.{ℕ, ◌*◌, ◌^◌, ◌==◌, ◌&&◌, ◌||◌, not, nat_lt, nat_le, Bool, Option, None, Some, Result, Ok, Err, List, [], ◌∷◌, if◌then◌else◌, codes}
+use Rattle.std.specs.Prelude.{ℕ, ◌*◌, ◌^◌, ◌==◌, ◌&&◌, ◌||◌, not, nat_lt, nat_le, Bool, Option, None, Some, Result, Ok, Err, List, []}
+use Rattle.std.specs.Prelude.{◌∷◌, if◌then◌else◌, codes}
 use Rattle.std.specs.List.{list_any, range_with_len}
 use Rattle.sweep_core.specs.declared.space.Config.{Config}
 use Rattle.sweep_core.specs.declared.space.Which.{Which}

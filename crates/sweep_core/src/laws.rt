@@ -1,5 +1,5 @@
-//! Laws over the definitions: each is the contract of a function with no code, so that the gate proves it. Proofs above
-//! may cite the lemma behind it.
+//! Laws over the definitions: each is the contract of a function with no code, so that the gate
+//! proves it. Proofs above may cite the lemma behind it.
 ghost use Rattle.std.specs.Prelude.{◌≡◌, ◌≢◌, ◌≤◌, ◌*◌, ◌^◌, ℕ, List, [], ◌∷◌, ◌++◌, flat_map, true, Option, None, Some, ◌↔◌, IsTrue, Contains, AllPairs, length};
 ghost use Rattle.trace_core.specs.Reading.{events};
 ghost use Rattle.cache_core.specs.Geometry.{IsGeometry, size_of};
@@ -14,17 +14,19 @@ ghost use Rattle.sweep_core.specs.Work.{pair_of, pairs, depth, total_depth, swee
 use crate::space::Config;
 use profile_core::laws::probes_bounded;
 
-/// The table rises, its members are exactly the configurations of the space that are greater than `after`, and no other
-/// list does both.
+/// The table rises, its members are exactly the configurations of the space that are greater than
+/// `after`, and no other list does both.
 pub fn table_is()
     ensures rises { (space : Ranges) (after : Option Config) → IsRising (table space after) }
-    ensures members { (space : Ranges) (after : Option Config) (c : Config) → space_fault space ≡ None →
+    ensures members { (space : Ranges) (after : Option Config) (c : Config) →
+        space_fault space ≡ None →
         Contains (table space after) c ↔ (IsTrue (is_valid space c) × IsTrue (is_after after c)) }
     ensures unique { (cs ds : List Config) → IsRising cs → IsRising ds
         → ((c : Config) → Contains cs c ↔ Contains ds c) → cs ≡ ds }
 {}
 
-/// The derived order of configurations is that of the table. It has code, since `<` is what it speaks of.
+/// The derived order of configurations is that of the table. It has code, since `<` is what it
+/// speaks of.
 pub fn order_is(c: &Config, d: &Config) -> bool
     ensures { result ≡ is_less c.now d.now }
 {
@@ -38,23 +40,25 @@ pub fn log2_is()
 
 /// Each configuration of a space is a cache within the limits, and its shape has as many bytes.
 pub fn configs_are_geometries()
-    ensures limits { (space : Ranges) (c : Config) → space_fault space ≡ None → is_valid space c ≡ true
-        → IsGeometry (shape_of_config c) }
-    ensures bytes { (space : Ranges) (c : Config) → space_fault space ≡ None → is_valid space c ≡ true
-        → size_of (shape_of_config c) ≡ bytes_of c }
+    ensures limits { (space : Ranges) (c : Config) →
+        space_fault space ≡ None → is_valid space c ≡ true → IsGeometry (shape_of_config c) }
+    ensures bytes { (space : Ranges) (c : Config) →
+        space_fault space ≡ None → is_valid space c ≡ true →
+        size_of (shape_of_config c) ≡ bytes_of c }
 {}
 
-/// Pages: a sweep of `n` rows, the last of which is `c`, and then a sweep of `m` rows after `c`, write what a sweep of
-/// both writes.
+/// Pages: a sweep of `n` rows, the last of which is `c`, and then a sweep of `m` rows after `c`,
+/// write what a sweep of both writes.
 pub fn pages()
-    ensures { (r : Request) (text : List ℕ) (n : ℕ) (m : Option ℕ) (front : List Config) (c : Config) →
-        first_rows (Some n) (table r.space r.after) ≡ front ++ c ∷ [] →
-        sweep_text (record r { rows = Some n }) text ++ sweep_text (record r { after = Some c; rows = m }) text
+    ensures { (r : Request) (text : List ℕ) (n : ℕ) (m : Option ℕ) (front : List Config)
+        (c : Config) → first_rows (Some n) (table r.space r.after) ≡ front ++ c ∷ [] →
+        sweep_text (record r { rows = Some n }) text
+        ++ sweep_text (record r { after = Some c; rows = m }) text
         ≡ sweep_text (record r { rows = more_rows n m }) text }
 {}
 
-/// A sweep in pages, each after the last row of the one before it until no configuration follows, writes what the whole
-/// sweep writes.
+/// A sweep in pages, each after the last row of the one before it until no configuration follows,
+/// writes what the whole sweep writes.
 pub fn all_pages()
     ensures { (n : ℕ) (r : Request) (pages : List Request) (text : List ℕ) → ArePages n r pages →
         flat_map (λ page. sweep_text page text) pages ≡ sweep_text (record r { rows = None }) text }
@@ -67,17 +71,21 @@ pub fn pairs_are()
         Contains (pairs rows) p ↔ ((c : Config) × Contains rows c × (pair_of c ≡ p)) }
 {}
 
-/// The depth of a pair is the greatest associativity of its rows: none has more ways, and one has as many.
+/// The depth of a pair is the greatest associativity of its rows: none has more ways, and one has
+/// as many.
 pub fn depth_is()
-    ensures most { (rows : List Config) (c : Config) → Contains rows c → c.assoc ≤ depth rows (pair_of c) }
+    ensures most { (rows : List Config) (c : Config) →
+        Contains rows c → c.assoc ≤ depth rows (pair_of c) }
     ensures reached { (rows : List Config) (p : ℕ × ℕ) → Contains (pairs rows) p →
         (c : Config) × Contains rows c × (pair_of c ≡ p) × (c.assoc ≡ depth rows p) }
 {}
 
-/// A sweep makes at most as many comparisons as its kept references times the depths of its pairs, summed up.
+/// A sweep makes at most as many comparisons as its kept references times the depths of its pairs,
+/// summed up. It has code, since it calls the same law of one profile.
 pub fn work_is_bounded()
     ensures { (r : Request) (text : List ℕ) → sweep_work r text
-        ≤ length (references_in (events r.format r.kind text)) * total_depth (configs_of r) (rows_of r) }
+        ≤ length (references_in (events r.format r.kind text))
+        * total_depth (configs_of r) (rows_of r) }
 {
     probes_bounded();
 }

@@ -21,8 +21,8 @@ pub(crate) struct PairProfile {
     pub(crate) profile: Profile,
 }
 
-/// Makes the profiles of a request, each as deep as the greatest associativity of its pair, whether that has a row or
-/// not.
+/// Makes the profiles of a request, each as deep as the greatest associativity of its pair, whether
+/// that has a row or not.
 pub(crate) fn make_profiles(
     alloc: Global,
     request: &Request,
@@ -55,7 +55,8 @@ fn is_same_pair(previous: Option<Config>, config: &Config) -> bool
 fn make_profile(alloc: Global, space: &Space, config: &Config) -> Result<PairProfile, AllocError>
     requires { is_valid space.now config.now ≡ true }
     ensures begun { (after : Option Config) → is_after after config.now ≡ true →
-        IfOk result (λ made. made ≡ begun_for (table space.now after) (config.now.bsize, config.now.sets)) }
+        IfOk result (λ made.
+        made ≡ begun_for (table space.now after) (config.now.bsize, config.now.sets)) }
     ensures sound { IfOk result (λ made. IsGeometry made.profile.geometry) }
 {
     space.limits();

@@ -16,7 +16,8 @@ pub struct Request {
     /// Which references count.
     pub kind: Kind,
     pub format: Format,
-    /// Only configurations greater than this triple have a row, and there is no header. It may be any triple.
+    /// Only configurations greater than this triple have a row, and there is no header. It may be
+    /// any triple.
     pub after: Option<Config>,
     /// The most rows; without it, all.
     pub rows: Option<u64>,

@@ -81,7 +81,8 @@ pub struct SpaceFault {
 /// The greatest block size in bytes, and the greatest set count.
 const MAX_POWER: u64 = 1 << MAX_BITS;
 
-/// The configurations of a sweep: a lowest and a greatest value for each number, and for the size in bytes.
+/// The configurations of a sweep: a lowest and a greatest value for each number, and for the size
+/// in bytes.
 #[derive(Clone, Copy, Debug)]
 pub struct Space {
     bsize: (u64, u64),
@@ -115,9 +116,10 @@ impl Space {
     ghost use Rattle.std.specs.Prelude.{◌≡◌, None};
     ghost use Rattle.sweep_core.specs.Space.{is_valid, space_of, space_fault};
 
-    /// The space of these ranges, each a lowest and a greatest value, or the first of them that is refused. Block sizes
-    /// and sizes are in bytes. Block sizes and set counts are powers of two up to 2^20, associativities 1 to 65,536,
-    /// and sizes any numbers. With `powers` only associativities that are powers of two count.
+    /// The space of these ranges, each a lowest and a greatest value, or the first of them that is
+    /// refused. Block sizes and sizes are in bytes. Block sizes and set counts are powers of two up
+    /// to 2^20, associativities 1 to 65,536, and sizes any numbers. With `powers` only
+    /// associativities that are powers of two count.
     pub fn new(
         bsize: (u64, u64),
         sets: (u64, u64),
@@ -140,7 +142,8 @@ impl Space {
         })
     }
 
-    /// States that the ranges are accepted ones, for a caller whose proof needs it. It computes nothing.
+    /// States that the ranges are accepted ones, for a caller whose proof needs it. It computes
+    /// nothing.
     pub fn limits(&self)
         ensures { space_fault self.now ≡ None }
     {
@@ -168,7 +171,8 @@ impl Space {
 
 /// The fault of a range, where there is a cause.
 fn judge(which: Which, cause: Option<Cause>) -> Result<(), SpaceFault>
-    ensures { MatchResult result (λ _. cause ≡ None) (λ fault. (fault.which ≡ which) × (cause ≡ Some fault.cause)) }
+    ensures { MatchResult result (λ _. cause ≡ None)
+        (λ fault. (fault.which ≡ which) × (cause ≡ Some fault.cause)) }
 {
     match cause {
         None => Ok(()),

@@ -68,11 +68,13 @@ fn write_rows<K: Sink>(
     Ok(())
 }
 
-/// The profiles from that of a configuration's pair on: it is the first of them, or the next. Where it is the next, its
-/// tally begins.
+/// The profiles from that of a configuration's pair on: it is the first of them, or the next. Where
+/// it is the next, its tally begins.
 fn from_pair<'a>(left: &'a [PairProfile], tally: &mut Tally, config: &Config) -> &'a [PairProfile]
-    requires { (es : List Event) × (later : List Config) × Walks es left.now tally.old (config.now ∷ later) }
-    ensures { (es : List Event) (later : List Config) → Walks es left.now tally.old (config.now ∷ later) →
+    requires { (es : List Event) × (later : List Config)
+        × Walks es left.now tally.old (config.now ∷ later) }
+    ensures { (es : List Event) (later : List Config) →
+        Walks es left.now tally.old (config.now ∷ later) →
         Ready es result.now tally.new config.now later }
 {
     if is_of(&left[0], config) {
@@ -85,8 +87,10 @@ fn from_pair<'a>(left: &'a [PairProfile], tally: &mut Tally, config: &Config) ->
 
 /// The counts of a configuration, from the first profile, with whose tally its rows are counted.
 fn next_counts(left: &[PairProfile], tally: &mut Tally, config: &Config) -> Counts
-    requires { (es : List Event) × (later : List Config) × Ready es left.now tally.old config.now later }
-    ensures { (es : List Event) (later : List Config) → Ready es left.now tally.old config.now later →
+    requires { (es : List Event) × (later : List Config)
+        × Ready es left.now tally.old config.now later }
+    ensures { (es : List Event) (later : List Config) →
+        Ready es left.now tally.old config.now later →
         (result ≡ row_counts es config.now) × Walks es left.now tally.new later }
 {
     left[0].profile.counts_next(tally, config.assoc)

@@ -1,5 +1,5 @@
-//! The configurations of a space, one after another: the search for the one that comes next, and for the greatest
-//! associativity of a pair.
+//! The configurations of a space, one after another: the search for the one that comes next, and
+//! for the greatest associativity of a pair.
 ghost use Rattle.std.specs.Prelude.{◌≡◌, ◌<◌, ◌≤◌, ◌-◌, ◌^◌, ℕ, not, true, nat_lt, MatchOption};
 ghost use Rattle.std.specs.Iterator.{YieldsFirst, item_count};
 ghost use Rattle.sweep_core.specs.Table.{is_less, is_after};
@@ -50,8 +50,8 @@ impl Space {
     ghost use Rattle.sweep_core.specs.Table.{table};
     ghost use Rattle.sweep_core.specs.Least.{IsLeast, IsLeastFrom, is_from, is_from_of_bsize, is_from_pair};
 
-    /// Its configurations that are greater than `after`, which may be any triple, rising; without it, all. What stands
-    /// before `after` is not walked.
+    /// Its configurations that are greater than `after`, which may be any triple, rising; without
+    /// it, all. What stands before `after` is not walked.
     pub fn configs(&self, after: Option<Config>) -> Configs
         ensures { result ≡ table self.now after }
     {
@@ -132,7 +132,8 @@ impl Space {
     pub(crate) fn depth_of(&self, config: &Config) -> u64
         requires { is_valid self.now config.now ≡ true }
         ensures valid { is_valid self.now (record config.now { assoc = result }) ≡ true }
-        ensures greatest { (e : ℕ) → is_valid self.now (record config.now { assoc = e }) ≡ true → e ≤ result }
+        ensures greatest { (e : ℕ) →
+            is_valid self.now (record config.now { assoc = e }) ≡ true → e ≤ result }
     {
         let Config { bsize, sets, .. } = *config;
         let most = self
@@ -162,8 +163,8 @@ fn least_assoc(lowest: u64, powers: bool) -> u64
     }
 }
 
-/// The least triple greater than `after`; without it, the least of all. At `u64::MAX` ways it stays, which loses
-/// nothing: no configuration has so many.
+/// The least triple greater than `after`; without it, the least of all. At `u64::MAX` ways it
+/// stays, which loses nothing: no configuration has so many.
 fn from_after(after: Option<Config>) -> Config
     ensures { (c : Config) → c.assoc < 2 ^ 64 - 1 → is_less c result ≡ not (is_after after c) }
 {
@@ -180,7 +181,8 @@ fn from_after(after: Option<Config>) -> Config
     }
 }
 
-/// The least associativity with which a configuration of a pair isn't less than another, if there is one.
+/// The least associativity with which a configuration of a pair isn't less than another, if there
+/// is one.
 fn least_of_pair(bsize: u64, sets: u64, from: &Config) -> Option<u64>
     ensures { MatchOption result ((e : ℕ) → is_less (config bsize sets e) from.now ≡ true)
         (λ least. (e : ℕ) → is_less (config bsize sets e) from.now ≡ nat_lt e least) }

@@ -1,3 +1,4 @@
+-- All pages are one sweep.
 use Rattle.sweep_core.proofs.Pages.{pages-join}
 use Rattle.sweep_core.proofs.laws.all_pages.Goals as goal
 

@@ -1,3 +1,4 @@
+-- The configurations of a space are caches within the limits.
 use Rattle.sweep_core.proofs.Validity.{space-limited}
 use Rattle.sweep_core.proofs.Depths.{geometry-of, bytes-are}
 use Rattle.sweep_core.proofs.laws.configs_are_geometries.Goals as goal

@@ -1,3 +1,4 @@
+-- The depth of a pair bounds its rows, and one reaches it.
 use Rattle.sweep_core.proofs.WorkLaws.{depth-most, depth-reached}
 use Rattle.sweep_core.proofs.laws.depth_is.Goals as goal
 

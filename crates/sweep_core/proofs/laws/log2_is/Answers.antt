@@ -1,3 +1,4 @@
+-- The logarithm of a power of two.
 use Rattle.sweep_core.proofs.Depths.{log2-is}
 use Rattle.sweep_core.proofs.laws.log2_is.Goals as goal
 

@@ -1,3 +1,4 @@
+-- Two pages are one sweep.
 use Rattle.sweep_core.proofs.Pages.{texts-join}
 use Rattle.sweep_core.proofs.laws.pages.Goals as goal
 

@@ -1,3 +1,4 @@
+-- The table rises, has its members, and is the only such list.
 use Rattle.sweep_core.proofs.Validity.{space-limited}
 use Rattle.sweep_core.proofs.Members.{table-rises, table-has, table-only, table-unique}
 use Rattle.sweep_core.proofs.laws.table_is.Goals as goal

@@ -1,3 +1,4 @@
+-- The bound of one profile, summed up over the pairs.
 use Rattle.trace_core.specs.Reading.{events}
 use Rattle.sweep_core.specs.SweepText.{configs_of, rows_of}
 use Rattle.sweep_core.specs.Work.{sweep_work}

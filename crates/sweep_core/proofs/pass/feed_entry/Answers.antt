@@ -1,3 +1,4 @@
+-- An entry feeds one reference, two, or a flush.
 use Rattle.std.proofs.Common.{arith, ◌≤◌, ◌+◌, ◌^◌, ◌-◌}
 use Rattle.sweep_core.proofs.Passes.{entry-two}
 use Rattle.std.proofs.lemmas.List.Elements.{All-map}
@@ -10,7 +11,8 @@ feed_kept-requires-in-Some c k d h = omega (arith, c.feed_kept.ensures.few (2 ^ 
 
 pub returns-in-Some-clause-fed : goal.returns-in-Some-clause-fed
 returns-in-Some-clause-fed c =
-    entry-two c.args.kind c.args.entry c.in-Item.item c.refs_of-second.result c.in-Some.second c.args.profiles.now c.feed_kept.new.profiles c.feed_kept-in-Some.new.profiles
+    entry-two c.args.kind c.args.entry c.in-Item.item c.refs_of-second.result c.in-Some.second c.args.profiles.now c.feed_kept.new.profiles
+    c.feed_kept-in-Some.new.profiles
     c.in-Item.is c.refs_of-second.ensures c.in-Some.is c.feed_kept.ensures.fed c.feed_kept-in-Some.ensures.fed
 
 pub returns-in-Some-clause-few : goal.returns-in-Some-clause-few

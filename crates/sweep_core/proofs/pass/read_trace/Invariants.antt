@@ -1,3 +1,4 @@
+-- What was read was fed, and each line that is read brings the end nearer.
 use Rattle.std.proofs.Common.{◌-◌, ◌*◌, ◌≤◌, ◌^◌}
 use Rattle.std.specs.List.{All}
 use Rattle.profile_core.specs.State.{fed_of}

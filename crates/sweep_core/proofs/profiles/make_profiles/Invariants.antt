@@ -1,3 +1,4 @@
+-- The profiles made so far are those of the rows so far.
 use Rattle.sweep_core.proofs.Making.{Making}
 use Rattle.sweep_core.proofs.profiles.make_profiles.Given as goal
 

@@ -1,3 +1,4 @@
+-- The sum so far, which fits since each comparison count does.
 use Rattle.std.proofs.Common.{◌≡◌, ◌*◌, ◌^◌, ◌≤◌, take}
 use Rattle.std.specs.Prelude.{sum_by}
 use Rattle.sweep_core.proofs.profiles.total_probes.Given as goal

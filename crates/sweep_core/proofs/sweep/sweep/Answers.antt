@@ -1,11 +1,30 @@
+-- A sweep does its task: it reads and feeds, writes the table of what was read, and answers the comparisons.
 use Rattle.std.proofs.Common.{◌≤◌, List, refl, sym, ap, ◌∙◌, subst, arith}
 use Rattle.std.specs.Prelude.{All, sum_by}
 use Rattle.std.proofs.lemmas.List.{take_at}
 use Rattle.trace_core.proofs.Performing.{err_is, Finished-written, WriteFailed-late, Performs-ok, Performs-trace, Performs-write}
+use Rattle.trace_core.proofs.Tasks.{ReadWhole}
 use Rattle.profile_core.specs.State.{fed_of}
 use Rattle.sweep_core.specs.declared.profiles.PairProfile.{PairProfile}
-use Rattle.sweep_core.proofs.Sweeping.{unfed, swept-after, sweep-stopped, sweep-whole, sweep-works}
+use Rattle.sweep_core.specs.Pass.{Swept}
+use Rattle.sweep_core.specs.SweepText.{sweep_task, table_text}
+use Rattle.sweep_core.proofs.Sweeping.{unfed, fed_events, swept-after, sweep-stopped, sweep-whole, sweep-works}
+use Rattle.sweep_core.proofs.sweep.sweep.Given as given
 use Rattle.sweep_core.proofs.sweep.sweep.Goals as goal
+use Rattle.sweep_core.proofs.sweep.sweep.Goals.{After-deref}
+
+-- the profiles are those of what was read
+swept : (g : given.Over) (c : After-deref g)
+    → Swept c.args.request.now (fed_events c.args.request.now c.read_trace.ensures.fed.read) c.deref.result.now
+swept g c =
+    swept-after c.in_ok-profiles.ensures c.deref_mut.ensures.value c.read_trace.ensures.fed
+    (c.deref.ensures.value ∙ take_at _ _ _ (omega arith))
+
+-- all was read, and the table is left to be written
+whole : (g : given.Over) (c : After-deref g)
+    → ReadWhole (sweep_task c.args.request.now) (g.S.Source.view c.args.source.now) (g.S.Source.view c.read_trace.new.source)
+    (table_text c.args.request.now (fed_events c.args.request.now c.read_trace.ensures.fed.read))
+whole g c = sweep-whole c.args.request.now c.in_ok-lines.ensures c.read_trace.ensures.fed c.in_ok-read_trace.ensures.tells
 
 pub read_trace-requires-clause-unfed : goal.read_trace-requires-clause-unfed
 read_trace-requires-clause-unfed g c =
@@ -20,28 +39,21 @@ returns-in_err-read_trace-clause-performs g c =
     Performs-trace fault (err_is c.from_residual-in_err-read_trace.ensures.1) stopped (λ late. refl)
 
 pub write_table-requires : goal.write_table-requires
-write_table-requires g c = (
-  _,
-  swept-after c.in_ok-profiles.ensures c.deref_mut.ensures.value c.read_trace.ensures.fed (c.deref.ensures.value ∙ take_at _ _ _ (omega arith)),
-)
+write_table-requires g c = (_, swept g (goal.at.write_table-requires g c).After-deref)
 
 pub returns-in_err-write_table-clause-performs : goal.returns-in_err-write_table-clause-performs
 returns-in_err-write_table-clause-performs g c =
-    let fed = c.read_trace.ensures.fed in
-    let swept = swept-after c.in_ok-profiles.ensures c.deref_mut.ensures.value fed (c.deref.ensures.value ∙ take_at _ _ _ (omega arith)) in
-    let whole = sweep-whole c.args.request.now c.in_ok-lines.ensures fed c.in_ok-read_trace.ensures.tells in
-    Performs-write (err_is c.from_residual-in_err-write_table.ensures.1) (WriteFailed-late whole (c.in_err-write_table.ensures _ swept))
+    let read = (goal.at.returns-in_err-write_table-clause-performs g c).After-deref in
+    Performs-write (err_is c.from_residual-in_err-write_table.ensures.1)
+    (WriteFailed-late (whole g read) (c.in_err-write_table.ensures _ (swept g read)))
 
 pub returns-clause-performs : goal.returns-clause-performs
 returns-clause-performs g c =
-    let fed = c.read_trace.ensures.fed in
-    let swept = swept-after c.in_ok-profiles.ensures c.deref_mut.ensures.value fed (c.deref.ensures.value ∙ take_at _ _ _ (omega arith)) in
-    let whole = sweep-whole c.args.request.now c.in_ok-lines.ensures fed c.in_ok-read_trace.ensures.tells in
-    Performs-ok c.total_probes.result refl (Finished-written whole (c.in_ok-write_table.ensures _ swept))
+    let read = (goal.at.returns-clause-performs g c).After-deref in
+    Performs-ok c.total_probes.result refl (Finished-written (whole g read) (c.in_ok-write_table.ensures _ (swept g read)))
 
 pub returns-clause-work : goal.returns-clause-work
 returns-clause-work g c =
-    let fed = c.read_trace.ensures.fed in
-    let swept = swept-after c.in_ok-profiles.ensures c.deref_mut.ensures.value fed (c.deref.ensures.value ∙ take_at _ _ _ (omega arith)) in
-    sweep-works c.args.request.now c.in_ok-lines.ensures fed c.total_probes.result c.in_ok-read_trace.ensures.tells swept
-    (c.total_probes.ensures ∙ ap (sum_by (λ x. x.profile.probes)) (c.deref-2.ensures.value ∙ sym c.deref.ensures.value))
+    let read = (goal.at.returns-clause-work g c).After-deref in
+    sweep-works c.args.request.now c.in_ok-lines.ensures c.read_trace.ensures.fed c.total_probes.result c.in_ok-read_trace.ensures.tells
+    (swept g read) (c.total_probes.ensures ∙ ap (sum_by (λ x. x.profile.probes)) (c.deref-2.ensures.value ∙ sym c.deref.ensures.value))

@@ -1,3 +1,4 @@
+-- The header and the rows are written, and then the sink is flushed.
 use Rattle.std.proofs.lemmas.Result.{err_from_is_err_and}
 use Rattle.trace_core.proofs.Written.{Wrote-more, WrotePart-more, WrotePart-after, WroteLastPart-unflushed, WritesLast-flushes}
 use Rattle.sweep_core.specs.SweepText.{rows_text, rows_of}

@@ -1,3 +1,4 @@
+-- The pieces of a row are its text.
 use Rattle.sweep_core.proofs.Writing.{row-pieces}
 use Rattle.sweep_core.proofs.row_text.RowText.set.Goals as goal
 

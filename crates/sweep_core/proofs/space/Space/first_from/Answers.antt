@@ -1,27 +1,26 @@
-use Rattle.std.proofs.Common.{◌≡◌, ℕ, ◌^◌, ◌≤◌, Some, true, false, subst, arith}
-use Rattle.sweep_core.specs.declared.space.Config.{Config}
-use Rattle.sweep_core.specs.Least.{IsLeast, is_from, is_from_of_bsize}
+-- The loop over the block sizes finds the least configuration.
+use Rattle.std.proofs.Common.{arith}
+use Rattle.sweep_core.specs.Least.{is_from}
 use Rattle.sweep_core.proofs.Validity.{space-limited}
-use Rattle.sweep_core.proofs.Search.{reached-first, reached-next, reached-found, reached-end, from-power, from-apart}
+use Rattle.sweep_core.proofs.Search.{PowerLoop, bsize-loop, reached-first, reached-next, reached-found, reached-end}
 use Rattle.sweep_core.proofs.space.Space.first_from.Goals as goal
+use Rattle.sweep_core.proofs.space.Space.first_from.Goals.{After-limits}
+
+sizes : (c : After-limits) → PowerLoop (is_from c.args.self.now c.args.from.now) (λ d. d.bsize)
+sizes c = bsize-loop c.args.self.now c.args.from.now (space-limited c.args.self.now c.limits.ensures)
 
 pub loop-bits-init : goal.loop-bits-init
-loop-bits-init c =
-    let r = c.args.self.now in let f = c.args.from.now in
-    reached-first (is_from r f) (λ d. d.bsize) (from-power r f (space-limited r c.limits.ensures))
+loop-bits-init c = reached-first (sizes (goal.at.loop-bits-init c).After-limits)
 
 pub returns-in-Some : goal.returns-in-Some
 returns-in-Some c =
-    let r = c.args.self.now in let f = c.args.from.now in
-    reached-found (is_from r f) (λ d. d.bsize) (from-power r f (space-limited r c.limits.ensures)) (from-apart r f) c.loop-bits.bits c.in-Some.found c.loop-bits.invariant (subst (λ (k : ℕ). IsLeast (is_from_of_bsize r f k) (Some c.in-Some.found)) c.power.ensures c.in-Some.ensures)
+    reached-found (sizes (goal.at.returns-in-Some c).After-limits) c.loop-bits.bits c.power.result c.in-Some.found
+    c.power.ensures c.loop-bits.invariant c.in-Some.ensures
 
 pub loop-bits-preserved : goal.loop-bits-preserved
 loop-bits-preserved c =
-    let r = c.args.self.now in let f = c.args.from.now in
-    reached-next (is_from r f) (λ d. d.bsize) (from-power r f (space-limited r c.limits.ensures)) c.loop-bits.bits c.loop-bits.invariant (subst (λ (k : ℕ). (d : Config) → is_from_of_bsize r f k d ≡ false) c.power.ensures c.in_default.ensures)
+    reached-next (sizes (goal.at.loop-bits-preserved c).After-limits) c.loop-bits.bits c.power.result
+    c.power.ensures c.loop-bits.invariant c.in_default.ensures
 
 pub returns : goal.returns
-returns c =
-    let r = c.args.self.now in let f = c.args.from.now in
-    let done : c.loop-bits.bits ≡ 21 = omega arith in
-    reached-end (is_from r f) (λ d. d.bsize) (from-power r f (space-limited r c.limits.ensures)) (subst (λ (k : ℕ). (d : Config) → is_from r f d ≡ true → 2 ^ k ≤ d.bsize) done c.loop-bits.invariant)
+returns c = reached-end (sizes (goal.at.returns c).After-limits) c.loop-bits.bits (omega arith) c.loop-bits.invariant

@@ -1,3 +1,4 @@
+-- All that pass have blocks at least as large as are tried next.
 use Rattle.std.proofs.Common.{◌≡◌, ◌≤◌, ◌^◌, true}
 use Rattle.sweep_core.specs.declared.space.Config.{Config}
 use Rattle.sweep_core.specs.Least.{is_from}

@@ -1,3 +1,4 @@
+-- What is found begins the table after a triple.
 use Rattle.sweep_core.proofs.Validity.{space-limited}
 use Rattle.sweep_core.proofs.Next.{table-found}
 use Rattle.sweep_core.proofs.space.Space.next_after.Goals as goal

@@ -1,3 +1,4 @@
+-- The next power of two is the least one from there on.
 use Rattle.sweep_core.proofs.Powers.{next_power-least, is_power-of}
 use Rattle.sweep_core.proofs.space.configs.least_assoc.Goals as goal
 
