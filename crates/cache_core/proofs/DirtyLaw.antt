@@ -1,7 +1,7 @@
 -- Each dirty slot comes of a write.
-use Rattle.std.proofs.Common.{◌≡◌, ℕ, ◌+◌, ◌*◌, ◌^◌, ◌<◌, ◌≤◌, Bool, true, false, cond, List, [], ◌∷◌, length, get_or}
-use Rattle.std.proofs.Common.{set, Option, Some, None, sym, ap, refl, subst, arith, take, drop, ◌-◌}
-use Rattle.std.specs.Prelude.{MatchOption, MatchBool}
+use Rattle.std.proofs.Common.{◌≡◌, ℕ, ◌+◌, ◌<◌, ◌≤◌, Bool, true, false, cond, List, [], ◌∷◌, length, get_or}
+use Rattle.std.proofs.Common.{set, Option, Some, None, sym, ap, refl, subst, arith, take}
+use Rattle.std.specs.Prelude.{MatchBool}
 use Rattle.std.proofs.lemmas.List.Quantifiers.{position-Some}
 use Rattle.std.proofs.lemmas.List.Sums.{sum_by-set, sum_by-cons}
 use Rattle.std.proofs.lemmas.List.Sorted.{sum_by-IsPermutation}
@@ -15,10 +15,10 @@ use Rattle.cache_core.specs.declared.outcome.WriteMode.TheVariants.{Back, Throug
 use Rattle.cache_core.specs.declared.outcome.Repl.{Repl}
 use Rattle.cache_core.specs.Geometry.{block_of}
 use Rattle.cache_core.specs.Outcomes.{is_write, dirties, allocates}
-use Rattle.cache_core.specs.Order.{Visits, Hits, Fills, PassesOn, TakesIn, marked, position_of, dirty_in, is_dirty, one_if, dirty_slots, DirtiesByWrites}
+use Rattle.cache_core.specs.Order.{Visits, VisitsAt, Hits, Fills, PassesOn, TakesIn, marked, position_of, dirty_in, is_dirty, one_if, dirty_slots}
+use Rattle.cache_core.specs.Order.{DirtiesByWrites}
 use Rattle.cache_core.specs.Slab.{IsCacheSlab, sets_of}
-use Rattle.cache_core.proofs.Slabs.{slab_read, slab_written, length-sets_of}
-use borrow.Rule.Slice.PartMut.{put_mid}
+use Rattle.cache_core.proofs.Slabs.{room_slots, with_room, IsWritten, set_read, sets_written, length-sets_of}
 use Rattle.cache_core.proofs.Lawful.{marked_length, lawful_touch, lawful_insert, lawful_exchange}
 
 by_write : (w : WriteMode) (a : Access) → one_if (dirties w a) ≤ one_if (is_write a)
@@ -71,12 +71,11 @@ pub visit_dirty : (d : Design) (rule : Option Repl) (words rest : ℕ → ℕ) (
     dirty_in new + one_if (is_dirty outcome.evicted) ≤ dirty_in old + one_if (is_write ref.access)
 visit_dirty d rule words rest ref old outcome new e v = by_place (position_of (block_of d.geometry ref.addr) old) refl v
   where
-    by_place : (o : Option ℕ) → position_of (block_of d.geometry ref.addr) old ≡ o →
-        MatchOption o (MatchBool (allocates d.allocate ref.access) (Fills d rule words ref old outcome new rest) (PassesOn words ref old outcome new rest))
-        (λ at. Hits d rule words ref at old outcome new rest) →
+    by_place : (o : Option ℕ) → position_of (block_of d.geometry ref.addr) old ≡ o → VisitsAt o d rule words ref old outcome new rest →
         dirty_in new + one_if (is_dirty outcome.evicted) ≤ dirty_in old + one_if (is_write ref.access)
     by_place None q u = miss_dirty d rule words rest ref old outcome new (allocates d.allocate ref.access) e u
-    by_place (Some at) q u = hit_dirty d rule words rest ref old outcome new at (position-Some _ old at (record { block = 0; dirty = false }) q).0 u
+    by_place (Some at) q u =
+        hit_dirty d rule words rest ref old outcome new at (position-Some _ old at (record { block = 0; dirty = false }) q).0 u
 
 -- over all sets, where one is written
 pub sets_dirty : (sets : List (List Slot)) (k : ℕ) (new : List Slot) (more less : ℕ) → k < length sets →
@@ -85,21 +84,15 @@ sets_dirty sets k new more less h v =
     omega (arith, v, sum_by-set dirty_in sets k new [] h)
 
 -- one access to a slab
-pub slab_dirty : (d : Design) (rule : Option Repl) (words words' : ℕ → ℕ) (filled : List ℕ) (k n ways : ℕ) (slots room : List Slot) (ref : Ref)
-    (outcome : Outcome) →
-    IsCacheSlab d slots filled → k < 2 ^ d.geometry.s → ways ≡ d.geometry.e → length room ≡ d.geometry.e → n ≤ d.geometry.e →
-    Visits d rule words ref (take (get_or filled k 0) (take (k * ways + ways - k * ways) (drop (k * ways) slots))) outcome (take n room) words' →
-    DirtiesByWrites (sets_of d.geometry.e slots filled) ref outcome
-    (sets_of d.geometry.e (put_mid (k * ways) (k * ways + ways - k * ways) slots room) (set filled k n))
-slab_dirty d rule words words' filled k n ways slots room ref outcome i h e r m v =
-    let g = d.geometry in
-    let in_filled : k < length filled = omega (arith, i.sets) in
-    let read : take (get_or filled k 0) (take (k * ways + ways - k * ways) (drop (k * ways) slots)) ≡ get_or (sets_of g.e slots filled) k [] =
-    rw e (slab_read g.e filled k slots in_filled i.within) in
-    let written : sets_of g.e (put_mid (k * ways) (k * ways + ways - k * ways) slots room) (set filled k n) ≡ set (sets_of g.e slots filled) k (take n room) =
-    rw e (slab_written g.e (2 ^ g.s) filled k n slots room i.segments i.sets i.within h r m) in
-    let here = subst (λ xs. dirty_in (take n room) + one_if (is_dirty outcome.evicted) ≤ dirty_in xs + one_if (is_write ref.access)) read
-    (visit_dirty d rule words words' ref _ outcome (take n room) (omega (arith, i.geometry.some)) v) in
-    subst (λ xs. DirtiesByWrites (sets_of g.e slots filled) ref outcome xs) (sym written)
-    (sets_dirty (sets_of g.e slots filled) k (take n room) (one_if (is_write ref.access)) (one_if (is_dirty outcome.evicted))
-    (omega (arith, length-sets_of g.e filled slots, i.sets)) here)
+pub slab_dirty : (d : Design) (filled : List ℕ) (k n ways : ℕ) (slots room : List Slot) → IsCacheSlab d slots filled → IsWritten d k n ways room →
+    (rule : Option Repl) (words words' : ℕ → ℕ) (ref : Ref) (outcome : Outcome) →
+    Visits d rule words ref (room_slots ways filled k slots) outcome (take n room) words' →
+    DirtiesByWrites (sets_of d.geometry.e slots filled) ref outcome (sets_of d.geometry.e (with_room ways k slots room) (set filled k n))
+slab_dirty d filled k n ways slots room i w rule words words' ref outcome v =
+    let sets = sets_of d.geometry.e slots filled in
+    let in_sets : k < length sets = omega (arith, length-sets_of d.geometry.e filled slots, i.sets, w.within) in
+    let visited = visit_dirty d rule words words' ref _ outcome (take n room) (omega (arith, i.geometry.some)) v in
+    let here = subst (λ xs. dirty_in (take n room) + one_if (is_dirty outcome.evicted) ≤ dirty_in xs + one_if (is_write ref.access))
+    (set_read d filled k n ways slots room i w) visited in
+    subst (λ xs. DirtiesByWrites sets ref outcome xs) (sym (sets_written d filled k n ways slots room i w))
+    (sets_dirty sets k (take n room) (one_if (is_write ref.access)) (one_if (is_dirty outcome.evicted)) in_sets here)

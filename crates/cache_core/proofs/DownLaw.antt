@@ -22,6 +22,11 @@ use Rattle.cache_core.specs.Stands.{DownLaw}
 use Rattle.cache_core.specs.AnyPolicy.{MayLeave, needs_room}
 use Rattle.cache_core.proofs.Lists.{cases}
 
+-- a line is not dirty, if there is one
+abbrev NoneDirty : Option Line → Type 0
+NoneDirty o = (line : Line) → o ≡ Some line → line.dirty ≡ false
+
+-- no line is dirty
 abbrev pub Clean : List Line → Type 0
 Clean [] = Unit {0}
 Clean (l ∷ ls) = (l.dirty ≡ false) × Clean ls
@@ -67,7 +72,7 @@ clean_at [] k d lt h = absurd (omega arith)
 clean_at (l ∷ ls) zero d lt h = h.0
 clean_at (l ∷ ls) (suc k) d lt h = clean_at ls k d (omega arith) h.1
 
-clean_lesser : (l : Line) (o : Option Line) → l.dirty ≡ false → ((line : Line) → o ≡ Some line → line.dirty ≡ false) →
+clean_lesser : (l : Line) (o : Option Line) → l.dirty ≡ false → NoneDirty o →
     (lesser l o).dirty ≡ false
 clean_lesser l None e h = e
 clean_lesser l (Some other) e h = cases (λ b. (cond b l other).dirty ≡ false) (ltb l.key other.key) (λ _. e) (λ _. h other refl)
@@ -115,8 +120,9 @@ clean_step_at m ref block leaving st None w f h =
 clean_fold : (m : Machine) (st : MachineState) (events : List Event) → m.design.write ≡ Through → Clean st.lines → Clean (fold (next m) st events).lines
 clean_fold m st [] w h = h
 clean_fold m st (event.Reference ref ∷ events) w h =
-    clean_fold m (step m st ref) events w (clean_step_at m ref (block_of m.design.geometry ref.addr) (leaves m st (set_of m.design.geometry ref.addr)) st
-    (find (is_block (block_of m.design.geometry ref.addr)) st.lines) w refl h)
+    let b = block_of m.design.geometry ref.addr in
+    clean_fold m (step m st ref) events w
+    (clean_step_at m ref b (leaves m st (set_of m.design.geometry ref.addr)) st (find (is_block b) st.lines) w refl h)
 clean_fold m st (event.Flush ∷ events) w h = clean_fold m (next m st event.Flush) events w tt
 
 -- what goes down
@@ -132,25 +138,24 @@ back_most : (g : GeometryValue) (v : Option Slot) → length (writes_back g v) �
 back_most g None = omega arith
 back_most g (Some v) = one_at_most v.dirty _
 
-back_clean : (g : GeometryValue) (o : Option Line) → ((line : Line) → o ≡ Some line → line.dirty ≡ false) → length (writes_back g (option_slot o)) ≡ 0
+back_clean : (g : GeometryValue) (o : Option Line) → NoneDirty o → length (writes_back g (option_slot o)) ≡ 0
 back_clean g None h = refl
 back_clean g (Some line) h = rw (h line refl) refl
 
-placing_most : (w : WriteMode) (g : GeometryValue) (ref : Ref) (block : ℕ) (o : Option Line) →
-    (w ≡ Through → (line : Line) → o ≡ Some line → line.dirty ≡ false) → length (on_placing g w ref block (option_slot o)).down ≤ 2
-placing_most Back g ref block o h =
-    omega (
-      arith,
-      length-append (writes_back g (option_slot o)) (record { access = fill_access ref.access; addr = address_of g block } ∷ []),
-      back_most g (option_slot o),
-    )
-placing_most Through g ref block o h =
-    omega (
-      arith,
-      length-append (writes_back g (option_slot o)) (record { access = fill_access ref.access; addr = address_of g block } ∷ writes_through Through ref),
-      back_clean g o (h refl),
-      through_most Through ref,
-    )
+placing_most : (w : WriteMode) (g : GeometryValue) (ref : Ref) (block : ℕ) (o : Option Line) → (w ≡ Through → NoneDirty o) →
+    length (on_placing g w ref block (option_slot o)).down ≤ 2
+placing_most w g ref block o h = by_mode w h
+  where
+    load : Ref
+    load = record { access = fill_access ref.access; addr = address_of g block }
+
+    back : List Ref
+    back = writes_back g (option_slot o)
+
+    by_mode : (v : WriteMode) → (v ≡ Through → NoneDirty o) → length (on_placing g v ref block (option_slot o)).down ≤ 2
+    by_mode Back h = omega (arith, length-append back (load ∷ []), back_most g (option_slot o))
+    by_mode Through h =
+        omega (arith, length-append back (load ∷ writes_through Through ref), back_clean g o (h refl), through_most Through ref)
 
 clean_leaves : (m : Machine) (st : MachineState) (set : ℕ) (line : Line) → Clean st.lines → leaves m st set ≡ Some line → line.dirty ≡ false
 clean_leaves m st set line h e =
@@ -161,7 +166,7 @@ clean_leaves m st set line h e =
     (λ _ q. clean_victim m.policy m.design.geometry.e (m.words st.drawn) here line (clean_filter _ st.lines h) q) e
 
 pub answer_most : (m : Machine) (ref : Ref) (block : ℕ) (leaving : Option Line) (o : Option Line) →
-    (m.design.write ≡ Through → (line : Line) → leaving ≡ Some line → line.dirty ≡ false) →
+    (m.design.write ≡ Through → NoneDirty leaving) →
     length (answer_at m ref block leaving o).down ≤ 2
 answer_most m ref block leaving (Some line) h = omega (arith, through_most m.design.write ref)
 answer_most m ref block leaving None h =

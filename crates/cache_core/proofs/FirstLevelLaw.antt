@@ -1,7 +1,7 @@
 -- One reference at the first level of a system, as its caches see it and as their machines see it.
 use Rattle.std.proofs.Common.{◌≡◌, ℕ, ◌≤◌, ◌&&◌, ◌||◌, not, Bool, true, false, cond, List, [], ◌∷◌, ◌++◌, length, Option}
 use Rattle.std.proofs.Common.{Some, None, refl, sym, ◌∙◌, ap, subst, arith, append-nil}
-use Rattle.std.specs.Prelude.{is_some, is_none, MatchBool}
+use Rattle.std.specs.Prelude.{is_some, is_none}
 use Rattle.std.proofs.lemmas.Bool.{MatchBool-at_true, MatchBool-at_false, true≢false}
 use Rattle.trace_core.specs.declared.events.Ref.{Ref}
 use Rattle.trace_core.specs.declared.events.Event.{Event}
@@ -17,7 +17,7 @@ use Rattle.cache_core.specs.Plans.{IsPlannedCache}
 use Rattle.cache_core.specs.Stands.{CacheStandsFor}
 use Rattle.cache_core.specs.SystemCaches.{system_cache_contents, Enters, tally}
 use Rattle.cache_core.specs.Systems.{machine_of, is_fetch, takes, events_for, sends, cache_stats, counts_if_planned}
-use Rattle.cache_core.specs.SystemSteps.{listed, AccessesFirst, AccessesFirstLevel, stats_held}
+use Rattle.cache_core.specs.SystemSteps.{listed, AccessesFirst, AccessesUnified, AccessesSplit, AccessesFirstLevel, stats_held}
 use Rattle.cache_core.specs.SystemStands.{PlannedStandsFor}
 use Rattle.cache_core.proofs.RunLaw.{access_run}
 use Rattle.cache_core.proofs.DownLaw.{down_law}
@@ -55,7 +55,8 @@ abbrev pub KeptIfPlanned : ℕ → Option PlannedCache → List Event → Option
 KeptIfPlanned seed None events cache = cache ≡ None
 KeptIfPlanned seed (Some planned) events cache = (there : SystemCache) × (cache ≡ Some there) × Kept (machine_of seed planned) events there
 
-pub with_counts : (seed : ℕ) (planned : Option PlannedCache) (events : List Event) (cache : Option SystemCache) → PlannedStandsFor seed planned events cache →
+pub with_counts : (seed : ℕ) (planned : Option PlannedCache) (events : List Event) (cache : Option SystemCache) →
+    PlannedStandsFor seed planned events cache →
     stats_held cache ≡ counts_if_planned seed planned events → KeptIfPlanned seed planned events cache
 with_counts seed None events cache s c = s
 with_counts seed (Some planned) events cache s c =
@@ -73,21 +74,25 @@ pub counts_is : (seed : ℕ) (planned : Option PlannedCache) (events : List Even
 counts_is seed None events cache k = ap stats_held k
 counts_is seed (Some planned) events cache k = ap stats_held k.1 ∙ ap Some k.2.counts
 
+-- the references that went down, none where no cache took the reference
 abbrev pub down_list : Option (List (Option Ref)) → List Ref
 down_list None = []
 down_list (Some xs) = listed xs
 
+-- what a cache sends down for a reference that it takes, if it is there
 abbrev pub sends_of : ℕ → Option PlannedCache → List Event → Ref → List Ref
 sends_of seed None events ref = []
 sends_of seed (Some planned) events ref = (answer (machine_of seed planned) (run (machine_of seed planned) events) ref).down
 
-pub record AccessedFirst (seed : ℕ) (planned : Option PlannedCache) (events : List Event) (ref : Ref) (down : Option (List (Option Ref))) (next : Option SystemCache) : Type 0 where
-  pub kept : KeptIfPlanned seed planned (events ++ event.Reference ref ∷ []) next
-  pub sends : down_list down ≡ sends_of seed planned events ref
-  pub none : is_none down ≡ is_none planned
+-- a first-level cache after a reference that it takes, if it is there
+record AccessedFirst (seed : ℕ) (planned : Option PlannedCache) (events : List Event) (ref : Ref) (down : Option (List (Option Ref)))
+    (next : Option SystemCache) : Type 0 where
+  kept : KeptIfPlanned seed planned (events ++ event.Reference ref ∷ []) next
+  sends : down_list down ≡ sends_of seed planned events ref
+  none : is_none down ≡ is_none planned
 
-pub first_access_keeps : (seed : ℕ) (planned : Option PlannedCache) (events : List Event) (cache : Option SystemCache) (ref : Ref) (down : Option (List (Option Ref)))
-    (next : Option SystemCache) →
+first_access_keeps : (seed : ℕ) (planned : Option PlannedCache) (events : List Event) (cache : Option SystemCache) (ref : Ref)
+    (down : Option (List (Option Ref))) (next : Option SystemCache) →
     IsPlannedCache planned → KeptIfPlanned seed planned events cache → AccessesFirst cache ref down next → AccessedFirst seed planned events ref down next
 first_access_keeps seed None events cache ref None next l k a = record { kept = a.1; sends = refl; none = refl }
 first_access_keeps seed None events cache ref (Some down) next l k a = let both : None ≡ Some a.0 = sym k ∙ a.3 in absurd cc
@@ -99,111 +104,104 @@ first_access_keeps seed (Some planned) events cache ref (Some down) next l k a =
     let r = enters m events a.0 ref a.2 a.1 l.some (subst (λ (s : SystemCache). Kept m events s) same k.2) a.6 in
     record { kept = (a.1, a.4, r.kept); sends = ap listed a.5 ∙ r.sends; none = refl }
 
--- the first level
-pub sends_taken : (seed : ℕ) (name : CacheName) (planned : Option PlannedCache) (events : List Event) (ref : Ref) → takes name ref ≡ true →
-    sends seed name planned events ref ≡ sends_of seed planned (events_for name events) ref
-sends_taken seed name None events ref t = refl
-sends_taken seed name (Some planned) events ref t =
-    ap (λ b. cond b (answer (machine_of seed planned) (run (machine_of seed planned) (events_for name events)) ref).down []) t
+-- a reference that comes to a cache of the first level, or not
+module _ (seed : ℕ) (name : CacheName) (planned : Option PlannedCache) (events : List Event) (ref : Ref) where
+  abbrev more : List Event
+  more = events_for name (events ++ event.Reference ref ∷ [])
 
-pub sends_left : (seed : ℕ) (name : CacheName) (planned : Option PlannedCache) (events : List Event) (ref : Ref) → takes name ref ≡ false →
-    sends seed name planned events ref ≡ []
-sends_left seed name None events ref t = refl
-sends_left seed name (Some planned) events ref t =
-    ap (λ b. cond b (answer (machine_of seed planned) (run (machine_of seed planned) (events_for name events)) ref).down []) t
+  sends_taken : takes name ref ≡ true → sends seed name planned events ref ≡ sends_of seed planned (events_for name events) ref
+  sends_taken t = by_plan planned
+    where
+      by_plan : (p : Option PlannedCache) → sends seed name p events ref ≡ sends_of seed p (events_for name events) ref
+      by_plan None = refl
+      by_plan (Some p) = ap (λ b. cond b (answer (machine_of seed p) (run (machine_of seed p) (events_for name events)) ref).down []) t
 
-pub record FirstKept (seed : ℕ) (pi pd pu : Option PlannedCache) (events : List Event) (ref : Ref) (down : Option (List (Option Ref))) (i d u : Option SystemCache) : Type 0 where
+  sends_left : takes name ref ≡ false → sends seed name planned events ref ≡ []
+  sends_left t = by_plan planned
+    where
+      by_plan : (p : Option PlannedCache) → sends seed name p events ref ≡ []
+      by_plan None = refl
+      by_plan (Some p) = ap (λ b. cond b (answer (machine_of seed p) (run (machine_of seed p) (events_for name events)) ref).down []) t
+
+  kept_taken : (cache : Option SystemCache) → takes name ref ≡ true →
+      KeptIfPlanned seed planned (events_for name events ++ event.Reference ref ∷ []) cache →
+      KeptIfPlanned seed planned more cache
+  kept_taken cache t k = subst (λ (es : List Event). KeptIfPlanned seed planned es cache) (sym (events_taken name events ref t)) k
+
+  kept_left : (cache next : Option SystemCache) → takes name ref ≡ false → next ≡ cache →
+      KeptIfPlanned seed planned (events_for name events) cache →
+      KeptIfPlanned seed planned more next
+  kept_left cache next t e k = rw (e, events_left name events ref t) k
+
+-- the first level after a reference: its caches, what they sent down, and whether none took it
+pub record FirstKept (seed : ℕ) (pi pd pu : Option PlannedCache) (events : List Event) (ref : Ref) (down : Option (List (Option Ref)))
+    (i d u : Option SystemCache) : Type 0 where
   pub i_kept : KeptIfPlanned seed pi (events_for L1I (events ++ event.Reference ref ∷ [])) i
   pub d_kept : KeptIfPlanned seed pd (events_for L1D (events ++ event.Reference ref ∷ [])) d
   pub u_kept : KeptIfPlanned seed pu (events_for L1U (events ++ event.Reference ref ∷ [])) u
   pub all_sent : down_list down ≡ sends seed L1I pi events ref ++ sends seed L1D pd events ref ++ sends seed L1U pu events ref
   pub untaken : is_none down ≡ not (is_some pu || (is_some pi && takes L1I ref) || (is_some pd && takes L1D ref))
 
-pub kept_taken : (seed : ℕ) (name : CacheName) (planned : Option PlannedCache) (events : List Event) (ref : Ref) (cache : Option SystemCache) → takes name ref ≡ true →
-    KeptIfPlanned seed planned (events_for name events ++ event.Reference ref ∷ []) cache →
-    KeptIfPlanned seed planned (events_for name (events ++ event.Reference ref ∷ [])) cache
-kept_taken seed name planned events ref cache t k = subst (λ (es : List Event). KeptIfPlanned seed planned es cache) (sym (events_taken name events ref t)) k
-
-pub kept_left : (seed : ℕ) (name : CacheName) (planned : Option PlannedCache) (events : List Event) (ref : Ref) (cache next : Option SystemCache) →
-    takes name ref ≡ false → next ≡ cache →
-    KeptIfPlanned seed planned (events_for name events) cache → KeptIfPlanned seed planned (events_for name (events ++ event.Reference ref ∷ [])) next
-kept_left seed name planned events ref cache next t e k =
-    subst (λ (es : List Event). KeptIfPlanned seed planned es next) (sym (events_left name events ref t))
-    (subst (λ (s : Option SystemCache). KeptIfPlanned seed planned (events_for name events) s) (sym e) k)
-
-pub none_first : (o p : Option PlannedCache) (a b : Bool) → a ≡ true → b ≡ false → is_none o ≡ not ((is_some o && a) || (is_some p && b))
+none_first : (o p : Option PlannedCache) (a b : Bool) → a ≡ true → b ≡ false → is_none o ≡ not ((is_some o && a) || (is_some p && b))
 none_first None None a b s t = refl
 none_first None (Some p) a b s t = ap not (sym t)
-none_first (Some o) None a b s t = rw s refl
-none_first (Some o) (Some p) a b s t = rw s refl
+none_first (Some o) p a b s t = rw s refl
 
-pub none_second : (o p : Option PlannedCache) (a b : Bool) → a ≡ false → b ≡ true → is_none p ≡ not ((is_some o && a) || (is_some p && b))
+none_second : (o p : Option PlannedCache) (a b : Bool) → a ≡ false → b ≡ true → is_none p ≡ not ((is_some o && a) || (is_some p && b))
 none_second None None a b s t = refl
 none_second None (Some p) a b s t = ap not (sym t)
 none_second (Some o) None a b s t = rw s refl
 none_second (Some o) (Some p) a b s t = rw (s, t) refl
 
-pub unified : (seed : ℕ) (planned : PlannedCache) (events : List Event) (ref : Ref) (down : Option (List (Option Ref))) (i d u i' d' u' : Option SystemCache) →
-    IsPlannedCache (Some planned) → i ≡ None → d ≡ None → KeptIfPlanned seed (Some planned) (events_for L1U events) u →
-    AccessesFirstLevel i d u ref down i' d' u' → FirstKept seed None None (Some planned) events ref down i' d' u'
-unified seed planned events ref down i d u i' d' u' l ki kd ku f =
-    let there : is_some u ≡ true = ap is_some ku.1 in
-    let g =
-    MatchBool-at_true (AccessesFirst u ref down u' × (i' ≡ i) × (d' ≡ d))
-    (MatchBool (is_fetch ref.access) (AccessesFirst i ref down i' × (d' ≡ d) × (u' ≡ u)) (AccessesFirst d ref down d' × (i' ≡ i) × (u' ≡ u))) there f in
-    let a = first_access_keeps seed (Some planned) (events_for L1U events) u ref down u' l ku g.0 in
-    record {
-      i_kept = g.1 ∙ ki;
-      d_kept = g.2 ∙ kd;
-      u_kept = kept_taken seed L1U (Some planned) events ref u' refl a.kept;
-      all_sent = a.sends;
-      untaken = a.none;
-    }
+module _ (seed : ℕ) (events : List Event) (ref : Ref) (down : Option (List (Option Ref))) (i d u i' d' u' : Option SystemCache) where
+  unified : (planned : PlannedCache) → IsPlannedCache (Some planned) → i ≡ None → d ≡ None →
+      KeptIfPlanned seed (Some planned) (events_for L1U events) u →
+      AccessesFirstLevel i d u ref down i' d' u' → FirstKept seed None None (Some planned) events ref down i' d' u'
+  unified planned l ki kd ku f =
+      let there : is_some u ≡ true = ap is_some ku.1 in
+      let g = MatchBool-at_true (AccessesUnified i d u ref down i' d' u') (AccessesSplit (is_fetch ref.access) i d u ref down i' d' u') there f in
+      let a = first_access_keeps seed (Some planned) (events_for L1U events) u ref down u' l ku g.0 in
+      record {
+        i_kept = g.1 ∙ ki;
+        d_kept = g.2 ∙ kd;
+        u_kept = kept_taken seed L1U (Some planned) events ref u' refl a.kept;
+        all_sent = a.sends;
+        untaken = a.none;
+      }
 
-pub split : (seed : ℕ) (pi pd : Option PlannedCache) (events : List Event) (ref : Ref) (down : Option (List (Option Ref))) (i d u i' d' u' : Option SystemCache)
-    (fetch : Bool) →
-    is_fetch ref.access ≡ fetch →
-    IsPlannedCache pi → IsPlannedCache pd → KeptIfPlanned seed pi (events_for L1I events) i → KeptIfPlanned seed pd (events_for L1D events) d → u ≡ None →
-    MatchBool fetch (AccessesFirst i ref down i' × (d' ≡ d) × (u' ≡ u)) (AccessesFirst d ref down d' × (i' ≡ i) × (u' ≡ u)) →
-    FirstKept seed pi pd None events ref down i' d' u'
-split seed pi pd events ref down i d u i' d' u' true t li ld ki kd ku g =
-    let n : not (is_fetch ref.access) ≡ false = ap not t in
-    let a = first_access_keeps seed pi (events_for L1I events) i ref down i' li ki g.0 in
-    record {
-      i_kept = kept_taken seed L1I pi events ref i' t a.kept;
-      d_kept = kept_left seed L1D pd events ref d d' n g.1 kd;
-      u_kept = g.2 ∙ ku;
-      all_sent =
-          a.sends ∙ sym (sends_taken seed L1I pi events ref t) ∙ sym (append-nil (sends seed L1I pi events ref))
-          ∙ ap (λ xs. sends seed L1I pi events ref ++ xs) (sym (sends_left seed L1D pd events ref n))
-          ∙ sym (append-nil (sends seed L1I pi events ref ++ sends seed L1D pd events ref));
-      untaken = a.none ∙ none_first pi pd (is_fetch ref.access) (not (is_fetch ref.access)) t n;
-    }
-split seed pi pd events ref down i d u i' d' u' false t li ld ki kd ku g =
-    let n : not (is_fetch ref.access) ≡ true = ap not t in
-    let a = first_access_keeps seed pd (events_for L1D events) d ref down d' ld kd g.0 in
-    record {
-      i_kept = kept_left seed L1I pi events ref i i' t g.1 ki;
-      d_kept = kept_taken seed L1D pd events ref d' n a.kept;
-      u_kept = g.2 ∙ ku;
-      all_sent =
-          a.sends ∙ sym (sends_taken seed L1D pd events ref n)
-          ∙ ap (λ xs. xs ++ sends seed L1D pd events ref) (sym (sends_left seed L1I pi events ref t))
-          ∙ sym (append-nil (sends seed L1I pi events ref ++ sends seed L1D pd events ref));
-      untaken = a.none ∙ none_second pi pd (is_fetch ref.access) (not (is_fetch ref.access)) t n;
-    }
+  split : (pi pd : Option PlannedCache) (fetch : Bool) → is_fetch ref.access ≡ fetch → IsPlannedCache pi → IsPlannedCache pd →
+      KeptIfPlanned seed pi (events_for L1I events) i → KeptIfPlanned seed pd (events_for L1D events) d → u ≡ None →
+      AccessesSplit fetch i d u ref down i' d' u' → FirstKept seed pi pd None events ref down i' d' u'
+  split pi pd true t li ld ki kd ku g =
+      let n : not (is_fetch ref.access) ≡ false = ap not t in
+      let a = first_access_keeps seed pi (events_for L1I events) i ref down i' li ki g.0 in
+      record {
+        i_kept = kept_taken seed L1I pi events ref i' t a.kept;
+        d_kept = kept_left seed L1D pd events ref d d' n g.1 kd;
+        u_kept = g.2 ∙ ku;
+        all_sent = rw (sends_taken seed L1I pi events ref t, sends_left seed L1D pd events ref n) (simp append-nil a.sends);
+        untaken = a.none ∙ none_first pi pd (is_fetch ref.access) (not (is_fetch ref.access)) t n;
+      }
+  split pi pd false t li ld ki kd ku g =
+      let n : not (is_fetch ref.access) ≡ true = ap not t in
+      let a = first_access_keeps seed pd (events_for L1D events) d ref down d' ld kd g.0 in
+      record {
+        i_kept = kept_left seed L1I pi events ref i i' t g.1 ki;
+        d_kept = kept_taken seed L1D pd events ref d' n a.kept;
+        u_kept = g.2 ∙ ku;
+        all_sent = rw (sends_left seed L1I pi events ref t, sends_taken seed L1D pd events ref n) (simp append-nil a.sends);
+        untaken = a.none ∙ none_second pi pd (is_fetch ref.access) (not (is_fetch ref.access)) t n;
+      }
 
-pub first_keeps : (seed : ℕ) (pi pd pu : Option PlannedCache) (events : List Event) (ref : Ref) (down : Option (List (Option Ref)))
-    (i d u i' d' u' : Option SystemCache) →
-    IsPlannedCache pi → IsPlannedCache pd → IsPlannedCache pu → (is_some pu && (is_some pi || is_some pd)) ≡ false →
-    KeptIfPlanned seed pi (events_for L1I events) i → KeptIfPlanned seed pd (events_for L1D events) d → KeptIfPlanned seed pu (events_for L1U events) u →
-    AccessesFirstLevel i d u ref down i' d' u' → FirstKept seed pi pd pu events ref down i' d' u'
-first_keeps seed pi pd None events ref down i d u i' d' u' li ld lu apart ki kd ku f =
-    let none : is_some u ≡ false = ap is_some ku in
-    let g =
-    MatchBool-at_false (AccessesFirst u ref down u' × (i' ≡ i) × (d' ≡ d))
-    (MatchBool (is_fetch ref.access) (AccessesFirst i ref down i' × (d' ≡ d) × (u' ≡ u)) (AccessesFirst d ref down d' × (i' ≡ i) × (u' ≡ u))) none f in
-    split seed pi pd events ref down i d u i' d' u' (is_fetch ref.access) refl li ld ki kd ku g
-first_keeps seed None None (Some pu) events ref down i d u i' d' u' li ld lu apart ki kd ku f = unified seed pu events ref down i d u i' d' u' lu ki kd ku f
-first_keeps seed None (Some pd) (Some pu) events ref down i d u i' d' u' li ld lu apart ki kd ku f = absurd (true≢false apart)
-first_keeps seed (Some pi) pd (Some pu) events ref down i d u i' d' u' li ld lu apart ki kd ku f = absurd (true≢false apart)
+  pub first_keeps : (pi pd pu : Option PlannedCache) → IsPlannedCache pi → IsPlannedCache pd → IsPlannedCache pu →
+      (is_some pu && (is_some pi || is_some pd)) ≡ false →
+      KeptIfPlanned seed pi (events_for L1I events) i → KeptIfPlanned seed pd (events_for L1D events) d →
+      KeptIfPlanned seed pu (events_for L1U events) u →
+      AccessesFirstLevel i d u ref down i' d' u' → FirstKept seed pi pd pu events ref down i' d' u'
+  first_keeps pi pd None li ld lu apart ki kd ku f =
+      let none : is_some u ≡ false = ap is_some ku in
+      let g = MatchBool-at_false (AccessesUnified i d u ref down i' d' u') (AccessesSplit (is_fetch ref.access) i d u ref down i' d' u') none f in
+      split pi pd (is_fetch ref.access) refl li ld ki kd ku g
+  first_keeps None None (Some pu) li ld lu apart ki kd ku f = unified pu lu ki kd ku f
+  first_keeps None (Some pd) (Some pu) li ld lu apart ki kd ku f = absurd (true≢false apart)
+  first_keeps (Some pi) pd (Some pu) li ld lu apart ki kd ku f = absurd (true≢false apart)

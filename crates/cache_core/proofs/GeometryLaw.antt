@@ -65,7 +65,8 @@ told spec g h e b s w =
     (λ t _ q. absurd cc)
     refl w
 
-by_sets : (spec : CacheSpec) (g : GeometryValue) (b : ℕ) (o : Option ℕ) → exponent_of (spec.assoc * spec.bsize) spec.size ≡ o → 1 * 2 ^ b ≡ spec.bsize →
+by_sets : (spec : CacheSpec) (g : GeometryValue) (b : ℕ) (o : Option ℕ) → exponent_of (spec.assoc * spec.bsize) spec.size ≡ o →
+    1 * 2 ^ b ≡ spec.bsize →
     option_and_then (λ s. geometry_of s spec.assoc b) o ≡ Some g → IsGeometryFor spec g
 by_sets spec g b None e h q = absurd cc
 by_sets spec g b (Some s) e h q = told spec g (record { s = s; e = spec.assoc; b = b }) refl h (exponent_sound (spec.assoc * spec.bsize) spec.size s e).0 q

@@ -8,6 +8,7 @@ pub mod Addresses
 pub mod Slabs
 pub mod Lines
 pub mod SetLaw
+pub mod Visits
 pub mod StateLaw
 pub mod FlushLaw
 pub mod SoundLaw
@@ -22,6 +23,7 @@ pub mod GeometryLaw
 pub mod Counters
 pub mod SystemPushes
 pub mod FirstLevelLaw
+pub mod LowerLaw
 pub mod SystemLaw
 mod PlanRows
 pub mod WindowRows

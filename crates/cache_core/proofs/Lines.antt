@@ -22,7 +22,11 @@ pub absent_right : (b : ℕ) (xs ys : List Line) → Absent b (xs ++ ys) → Abs
 absent_right b [] ys h = h
 absent_right b (x ∷ xs) ys h = absent_right b xs ys h.1
 
--- what stands round a line
+-- no line of a block among others, without the one between
+pub absent_round : (b : ℕ) (xs : List Line) (x : Line) (ys : List Line) → Absent b (xs ++ x ∷ ys) → Absent b xs × Absent b ys
+absent_round b xs x ys h = (absent_left b xs (x ∷ ys) h, (absent_right b xs (x ∷ ys) h).1)
+
+-- what is round a line
 pub distinct_back : (xs : List Line) (x : Line) (ys : List Line) → Distinct (xs ++ x ∷ ys) → Absent x.block ys
 distinct_back [] x ys d = d.0
 distinct_back (z ∷ xs) x ys d = distinct_back xs x ys d.1
@@ -167,3 +171,25 @@ pub find_way : (n w : ℕ) (xs : List Line) (x : Line) (ys : List Line) → Coun
     find (λ l. l.key == w) (xs ++ x ∷ ys) ≡ Some x
 find_way n w [] x ys f e = rw (eq-eqb x.key w (omega (arith, f.0))) refl
 find_way n w (z ∷ xs) x ys f e = rw (ne-eqb z.key w (λ q. absurd (omega (arith, f.0)))) (find_way (n + 1) w xs x ys f.1 (omega arith))
+
+-- a line in the place of another one of its block
+pub record InPlace (xs : List Line) (x y : Line) (ys : List Line) : Type 0 where
+  pub front : Absent y.block xs
+  pub back : Absent y.block ys
+  pub exchanged : exchange y.block y (xs ++ x ∷ ys) ≡ xs ++ y ∷ ys
+  pub taken_out : without y.block (xs ++ x ∷ ys) ≡ xs ++ ys
+  pub distinct : Distinct (xs ++ y ∷ ys)
+  pub others : Distinct (y ∷ (xs ++ ys))
+
+pub in_place : (xs : List Line) (x y : Line) (ys : List Line) → x.block ≡ y.block → Distinct (xs ++ x ∷ ys) → InPlace xs x y ys
+in_place xs x y ys e d =
+    let front : Absent y.block xs = subst (λ n. Absent n xs) e (distinct_front xs x ys d) in
+    let back : Absent y.block ys = subst (λ n. Absent n ys) e (distinct_back xs x ys d) in
+    record {
+      front = front;
+      back = back;
+      exchanged = exchange_split y.block y xs x ys e front back;
+      taken_out = without_split y.block xs x ys e front back;
+      distinct = distinct_instead xs y ys (distinct_without xs x ys d) front back;
+      others = (absent_append y.block xs ys front back, distinct_without xs x ys d);
+    }

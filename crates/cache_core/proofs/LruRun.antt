@@ -62,7 +62,8 @@ record Follows (g : GeometryValue) (write : WriteMode) (w : List ℕ) (st : Mach
   hits : (answer (lru_machine g write) st ref).hit ≡ is_hit g (record { block = block_of g ref.addr; window = w })
   evicts : is_some (answer (lru_machine g write) st ref).evicted ≡ is_evict g (record { block = block_of g ref.addr; window = w })
 
-follows : (g : GeometryValue) (write : WriteMode) (w : List ℕ) (st : MachineState) (ref : Ref) → 1 ≤ g.e → IsStacked g write w st → Follows g write w st ref
+follows : (g : GeometryValue) (write : WriteMode) (w : List ℕ) (st : MachineState) (ref : Ref) → 1 ≤ g.e → IsStacked g write w st →
+    Follows g write w st ref
 follows g write w st ref some h =
     let m : Machine = lru_machine g write in
     let x : ℕ = block_of g ref.addr in
@@ -70,7 +71,7 @@ follows g write w st ref some h =
     let here : List Line = lines_of_set g k st.lines in
     let words : ℕ → ℕ = λ n. m.words (st.drawn + n) in
     let v = visit_exists m.design Lru words ref (map slot_of here) some (omega (arith, h.few k, length-map here slot_of)) in
-    let a = step_agrees m st ref words v.outcome v.new v.rest (find (is_block x) st.lines) h.sound refl refl v.visit in
+    let a = step_agrees m st ref words v.outcome v.new v.rest h.sound refl (find (is_block x) st.lines) refl v.visit in
     let moved = visit_moves g write words ref w (map slot_of here) v.outcome v.new v.rest some (blocks_slots here ∙ h.fronts k) v.visit in
     let after = sound_ref m st ref some h.sound h.few in
     record {
@@ -139,7 +140,8 @@ count_by-not p (x ∷ xs) =
     ∙ sym (sum_by-cons (λ b. cond (not b) 1 0) (p x) (map p xs))
 
 -- a block is held if it is among the front of its set's stack
-any_set : (g : GeometryValue) (x : ℕ) (lines : List Line) → list_any (is_block x) lines ≡ list_any (is x) (blocks_in (lines_of_set g (set_of_block g x) lines))
+any_set : (g : GeometryValue) (x : ℕ) (lines : List Line) →
+    list_any (is_block x) lines ≡ list_any (is x) (blocks_in (lines_of_set g (set_of_block g x) lines))
 any_set g x [] = refl
 any_set g x (l ∷ ls) = ⊎_elim
     (λ t. let s : eqb (set_of_block g l.block) (set_of_block g x) ≡ true = eq-eqb _ _ (ap (set_of_block g) t.1) in rw (s, t.0) refl)
@@ -180,7 +182,8 @@ window_folds g before (e ∷ es) =
     ∙ ap (window g) (append_assoc before (e ∷ []) es)
 
 -- the state after a list holds the fronts of its window's stacks
-pub run_stacked : (g : GeometryValue) (write : WriteMode) (events : List Event) → 1 ≤ g.e → IsStacked g write (window g events) (run (lru_machine g write) events)
+pub run_stacked : (g : GeometryValue) (write : WriteMode) (events : List Event) → 1 ≤ g.e →
+    IsStacked g write (window g events) (run (lru_machine g write) events)
 run_stacked g write events some =
     subst (λ w. IsStacked g write w (run (lru_machine g write) events))
     (ap (λ w. fold (window_after g) w events) (sym (window-nil g)) ∙ window_folds g [] events)

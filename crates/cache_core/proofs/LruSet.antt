@@ -2,7 +2,7 @@
 use Rattle.std.proofs.Common.{◌≡◌, ℕ, zero, suc, ◌+◌, ◌<◌, ◌≤◌, Bool, true, false, not, ◌&&◌, ◌||◌, ◌==◌, cond, eqb, ltb}
 use Rattle.std.proofs.Common.{leb, min, List, [], ◌∷◌, ◌++◌, length, take, map, get_or, set, Option, Some, None, refl, sym, ◌∙◌, ap, arith}
 use Rattle.std.proofs.Common.{length-take, length-append, one-add}
-use Rattle.std.specs.Prelude.{is_some, MatchOption, slice_get, remove}
+use Rattle.std.specs.Prelude.{is_some, slice_get, remove}
 use Rattle.std.specs.List.{list_any, list_all, position_or_len}
 use Rattle.std.proofs.lemmas.Bool.{and_from, or_parts, ltb-true, eqb-true, false≢true}
 use Rattle.std.proofs.lemmas.Bool.Decides.{nat_tests}
@@ -17,7 +17,7 @@ use Rattle.cache_core.specs.declared.outcome.AllocMode.TheVariants.{Always}
 use Rattle.cache_core.specs.declared.outcome.Repl.TheVariants.{Lru}
 use Rattle.cache_core.specs.Geometry.{GeometryValue, block_of, set_of_block}
 use Rattle.cache_core.specs.Outcomes.{dirties}
-use Rattle.cache_core.specs.Order.{Visits, Hits, Fills, Touches, TakesIn, marked, position_of}
+use Rattle.cache_core.specs.Order.{Visits, VisitsAt, Touches, TakesIn, marked, position_of}
 use Rattle.cache_core.specs.Windows.{Place, distinct_of_set, distance, seen, is_hit, is_evict}
 use Rattle.cache_core.proofs.Lists.{cases, is, other, IsOnce-take, remove_is, filter_all, list_any_is, position_or_len-take}
 use Rattle.cache_core.proofs.Distances.{IsOnce-distinct_of_set, distance_is, has_last_is, take-distinct_of_set-same}
@@ -40,11 +40,15 @@ record FoundAt (x : ℕ) (slots : List Slot) (at : ℕ) : Type 0 where
   there : list_any (is x) (blocks_of slots) ≡ true
   place : at ≡ position_or_len (is x) (blocks_of slots)
 
+-- the place that is found, if any, by whether the block is among the slots
+abbrev place_if : Bool → ℕ → List Slot → Option ℕ
+place_if found x slots = cond found (Some (position_or_len (λ (slot : Slot). slot.block == x) slots)) None
+
 place_some : (x : ℕ) (slots : List Slot) (at : ℕ) → position_of x slots ≡ Some at → FoundAt x slots at
 place_some x slots at e = by_test (ltb (position_or_len (λ (slot : Slot). slot.block == x) slots) (length slots)) refl e
   where
-    by_test : (b : Bool) → ltb (position_or_len (λ (slot : Slot). slot.block == x) slots) (length slots) ≡ b →
-        cond b (Some (position_or_len (λ (slot : Slot). slot.block == x) slots)) None ≡ Some at → FoundAt x slots at
+    by_test : (b : Bool) → ltb (position_or_len (λ (slot : Slot). slot.block == x) slots) (length slots) ≡ b → place_if b x slots ≡ Some at →
+        FoundAt x slots at
     by_test true t q =
         let same : position_or_len (λ (slot : Slot). slot.block == x) slots ≡ at = cc in
         record { there = sym (test_blocks x slots) ∙ t; place = sym same ∙ len_blocks x slots }
@@ -53,8 +57,8 @@ place_some x slots at e = by_test (ltb (position_or_len (λ (slot : Slot). slot.
 pub place_none : (x : ℕ) (slots : List Slot) → position_of x slots ≡ None → list_any (is x) (blocks_of slots) ≡ false
 place_none x slots e = by_test (ltb (position_or_len (λ (slot : Slot). slot.block == x) slots) (length slots)) refl e
   where
-    by_test : (b : Bool) → ltb (position_or_len (λ (slot : Slot). slot.block == x) slots) (length slots) ≡ b →
-        cond b (Some (position_or_len (λ (slot : Slot). slot.block == x) slots)) None ≡ None → list_any (is x) (blocks_of slots) ≡ false
+    by_test : (b : Bool) → ltb (position_or_len (λ (slot : Slot). slot.block == x) slots) (length slots) ≡ b → place_if b x slots ≡ None →
+        list_any (is x) (blocks_of slots) ≡ false
     by_test true t q = absurd cc
     by_test false t q = sym (test_blocks x slots) ∙ t
 
@@ -98,56 +102,37 @@ none_is x (y ∷ ys) h =
 hit_within : (d n m : ℕ) → d ≤ n → (ltb d n && ltb d m) ≡ ltb (min d m) (min m n)
 hit_within d n m h = grind (arith, nat_tests)
 
+-- the stack of a reference's set: its different blocks, the most recent first
+abbrev stack : GeometryValue → Place → List ℕ
+stack g p = distinct_of_set g (set_of_block g p.block) p.window
+
+-- the front of the stack, before the reference and after it
+abbrev pub front : GeometryValue → Place → List ℕ
+front g p = take g.e (stack g p)
+
+abbrev pub front_after : GeometryValue → Place → List ℕ
+front_after g p = take g.e (distinct_of_set g (set_of_block g p.block) (p.block ∷ p.window))
+
 -- a hit, by the front of the stack
-pub is_hit_is : (g : GeometryValue) (p : Place) → is_hit g p ≡ list_any (is p.block) (take g.e (distinct_of_set g (set_of_block g p.block) p.window))
+pub is_hit_is : (g : GeometryValue) (p : Place) → is_hit g p ≡ list_any (is p.block) (front g p)
 is_hit_is g p =
-    let st : List ℕ = distinct_of_set g (set_of_block g p.block) p.window in
-    let place : ℕ = position_or_len (is p.block) st in
-    ap (λ b. b && ltb (distance g p) g.e) (has_last_is g p ∙ list_any_is (is p.block) st)
-    ∙ ap (λ d. ltb place (length st) && ltb d g.e) (distance_is g p)
-    ∙ hit_within place (length st) g.e (prefix_len-le-length (λ y. not (eqb y p.block)) st)
-    ∙ ap (λ d. ltb d (min g.e (length st))) (sym (position_or_len-take (is p.block) g.e st))
-    ∙ ap (ltb (position_or_len (is p.block) (take g.e st))) (sym (length-take g.e st))
-    ∙ sym (list_any_is (is p.block) (take g.e st))
+    let place : ℕ = position_or_len (is p.block) (stack g p) in
+    ap (λ b. b && ltb (distance g p) g.e) (has_last_is g p ∙ list_any_is (is p.block) (stack g p))
+    ∙ ap (λ d. ltb place (length (stack g p)) && ltb d g.e) (distance_is g p)
+    ∙ hit_within place (length (stack g p)) g.e (prefix_len-le-length (λ y. not (eqb y p.block)) (stack g p))
+    ∙ ap (λ d. ltb d (min g.e (length (stack g p)))) (sym (position_or_len-take (is p.block) g.e (stack g p)))
+    ∙ ap (ltb (position_or_len (is p.block) (front g p))) (sym (length-take g.e (stack g p)))
+    ∙ sym (list_any_is (is p.block) (front g p))
+
+-- an eviction, by the number of different blocks
+evict_is : (g : GeometryValue) (p : Place) (hit : Bool) → is_hit g p ≡ hit → is_evict g p ≡ (not hit && leb g.e (seen g p))
+evict_is g p hit e = ap (λ t. not t && leb g.e (seen g p)) e
 
 -- what a visit by a reference leads to
 pub record Moves (g : GeometryValue) (p : Place) (outcome : Outcome) (new : List Slot) : Type 0 where
-  pub front : blocks_of new ≡ take g.e (distinct_of_set g (set_of_block g p.block) (p.block ∷ p.window))
+  pub front : blocks_of new ≡ front_after g p
   pub hits : outcome.hit ≡ is_hit g p
   pub evicts : is_some outcome.evicted ≡ is_evict g p
-
--- a block that is held comes to the front
-hit_moves : (g : GeometryValue) (p : Place) (d : Bool) (old new : List Slot) (at : ℕ) → 1 ≤ g.e →
-    blocks_of old ≡ take g.e (distinct_of_set g (set_of_block g p.block) p.window) → FoundAt p.block old at →
-    Touches (Some Lru) (marked d old at) at new →
-    blocks_of new ≡ take g.e (distinct_of_set g (set_of_block g p.block) (p.block ∷ p.window))
-hit_moves g p d old new at some h f t =
-    let front : List ℕ = take g.e (distinct_of_set g (set_of_block g p.block) p.window) in
-    let kept : blocks_of (marked d old at) ≡ front = blocks_marked d old at ∙ h in
-    let there : list_any (is p.block) front ≡ true = ap (list_any (is p.block)) (sym h) ∙ f.there in
-    let place : at ≡ position_or_len (is p.block) front = f.place ∙ ap (position_or_len (is p.block)) h in
-    let same : slice_get front at ≡ Some p.block = ap (slice_get front) place ∙ at_place p.block front there in
-    let got : slice_get front at ≡ Some t.0.block = ap (λ xs. slice_get xs at) (sym kept) ∙ block_at (marked d old at) at t.0 t.1 in
-    let both : Some p.block ≡ Some t.0.block = sym same ∙ got in
-    let first : t.0.block ≡ p.block = cc in
-    let rest : blocks_of (remove (marked d old at) at) ≡ remove front (position_or_len (is p.block) front) =
-    blocks_remove (marked d old at) at ∙ ap (λ xs. remove xs at) kept ∙ ap (remove front) place in
-    let inside : position_or_len (is p.block) front < length front = ltb-true _ _ (sym (list_any_is (is p.block) front) ∙ there) in
-    let short : length (p.block ∷ remove front (position_or_len (is p.block) front)) ≤ g.e =
-    omega (arith, length-remove front (position_or_len (is p.block) front) inside, length-take g.e (distinct_of_set g (set_of_block g p.block) p.window)) in
-    ap blocks_of t.2 ∙ ap (λ x. x ∷ blocks_of (remove (marked d old at) at)) first ∙ ap (λ xs. p.block ∷ xs) rest
-    ∙ sym (take_all g.e (p.block ∷ remove front (position_or_len (is p.block) front)) short) ∙ take-distinct_of_set-same g g.e p.block p.window some
-
--- the stack's front after a block that it doesn't hold
-miss_front : (g : GeometryValue) (p : Place) → 1 ≤ g.e → list_any (is p.block) (take g.e (distinct_of_set g (set_of_block g p.block) p.window)) ≡ false →
-    take g.e (p.block ∷ take g.e (distinct_of_set g (set_of_block g p.block) p.window))
-    ≡ take g.e (distinct_of_set g (set_of_block g p.block) (p.block ∷ p.window))
-miss_front g p some none =
-    let st : List ℕ = distinct_of_set g (set_of_block g p.block) p.window in
-    let same : remove (take g.e st) (position_or_len (is p.block) (take g.e st)) ≡ take g.e st =
-    remove_is p.block (take g.e st) (IsOnce-take g.e st (IsOnce-distinct_of_set g (set_of_block g p.block) p.window))
-    ∙ filter_all (other p.block) (take g.e st) (none_is p.block (take g.e st) none) in
-    ap (λ xs. take g.e (p.block ∷ xs)) (sym same) ∙ take-distinct_of_set-same g g.e p.block p.window some
 
 no_room : (e n : ℕ) → min e n < e → leb e n ≡ false
 no_room e n h = grind (arith, nat_tests)
@@ -155,63 +140,110 @@ no_room e n h = grind (arith, nat_tests)
 full : (e n : ℕ) → min e n ≡ e → leb e n ≡ true
 full e n h = grind (arith, nat_tests)
 
--- a block that isn't held is put in front, and the last leaves a full set
-fill_moves : (g : GeometryValue) (word : ℕ) (p : Place) (d : Bool) (old new : List Slot) (outcome : Outcome) (evicted : Option Slot) → 1 ≤ g.e →
-    blocks_of old ≡ take g.e (distinct_of_set g (set_of_block g p.block) p.window) → list_any (is p.block) (blocks_of old) ≡ false →
-    TakesIn (Some Lru) word g.e old (record { block = p.block; dirty = d }) evicted new → outcome.hit ≡ false → outcome.evicted ≡ evicted →
-    Moves g p outcome new
-fill_moves g word p d old new outcome None some h none places hit left =
-    let st : List ℕ = distinct_of_set g (set_of_block g p.block) p.window in
-    let absent : list_any (is p.block) (take g.e st) ≡ false = ap (list_any (is p.block)) (sym h) ∙ none in
-    let missed : is_hit g p ≡ false = is_hit_is g p ∙ absent in
-    let long : length (take g.e st) ≡ length old = ap length (sym h) ∙ length-map old (λ slot. slot.block) in
-    record {
-      front = ap blocks_of places.1 ∙ ap (λ xs. p.block ∷ xs) h ∙ sym (take_all g.e (p.block ∷ take g.e st) (omega (arith, long, places.0)))
-          ∙ miss_front g p some absent;
-      hits = hit ∙ sym missed;
-      evicts = ap is_some left
-          ∙ sym (ap (λ t. not t && leb g.e (length st)) missed ∙ no_room g.e (length st) (omega (arith, long, places.0, length-take g.e st)));
-    }
-fill_moves g word p d old new outcome (Some gone) some h none places hit left =
-    let st : List ℕ = distinct_of_set g (set_of_block g p.block) p.window in
-    let absent : list_any (is p.block) (take g.e st) ≡ false = ap (list_any (is p.block)) (sym h) ∙ none in
-    let missed : is_hit g p ≡ false = is_hit_is g p ∙ absent in
-    let long : length (take g.e st) ≡ length old = ap length (sym h) ∙ length-map old (λ slot. slot.block) in
-    let keep : List Slot = places.1.0 in
-    let ends : take g.e st ≡ blocks_of keep ++ gone.block ∷ [] =
-    sym h ∙ ap blocks_of places.1.1 ∙ map-append (λ (slot : Slot). slot.block) keep (gone ∷ []) in
-    let cut : take g.e (p.block ∷ (blocks_of keep ++ gone.block ∷ [])) ≡ p.block ∷ blocks_of keep =
-    take_at (p.block ∷ blocks_of keep) (gone.block ∷ []) g.e
-    (omega (arith, long, places.0, ap length ends, length-append (blocks_of keep) (gone.block ∷ []))) in
-    record {
-      front = ap blocks_of places.1.2 ∙ sym cut ∙ ap (λ xs. take g.e (p.block ∷ xs)) (sym ends) ∙ miss_front g p some absent;
-      hits = hit ∙ sym missed;
-      evicts = ap is_some left
-          ∙ sym (ap (λ t. not t && leb g.e (length st)) missed ∙ full g.e (length st) (omega (arith, long, places.0, length-take g.e st)));
-    }
+module _ (g : GeometryValue) (p : Place) (some : 1 ≤ g.e) where
+  -- the place of the block among the front's blocks
+  abbrev place : ℕ
+  place = position_or_len (is p.block) (front g p)
+
+  -- the slot at that place is the block's
+  touched_block : (slots : List Slot) (x : Slot) → blocks_of slots ≡ front g p → list_any (is p.block) (front g p) ≡ true →
+      slice_get slots place ≡ Some x → x.block ≡ p.block
+  touched_block slots x held there got =
+      let read : slice_get (front g p) place ≡ Some x.block = ap (λ xs. slice_get xs place) (sym held) ∙ block_at slots place x got in
+      let both : Some p.block ≡ Some x.block = sym (at_place p.block (front g p) there) ∙ read in
+      cc
+
+  -- the front with its block brought to the front
+  front_moved : list_any (is p.block) (front g p) ≡ true → p.block ∷ remove (front g p) place ≡ front_after g p
+  front_moved there =
+      let inside : place < length (front g p) = ltb-true _ _ (sym (list_any_is (is p.block) (front g p)) ∙ there) in
+      let short : length (p.block ∷ remove (front g p) place) ≤ g.e =
+      omega (arith, length-remove (front g p) place inside, length-take g.e (stack g p)) in
+      sym (take_all g.e (p.block ∷ remove (front g p) place) short) ∙ take-distinct_of_set-same g g.e p.block p.window some
+
+  -- a block that is held comes to the front
+  hit_moves : (d : Bool) (old new : List Slot) (at : ℕ) → blocks_of old ≡ front g p → FoundAt p.block old at →
+      Touches (Some Lru) (marked d old at) at new →
+      blocks_of new ≡ front_after g p
+  hit_moves d old new at h f t =
+      let kept : blocks_of (marked d old at) ≡ front g p = blocks_marked d old at ∙ h in
+      let there : list_any (is p.block) (front g p) ≡ true = ap (list_any (is p.block)) (sym h) ∙ f.there in
+      let at_is : at ≡ place = f.place ∙ ap (position_or_len (is p.block)) h in
+      let first = touched_block (marked d old at) t.0 kept there (ap (slice_get (marked d old at)) (sym at_is) ∙ t.1) in
+      let rest : blocks_of (remove (marked d old at) at) ≡ remove (front g p) place =
+      blocks_remove (marked d old at) at ∙ ap (λ xs. remove xs at) kept ∙ ap (remove (front g p)) at_is in
+      ap blocks_of t.2 ∙ ap (λ x. x ∷ blocks_of (remove (marked d old at) at)) first ∙ ap (λ xs. p.block ∷ xs) rest ∙ front_moved there
+
+  -- the front after a block that it doesn't hold
+  miss_front : list_any (is p.block) (front g p) ≡ false → take g.e (p.block ∷ front g p) ≡ front_after g p
+  miss_front none =
+      let same : remove (front g p) place ≡ front g p =
+      remove_is p.block (front g p) (IsOnce-take g.e (stack g p) (IsOnce-distinct_of_set g (set_of_block g p.block) p.window))
+      ∙ filter_all (other p.block) (front g p) (none_is p.block (front g p) none) in
+      ap (λ xs. take g.e (p.block ∷ xs)) (sym same) ∙ take-distinct_of_set-same g g.e p.block p.window some
+
+  -- a set that doesn't hold the block
+  record Misses (old : List Slot) : Type 0 where
+    absent : list_any (is p.block) (front g p) ≡ false
+    missed : is_hit g p ≡ false
+    long : length (front g p) ≡ length old
+
+  misses : (old : List Slot) → blocks_of old ≡ front g p → list_any (is p.block) (blocks_of old) ≡ false → Misses old
+  misses old h none =
+      let absent : list_any (is p.block) (front g p) ≡ false = ap (list_any (is p.block)) (sym h) ∙ none in
+      record { absent = absent; missed = is_hit_is g p ∙ absent; long = ap length (sym h) ∙ length-map old (λ slot. slot.block) }
+
+  -- a block that isn't held is put in front, and the last leaves a full set
+  fill_moves : (word : ℕ) (d : Bool) (old new : List Slot) (outcome : Outcome) (evicted : Option Slot) →
+      blocks_of old ≡ front g p → list_any (is p.block) (blocks_of old) ≡ false →
+      TakesIn (Some Lru) word g.e old (record { block = p.block; dirty = d }) evicted new → outcome.hit ≡ false → outcome.evicted ≡ evicted →
+      Moves g p outcome new
+  fill_moves word d old new outcome None h none places hit left =
+      let m = misses old h none in
+      let short : length (p.block ∷ front g p) ≤ g.e = omega (arith, m.long, places.0) in
+      record {
+        front = ap blocks_of places.1 ∙ ap (λ xs. p.block ∷ xs) h ∙ sym (take_all g.e (p.block ∷ front g p) short) ∙ miss_front m.absent;
+        hits = hit ∙ sym m.missed;
+        evicts = ap is_some left
+            ∙ sym (evict_is g p false m.missed ∙ no_room g.e (length (stack g p)) (omega (arith, m.long, places.0, length-take g.e (stack g p))));
+      }
+  fill_moves word d old new outcome (Some gone) h none places hit left =
+      let m = misses old h none in
+      let keep : List Slot = places.1.0 in
+      let ends : front g p ≡ blocks_of keep ++ gone.block ∷ [] =
+      sym h ∙ ap blocks_of places.1.1 ∙ map-append (λ (slot : Slot). slot.block) keep (gone ∷ []) in
+      let count : length (p.block ∷ blocks_of keep) ≡ g.e =
+      omega (arith, m.long, places.0, ap length ends, length-append (blocks_of keep) (gone.block ∷ [])) in
+      let cut : take g.e (p.block ∷ (blocks_of keep ++ gone.block ∷ [])) ≡ p.block ∷ blocks_of keep =
+      take_at (p.block ∷ blocks_of keep) (gone.block ∷ []) g.e count in
+      record {
+        front = ap blocks_of places.1.2 ∙ sym cut ∙ ap (λ xs. take g.e (p.block ∷ xs)) (sym ends) ∙ miss_front m.absent;
+        hits = hit ∙ sym m.missed;
+        evicts = ap is_some left
+            ∙ sym (evict_is g p false m.missed ∙ full g.e (length (stack g p)) (omega (arith, m.long, places.0, length-take g.e (stack g p))));
+      }
 
 -- a visit of a set that holds the front of its stack
-pub visit_moves : (g : GeometryValue) (write : WriteMode) (words : ℕ → ℕ) (ref : Ref) (w : List ℕ) (old : List Slot) (outcome : Outcome) (new : List Slot)
-    (rest : ℕ → ℕ) →
-    1 ≤ g.e →
-    blocks_of old ≡ take g.e (distinct_of_set g (set_of_block g (block_of g ref.addr)) w) →
+pub visit_moves : (g : GeometryValue) (write : WriteMode) (words : ℕ → ℕ) (ref : Ref) (w : List ℕ) (old : List Slot) (outcome : Outcome)
+    (new : List Slot)
+    (rest : ℕ → ℕ) → 1 ≤ g.e → blocks_of old ≡ take g.e (distinct_of_set g (set_of_block g (block_of g ref.addr)) w) →
     Visits (record { geometry = g; write = write; allocate = Always }) (Some Lru) words ref old outcome new rest →
     Moves g (record { block = block_of g ref.addr; window = w }) outcome new
 visit_moves g write words ref w old outcome new rest some h v = by_place (position_of (block_of g ref.addr) old) refl v
   where
-    by_place : (o : Option ℕ) → position_of (block_of g ref.addr) old ≡ o →
-        MatchOption o (Fills (record { geometry = g; write = write; allocate = Always }) (Some Lru) words ref old outcome new rest)
-        (λ at. Hits (record { geometry = g; write = write; allocate = Always }) (Some Lru) words ref at old outcome new rest) →
-        Moves g (record { block = block_of g ref.addr; window = w }) outcome new
+    p : Place
+    p = record { block = block_of g ref.addr; window = w }
+
+    by_place : (o : Option ℕ) → position_of p.block old ≡ o →
+        VisitsAt o (record { geometry = g; write = write; allocate = Always }) (Some Lru) words ref old outcome new rest → Moves g p outcome new
     by_place None e x =
-        fill_moves g (words 0) (record { block = block_of g ref.addr; window = w }) (dirties write ref.access) old new outcome outcome.evicted some h
-        (place_none (block_of g ref.addr) old e) x.order (ap (λ (o : Outcome). o.hit) x.answers) refl
+        fill_moves g p some (words 0) (dirties write ref.access) old new outcome outcome.evicted h (place_none p.block old e) x.order
+        (ap (λ (o : Outcome). o.hit) x.answers) refl
     by_place (Some at) e x =
-        let p : Place = record { block = block_of g ref.addr; window = w } in
-        let f = place_some (block_of g ref.addr) old at e in
+        let f = place_some p.block old at e in
         let hit : is_hit g p ≡ true = is_hit_is g p ∙ ap (list_any (is p.block)) (sym h) ∙ f.there in
         record {
-          front = hit_moves g p (dirties write ref.access) old new at some h f x.order;
+          front = hit_moves g p some (dirties write ref.access) old new at h f x.order;
           hits = ap (λ (o : Outcome). o.hit) x.answers ∙ sym hit;
-          evicts = ap (λ (o : Outcome). is_some o.evicted) x.answers ∙ sym (ap (λ t. not t && leb g.e (seen g p)) hit);
+          evicts = ap (λ (o : Outcome). is_some o.evicted) x.answers ∙ sym (evict_is g p true hit);
         }

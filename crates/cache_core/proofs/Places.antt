@@ -53,7 +53,8 @@ places_after-append g before (event.Flush ∷ es) more =
     places_after-append g (before ++ event.Flush ∷ []) es more
     ∙ ap (λ b. places_after g (before ++ event.Flush ∷ []) es ++ places_after g b more) (append_assoc before (event.Flush ∷ []) es)
 
-pub places-reference : (g : GeometryValue) (es : List Event) (r : Ref) → places g (es ++ event.Reference r ∷ []) ≡ places g es ++ place_after g es r ∷ []
+pub places-reference : (g : GeometryValue) (es : List Event) (r : Ref) →
+    places g (es ++ event.Reference r ∷ []) ≡ places g es ++ place_after g es r ∷ []
 unfolding places_after
 places-reference g es r = places_after-append g [] es (event.Reference r ∷ [])
 

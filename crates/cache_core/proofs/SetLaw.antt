@@ -11,7 +11,8 @@ use Rattle.cache_core.specs.declared.outcome.Repl.TheVariants.{Lru, Fifo, Random
 use Rattle.cache_core.specs.Machine.{Line, slot_of, is_block, without, exchange, victim, touch, with_block}
 use Rattle.cache_core.specs.Order.{Touches, Inserts, Exchanges, marked, position_of}
 use Rattle.cache_core.specs.Stands.{Falls, Absent, Distinct, IsGood}
-use Rattle.cache_core.proofs.Lines.{ne-eqb, Found, found, absent_append, absent_left, absent_right, distinct_back, distinct_front, distinct_without}
+use Rattle.cache_core.proofs.Lines.{in_place, absent_round}
+use Rattle.cache_core.proofs.Lines.{ne-eqb, Found, found, absent_left, distinct_back, distinct_front, distinct_without}
 use Rattle.cache_core.proofs.Lines.{distinct_instead, without_split, exchange_split, falls_weaker, falls_without, falls_instead, least_last, counts_instead}
 use Rattle.cache_core.proofs.Lines.{counts_push, find_way}
 
@@ -64,6 +65,12 @@ marked_split true xs x ys =
     let s = set_at (map slot_of xs) (slot_of x) (map slot_of ys) (record (slot_of x) { dirty = true }) (length xs) l in
     rw (slots_split xs x ys, g, s, slots_split xs (with_mark true x) ys) refl
 
+-- a line with its mark in its own place
+exchange_marked : (d : Bool) (b : ℕ) (xs : List Line) (x : Line) (ys : List Line) → x.block ≡ b → Absent b xs → Absent b ys →
+    exchange x.block (with_mark d x) (xs ++ x ∷ ys) ≡ xs ++ with_mark d x ∷ ys
+exchange_marked d b xs x ys e f h =
+    exchange_split x.block (with_mark d x) xs x ys refl (subst (λ n. Absent n xs) (sym e) f) (subst (λ n. Absent n ys) (sym e) h)
+
 -- a hit
 touch_law : (policy : Repl) (clock : ℕ) (d : Bool) (b : ℕ) (xs : List Line) (x : Line) (ys : List Line) (new : List Slot) → x.block ≡ b →
     Absent b xs → Absent b ys → Touches (Some policy) (map slot_of (xs ++ with_mark d x ∷ ys)) (length xs) new →
@@ -79,34 +86,21 @@ touch_law Lru clock d b xs x ys new e f h t =
     rw (slots_split xs y ys, map-append slot_of xs ys) (remove_split (map slot_of xs) (slot_of y) (map slot_of ys) (length xs) l) in
     rw (without_split x.block xs x ys refl (subst (λ n. Absent n xs) (sym e) f) (subst (λ n. Absent n ys) (sym e) h))
     (t.2 ∙ ap (λ s. s ∷ remove (map slot_of (xs ++ y ∷ ys)) (length xs)) front ∙ ap (λ s. slot_of y ∷ s) rest)
-touch_law Fifo clock d b xs x ys new e f h t =
-    rw (exchange_split x.block (with_mark d x) xs x ys refl (subst (λ n. Absent n xs) (sym e) f) (subst (λ n. Absent n ys) (sym e) h)) t
-touch_law Random clock d b xs x ys new e f h t =
-    rw (exchange_split x.block (with_mark d x) xs x ys refl (subst (λ n. Absent n xs) (sym e) f) (subst (λ n. Absent n ys) (sym e) h)) t
+touch_law Fifo clock d b xs x ys new e f h t = rw (exchange_marked d b xs x ys e f h) t
+touch_law Random clock d b xs x ys new e f h t = rw (exchange_marked d b xs x ys e f h) t
 
-touch_good : (policy : Repl) (clock : ℕ) (xs : List Line) (x y : Line) (ys : List Line) → y.block ≡ x.block → y.key ≡ x.key →
+touch_good : (policy : Repl) (clock : ℕ) (xs : List Line) (x y : Line) (ys : List Line) → x.block ≡ y.block → y.key ≡ x.key →
     IsGood policy clock (xs ++ x ∷ ys) → IsGood policy (clock + 1) (touch policy (clock + 1) y (xs ++ x ∷ ys))
 touch_good Lru clock xs x y ys e q i =
-    let f = subst (λ n. Absent n xs) (sym e) (distinct_front xs x ys i.distinct) in
-    let h = subst (λ n. Absent n ys) (sym e) (distinct_back xs x ys i.distinct) in
-    rw (without_split y.block xs x ys (sym e) f h)
-    record {
-      distinct = (absent_append y.block xs ys f h, distinct_without xs x ys i.distinct);
-      order = (omega arith, falls_without (clock + 1) xs x ys i.order);
-    }
+    let p = in_place xs x y ys e i.distinct in
+    rw p.taken_out record { distinct = p.others; order = (omega arith, falls_without (clock + 1) xs x ys i.order) }
 touch_good Fifo clock xs x y ys e q i =
-    let f = subst (λ n. Absent n xs) (sym e) (distinct_front xs x ys i.distinct) in
-    let h = subst (λ n. Absent n ys) (sym e) (distinct_back xs x ys i.distinct) in
-    rw (exchange_split y.block y xs x ys (sym e) f h)
-    record {
-      distinct = distinct_instead xs y ys (distinct_without xs x ys i.distinct) f h;
-      order = falls_weaker (clock + 1) (clock + 1 + 1) (xs ++ y ∷ ys) (omega arith) (falls_instead (clock + 1) xs x y ys q i.order);
-    }
+    let p = in_place xs x y ys e i.distinct in
+    let falls = falls_instead (clock + 1) xs x y ys q i.order in
+    rw p.exchanged record { distinct = p.distinct; order = falls_weaker (clock + 1) (clock + 1 + 1) (xs ++ y ∷ ys) (omega arith) falls }
 touch_good Random clock xs x y ys e q i =
-    let f = subst (λ n. Absent n xs) (sym e) (distinct_front xs x ys i.distinct) in
-    let h = subst (λ n. Absent n ys) (sym e) (distinct_back xs x ys i.distinct) in
-    rw (exchange_split y.block y xs x ys (sym e) f h)
-    record { distinct = distinct_instead xs y ys (distinct_without xs x ys i.distinct) f h; order = counts_instead 0 xs x y ys q i.order }
+    let p = in_place xs x y ys e i.distinct in
+    rw p.exchanged record { distinct = p.distinct; order = counts_instead 0 xs x y ys q i.order }
 
 -- what a touch of a held block does: the slots and the lines agree again, and the set is in order
 pub record Touched (policy : Repl) (clock : ℕ) (b : ℕ) (line : Line) (d : Bool) (ls : List Line) : Type 0 where
@@ -227,6 +221,47 @@ fifo_from_lru clock ways word count slot gone ls new x = record {
   good = record { distinct = x.good.distinct; order = x.good.order };
 }
 
+-- random exchanges a way, and keeps the others
+way_law : (clock ways word count : ℕ) (slot gone : Slot) (ls : List Line) (new : List Slot) (r : Stands ls (word % length (map slot_of ls)) gone) →
+    length (map slot_of ls) ≡ ways → new ≡ slice_set (map slot_of ls) (word % length (map slot_of ls)) slot → IsGood Random clock ls →
+    Absent slot.block ls → Exchanged Random clock ways word count slot gone ls new
+way_law clock ways word count slot gone ls new r l t i h = subst (λ s. Exchanged Random clock ways word count slot gone s new) (sym r.split) whole
+  where
+    j : IsGood Random clock (r.xs ++ r.x ∷ r.ys)
+    j = subst (IsGood Random clock) r.split i
+
+    apart : Absent slot.block r.xs × Absent slot.block r.ys
+    apart = absent_round slot.block r.xs r.x r.ys (subst (Absent slot.block) r.split h)
+
+    y : Line
+    y = record { block = slot.block; key = r.x.key; dirty = slot.dirty }
+
+    exchanged : exchange r.x.block y (r.xs ++ r.x ∷ r.ys) ≡ r.xs ++ y ∷ r.ys
+    exchanged =
+        exchange_split r.x.block y r.xs r.x r.ys refl (distinct_front r.xs r.x r.ys j.distinct) (distinct_back r.xs r.x r.ys j.distinct)
+
+    written : new ≡ map slot_of (r.xs ++ y ∷ r.ys)
+    written =
+        t ∙ ap (λ n. slice_set (map slot_of ls) n slot) r.len ∙ ap (λ s. slice_set (map slot_of s) (length r.xs) slot) r.split
+        ∙ ap (λ s. slice_set s (length r.xs) slot) (slots_split r.xs r.x r.ys)
+        ∙ set_at (map slot_of r.xs) (slot_of r.x) (map slot_of r.ys) slot (length r.xs) (length-map r.xs slot_of)
+        ∙ sym (slots_split r.xs y r.ys)
+
+    whole : Exchanged Random clock ways word count slot gone (r.xs ++ r.x ∷ r.ys) new
+    whole =
+        let way : word % ways ≡ length r.xs = ap (λ n. word % n) (sym l) ∙ r.len in
+        record {
+          line = r.x;
+          leaves = find_way 0 (word % ways) r.xs r.x r.ys j.order (omega arith);
+          left = r.slot;
+          among = record { front = r.xs; back = r.ys; split = refl; here = refl };
+          slots = rw exchanged written;
+          good = rw exchanged record {
+            distinct = distinct_instead r.xs y r.ys (distinct_without r.xs r.x r.ys j.distinct) apart.0 apart.1;
+            order = counts_instead 0 r.xs r.x y r.ys refl j.order;
+          };
+        }
+
 pub exchange_law : (policy : Repl) (clock ways word count : ℕ) (slot gone : Slot) (ls : List Line) (new : List Slot) →
     length (map slot_of ls) ≡ ways → Exchanges (Some policy) word (map slot_of ls) slot gone new → IsGood policy clock ls → Absent slot.block ls →
     Exchanged policy clock ways word count slot gone ls new
@@ -235,29 +270,4 @@ exchange_law Fifo clock ways word count slot gone ls new l t i h =
     fifo_from_lru clock ways word count slot gone ls new
     (front_law clock ways word count slot gone ls new t.0 t.1 t.2 (record { distinct = i.distinct; order = i.order }) h)
 exchange_law Random clock ways word count slot gone ls new l t i h =
-    let r = line_at ls (word % length (map slot_of ls)) gone t.0 in
-    let j : IsGood Random clock (r.xs ++ r.x ∷ r.ys) = subst (IsGood Random clock) r.split i in
-    let k : Absent slot.block (r.xs ++ r.x ∷ r.ys) = subst (Absent slot.block) r.split h in
-    let f = distinct_front r.xs r.x r.ys j.distinct in
-    let b = distinct_back r.xs r.x r.ys j.distinct in
-    let y : Line = record { block = slot.block; key = r.x.key; dirty = slot.dirty } in
-    let way : word % ways ≡ length r.xs = ap (λ n. word % n) (sym l) ∙ r.len in
-    let x : exchange r.x.block y (r.xs ++ r.x ∷ r.ys) ≡ r.xs ++ y ∷ r.ys = exchange_split r.x.block y r.xs r.x r.ys refl f b in
-    let written : new ≡ map slot_of (r.xs ++ y ∷ r.ys) =
-    t.1 ∙ ap (λ n. slice_set (map slot_of ls) n slot) r.len ∙ ap (λ s. slice_set (map slot_of s) (length r.xs) slot) r.split
-    ∙ ap (λ s. slice_set s (length r.xs) slot) (slots_split r.xs r.x r.ys)
-    ∙ set_at (map slot_of r.xs) (slot_of r.x) (map slot_of r.ys) slot (length r.xs) (length-map r.xs slot_of)
-    ∙ sym (slots_split r.xs y r.ys) in
-    let whole : Exchanged Random clock ways word count slot gone (r.xs ++ r.x ∷ r.ys) new = record {
-      line = r.x;
-      leaves = find_way 0 (word % ways) r.xs r.x r.ys j.order (omega arith);
-      left = r.slot;
-      among = record { front = r.xs; back = r.ys; split = refl; here = refl };
-      slots = rw x written;
-      good = rw x record {
-        distinct = distinct_instead r.xs y r.ys (distinct_without r.xs r.x r.ys j.distinct) (absent_left slot.block r.xs (r.x ∷ r.ys) k)
-            (absent_right slot.block r.xs (r.x ∷ r.ys) k).1;
-        order = counts_instead 0 r.xs r.x y r.ys refl j.order;
-      };
-    } in
-    subst (λ s. Exchanged Random clock ways word count slot gone s new) (sym r.split) whole
+    way_law clock ways word count slot gone ls new (line_at ls (word % length (map slot_of ls)) gone t.0) l t.1 i h

@@ -58,9 +58,16 @@ sets_of-put ways (f ∷ fs) (suc k) n start slots room e l a h r m =
     (omega arith) r m in
     rw (s, t, t', d, d', d'') (ap (λ (xs : List (List Slot)). take f slots ∷ xs) i)
 
--- what a room holds, read as the code reads it
+-- the filled slots of a set, as the code reads them: from its room on, so many
+abbrev pub room_slots : ℕ → List ℕ → ℕ → List Slot → List Slot
+room_slots ways filled k slots = take (get_or filled k 0) (take (k * ways + ways - k * ways) (drop (k * ways) slots))
+
+-- the slots with a room written back
+abbrev pub with_room : ℕ → ℕ → List Slot → List Slot → List Slot
+with_room ways k slots room = put_mid (k * ways) (k * ways + ways - k * ways) slots room
+
 pub slab_read : (ways : ℕ) (filled : List ℕ) (k : ℕ) (slots : List Slot) → k < length filled → All (λ m. m ≤ ways) filled →
-    take (get_or filled k 0) (take (k * ways + ways - k * ways) (drop (k * ways) slots)) ≡ get_or (sets_of ways slots filled) k []
+    room_slots ways filled k slots ≡ get_or (sets_of ways slots filled) k []
 slab_read ways filled k slots h a =
     let w : k * ways + ways - k * ways ≡ ways = omega arith in
     let l : get_or filled k 0 ≤ ways = All-get_or (λ m. m ≤ ways) filled k 0 h a in
@@ -71,14 +78,12 @@ start_le k ways sets h =
     let m : ways * (k + 1) ≤ ways * sets = mul-le-mul_left ways (omega arith) in
     omega (arith, m)
 
--- the sets after a write of a room
-pub slab_written : (ways sets : ℕ) (filled : List ℕ) (k n : ℕ) (slots room : List Slot) → length slots ≡ ways * sets →
-    length filled ≡ sets → All (λ m. m ≤ ways) filled → k < sets → length room ≡ ways → n ≤ ways →
-    sets_of ways (put_mid (k * ways) (k * ways + ways - k * ways) slots room) (set filled k n) ≡ set (sets_of ways slots filled) k (take n room)
-slab_written ways sets filled k n slots room l f a h r m =
-    let w : k * ways + ways - k * ways ≡ ways = omega arith in
-    let b : k * ways + ways ≤ ways * sets = start_le k ways sets h in
-    rw w (sets_of-put ways filled k n (k * ways) slots room refl (omega arith) a (omega arith) r m)
+-- A room that is written back to its set, the first n slots of it filled.
+pub record IsWritten (d : Design) (k n ways : ℕ) (room : List Slot) : Type 0 where
+  pub ways_are : ways ≡ d.geometry.e
+  pub within : k < 2 ^ d.geometry.s
+  pub long : length room ≡ d.geometry.e
+  pub few : n ≤ d.geometry.e
 
 length-put : (a w : ℕ) (slots room : List Slot) → a + w ≤ length slots → length room ≡ w → length (put_mid a w slots room) ≡ length slots
 length-put a w slots room h r =
@@ -91,52 +96,57 @@ length-put a w slots room h r =
       length-drop a slots,
     )
 
-pub slab_kept : (d : Design) (filled : List ℕ) (k n ways : ℕ) (slots room : List Slot) → IsCacheSlab d slots filled → ways ≡ d.geometry.e →
-    k < 2 ^ d.geometry.s → length room ≡ d.geometry.e → n ≤ d.geometry.e → Addressable d.geometry.b (take n room) →
-    IsCacheSlab d (put_mid (k * ways) (k * ways + ways - k * ways) slots room) (set filled k n)
-slab_kept d filled k n ways slots room i e h r m a =
-    let w : k * ways + ways - k * ways ≡ ways = omega arith in
-    let b : k * d.geometry.e + d.geometry.e ≤ d.geometry.e * 2 ^ d.geometry.s = start_le k d.geometry.e (2 ^ d.geometry.s) h in
-    rw (w, e) record {
-      geometry = i.geometry;
-      segments = length-put (k * d.geometry.e) d.geometry.e slots room (omega (arith, i.segments)) r ∙ i.segments;
-      sets = length-set filled k n ∙ i.sets;
-      within = All-set (λ m. m ≤ d.geometry.e) filled k n m i.within;
-      addresses =
-          rw (sets_of-put d.geometry.e filled k n (k * d.geometry.e) slots room refl (omega (arith, i.segments)) i.within (omega (arith, i.sets)) r m)
-          (All-set (Addressable d.geometry.b) (sets_of d.geometry.e slots filled) k (take n room) a i.addresses);
-    }
+module _ (d : Design) (filled : List ℕ) (k n ways : ℕ) (slots room : List Slot) (i : IsCacheSlab d slots filled) (w : IsWritten d k n ways room) where
+  in_filled : k < length filled
+  in_filled = omega (arith, i.sets, w.within)
 
--- one access to a slab, by a visit of a room
-pub slab_access : (d : Design) (rule rule' : Option Repl) (words words' : ℕ → ℕ) (filled : List ℕ) (k n ways : ℕ) (slots room : List Slot)
-    (ref : Ref) (outcome : Outcome) →
-    IsCacheSlab d slots filled → k ≡ set_of d.geometry ref.addr → k < 2 ^ d.geometry.s → ways ≡ d.geometry.e → length room ≡ d.geometry.e →
-    n ≤ d.geometry.e → rule' ≡ rule →
-    Visits d rule words ref (take (get_or filled k 0) (take (k * ways + ways - k * ways) (drop (k * ways) slots))) outcome (take n room) words' →
-    Accesses (slab_contents d rule words slots filled) ref outcome
-    (slab_contents d rule' words' (put_mid (k * ways) (k * ways + ways - k * ways) slots room) (set filled k n))
-slab_access d rule rule' words words' filled k n ways slots room ref outcome i s h e r m u v =
-    let g = d.geometry in
-    let in_filled : k < length filled = omega (arith, i.sets) in
-    let read : take (get_or filled k 0) (take (k * ways + ways - k * ways) (drop (k * ways) slots))
-    ≡ slots_of (sets_of g.e slots filled) (set_of g ref.addr) =
-    rw (e, ← s) (slab_read g.e filled k slots in_filled i.within) in
-    let new = sets_of g.e (put_mid (k * ways) (k * ways + ways - k * ways) slots room) (set filled k n) in
-    let written : new ≡ set (sets_of g.e slots filled) k (take n room) =
-    rw e (slab_written g.e (2 ^ g.s) filled k n slots room i.segments i.sets i.within h r m) in
-    let here : take n room ≡ slots_of new (set_of g ref.addr) =
-    sym (ap (λ xs. slots_of xs (set_of g ref.addr)) written ∙ ap (λ j. get_or (set (sets_of g.e slots filled) k (take n room)) j []) (sym s)
-    ∙ get_or-set_same (sets_of g.e slots filled) k (take n room) [] (omega (arith, length-sets_of g.e filled slots))) in
-    record {
-      visit =
-          subst (λ xs. Visits d rule words ref xs outcome (slots_of new (set_of g ref.addr)) words') read
-          (subst (λ xs. Visits d rule words ref (take (get_or filled k 0) (take (k * ways + ways - k * ways) (drop (k * ways) slots))) outcome xs words')
-          here v);
-      others = λ j ne. ap (λ xs. slots_of xs j) written ∙ get_or-set_other (sets_of g.e slots filled) k j (take n room) [] (λ q. ne (q ∙ s));
-      count = ap length written ∙ length-set (sets_of g.e slots filled) k (take n room);
-      design = refl;
-      rule = u;
-    }
+  width : k * ways + ways - k * ways ≡ d.geometry.e
+  width = omega (arith, w.ways_are)
+
+  within_slots : k * d.geometry.e + d.geometry.e ≤ length slots
+  within_slots = omega (arith, i.segments, start_le k d.geometry.e (2 ^ d.geometry.s) w.within)
+
+  -- the set as it was
+  pub set_read : room_slots ways filled k slots ≡ get_or (sets_of d.geometry.e slots filled) k []
+  set_read = rw w.ways_are (slab_read d.geometry.e filled k slots in_filled i.within)
+
+  -- the sets after it
+  pub sets_written : sets_of d.geometry.e (with_room ways k slots room) (set filled k n) ≡ set (sets_of d.geometry.e slots filled) k (take n room)
+  sets_written =
+      rw (width, w.ways_are)
+      (sets_of-put d.geometry.e filled k n (k * d.geometry.e) slots room refl (omega (arith, within_slots)) i.within in_filled w.long w.few)
+
+  pub slab_kept : Addressable d.geometry.b (take n room) → IsCacheSlab d (with_room ways k slots room) (set filled k n)
+  slab_kept a = record {
+    geometry = i.geometry;
+    segments = rw (width, w.ways_are) (length-put (k * d.geometry.e) d.geometry.e slots room within_slots w.long ∙ i.segments);
+    sets = length-set filled k n ∙ i.sets;
+    within = All-set (λ m. m ≤ d.geometry.e) filled k n w.few i.within;
+    addresses = rw sets_written (All-set (Addressable d.geometry.b) (sets_of d.geometry.e slots filled) k (take n room) a i.addresses);
+  }
+
+  -- one access to a slab, by a visit of a room
+  pub slab_access : (rule rule' : Option Repl) (words words' : ℕ → ℕ) (ref : Ref) (outcome : Outcome) → k ≡ set_of d.geometry ref.addr →
+      rule' ≡ rule →
+      Visits d rule words ref (room_slots ways filled k slots) outcome (take n room) words' →
+      Accesses (slab_contents d rule words slots filled) ref outcome
+      (slab_contents d rule' words' (with_room ways k slots room) (set filled k n))
+  slab_access rule rule' words words' ref outcome s u v =
+      let old = sets_of d.geometry.e slots filled in
+      let new = sets_of d.geometry.e (with_room ways k slots room) (set filled k n) in
+      let same : slots_of old k ≡ slots_of old (set_of d.geometry ref.addr) = ap (slots_of old) s in
+      let here : take n room ≡ slots_of new (set_of d.geometry ref.addr) =
+      sym (ap (λ xs. slots_of xs (set_of d.geometry ref.addr)) sets_written ∙ ap (λ j. get_or (set old k (take n room)) j []) (sym s)
+      ∙ get_or-set_same old k (take n room) [] (omega (arith, length-sets_of d.geometry.e filled slots, in_filled))) in
+      record {
+        visit =
+            subst (λ xs. Visits d rule words ref xs outcome (slots_of new (set_of d.geometry ref.addr)) words') (set_read ∙ same)
+            (subst (λ xs. Visits d rule words ref (room_slots ways filled k slots) outcome xs words') here v);
+        others = λ j ne. ap (λ xs. slots_of xs j) sets_written ∙ get_or-set_other old k j (take n room) [] (λ q. ne (q ∙ s));
+        count = ap length sets_written ∙ length-set old k (take n room);
+        design = refl;
+        rule = u;
+      }
 
 pub sets_of-empty : (ways n : ℕ) (slots : List Slot) → sets_of ways slots (replicate n 0) ≡ replicate n []
 sets_of-empty ways zero slots = refl

@@ -9,10 +9,11 @@ use Rattle.std.proofs.lemmas.List.Sorted.{IsPermutation-refl, IsPermutation-sym,
 use Rattle.cache_core.specs.declared.outcome.Slot.{Slot}
 use Rattle.cache_core.specs.declared.outcome.Repl.{Repl}
 use Rattle.cache_core.specs.declared.outcome.Repl.TheVariants.{Lru, Fifo, Random}
-use Rattle.cache_core.specs.Machine.{Line, slot_of, touch, with_block}
+use Rattle.cache_core.specs.Machine.{Line, slot_of, without, touch, with_block}
 use Rattle.cache_core.specs.Stands.{Absent, Distinct}
 use Rattle.cache_core.proofs.Lists.{cases}
-use Rattle.cache_core.proofs.Lines.{ne-eqb, absent_append, absent_left, absent_right, distinct_without, distinct_instead, without_split, exchange_split}
+use Rattle.cache_core.proofs.Lines.{InPlace, absent_round}
+use Rattle.cache_core.proofs.Lines.{ne-eqb, absent_append, distinct_without, distinct_instead, without_split, exchange_split}
 
 abbrev pub agree : Bool → Bool → Bool
 agree true true = true
@@ -122,55 +123,60 @@ line_for x (l ∷ ls) h =
     record { front = l ∷ r.front; line = r.line; back = r.back; split = ap (λ zs. l ∷ zs) r.split; slot = r.slot })
     refl (omega (arith, h, sum_by-cons (one_for x) (slot_of l) (map slot_of ls)))
 
--- a touch
-pub touch_sum : (p : Repl) (c : ℕ) (y : Line) (xs : List Line) (x : Line) (ys : List Line) (f : Slot → ℕ) → x.block ≡ y.block →
-    Absent y.block xs → Absent y.block ys → line_sum f (touch p c y (xs ++ x ∷ ys)) ≡ line_sum f (xs ++ ys) + f (slot_of y)
-touch_sum Lru c y xs x ys f e a h = rw (without_split y.block xs x ys e a h) (omega (arith, sum_by-cons f (slot_of y) (map slot_of (xs ++ ys))))
-touch_sum Fifo c y xs x ys f e a h = rw (exchange_split y.block y xs x ys e a h) (sum_split f xs y ys)
-touch_sum Random c y xs x ys f e a h = rw (exchange_split y.block y xs x ys e a h) (sum_split f xs y ys)
+-- a new slot in front
+front_sum : (new : Slot) (ls : List Line) (f : Slot → ℕ) → sum_by f (new ∷ map slot_of ls) ≡ line_sum f ls + f new
+front_sum new ls f = omega (arith, sum_by-cons f new (map slot_of ls))
 
-pub touch_distinct : (p : Repl) (c : ℕ) (y : Line) (xs : List Line) (x : Line) (ys : List Line) → x.block ≡ y.block → Absent y.block xs →
-    Absent y.block ys → Distinct (xs ++ x ∷ ys) → Distinct (touch p c y (xs ++ x ∷ ys))
-touch_distinct Lru c y xs x ys e a h d = rw (without_split y.block xs x ys e a h) (absent_append y.block xs ys a h, distinct_without xs x ys d)
-touch_distinct Fifo c y xs x ys e a h d = rw (exchange_split y.block y xs x ys e a h) (distinct_instead xs y ys (distinct_without xs x ys d) a h)
-touch_distinct Random c y xs x ys e a h d = rw (exchange_split y.block y xs x ys e a h) (distinct_instead xs y ys (distinct_without xs x ys d) a h)
+-- a touch
+pub touch_sum : (p : Repl) (c : ℕ) (y : Line) (xs : List Line) (x : Line) (ys : List Line) (f : Slot → ℕ) → InPlace xs x y ys →
+    line_sum f (touch p c y (xs ++ x ∷ ys)) ≡ line_sum f (xs ++ ys) + f (slot_of y)
+touch_sum Lru c y xs x ys f i = rw i.taken_out (front_sum (slot_of y) (xs ++ ys) f)
+touch_sum Fifo c y xs x ys f i = rw i.exchanged (sum_split f xs y ys)
+touch_sum Random c y xs x ys f i = rw i.exchanged (sum_split f xs y ys)
+
+pub touch_distinct : (p : Repl) (c : ℕ) (y : Line) (xs : List Line) (x : Line) (ys : List Line) → InPlace xs x y ys →
+    Distinct (touch p c y (xs ++ x ∷ ys))
+touch_distinct Lru c y xs x ys i = rw i.taken_out i.others
+touch_distinct Fifo c y xs x ys i = rw i.exchanged i.distinct
+touch_distinct Random c y xs x ys i = rw i.exchanged i.distinct
 
 -- a new block in a set with room
 pub insert_sum : (p : Repl) (c n : ℕ) (new : Slot) (ls : List Line) (f : Slot → ℕ) → line_sum f (with_block p c n new None ls) ≡ line_sum f ls + f new
-insert_sum Lru c n new ls f =
-    let step : line_sum f (with_block Lru c n new None ls) ≡ f new + line_sum f ls = sum_by-cons f new (map slot_of ls) in omega (arith, step)
-insert_sum Fifo c n new ls f =
-    let step : line_sum f (with_block Fifo c n new None ls) ≡ f new + line_sum f ls = sum_by-cons f new (map slot_of ls) in omega (arith, step)
+insert_sum Lru c n new ls f = front_sum new ls f
+insert_sum Fifo c n new ls f = front_sum new ls f
 insert_sum Random c n new ls f =
     sum_split f ls (record { block = new.block; key = n; dirty = new.dirty }) [] ∙ ap (λ xs. line_sum f xs + f new) (append-nil ls)
 
 pub insert_distinct : (p : Repl) (c n : ℕ) (new : Slot) (ls : List Line) → Absent new.block ls → Distinct ls → Distinct (with_block p c n new None ls)
 insert_distinct Lru c n new ls a d = (a, d)
 insert_distinct Fifo c n new ls a d = (a, d)
-insert_distinct Random c n new ls a d = distinct_instead ls (record { block = new.block; key = n; dirty = new.dirty }) [] (rw append-nil d) a tt
+insert_distinct Random c n new ls a d =
+    distinct_instead ls (record { block = new.block; key = n; dirty = new.dirty }) [] (rw append-nil d) a tt
 
 -- a new block in the place of a line
 pub exchange_sum : (p : Repl) (c n : ℕ) (new : Slot) (xs : List Line) (x : Line) (ys : List Line) (f : Slot → ℕ) → Absent x.block xs →
-    Absent x.block ys → line_sum f (with_block p c n new (Some x) (xs ++ x ∷ ys)) ≡ line_sum f (xs ++ ys) + f new
-exchange_sum Lru c n new xs x ys f a h =
-    let step : sum_by f (new ∷ map slot_of (xs ++ ys)) ≡ f new + line_sum f (xs ++ ys) = sum_by-cons f new (map slot_of (xs ++ ys)) in
-    rw (without_split x.block xs x ys refl a h) (omega (arith, step))
-exchange_sum Fifo c n new xs x ys f a h =
-    let step : sum_by f (new ∷ map slot_of (xs ++ ys)) ≡ f new + line_sum f (xs ++ ys) = sum_by-cons f new (map slot_of (xs ++ ys)) in
-    rw (without_split x.block xs x ys refl a h) (omega (arith, step))
+    Absent x.block ys →
+    line_sum f (with_block p c n new (Some x) (xs ++ x ∷ ys)) ≡ line_sum f (xs ++ ys) + f new
+exchange_sum Lru c n new xs x ys f a h = rw (without_split x.block xs x ys refl a h) (front_sum new (xs ++ ys) f)
+exchange_sum Fifo c n new xs x ys f a h = rw (without_split x.block xs x ys refl a h) (front_sum new (xs ++ ys) f)
 exchange_sum Random c n new xs x ys f a h =
     let y : Line = record { block = new.block; key = x.key; dirty = new.dirty } in
     rw (exchange_split x.block y xs x ys refl a h) (sum_split f xs y ys)
 
 pub exchange_distinct : (p : Repl) (c n : ℕ) (new : Slot) (xs : List Line) (x : Line) (ys : List Line) → Absent x.block xs → Absent x.block ys →
     Absent new.block (xs ++ x ∷ ys) → Distinct (xs ++ x ∷ ys) → Distinct (with_block p c n new (Some x) (xs ++ x ∷ ys))
-exchange_distinct Lru c n new xs x ys a h k d =
-    rw (without_split x.block xs x ys refl a h)
-    (absent_append new.block xs ys (absent_left new.block xs (x ∷ ys) k) (absent_right new.block xs (x ∷ ys) k).1, distinct_without xs x ys d)
-exchange_distinct Fifo c n new xs x ys a h k d =
-    rw (without_split x.block xs x ys refl a h)
-    (absent_append new.block xs ys (absent_left new.block xs (x ∷ ys) k) (absent_right new.block xs (x ∷ ys) k).1, distinct_without xs x ys d)
-exchange_distinct Random c n new xs x ys a h k d =
-    let y : Line = record { block = new.block; key = x.key; dirty = new.dirty } in
-    rw (exchange_split x.block y xs x ys refl a h)
-    (distinct_instead xs y ys (distinct_without xs x ys d) (absent_left new.block xs (x ∷ ys) k) (absent_right new.block xs (x ∷ ys) k).1)
+exchange_distinct p c n new xs x ys a h k d = by_policy p
+  where
+    apart : Absent new.block xs × Absent new.block ys
+    apart = absent_round new.block xs x ys k
+
+    in_front : Distinct (record { block = new.block; key = c; dirty = new.dirty } ∷ without x.block (xs ++ x ∷ ys))
+    in_front = rw (without_split x.block xs x ys refl a h) (absent_append new.block xs ys apart.0 apart.1, distinct_without xs x ys d)
+
+    y : Line
+    y = record { block = new.block; key = x.key; dirty = new.dirty }
+
+    by_policy : (q : Repl) → Distinct (with_block q c n new (Some x) (xs ++ x ∷ ys))
+    by_policy Lru = in_front
+    by_policy Fifo = in_front
+    by_policy Random = rw (exchange_split x.block y xs x ys refl a h) (distinct_instead xs y ys (distinct_without xs x ys d) apart.0 apart.1)

@@ -1,7 +1,7 @@
 -- The machine stays sound, whatever references and flushes come.
 use Rattle.std.proofs.Common.{◌≡◌, ℕ, ◌+◌, ◌%◌, ◌<◌, ◌≤◌, Bool, true, false, List, [], ◌∷◌, ◌++◌, length, get_or}
 use Rattle.std.proofs.Common.{Option, Some, None, sym, ap, refl, subst, arith, ⊎_elim, map, find, length-set, length-append}
-use Rattle.std.specs.Prelude.{MatchOption, MatchBool, slice_set, remove, fold}
+use Rattle.std.specs.Prelude.{MatchBool, slice_set, remove, fold}
 use Rattle.std.proofs.lemmas.List.{length-map}
 use Rattle.std.proofs.lemmas.List.Edits.{length-remove}
 use Rattle.std.proofs.lemmas.List.Quantifiers.{position-Some}
@@ -19,7 +19,7 @@ use Rattle.cache_core.specs.declared.outcome.Repl.TheVariants.{Lru, Fifo, Random
 use Rattle.cache_core.specs.Geometry.{set_of_block, block_of}
 use Rattle.cache_core.specs.Outcomes.{outcome_of, on_hit, on_placing, on_passing, dirties, allocates}
 use Rattle.cache_core.specs.Machine.{Machine, MachineState, slot_of, is_block, lines_of_set, start, step, next, run}
-use Rattle.cache_core.specs.Order.{Visits, Hits, Fills, PassesOn, Touches, TakesIn, marked, position_of, words_after}
+use Rattle.cache_core.specs.Order.{Visits, VisitsAt, Fills, PassesOn, Touches, TakesIn, marked, position_of, words_after}
 use Rattle.cache_core.specs.Stands.{IsSoundState}
 use Rattle.cache_core.proofs.StateLaw.{step_agrees, sound_step}
 use Rattle.cache_core.proofs.FlushLaw.{start_sound, empty_good}
@@ -51,15 +51,11 @@ record Placed (p : Repl) (word room : ℕ) (slots : List Slot) (slot : Slot) : T
   places : TakesIn (Some p) word room slots slot evicted new
   few : length new ≤ room
 
-front_exists : (word room : ℕ) (slots : List Slot) (slot : Slot) → 0 < room → length slots ≡ room → Placed Lru word room slots slot
-front_exists word room slots slot r e =
-    let u = unsnoc slots (omega arith) in
-    record {
-      evicted = Some u.gone;
-      new = slot ∷ u.front;
-      places = (e, (u.front, u.split, refl));
-      few = omega (arith, length-append u.front (u.gone ∷ []), ap length u.split);
-    }
+-- a slot put in front of a full set, whose last one leaves
+front_placed : (p : Repl) (word room : ℕ) (slots : List Slot) (slot : Slot) (u : Unsnoc slots) → length slots ≡ room →
+    TakesIn (Some p) word room slots slot (Some u.gone) (slot ∷ u.front) → Placed p word room slots slot
+front_placed p word room slots slot u e places =
+    record { evicted = Some u.gone; new = slot ∷ u.front; places = places; few = omega (arith, length-append u.front (u.gone ∷ []), ap length u.split) }
 
 place_exists : (p : Repl) (word room : ℕ) (slots : List Slot) (slot : Slot) → 0 < room → length slots ≤ room → Placed p word room slots slot
 place_exists p word room slots slot r l = ⊎_elim
@@ -73,15 +69,8 @@ place_exists p word room slots slot r l = ⊎_elim
     insert Random t = record { evicted = None; new = slots ++ slot ∷ []; places = (t, refl); few = omega (arith, length-append slots (slot ∷ [])) }
 
     exchange : (q : Repl) → length slots ≡ room → Placed q word room slots slot
-    exchange Lru e = front_exists word room slots slot r e
-    exchange Fifo e =
-        let u = unsnoc slots (omega arith) in
-        record {
-          evicted = Some u.gone;
-          new = slot ∷ u.front;
-          places = (e, (u.front, u.split, refl));
-          few = omega (arith, length-append u.front (u.gone ∷ []), ap length u.split);
-        }
+    exchange Lru e = let u = unsnoc slots (omega arith) in front_placed Lru word room slots slot u e (e, (u.front, u.split, refl))
+    exchange Fifo e = let u = unsnoc slots (omega arith) in front_placed Fifo word room slots slot u e (e, (u.front, u.split, refl))
     exchange Random e =
         let way : word % length slots < length slots = omega arith in
         let none : Slot = record { block = 0; dirty = false } in
@@ -102,14 +91,17 @@ pub record Visited (d : Design) (p : Repl) (words : ℕ → ℕ) (ref : Ref) (sl
 
 pub visit_exists : (d : Design) (p : Repl) (words : ℕ → ℕ) (ref : Ref) (slots : List Slot) → 0 < d.geometry.e → length slots ≤ d.geometry.e →
     Visited d p words ref slots
-visit_exists d p words ref slots r l = by_place (position_of (block_of d.geometry ref.addr) slots) refl
+visit_exists d p words ref slots r l = by_place (position_of b slots) refl
   where
+    b : ℕ
+    b = block_of d.geometry ref.addr
+
     by_alloc : (al : Bool) →
         (outcome : Outcome) × (new : List Slot) × (rest : ℕ → ℕ)
         × MatchBool al (Fills d (Some p) words ref slots outcome new rest) (PassesOn words ref slots outcome new rest) × (length new ≤ d.geometry.e)
     by_alloc true =
-        let x = place_exists p (words 0) d.geometry.e slots (record { block = block_of d.geometry ref.addr; dirty = dirties d.write ref.access }) r l in (
-          outcome_of (on_placing d.geometry d.write ref (block_of d.geometry ref.addr) x.evicted),
+        let x = place_exists p (words 0) d.geometry.e slots (record { block = b; dirty = dirties d.write ref.access }) r l in (
+          outcome_of (on_placing d.geometry d.write ref b x.evicted),
           x.new,
           words_after (Some p) x.evicted words,
           record { order = x.places; undrawn = refl; answers = refl },
@@ -117,37 +109,25 @@ visit_exists d p words ref slots r l = by_place (position_of (block_of d.geometr
         )
     by_alloc false = (outcome_of (on_passing ref), slots, words, record { order = refl; undrawn = refl; answers = refl }, l)
 
-    by_place : (o : Option ℕ) → position_of (block_of d.geometry ref.addr) slots ≡ o → Visited d p words ref slots
-    by_place None e =
-        let x = by_alloc (allocates d.allocate ref.access) in
-        record {
-          outcome = x.0;
-          new = x.1;
-          rest = x.2;
-          visit = subst
-              (λ o. MatchOption o
-              (MatchBool (allocates d.allocate ref.access) (Fills d (Some p) words ref slots x.0 x.1 x.2) (PassesOn words ref slots x.0 x.1 x.2))
-              (λ at. Hits d (Some p) words ref at slots x.0 x.1 x.2))
-              (sym e) x.3;
-          few = x.4;
-        }
+    visited : (place : Option ℕ) (outcome : Outcome) (new : List Slot) (rest : ℕ → ℕ) → position_of b slots ≡ place →
+        VisitsAt place d (Some p) words ref slots outcome new rest → length new ≤ d.geometry.e → Visited d p words ref slots
+    visited place outcome new rest e v few = record {
+      outcome = outcome;
+      new = new;
+      rest = rest;
+      visit = subst (λ o. VisitsAt o d (Some p) words ref slots outcome new rest) (sym e) v;
+      few = few;
+    }
+
+    by_place : (o : Option ℕ) → position_of b slots ≡ o → Visited d p words ref slots
+    by_place None e = let x = by_alloc (allocates d.allocate ref.access) in visited None x.0 x.1 x.2 e x.3 x.4
     by_place (Some at) e =
         let s = marked (dirties d.write ref.access) slots at in
-        let h : at < length s =
-        omega (arith, (position-Some _ slots at (record { block = 0; dirty = false }) e).0, marked_length (dirties d.write ref.access) slots at) in
+        let same : length s ≡ length slots = marked_length (dirties d.write ref.access) slots at in
+        let h : at < length s = omega (arith, (position-Some _ slots at (record { block = 0; dirty = false }) e).0, same) in
         let x = touch_exists p s at h in
-        let out = outcome_of (on_hit d.write ref) in
-        record {
-          outcome = out;
-          new = x.0;
-          rest = words;
-          visit = subst
-              (λ o. MatchOption o
-              (MatchBool (allocates d.allocate ref.access) (Fills d (Some p) words ref slots out x.0 words) (PassesOn words ref slots out x.0 words))
-              (λ n. Hits d (Some p) words ref n slots out x.0 words))
-              (sym e) (record { order = x.1; undrawn = refl; answers = refl });
-          few = omega (arith, x.2, marked_length (dirties d.write ref.access) slots at);
-        }
+        visited (Some at) (outcome_of (on_hit d.write ref)) x.0 words e (record { order = x.1; undrawn = refl; answers = refl })
+        (omega (arith, x.2, same))
 
 -- no set has more lines than ways
 abbrev pub IsFew : Machine → MachineState → Type 0
@@ -162,7 +142,7 @@ sound_ref m st ref r s f =
     let words : ℕ → ℕ = λ n. m.words (st.drawn + n) in
     let here = lines_of_set g k st.lines in
     let v = visit_exists m.design m.policy words ref (map slot_of here) r (omega (arith, f k, length-map here slot_of)) in
-    let a = step_agrees m st ref words v.outcome v.new v.rest (find (is_block b) st.lines) s refl refl v.visit in (
+    let a = step_agrees m st ref words v.outcome v.new v.rest s refl (find (is_block b) st.lines) refl v.visit in (
       sound_step m st (step m st ref) k v.new v.rest v.outcome _ s a,
       λ j. ⊎_elim
           (λ t. subst (λ i. length (lines_of_set g i (step m st ref).lines) ≤ g.e) (sym t.1)

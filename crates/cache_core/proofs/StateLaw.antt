@@ -1,7 +1,7 @@
 -- One access, as the cache sees it and as the machine sees it.
 use Rattle.std.proofs.Common.{◌≡◌, ◌≢◌, ℕ, ◌+◌, ◌==◌, Bool, true, false, cond, ltb, List, [], ◌∷◌, ◌++◌, length, Option}
 use Rattle.std.proofs.Common.{Some, None, sym, ◌∙◌, ap, refl, subst, arith, ⊎_elim, map, find}
-use Rattle.std.specs.Prelude.{MatchOption, MatchBool}
+use Rattle.std.specs.Prelude.{MatchBool}
 use Rattle.std.proofs.lemmas.List.{length-map, append-nil}
 use Rattle.std.proofs.lemmas.List.Elements.{filter-append}
 use Rattle.std.proofs.lemmas.Bool.{eq-eqb, le-ltb, lt-ltb}
@@ -9,21 +9,22 @@ use Rattle.std.proofs.lemmas.Bool.Decides.{eqb_tells}
 use Rattle.trace_core.specs.declared.events.Ref.{Ref}
 use Rattle.cache_core.specs.declared.outcome.Slot.{Slot}
 use Rattle.cache_core.specs.declared.outcome.Outcome.{Outcome}
-use Rattle.cache_core.specs.declared.outcome.Design.{Design}
 use Rattle.cache_core.specs.declared.outcome.Repl.{Repl}
 use Rattle.cache_core.specs.declared.outcome.Repl.TheVariants.{Lru, Fifo, Random}
-use Rattle.cache_core.specs.Geometry.{GeometryValue, set_of_block, block_of, set_of}
+use Rattle.cache_core.specs.Geometry.{GeometryValue, set_of_block, block_of}
 use Rattle.cache_core.specs.Outcomes.{Answer, outcome_of, on_placing, on_passing, dirties, allocates}
 use Rattle.cache_core.specs.Machine.{Machine, MachineState, Line, slot_of, option_slot, is_block, lines_of_set, without, victim, touch, with_block, leaves}
 use Rattle.cache_core.specs.Machine.{placing, draws, step_at, answer_at, step, answer}
-use Rattle.cache_core.specs.Order.{Contents, Accesses, Visits, Fills, PassesOn, Hits, TakesIn, words_after, slots_of}
+use Rattle.cache_core.specs.Order.{Contents, Accesses, Visits, VisitsAt, Fills, PassesOn, TakesIn, words_after, slots_of}
 use Rattle.cache_core.specs.Stands.{IsState, Absent, IsGood, IsSoundState}
 use Rattle.cache_core.proofs.Lines.{ne-eqb, not_found, find_in_set, absent_other, set_without, set_exchange, without_absent, exchange_absent, Found, found}
 use Rattle.cache_core.proofs.Lines.{absent_right, falls_weaker}
 use Rattle.cache_core.proofs.SetLaw.{touched, with_mark, place_absent, insert_law, insert_good, exchange_law}
+use Rattle.cache_core.proofs.Visits.{set_for, visit_for, others_for}
 
 -- a line of a set, and one of another
-cons_here : (g : GeometryValue) (k : ℕ) (x : Line) (ls : List Line) → set_of_block g x.block ≡ k → lines_of_set g k (x ∷ ls) ≡ x ∷ lines_of_set g k ls
+cons_here : (g : GeometryValue) (k : ℕ) (x : Line) (ls : List Line) → set_of_block g x.block ≡ k →
+    lines_of_set g k (x ∷ ls) ≡ x ∷ lines_of_set g k ls
 cons_here g k x ls e = rw (eq-eqb (set_of_block g x.block) k e) refl
 
 cons_other : (g : GeometryValue) (k : ℕ) (x : Line) (ls : List Line) → k ≢ set_of_block g x.block → lines_of_set g k (x ∷ ls) ≡ lines_of_set g k ls
@@ -38,52 +39,71 @@ touch_here Random c g k x ls e = set_exchange g k x.block x ls refl
 
 pub touch_other : (p : Repl) (c : ℕ) (g : GeometryValue) (k : ℕ) (x : Line) (ls : List Line) → k ≢ set_of_block g x.block →
     lines_of_set g k (touch p c x ls) ≡ lines_of_set g k ls
-touch_other Lru c g k x ls e =
-    cons_other g k (record x { key = c }) (without x.block ls) e ∙ set_without g k x.block ls
-    ∙ without_absent x.block (lines_of_set g k ls) (absent_other g k x.block ls e)
-touch_other Fifo c g k x ls e = set_exchange g k x.block x ls refl ∙ exchange_absent x.block x (lines_of_set g k ls) (absent_other g k x.block ls e)
-touch_other Random c g k x ls e = set_exchange g k x.block x ls refl ∙ exchange_absent x.block x (lines_of_set g k ls) (absent_other g k x.block ls e)
+touch_other p c g k x ls e = by_policy p
+  where
+    absent : Absent x.block (lines_of_set g k ls)
+    absent = absent_other g k x.block ls e
 
--- so does a placing
-pub insert_here : (p : Repl) (c n : ℕ) (g : GeometryValue) (k : ℕ) (new : Slot) (ls : List Line) → set_of_block g new.block ≡ k →
-    lines_of_set g k (with_block p c n new None ls) ≡ with_block p c n new None (lines_of_set g k ls)
-insert_here Lru c n g k new ls e = cons_here g k (record { block = new.block; key = c; dirty = new.dirty }) ls e
-insert_here Fifo c n g k new ls e = cons_here g k (record { block = new.block; key = c; dirty = new.dirty }) ls e
-insert_here Random c n g k new ls e =
-    let x : Line = record { block = new.block; key = n; dirty = new.dirty } in
+    by_policy : (q : Repl) → lines_of_set g k (touch q c x ls) ≡ lines_of_set g k ls
+    by_policy Lru =
+        cons_other g k (record x { key = c }) (without x.block ls) e ∙ set_without g k x.block ls ∙ without_absent x.block (lines_of_set g k ls) absent
+    by_policy Fifo = set_exchange g k x.block x ls refl ∙ exchange_absent x.block x (lines_of_set g k ls) absent
+    by_policy Random = set_exchange g k x.block x ls refl ∙ exchange_absent x.block x (lines_of_set g k ls) absent
+
+-- the line of a new slot, with a key
+abbrev keyed : ℕ → Slot → Line
+keyed key new = record { block = new.block; key = key; dirty = new.dirty }
+
+-- so does a placing with room: at the end of the lines
+push_here : (g : GeometryValue) (k : ℕ) (x : Line) (ls : List Line) → set_of_block g x.block ≡ k →
+    lines_of_set g k (ls ++ x ∷ []) ≡ lines_of_set g k ls ++ x ∷ []
+push_here g k x ls e =
     filter-append (λ line. set_of_block g line.block == k) ls (x ∷ []) ∙ ap (λ s. lines_of_set g k ls ++ s) (cons_here g k x [] e)
 
-pub insert_other : (p : Repl) (c n : ℕ) (g : GeometryValue) (k : ℕ) (new : Slot) (ls : List Line) → k ≢ set_of_block g new.block →
-    lines_of_set g k (with_block p c n new None ls) ≡ lines_of_set g k ls
-insert_other Lru c n g k new ls e = cons_other g k (record { block = new.block; key = c; dirty = new.dirty }) ls e
-insert_other Fifo c n g k new ls e = cons_other g k (record { block = new.block; key = c; dirty = new.dirty }) ls e
-insert_other Random c n g k new ls e =
-    let x : Line = record { block = new.block; key = n; dirty = new.dirty } in
+push_other : (g : GeometryValue) (k : ℕ) (x : Line) (ls : List Line) → k ≢ set_of_block g x.block →
+    lines_of_set g k (ls ++ x ∷ []) ≡ lines_of_set g k ls
+push_other g k x ls e =
     filter-append (λ line. set_of_block g line.block == k) ls (x ∷ []) ∙ ap (λ s. lines_of_set g k ls ++ s) (cons_other g k x [] e)
     ∙ append-nil (lines_of_set g k ls)
 
+-- or in front of them
+pub insert_here : (p : Repl) (c n : ℕ) (g : GeometryValue) (k : ℕ) (new : Slot) (ls : List Line) → set_of_block g new.block ≡ k →
+    lines_of_set g k (with_block p c n new None ls) ≡ with_block p c n new None (lines_of_set g k ls)
+insert_here Lru c n g k new ls e = cons_here g k (keyed c new) ls e
+insert_here Fifo c n g k new ls e = cons_here g k (keyed c new) ls e
+insert_here Random c n g k new ls e = push_here g k (keyed n new) ls e
+
+pub insert_other : (p : Repl) (c n : ℕ) (g : GeometryValue) (k : ℕ) (new : Slot) (ls : List Line) → k ≢ set_of_block g new.block →
+    lines_of_set g k (with_block p c n new None ls) ≡ lines_of_set g k ls
+insert_other Lru c n g k new ls e = cons_other g k (keyed c new) ls e
+insert_other Fifo c n g k new ls e = cons_other g k (keyed c new) ls e
+insert_other Random c n g k new ls e = push_other g k (keyed n new) ls e
+
+-- and a placing for which a line leaves
+front_here : (g : GeometryValue) (k : ℕ) (x gone : Line) (ls : List Line) → set_of_block g x.block ≡ k →
+    lines_of_set g k (x ∷ without gone.block ls) ≡ x ∷ without gone.block (lines_of_set g k ls)
+front_here g k x gone ls e = cons_here g k x (without gone.block ls) e ∙ ap (λ s. x ∷ s) (set_without g k gone.block ls)
+
+front_other : (g : GeometryValue) (k : ℕ) (x gone : Line) (ls : List Line) → k ≢ set_of_block g x.block → k ≢ set_of_block g gone.block →
+    lines_of_set g k (x ∷ without gone.block ls) ≡ lines_of_set g k ls
+front_other g k x gone ls e f =
+    cons_other g k x (without gone.block ls) e ∙ set_without g k gone.block ls
+    ∙ without_absent gone.block (lines_of_set g k ls) (absent_other g k gone.block ls f)
+
 pub exchange_here : (p : Repl) (c n : ℕ) (g : GeometryValue) (k : ℕ) (new : Slot) (gone : Line) (ls : List Line) → set_of_block g new.block ≡ k →
     set_of_block g gone.block ≡ k → lines_of_set g k (with_block p c n new (Some gone) ls) ≡ with_block p c n new (Some gone) (lines_of_set g k ls)
-exchange_here Lru c n g k new gone ls e f =
-    cons_here g k (record { block = new.block; key = c; dirty = new.dirty }) (without gone.block ls) e
-    ∙ ap (λ s. record { block = new.block; key = c; dirty = new.dirty } ∷ s) (set_without g k gone.block ls)
-exchange_here Fifo c n g k new gone ls e f =
-    cons_here g k (record { block = new.block; key = c; dirty = new.dirty }) (without gone.block ls) e
-    ∙ ap (λ s. record { block = new.block; key = c; dirty = new.dirty } ∷ s) (set_without g k gone.block ls)
-exchange_here Random c n g k new gone ls e f = set_exchange g k gone.block (record { block = new.block; key = gone.key; dirty = new.dirty }) ls (e ∙ sym f)
+exchange_here Lru c n g k new gone ls e f = front_here g k (keyed c new) gone ls e
+exchange_here Fifo c n g k new gone ls e f = front_here g k (keyed c new) gone ls e
+exchange_here Random c n g k new gone ls e f = set_exchange g k gone.block (keyed gone.key new) ls (e ∙ sym f)
 
 pub exchange_other : (p : Repl) (c n : ℕ) (g : GeometryValue) (k : ℕ) (new : Slot) (gone : Line) (ls : List Line) →
     set_of_block g gone.block ≡ set_of_block g new.block → k ≢ set_of_block g new.block →
     lines_of_set g k (with_block p c n new (Some gone) ls) ≡ lines_of_set g k ls
-exchange_other Lru c n g k new gone ls e f =
-    cons_other g k (record { block = new.block; key = c; dirty = new.dirty }) (without gone.block ls) f ∙ set_without g k gone.block ls
-    ∙ without_absent gone.block (lines_of_set g k ls) (absent_other g k gone.block ls (λ q. f (q ∙ e)))
-exchange_other Fifo c n g k new gone ls e f =
-    cons_other g k (record { block = new.block; key = c; dirty = new.dirty }) (without gone.block ls) f ∙ set_without g k gone.block ls
-    ∙ without_absent gone.block (lines_of_set g k ls) (absent_other g k gone.block ls (λ q. f (q ∙ e)))
+exchange_other Lru c n g k new gone ls e f = front_other g k (keyed c new) gone ls f (λ q. f (q ∙ e))
+exchange_other Fifo c n g k new gone ls e f = front_other g k (keyed c new) gone ls f (λ q. f (q ∙ e))
 exchange_other Random c n g k new gone ls e f =
-    set_exchange g k gone.block (record { block = new.block; key = gone.key; dirty = new.dirty }) ls (sym e)
-    ∙ exchange_absent gone.block _ (lines_of_set g k ls) (absent_other g k gone.block ls (λ q. f (q ∙ e)))
+    set_exchange g k gone.block (keyed gone.key new) ls (sym e)
+    ∙ exchange_absent gone.block (keyed gone.key new) (lines_of_set g k ls) (absent_other g k gone.block ls (λ q. f (q ∙ e)))
 
 -- what a step has to do: the set of the block agrees again, the others stay
 pub record Agrees (m : Machine) (st next : MachineState) (k : ℕ) (slots : List Slot) (rest : ℕ → ℕ) (outcome : Outcome) (a : Answer) : Type 0 where
@@ -93,37 +113,6 @@ pub record Agrees (m : Machine) (st next : MachineState) (k : ℕ) (slots : List
   pub told : outcome ≡ outcome_of a
   pub good : IsGood m.policy next.clock (lines_of_set m.design.geometry k next.lines)
   pub clock : next.clock ≡ st.clock + 1
-
-hit_agrees : (m : Machine) (st : MachineState) (ref : Ref) (line : Line) (words : ℕ → ℕ) (outcome : Outcome) (slots : List Slot) (rest : ℕ → ℕ) →
-    let g = m.design.geometry in let b = block_of g ref.addr in let k = set_of_block g b in
-    IsSoundState m st → words ≡ (λ n. m.words (st.drawn + n)) → find (is_block b) st.lines ≡ Some line →
-    Visits m.design (Some m.policy) words ref (map slot_of (lines_of_set g k st.lines)) outcome slots rest →
-    Agrees m st (step_at m ref b (leaves m st k) st (Some line)) k slots rest outcome (answer_at m ref b (leaves m st k) (Some line))
-hit_agrees m st ref line words outcome slots rest s w h v =
-    let g = m.design.geometry in
-    let b = block_of g ref.addr in
-    let k = set_of_block g b in
-    let d = dirties m.design.write ref.access in
-    let here = lines_of_set g k st.lines in
-    let f : find (is_block b) here ≡ Some line = find_in_set g b st.lines ∙ h in
-    let t = touched m.policy st.clock b line d here (s k) f in
-    let hits : Hits m.design (Some m.policy) words ref t.at (map slot_of here) outcome slots rest =
-    subst
-    (λ o. MatchOption o
-    (MatchBool (allocates m.design.allocate ref.access) (Fills m.design (Some m.policy) words ref (map slot_of here) outcome slots rest)
-    (PassesOn words ref (map slot_of here) outcome slots rest))
-    (λ at. Hits m.design (Some m.policy) words ref at (map slot_of here) outcome slots rest))
-    t.place v in
-    let in_set : set_of_block g line.block ≡ k = ap (set_of_block g) (found b here line f).here in
-    let e = touch_here m.policy (st.clock + 1) g k (with_mark d line) st.lines in_set in
-    record {
-      held = t.slots slots hits.order ∙ ap (map slot_of) (sym e);
-      others = λ j ne. touch_other m.policy (st.clock + 1) g j (with_mark d line) st.lines (λ q. ne (q ∙ in_set));
-      words = hits.undrawn ∙ w;
-      told = hits.answers;
-      good = rw e t.good;
-      clock = refl;
-    }
 
 -- a line among those of a set is of that set
 pub member_set : (g : GeometryValue) (k : ℕ) (x : Line) (ls : List Line) → Found x.block (lines_of_set g k ls) x → set_of_block g x.block ≡ k
@@ -146,102 +135,107 @@ words_some Random gone words w drawn e =
     let shifted : (n : ℕ) → words (n + 1) ≡ w (drawn + 1 + n) = λ n. ap (λ (f : ℕ → ℕ). f (n + 1)) e ∙ ap w (omega arith) in
     λ i n. shifted n i
 
-fill_agrees : (m : Machine) (st : MachineState) (ref : Ref) (words : ℕ → ℕ) (outcome : Outcome) (slots : List Slot) (rest : ℕ → ℕ)
-    (evicted : Option Slot) →
-    let g = m.design.geometry in
-    let b = block_of g ref.addr in
-    let k = set_of_block g b in
-    let new : Slot = record { block = b; dirty = dirties m.design.write ref.access } in
-    IsSoundState m st → words ≡ (λ n. m.words (st.drawn + n)) → Absent b (lines_of_set g k st.lines) →
-    TakesIn (Some m.policy) (words 0) g.e (map slot_of (lines_of_set g k st.lines)) new evicted slots →
-    rest ≡ words_after (Some m.policy) evicted words → outcome ≡ outcome_of (on_placing g m.design.write ref b evicted) →
-    Agrees m st (placing m ref b (leaves m st k) st) k slots rest outcome (on_placing g m.design.write ref b (option_slot (leaves m st k)))
-fill_agrees m st ref words outcome slots rest None s w a p u o =
-    let g = m.design.geometry in
-    let b = block_of g ref.addr in
-    let k = set_of_block g b in
-    let new : Slot = record { block = b; dirty = dirties m.design.write ref.access } in
-    let here = lines_of_set g k st.lines in
-    let room : ltb (length here) g.e ≡ true = lt-ltb (length here) g.e (omega (arith, p.0, length-map here slot_of)) in
-    let e = insert_here m.policy (st.clock + 1) (length here) g k new st.lines refl in
-    rw room record {
-      held = insert_law m.policy (st.clock + 1) (length here) new here slots p.1 ∙ ap (map slot_of) (sym e);
-      others = λ j ne. insert_other m.policy (st.clock + 1) (length here) g j new st.lines ne;
-      words = u ∙ words_none m.policy words ∙ w;
-      told = o;
-      good = rw e (insert_good m.policy st.clock new here (s k) a);
-      clock = refl;
-    }
-fill_agrees m st ref words outcome slots rest (Some gone) s w a p u o =
-    let g = m.design.geometry in
-    let b = block_of g ref.addr in
-    let k = set_of_block g b in
-    let new : Slot = record { block = b; dirty = dirties m.design.write ref.access } in
-    let here = lines_of_set g k st.lines in
-    let full : ltb (length here) g.e ≡ false = le-ltb (length here) g.e (omega (arith, p.0, length-map here slot_of)) in
-    let x = exchange_law m.policy st.clock g.e (words 0) (length here) new gone here slots p.0 p.1 (s k) a in
-    let first : words 0 ≡ m.words st.drawn = ap (λ (f : ℕ → ℕ). f 0) w ∙ ap m.words (omega arith) in
-    let left : victim m.policy g.e (m.words st.drawn) here ≡ Some x.line = ap (λ n. victim m.policy g.e n here) (sym first) ∙ x.leaves in
-    let in_set : set_of_block g x.line.block ≡ k = member_set g k x.line st.lines x.among in
-    let e = exchange_here m.policy (st.clock + 1) (length here) g k new x.line st.lines refl in_set in
-    rw (full, left) record {
-      held = x.slots ∙ ap (map slot_of) (sym e);
-      others = λ j ne. exchange_other m.policy (st.clock + 1) (length here) g j new x.line st.lines in_set ne;
-      words = u ∙ words_some m.policy gone words m.words st.drawn w;
-      told = o ∙ ap (λ v. outcome_of (on_placing g m.design.write ref b (Some v))) x.left;
-      good = rw e x.good;
-      clock = refl;
-    }
-
 -- a set that stays is good at the next clock
 later : (p : Repl) (c : ℕ) (ls : List Line) → IsGood p c ls → IsGood p (c + 1) ls
 later Lru c ls i = record { distinct = i.distinct; order = falls_weaker (c + 1) (c + 1 + 1) ls (omega arith) i.order }
 later Fifo c ls i = record { distinct = i.distinct; order = falls_weaker (c + 1) (c + 1 + 1) ls (omega arith) i.order }
 later Random c ls i = record { distinct = i.distinct; order = i.order }
 
-pass_agrees : (m : Machine) (st : MachineState) (ref : Ref) (words : ℕ → ℕ) (outcome : Outcome) (slots : List Slot) (rest : ℕ → ℕ) (k : ℕ) →
-    IsSoundState m st → words ≡ (λ n. m.words (st.drawn + n)) →
-    PassesOn words ref (map slot_of (lines_of_set m.design.geometry k st.lines)) outcome slots rest →
-    Agrees m st (record st { clock = st.clock + 1 }) k slots rest outcome (on_passing ref)
-pass_agrees m st ref words outcome slots rest k s w v = record {
-  held = v.order;
-  others = λ j ne. refl;
-  words = v.undrawn ∙ w;
-  told = v.answers;
-  good = later m.policy st.clock (lines_of_set m.design.geometry k st.lines) (s k);
-  clock = refl;
-}
+-- one reference at a sound machine, whose set is visited
+module _ (m : Machine) (st : MachineState) (ref : Ref) (words : ℕ → ℕ) (outcome : Outcome) (slots : List Slot) (rest : ℕ → ℕ)
+    (sound : IsSoundState m st) (undrawn : words ≡ (λ n. m.words (st.drawn + n))) where
+  abbrev g : GeometryValue
+  g = m.design.geometry
 
-miss_agrees : (m : Machine) (st : MachineState) (ref : Ref) (words : ℕ → ℕ) (outcome : Outcome) (slots : List Slot) (rest : ℕ → ℕ)
-    (fills : Bool) →
-    let g = m.design.geometry in let b = block_of g ref.addr in let k = set_of_block g b in let here = map slot_of (lines_of_set g k st.lines) in
-    IsSoundState m st → words ≡ (λ n. m.words (st.drawn + n)) → Absent b (lines_of_set g k st.lines) →
-    MatchBool fills (Fills m.design (Some m.policy) words ref here outcome slots rest) (PassesOn words ref here outcome slots rest) →
-    Agrees m st (cond fills (placing m ref b (leaves m st k) st) (record st { clock = st.clock + 1 })) k slots rest outcome
-    (cond fills (on_placing g m.design.write ref b (option_slot (leaves m st k))) (on_passing ref))
-miss_agrees m st ref words outcome slots rest true s w a v = fill_agrees m st ref words outcome slots rest outcome.evicted s w a v.order v.undrawn v.answers
-miss_agrees m st ref words outcome slots rest false s w a v = pass_agrees m st ref words outcome slots rest _ s w v
+  abbrev b : ℕ
+  b = block_of g ref.addr
 
-pub step_agrees : (m : Machine) (st : MachineState) (ref : Ref) (words : ℕ → ℕ) (outcome : Outcome) (slots : List Slot) (rest : ℕ → ℕ)
-    (o : Option Line) →
-    let g = m.design.geometry in let b = block_of g ref.addr in let k = set_of_block g b in
-    IsSoundState m st → words ≡ (λ n. m.words (st.drawn + n)) → find (is_block b) st.lines ≡ o →
-    Visits m.design (Some m.policy) words ref (map slot_of (lines_of_set g k st.lines)) outcome slots rest →
-    Agrees m st (step_at m ref b (leaves m st k) st o) k slots rest outcome (answer_at m ref b (leaves m st k) o)
-step_agrees m st ref words outcome slots rest (Some line) s w e v = hit_agrees m st ref line words outcome slots rest s w e v
-step_agrees m st ref words outcome slots rest None s w e v =
-    let g = m.design.geometry in
-    let b = block_of g ref.addr in
-    let k = set_of_block g b in
-    let here = lines_of_set g k st.lines in
-    let a : Absent b here = not_found b here (find_in_set g b st.lines ∙ e) in
-    miss_agrees m st ref words outcome slots rest (allocates m.design.allocate ref.access) s w a
-    (subst
-    (λ o. MatchOption o
-    (MatchBool (allocates m.design.allocate ref.access) (Fills m.design (Some m.policy) words ref (map slot_of here) outcome slots rest)
-    (PassesOn words ref (map slot_of here) outcome slots rest))
-    (λ at. Hits m.design (Some m.policy) words ref at (map slot_of here) outcome slots rest))
-    (place_absent b here a) v)
+  abbrev k : ℕ
+  k = set_of_block g b
+
+  abbrev here : List Line
+  here = lines_of_set g k st.lines
+
+  -- the slot of the block where it is placed
+  abbrev new : Slot
+  new = record { block = b; dirty = dirties m.design.write ref.access }
+
+  hit_agrees : (line : Line) → find (is_block b) st.lines ≡ Some line →
+      Visits m.design (Some m.policy) words ref (map slot_of here) outcome slots rest →
+      Agrees m st (step_at m ref b (leaves m st k) st (Some line)) k slots rest outcome (answer_at m ref b (leaves m st k) (Some line))
+  hit_agrees line h v =
+      let d = dirties m.design.write ref.access in
+      let f : find (is_block b) here ≡ Some line = find_in_set g b st.lines ∙ h in
+      let t = touched m.policy st.clock b line d here (sound k) f in
+      let hits = subst (λ o. VisitsAt o m.design (Some m.policy) words ref (map slot_of here) outcome slots rest) t.place v in
+      let in_set : set_of_block g line.block ≡ k = ap (set_of_block g) (found b here line f).here in
+      let e = touch_here m.policy (st.clock + 1) g k (with_mark d line) st.lines in_set in
+      record {
+        held = t.slots slots hits.order ∙ ap (map slot_of) (sym e);
+        others = λ j ne. touch_other m.policy (st.clock + 1) g j (with_mark d line) st.lines (λ q. ne (q ∙ in_set));
+        words = hits.undrawn ∙ undrawn;
+        told = hits.answers;
+        good = rw e t.good;
+        clock = refl;
+      }
+
+  fill_agrees : (evicted : Option Slot) → Absent b here → TakesIn (Some m.policy) (words 0) g.e (map slot_of here) new evicted slots →
+      rest ≡ words_after (Some m.policy) evicted words → outcome ≡ outcome_of (on_placing g m.design.write ref b evicted) →
+      Agrees m st (placing m ref b (leaves m st k) st) k slots rest outcome (on_placing g m.design.write ref b (option_slot (leaves m st k)))
+  fill_agrees None a p u o =
+      let room : ltb (length here) g.e ≡ true = lt-ltb (length here) g.e (omega (arith, p.0, length-map here slot_of)) in
+      let e = insert_here m.policy (st.clock + 1) (length here) g k new st.lines refl in
+      rw room record {
+        held = insert_law m.policy (st.clock + 1) (length here) new here slots p.1 ∙ ap (map slot_of) (sym e);
+        others = λ j ne. insert_other m.policy (st.clock + 1) (length here) g j new st.lines ne;
+        words = u ∙ words_none m.policy words ∙ undrawn;
+        told = o;
+        good = rw e (insert_good m.policy st.clock new here (sound k) a);
+        clock = refl;
+      }
+  fill_agrees (Some gone) a p u o =
+      let full : ltb (length here) g.e ≡ false = le-ltb (length here) g.e (omega (arith, p.0, length-map here slot_of)) in
+      let x = exchange_law m.policy st.clock g.e (words 0) (length here) new gone here slots p.0 p.1 (sound k) a in
+      let first : words 0 ≡ m.words st.drawn = ap (λ (f : ℕ → ℕ). f 0) undrawn ∙ ap m.words (omega arith) in
+      let left : victim m.policy g.e (m.words st.drawn) here ≡ Some x.line = ap (λ n. victim m.policy g.e n here) (sym first) ∙ x.leaves in
+      let in_set : set_of_block g x.line.block ≡ k = member_set g k x.line st.lines x.among in
+      let e = exchange_here m.policy (st.clock + 1) (length here) g k new x.line st.lines refl in_set in
+      rw (full, left) record {
+        held = x.slots ∙ ap (map slot_of) (sym e);
+        others = λ j ne. exchange_other m.policy (st.clock + 1) (length here) g j new x.line st.lines in_set ne;
+        words = u ∙ words_some m.policy gone words m.words st.drawn undrawn;
+        told = o ∙ ap (λ v. outcome_of (on_placing g m.design.write ref b (Some v))) x.left;
+        good = rw e x.good;
+        clock = refl;
+      }
+
+  pass_agrees : PassesOn words ref (map slot_of here) outcome slots rest →
+      Agrees m st (record st { clock = st.clock + 1 }) k slots rest outcome (on_passing ref)
+  pass_agrees v = record {
+    held = v.order;
+    others = λ j ne. refl;
+    words = v.undrawn ∙ undrawn;
+    told = v.answers;
+    good = later m.policy st.clock here (sound k);
+    clock = refl;
+  }
+
+  miss_agrees : (fills : Bool) → Absent b here →
+      MatchBool fills (Fills m.design (Some m.policy) words ref (map slot_of here) outcome slots rest)
+      (PassesOn words ref (map slot_of here) outcome slots rest) →
+      Agrees m st (cond fills (placing m ref b (leaves m st k) st) (record st { clock = st.clock + 1 })) k slots rest outcome
+      (cond fills (on_placing g m.design.write ref b (option_slot (leaves m st k))) (on_passing ref))
+  miss_agrees true a v = fill_agrees outcome.evicted a v.order v.undrawn v.answers
+  miss_agrees false a v = pass_agrees v
+
+  pub step_agrees : (o : Option Line) → find (is_block b) st.lines ≡ o →
+      Visits m.design (Some m.policy) words ref (map slot_of here) outcome slots rest →
+      Agrees m st (step_at m ref b (leaves m st k) st o) k slots rest outcome (answer_at m ref b (leaves m st k) o)
+  step_agrees (Some line) e v = hit_agrees line e v
+  step_agrees None e v =
+      let a : Absent b here = not_found b here (find_in_set g b st.lines ∙ e) in
+      miss_agrees (allocates m.design.allocate ref.access) a
+      (subst (λ o. VisitsAt o m.design (Some m.policy) words ref (map slot_of here) outcome slots rest) (place_absent b here a) v)
 
 -- the machine stays sound
 pub sound_step : (m : Machine) (st next : MachineState) (k : ℕ) (slots : List Slot) (rest : ℕ → ℕ) (outcome : Outcome) (a : Answer) →
@@ -258,23 +252,14 @@ pub record Follows (m : Machine) (st : MachineState) (ref : Ref) (outcome : Outc
   pub sound : IsSoundState m (step m st ref)
 
 pub access_law : (m : Machine) (st : MachineState) (old : Contents) (ref : Ref) (outcome : Outcome) (new : Contents) → IsSoundState m st →
-    IsState m st old → Accesses old ref outcome new → Follows m st ref outcome new
+    IsState m st old →
+    Accesses old ref outcome new → Follows m st ref outcome new
 access_law m st old ref outcome new s i a =
     let g = m.design.geometry in
-    let b = block_of g ref.addr in
-    let k = set_of_block g b in
-    let shape : old.design.geometry ≡ g = ap (λ (d : Design). d.geometry) i.design in
-    let same : set_of old.design.geometry ref.addr ≡ k = ap (λ h. set_of h ref.addr) shape in
-    let v1 : Visits m.design old.rule old.words ref (slots_of old.sets k) outcome (slots_of new.sets k) new.words =
-    subst
-    (λ (d : Design).
-    Visits d old.rule old.words ref (slots_of old.sets (set_of d.geometry ref.addr)) outcome (slots_of new.sets (set_of d.geometry ref.addr)) new.words)
-    i.design a.visit in
-    let v2 : Visits m.design (Some m.policy) old.words ref (slots_of old.sets k) outcome (slots_of new.sets k) new.words =
-    subst (λ r. Visits m.design r old.words ref (slots_of old.sets k) outcome (slots_of new.sets k) new.words) i.rule v1 in
-    let v3 : Visits m.design (Some m.policy) old.words ref (map slot_of (lines_of_set g k st.lines)) outcome (slots_of new.sets k) new.words =
-    subst (λ x. Visits m.design (Some m.policy) old.words ref x outcome (slots_of new.sets k) new.words) (i.sets k) v2 in
-    let r = step_agrees m st ref old.words outcome (slots_of new.sets k) new.words (find (is_block b) st.lines) s i.words refl v3 in
+    let k = set_for m ref in
+    let v : Visits m.design (Some m.policy) old.words ref (map slot_of (lines_of_set g k st.lines)) outcome (slots_of new.sets k) new.words =
+    rw (← i.rule, ← i.sets k) (visit_for m old ref outcome new i.design a) in
+    let r = step_agrees m st ref old.words outcome (slots_of new.sets k) new.words s i.words (find (is_block (block_of g ref.addr)) st.lines) refl v in
     record {
       state = record {
         design = a.design ∙ i.design;
@@ -283,7 +268,7 @@ access_law m st old ref outcome new s i a =
         count = a.count ∙ i.count;
         sets = λ j. ⊎_elim
             (λ t. subst (λ n. slots_of new.sets n ≡ map slot_of (lines_of_set g n (step m st ref).lines)) (sym t.1) r.held)
-            (λ f. a.others j (λ q. f.1 (q ∙ same)) ∙ i.sets j ∙ ap (map slot_of) (sym (r.others j f.1)))
+            (λ f. others_for m old ref outcome new i.design a j f.1 ∙ i.sets j ∙ ap (map slot_of) (sym (r.others j f.1)))
             (eqb_tells j k);
       };
       told = r.told;

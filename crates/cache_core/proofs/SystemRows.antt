@@ -26,12 +26,14 @@ abbrev unified : PlannedCache → Option PlannedCache → PlannedCaches
 unified u second = record { i = None; d = None; u = Some u; second = second }
 
 abbrev cache_counts : ℕ → ℕ → ℕ → ℕ → ℕ → ℕ → ℕ → ℕ → CacheStats
-cache_counts f fm r rm w wm e c = record { fetches = f; fetch_misses = fm; reads = r; read_misses = rm; writes = w; write_misses = wm; evictions = e; copybacks = c }
+cache_counts f fm r rm w wm e c =
+    record { fetches = f; fetch_misses = fm; reads = r; read_misses = rm; writes = w; write_misses = wm; evictions = e; copybacks = c }
 
 abbrev stats : Option CacheStats → Option CacheStats → Option CacheStats → Option CacheStats → ℕ → ℕ → ℕ → Stats
 stats i d u second reads writes bypassed = record { l1i = i; l1d = d; l1u = u; l2u = second; memory_reads = reads; memory_writes = writes; bypassed = bypassed }
 
-written_block_is_copied_back : system_run (unified one None) 42 (write 0 ∷ read 0x10 ∷ []) ≡ stats None None (Some (cache_counts 0 0 1 1 1 1 1 1)) None 2 1 0
+written_block_is_copied_back : system_run (unified one None) 42 (write 0 ∷ read 0x10 ∷ [])
+    ≡ stats None None (Some (cache_counts 0 0 1 1 1 1 1 1)) None 2 1 0
 written_block_is_copied_back = refl
 
 written_through : system_run (unified (planned 1 Lru Through Always) None) 42 (write 0 ∷ read 0x10 ∷ [])
@@ -50,7 +52,8 @@ fetch_bypasses : system_run (record { i = None; d = Some one; u = None; second =
     ≡ stats None (Some (cache_counts 0 0 1 1 0 0 0 0)) None None 1 0 1
 fetch_bypasses = refl
 
-flush_copies_back : system_run (unified one None) 42 (write 0 ∷ event.Flush ∷ read 0 ∷ []) ≡ stats None None (Some (cache_counts 0 0 1 1 1 1 0 1)) None 2 1 0
+flush_copies_back : system_run (unified one None) 42 (write 0 ∷ event.Flush ∷ read 0 ∷ [])
+    ≡ stats None None (Some (cache_counts 0 0 1 1 1 1 0 1)) None 2 1 0
 flush_copies_back = refl
 
 copyback_enters_the_second_level : system_run (unified one (Some one)) 42 (write 0 ∷ read 0x10 ∷ [])

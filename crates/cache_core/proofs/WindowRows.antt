@@ -46,7 +46,8 @@ nine_in_two_sets : map (λ e. counts (sets_of_lines 1 e) nine) (1 ∷ 2 ∷ []) 
 unfolding counts window places_after distinct distinct_of_set
 nine_in_two_sets = refl
 
-nine_by_machine : map (λ e. machine 0 e nine) (1 ∷ 2 ∷ 3 ∷ 4 ∷ []) ≡ counts_are 3 6 5 ∷ counts_are 4 5 3 ∷ counts_are 5 4 1 ∷ counts_are 5 4 0 ∷ []
+nine_by_machine : map (λ e. machine 0 e nine) (1 ∷ 2 ∷ 3 ∷ 4 ∷ [])
+    ≡ counts_are 3 6 5 ∷ counts_are 4 5 3 ∷ counts_are 5 4 1 ∷ counts_are 5 4 0 ∷ []
 nine_by_machine = refl
 
 nine_by_machine_in_two_sets : map (λ e. machine 1 e nine) (1 ∷ 2 ∷ []) ≡ counts_are 4 5 3 ∷ counts_are 4 5 2 ∷ []

@@ -79,12 +79,16 @@ pub record PassesOn (words : ℕ → ℕ) (ref : Ref) (old : List Slot) (outcome
   pub undrawn : rest ≡ words
   pub answers : outcome ≡ outcome_of (on_passing ref)
 
--- One access, as its set sees it: the slots and the words to come, before it and after it.
-abbrev pub Visits : Design → Option Repl → (ℕ → ℕ) → Ref → List Slot → Outcome → List Slot → (ℕ → ℕ) → Type 0
-Visits d rule words ref old outcome new rest =
-    MatchOption (position_of (block_of d.geometry ref.addr) old)
+-- One access, by the place of its block among the slots: a hit, or else a block that is placed or a reference that is passed on.
+abbrev pub VisitsAt : Option ℕ → Design → Option Repl → (ℕ → ℕ) → Ref → List Slot → Outcome → List Slot → (ℕ → ℕ) → Type 0
+VisitsAt place d rule words ref old outcome new rest =
+    MatchOption place
     (MatchBool (allocates d.allocate ref.access) (Fills d rule words ref old outcome new rest) (PassesOn words ref old outcome new rest))
     (λ at. Hits d rule words ref at old outcome new rest)
+
+-- One access, as its set sees it: the slots and the words to come, before it and after it.
+abbrev pub Visits : Design → Option Repl → (ℕ → ℕ) → Ref → List Slot → Outcome → List Slot → (ℕ → ℕ) → Type 0
+Visits d rule words ref old outcome new rest = VisitsAt (position_of (block_of d.geometry ref.addr) old) d rule words ref old outcome new rest
 
 -- what a cache holds: its sets, each in its policy's order, and the random words still to come
 pub record Contents : Type 0 where

@@ -1,5 +1,5 @@
 -- One step of a system, over what it holds.
-use Rattle.std.specs.Prelude.{◌≡◌, ◌≤◌, ℕ, ◌+◌, ◌*◌, ◌^◌, List, [], ◌∷◌, Option, Some, None, if◌then◌else◌}
+use Rattle.std.specs.Prelude.{◌≡◌, ◌≤◌, ℕ, ◌+◌, ◌*◌, Bool, List, [], ◌∷◌, Option, Some, None, if◌then◌else◌}
 use Rattle.std.specs.Prelude.{MatchOption, MatchBool, is_some, is_none}
 use Rattle.trace_core.specs.declared.events.Ref.{Ref}
 use Rattle.cache_core.specs.declared.outcome.Outcome.{Outcome}
@@ -60,15 +60,22 @@ pub record SystemValue : Type 0 where
   pub bypassed : ℕ
   pub steps : ℕ
 
+-- The unified cache is accessed, and the others stay.
+abbrev pub AccessesUnified : Option SystemCache → Option SystemCache → Option SystemCache → Ref → Option (List (Option Ref)) →
+    Option SystemCache → Option SystemCache → Option SystemCache → Type 0
+AccessesUnified i d u ref down i' d' u' = AccessesFirst u ref down u' × (i' ≡ i) × (d' ≡ d)
+
+-- The cache for fetches is accessed at a fetch, and the one for data otherwise; the others stay.
+abbrev pub AccessesSplit : Bool → Option SystemCache → Option SystemCache → Option SystemCache → Ref → Option (List (Option Ref)) →
+    Option SystemCache → Option SystemCache → Option SystemCache → Type 0
+AccessesSplit fetch i d u ref down i' d' u' =
+    MatchBool fetch (AccessesFirst i ref down i' × (d' ≡ d) × (u' ≡ u)) (AccessesFirst d ref down d' × (i' ≡ i) × (u' ≡ u))
+
 -- Which cache is accessed: a unified one if there is one, else the one for fetches or for data.
-abbrev pub AccessesFirstLevel : Option SystemCache → Option SystemCache → Option SystemCache → Ref → Option (List (Option Ref)) → Option SystemCache → Option SystemCache →
-    Option SystemCache → Type 0
+abbrev pub AccessesFirstLevel : Option SystemCache → Option SystemCache → Option SystemCache → Ref → Option (List (Option Ref)) →
+    Option SystemCache → Option SystemCache → Option SystemCache → Type 0
 AccessesFirstLevel i d u ref down i' d' u' =
-    MatchBool (is_some u)
-    (AccessesFirst u ref down u' × (i' ≡ i) × (d' ≡ d))
-    (MatchBool (is_fetch ref.access)
-    (AccessesFirst i ref down i' × (d' ≡ d) × (u' ≡ u))
-    (AccessesFirst d ref down d' × (i' ≡ i) × (u' ≡ u)))
+    MatchBool (is_some u) (AccessesUnified i d u ref down i' d' u') (AccessesSplit (is_fetch ref.access) i d u ref down i' d' u')
 
 -- the copybacks of a cache
 abbrev pub copied : Option SystemCache → ℕ

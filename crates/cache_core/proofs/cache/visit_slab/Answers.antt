@@ -1,11 +1,13 @@
+-- A set is read from its room, and the room is written back.
 use Rattle.std.proofs.Common.{arith, [], refl, sym, subst, set, get_or}
 use Rattle.std.proofs.lemmas.List.Elements.{All-get_or}
 use Rattle.cache_core.specs.Slab.{Addressable, sets_of}
 use Rattle.cache_core.specs.Touched.{Covers}
 use Rattle.cache_core.proofs.TouchedSets.{covers_change}
-use Rattle.cache_core.proofs.Slabs.{slab_read, slab_kept, slab_access, length-sets_of}
+use Rattle.cache_core.proofs.Slabs.{IsWritten, slab_read, slab_kept, slab_access, length-sets_of}
 use Rattle.cache_core.proofs.DirtyLaw.{slab_dirty}
 use Rattle.cache_core.proofs.cache.visit_slab.Goals as goal
+use Rattle.cache_core.proofs.cache.visit_slab.Given.{Over}
 
 pub visit-count-requires-clause-addresses : goal.visit-count-requires-clause-addresses
 visit-count-requires-clause-addresses g c =
@@ -14,20 +16,20 @@ visit-count-requires-clause-addresses g c =
     (All-get_or (Addressable c.args.design.geometry.b) (sets_of e c.args.slots.now c.args.filled.now) c.set_of-set.result []
     (omega (arith, length-sets_of e c.args.filled.now c.args.slots.now)) c.requires.slab.addresses)
 
+written : (g : Over) (c : goal.After-note_growth g) →
+    IsWritten c.args.design c.set_of-set.result c.visit-count.result.1 c.e-ways.result c.visit-count.new.room
+written g c = record { ways_are = c.e-ways.ensures; within = c.set_of-set.ensures.within; long = omega arith; few = c.visit-count.ensures.within }
+
 pub returns-clause-slab : goal.returns-clause-slab
-returns-clause-slab g c =
-    slab_kept c.args.design _ _ _ _ _ _ c.requires.slab c.e-ways.ensures c.set_of-set.ensures.within (omega arith) c.visit-count.ensures.within
-    c.visit-count.ensures.addresses
+returns-clause-slab g c = slab_kept c.args.design _ _ _ _ _ _ c.requires.slab (written g c) c.visit-count.ensures.addresses
 
 pub returns-clause-access : goal.returns-clause-access
 returns-clause-access g c =
-    slab_access c.args.design _ _ _ _ _ _ _ _ _ _ _ _ c.requires.slab c.set_of-set.ensures.value c.set_of-set.ensures.within c.e-ways.ensures (omega arith)
-    c.visit-count.ensures.within c.visit-count.ensures.rule c.visit-count.ensures.visit
+    slab_access c.args.design _ _ _ _ _ _ c.requires.slab (written g c) _ _ _ _ _ _ c.set_of-set.ensures.value c.visit-count.ensures.rule
+    c.visit-count.ensures.visit
 
 pub returns-clause-dirty : goal.returns-clause-dirty
-returns-clause-dirty g c =
-    slab_dirty c.args.design _ _ _ _ _ _ _ _ _ _ _ c.requires.slab c.set_of-set.ensures.within c.e-ways.ensures (omega arith) c.visit-count.ensures.within
-    c.visit-count.ensures.visit
+returns-clause-dirty g c = slab_dirty c.args.design _ _ _ _ _ _ c.requires.slab (written g c) _ _ _ _ _ c.visit-count.ensures.visit
 
 pub returns-clause-touched : goal.returns-clause-touched
 returns-clause-touched g c =

@@ -1,0 +1,109 @@
+-- The second level and memory: what comes down to them, and what they count.
+use Rattle.std.proofs.Common.{◌≡◌, ℕ, ◌+◌, not, Bool, true, false, cond, List, [], ◌∷◌, ◌++◌, map, Option, Some, None, refl, sym}
+use Rattle.std.proofs.Common.{◌∙◌}
+use Rattle.std.proofs.Common.{ap, subst, arith, append_assoc, append-nil}
+use Rattle.std.specs.Prelude.{count_by, MatchOption}
+use Rattle.std.proofs.lemmas.List.Sums.{sum_by-cons, sum_by-append}
+use Rattle.trace_core.specs.declared.events.Ref.{Ref}
+use Rattle.trace_core.specs.declared.events.Event.{Event}
+use Rattle.trace_core.specs.declared.events.Event.TheVariants as event
+use Rattle.cache_core.specs.declared.plan.PlannedCache.{PlannedCache}
+use Rattle.cache_core.specs.declared.system_cache.SystemCache.{SystemCache}
+use Rattle.cache_core.specs.declared.system.Memory.{Memory}
+use Rattle.cache_core.specs.Outcomes.{is_write}
+use Rattle.cache_core.specs.Plans.{IsPlannedCache}
+use Rattle.cache_core.specs.Systems.{machine_of, to_memory}
+use Rattle.cache_core.specs.SystemSteps.{listed, reaches, all_reach, Descends, AllDescend}
+use Rattle.cache_core.proofs.SystemPushes.{down_if_planned, memory_push}
+use Rattle.cache_core.proofs.FirstLevelLaw.{enters, KeptIfPlanned, down_list}
+
+abbrev pub is_read_of : Ref → Bool
+is_read_of ref = not (is_write ref.access)
+
+abbrev pub is_write_of : Ref → Bool
+is_write_of ref = is_write ref.access
+
+-- memory counted so many reads and writes more
+record Counted (memory after : Memory) (read written : ℕ) : Type 0 where
+  reads : after.reads ≡ memory.reads + read
+  writes : after.writes ≡ memory.writes + written
+
+count_one : (memory : Memory) (written : Bool) →
+    Counted memory (cond written (record memory { writes = memory.writes + 1 }) (record memory { reads = memory.reads + 1 }))
+    (cond (not written) 1 0) (cond written 1 0)
+count_one memory true = record { reads = omega arith; writes = refl }
+count_one memory false = record { reads = refl; writes = omega arith }
+
+count_all : (memory : Memory) (refs : List Ref) → Counted memory (all_reach memory refs) (count_by is_read_of refs) (count_by is_write_of refs)
+count_all memory [] = record { reads = omega arith; writes = omega arith }
+count_all memory (r ∷ refs) =
+    let one = count_one memory (is_write r.access) in
+    let more = count_all (reaches memory r) refs in
+    record {
+      reads = omega (arith, one.reads, more.reads, sum_by-cons (λ (x : Ref). cond (is_read_of x) 1 0) r refs);
+      writes = omega (arith, one.writes, more.writes, sum_by-cons (λ (x : Ref). cond (is_write_of x) 1 0) r refs);
+    }
+
+-- the second level and memory after the events that came to them, where so many lines were flushed
+pub record Lower (seed : ℕ) (planned : Option PlannedCache) (events : List Event) (flushed : ℕ) (cache : Option SystemCache)
+    (memory : Memory) : Type 0 where
+  pub kept : KeptIfPlanned seed planned events cache
+  pub reads : memory.reads ≡ count_by is_read_of (to_memory seed planned events)
+  pub writes : memory.writes ≡ count_by is_write_of (to_memory seed planned events) + flushed
+
+-- these references behind some events
+abbrev pub with_refs : List Event → List Ref → List Event
+with_refs events refs = events ++ map (λ x. event.Reference x) refs
+
+pub with_refs-cons : (events : List Event) (ref : Ref) (refs : List Ref) →
+    with_refs (events ++ event.Reference ref ∷ []) refs ≡ with_refs events (ref ∷ refs)
+with_refs-cons events ref refs = append_assoc events (event.Reference ref ∷ []) (map (λ x. event.Reference x) refs)
+
+module _ (seed flushed : ℕ) where
+  reached : (planned : Option PlannedCache) (events : List Event) (cache next : Option SystemCache) (memory after : Memory) (ref : Ref) →
+      Lower seed planned events flushed cache memory → KeptIfPlanned seed planned (events ++ event.Reference ref ∷ []) next →
+      after ≡ all_reach memory (down_if_planned seed planned events ref) → Lower seed planned (events ++ event.Reference ref ∷ []) flushed next after
+  reached planned events cache next memory after ref l k e =
+      let down = down_if_planned seed planned events ref in
+      let before = to_memory seed planned events in
+      let more : (p : Ref → Bool) → count_by p (to_memory seed planned (events ++ event.Reference ref ∷ [])) ≡ count_by p before + count_by p down =
+      λ p. ap (count_by p) (memory_push seed planned events ref) ∙ sum_by-append (λ x. cond (p x) 1 0) before down in
+      let counted = subst (λ (m : Memory). Counted memory m (count_by is_read_of down) (count_by is_write_of down)) (sym e) (count_all memory down) in
+      record {
+        kept = k;
+        reads = omega (arith, counted.reads, l.reads, more is_read_of);
+        writes = omega (arith, counted.writes, l.writes, more is_write_of);
+      }
+
+  descends : (planned : Option PlannedCache) (events : List Event) (cache next : Option SystemCache) (memory after : Memory) (ref : Ref) →
+      IsPlannedCache planned → Lower seed planned events flushed cache memory → Descends ref cache memory next after →
+      Lower seed planned (events ++ event.Reference ref ∷ []) flushed next after
+  descends None events cache next memory after ref l low d =
+      let e = subst (λ (s : Option SystemCache). Descends ref s memory next after) low.kept d in
+      reached None events cache next memory after ref low e.0 e.1
+  descends (Some planned) events cache next memory after ref l low d =
+      let e = subst (λ (s : Option SystemCache). Descends ref s memory next after) low.kept.1 d in
+      let r = enters (machine_of seed planned) events low.kept.0 ref e.0 e.1 l.some low.kept.2 e.2 in
+      reached (Some planned) events cache next memory after ref low (e.1, e.3, r.kept) (e.4 ∙ ap (all_reach memory) r.sends)
+
+  -- nothing comes down
+  stays : (planned : Option PlannedCache) (events : List Event) (cache next : Option SystemCache) (memory after : Memory) →
+      Lower seed planned events flushed cache memory → next ≡ cache → after ≡ memory → Lower seed planned (events ++ []) flushed next after
+  stays planned events cache next memory after low same unread = rw (same, unread, append-nil) low
+
+  all_descend : (planned : Option PlannedCache) (events : List Event) (cache next : Option SystemCache) (memory after : Memory) (refs : List Ref) →
+      IsPlannedCache planned → Lower seed planned events flushed cache memory → AllDescend refs cache memory next after →
+      Lower seed planned (with_refs events refs) flushed next after
+  all_descend planned events cache next memory after [] l low d = stays planned events cache next memory after low d.0 d.1
+  all_descend planned events cache next memory after (ref ∷ refs) l low (mid, half, one, more) =
+      subst (λ (es : List Event). Lower seed planned es flushed next after) (with_refs-cons events ref refs)
+      (all_descend planned (events ++ event.Reference ref ∷ []) mid next half after refs l (descends planned events cache mid memory half ref l low one) more)
+
+  -- what the first level sends down, if a cache of it took the reference
+  pub lower_after : (planned : Option PlannedCache) (events : List Event) (cache next : Option SystemCache) (memory after : Memory)
+      (down : Option (List (Option Ref))) →
+      IsPlannedCache planned → Lower seed planned events flushed cache memory →
+      MatchOption down ((next ≡ cache) × (after ≡ memory)) (λ refs. AllDescend (listed refs) cache memory next after) →
+      Lower seed planned (with_refs events (down_list down)) flushed next after
+  lower_after planned events cache next memory after None l low d = stays planned events cache next memory after low d.0 d.1
+  lower_after planned events cache next memory after (Some down) l low d = all_descend planned events cache next memory after (listed down) l low d

@@ -1,0 +1,21 @@
+-- A reference at a cache, as its machine sees it: the set that it comes to, and what happens to that set and to the others.
+use Rattle.std.proofs.Common.{◌≡◌, ◌≢◌, ℕ, ◌∙◌, ap, subst}
+use Rattle.trace_core.specs.declared.events.Ref.{Ref}
+use Rattle.cache_core.specs.declared.outcome.Outcome.{Outcome}
+use Rattle.cache_core.specs.declared.outcome.Design.{Design}
+use Rattle.cache_core.specs.Geometry.{set_of}
+use Rattle.cache_core.specs.Machine.{Machine}
+use Rattle.cache_core.specs.Order.{Contents, Accesses, Visits, slots_of}
+
+-- the set of a reference
+abbrev pub set_for : Machine → Ref → ℕ
+set_for m ref = set_of m.design.geometry ref.addr
+
+module _ (m : Machine) (old : Contents) (ref : Ref) (outcome : Outcome) (new : Contents) (same : old.design ≡ m.design)
+    (access : Accesses old ref outcome new) where
+  pub visit_for : Visits m.design old.rule old.words ref (slots_of old.sets (set_for m ref)) outcome (slots_of new.sets (set_for m ref)) new.words
+  visit_for = subst (λ (d : Design). Visits d old.rule old.words ref (slots_of old.sets (set_of d.geometry ref.addr)) outcome
+      (slots_of new.sets (set_of d.geometry ref.addr)) new.words) same access.visit
+
+  pub others_for : (k : ℕ) → k ≢ set_for m ref → slots_of new.sets k ≡ slots_of old.sets k
+  others_for k ne = access.others k (λ q. ne (q ∙ ap (λ (d : Design). set_of d.geometry ref.addr) same))
