@@ -135,14 +135,14 @@ class ToolTest(unittest.TestCase):
         self.folder = pathlib.Path(tempfile.mkdtemp(prefix="cachesim-test-"))
         self.addCleanup(shutil.rmtree, self.folder, ignore_errors=True)
 
-    def known(self, **more):
+    def in_folder(self, **more):
         """Where a command runs and what it knows: the program is on its path."""
         path = f"{PROGRAM.parent}:{os.environ['PATH']}"
         return {"cwd": self.folder, "env": {**os.environ, "CACHESIM": str(PROGRAM), "PATH": path, **more}}
 
     def run_words(self, *words, stdin=b"", env=None, seconds=120):
         """Runs a command with the program on its path. What it wrote comes as bytes."""
-        words, given = [str(word) for word in words], self.known(**(env or {}))
+        words, given = [str(word) for word in words], self.in_folder(**(env or {}))
         return subprocess.run(words, input=stdin, capture_output=True, timeout=seconds, **given)
 
     def run_tool(self, tool, *words, **given):
@@ -151,14 +151,14 @@ class ToolTest(unittest.TestCase):
 
     def on_full_device(self, tool, *words, told="write failed"):
         """Runs a tool whose output has no room, which it must tell."""
-        given = {"stderr": subprocess.PIPE, "timeout": 120, **self.known()}
+        given = {"stderr": subprocess.PIPE, "timeout": 120, **self.in_folder()}
         with open("/dev/full", "wb") as full:
             ran = subprocess.run([TOOLS / tool, *words], stdout=full, **given)
         self.assertEqual((ran.stderr.decode(), ran.returncode), (f"{tool}: standard output: {told}\n", 1))
 
     def to_a_reader_that_goes(self, tool, *words, reads=10):
         """Runs a tool whose reader goes away behind so many bytes: it ends without a word."""
-        given = {"stderr": subprocess.PIPE, **self.known()}
+        given = {"stderr": subprocess.PIPE, **self.in_folder()}
         reader, writer = os.pipe()
         running = subprocess.Popen([TOOLS / tool, *words], stdout=writer, **given)
         os.close(writer)
