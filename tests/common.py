@@ -53,7 +53,7 @@ class Sum:
         self.judge(name, got == wanted, f"wanted {wanted}, got {got}")
 
     def end(self):
-        """Prints the last line, and returns the exit status. Where nothing was tested, something is wrong."""
+        """Prints the last line, and returns the exit status, which is 1 where nothing was tested."""
         if not self.passed + self.failed:
             print("FAILED: nothing was tested")
             self.failed = 1
@@ -84,4 +84,4 @@ def preloads():
         library = pathlib.Path(folder, "preload.so")
         words = ["cc", "-O2", "-shared", "-fPIC", "-o", library, TOP / "tests/preload.c"]
         subprocess.run(words, check=True)
-        yield lambda **given: {"LD_PRELOAD": str(library), **{key: str(it) for key, it in given.items()}}
+        yield lambda **given: {"LD_PRELOAD": str(library), **{key: f"{it}" for key, it in given.items()}}

@@ -473,7 +473,9 @@ def din_job(values, texts):
         raise Fault("unified cache beside a split first level", 2)
     machines = {}
     for name, cache in caches.items():
-        shapes = [(s, b) for s in range(21) for b in range(21) if cache["bsize"] == 2**b and cache["size"] == cache["assoc"] * cache["bsize"] * 2**s and is_geometry(s, cache["assoc"], b)]
+        ways, size = cache["assoc"], cache["size"]
+        exponents = [(s, b) for s in range(21) for b in range(21) if cache["bsize"] == 2**b]
+        shapes = [(s, b) for s, b in exponents if size == ways * 2 ** (b + s) and is_geometry(s, ways, b)]
         if not shapes:
             raise Fault(f"{name}: bad geometry", 2)
         machines[name] = {"s": shapes[0][0], "b": shapes[0][1], "ways": cache["assoc"], "repl": cache["repl"], "walloc": cache["walloc"], "wback": cache["wback"]}

@@ -61,6 +61,14 @@ def references(text, format="d", kind="u"):
     return model.events_of(entries, kind)
 
 
+def rows_of(references, misses):
+    """Rows of a table: of caches that are full at the end, by block size, sets and ways how many references miss."""
+    return "".join(
+        f"{bsize},{sets},{ways},{bsize * sets * ways},{references - missed},{missed},{missed - sets * ways}\n"
+        for (bsize, sets, ways), missed in misses.items()
+    )
+
+
 class Lru:
     """A cache that replaces the block least recently used, as plainly as can be: each set is a list, the block used last behind."""
 
@@ -127,14 +135,42 @@ class ToolTest(unittest.TestCase):
         self.folder = pathlib.Path(tempfile.mkdtemp(prefix="cachesim-test-"))
         self.addCleanup(shutil.rmtree, self.folder, ignore_errors=True)
 
+    def in_folder(self, **more):
+        """Where a command runs and what it knows: the program is on its path."""
+        path = f"{PROGRAM.parent}:{os.environ['PATH']}"
+        return {"cwd": self.folder, "env": {**os.environ, "CACHESIM": str(PROGRAM), "PATH": path, **more}}
+
     def run_words(self, *words, stdin=b"", env=None, seconds=120):
         """Runs a command with the program on its path. What it wrote comes as bytes."""
-        given = {**os.environ, "CACHESIM": str(PROGRAM), "PATH": f"{PROGRAM.parent}:{os.environ['PATH']}", **(env or {})}
-        return subprocess.run([str(word) for word in words], input=stdin, capture_output=True, cwd=self.folder, env=given, timeout=seconds)
+        words, given = [str(word) for word in words], self.in_folder(**(env or {}))
+        return subprocess.run(words, input=stdin, capture_output=True, timeout=seconds, **given)
 
     def run_tool(self, tool, *words, **given):
         """Runs a tool of tools/."""
         return self.run_words(TOOLS / tool, *words, **given)
+
+    def on_full_device(self, tool, *words, told="write failed"):
+        """Runs a tool whose output has no room, which it must tell."""
+        given = {"stderr": subprocess.PIPE, "timeout": 120, **self.in_folder()}
+        with open("/dev/full", "wb") as full:
+            ran = subprocess.run([TOOLS / tool, *words], stdout=full, **given)
+        self.assertEqual((ran.stderr.decode(), ran.returncode), (f"{tool}: standard output: {told}\n", 1))
+
+    def to_a_reader_that_goes(self, tool, *words, reads=10):
+        """Runs a tool whose reader goes away behind so many bytes: it ends without a word."""
+        given = {"stderr": subprocess.PIPE, **self.in_folder()}
+        reader, writer = os.pipe()
+        running = subprocess.Popen([TOOLS / tool, *words], stdout=writer, **given)
+        os.close(writer)
+        os.read(reader, reads)
+        os.close(reader)
+        self.assertEqual((running.communicate(timeout=20)[1], running.returncode), (b"", 141))
+
+    def packed(self, trace):
+        """Puts a trace into the folder, packed by xz and by zstd."""
+        (self.folder / "t.xz").write_bytes(self.run_words("xz", "-c", trace).stdout)
+        (self.folder / "t.zst").write_bytes(self.run_words("zstd", "-qc", trace).stdout)
+        return "t.xz", "t.zst"
 
     def good(self, ran):
         """What a run wrote to standard output, as text; it must have ended well and without a message."""

@@ -7,17 +7,12 @@ import subprocess
 import base
 import table
 
-TABLE = """bsize,sets,assoc,size,hits,misses,evictions
-16,1,4,64,800,200,196
-16,4,1,64,800,200,196
-32,1,2,64,900,100,98
-16,2,4,128,895,105,97
-32,2,2,128,950,50,46
-64,1,4,256,948,52,48
-64,4,1,256,950,50,46
-64,2,4,512,951,49,41
-64,8,1,512,951,49,41
-"""
+CACHES = {
+    (16, 1, 4): 200, (16, 4, 1): 200, (32, 1, 2): 100,
+    (16, 2, 4): 105, (32, 2, 2): 50, (64, 1, 4): 52,
+    (64, 4, 1): 50, (64, 2, 4): 49, (64, 8, 1): 49,
+}
+TABLE = f"{table.HEADER}\n{base.rows_of(1000, CACHES)}"
 
 
 class Best(base.ToolTest):
@@ -119,9 +114,7 @@ class Best(base.ToolTest):
             self.refused(self.run_tool("best", *words, stdin=stdin, env=given), status, fault)
 
     def test_writing(self):
-        with open("/dev/full", "wb") as full:
-            ran = subprocess.run([base.TOOLS / "best", self.folder / "table.csv"], stdout=full, stderr=subprocess.PIPE)
-        self.assertEqual((ran.returncode, ran.stderr), (1, b"best: standard output: No space left on device\n"))
+        self.on_full_device("best", "table.csv", told="No space left on device")
         reader, writer = os.pipe()
         os.close(reader)
         ran = subprocess.run([base.TOOLS / "best", self.folder / "table.csv"], stdout=writer, stderr=subprocess.PIPE)

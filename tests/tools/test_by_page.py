@@ -2,7 +2,6 @@
 
 import collections
 import random
-import subprocess
 
 import base
 
@@ -84,10 +83,7 @@ class ByPage(base.ToolTest):
             self.refused(self.run_tool("by-page", *words, stdin=text), status, fault)
 
     def test_full_device(self):
-        with open("/dev/full", "wb") as full:
-            command = [base.TOOLS / "by-page", base.EXAMPLES / "sort.din", "--data", "16,1,1"]
-            ran = subprocess.run(command, stdout=full, stderr=subprocess.PIPE)
-        self.assertEqual((ran.returncode, ran.stderr), (1, b"by-page: standard output: write failed\n"))
+        self.on_full_device("by-page", base.EXAMPLES / "sort.din", "--data", "16,1,1")
 
     def test_help(self):
         self.assertIn("--page SIZE", self.good(self.run_tool("by-page", "--help")))

@@ -1,9 +1,7 @@
 """What each reference does in caches of a first level."""
 
-import os
 import random
 import shutil
-import subprocess
 
 import base
 
@@ -119,10 +117,9 @@ class Outcomes(base.ToolTest):
     @base.needs("xz-utils", "zstd")
     def test_packed(self):
         trace = base.EXAMPLES / "sort.din"
-        (self.folder / "t.xz").write_bytes(self.run_words("xz", "-c", trace).stdout)
-        (self.folder / "t.zst").write_bytes(self.run_words("zstd", "-qc", trace).stdout)
-        for name in ("t.xz", "t.zst"):
-            self.assertEqual(*(self.good(self.run_tool("outcomes", packed, "--data", "16,4,2")) for packed in (name, trace)))
+        expected = self.good(self.run_tool("outcomes", trace, "--data", "16,4,2"))
+        for name in self.packed(trace):
+            self.assertEqual(self.good(self.run_tool("outcomes", name, "--data", "16,4,2")), expected)
 
     def test_faults(self):
         whole = self.run_words("gzip", "-c", base.EXAMPLES / "sort.din").stdout
@@ -196,16 +193,8 @@ class Outcomes(base.ToolTest):
     def test_writing(self):
         (self.folder / "long").write_bytes(SORT * 100)
         for words in (["--unified", "16,1,1"], ["--fetches", "16,1,1", "--data", "16,1,1"]):
-            command = [base.TOOLS / "outcomes", self.folder / "long", *words]
-            with open("/dev/full", "wb") as full:
-                ran = subprocess.run(command, stdout=full, stderr=subprocess.PIPE)
-            self.assertEqual((ran.returncode, ran.stderr), (1, b"outcomes: standard output: write failed\n"))
-            reader, writer = os.pipe()
-            running = subprocess.Popen(command, stdout=writer, stderr=subprocess.PIPE)
-            os.close(writer)
-            os.read(reader, 10)
-            os.close(reader)
-            self.assertEqual((running.communicate(timeout=20)[1], running.returncode), (b"", 141))
+            self.on_full_device("outcomes", "long", *words)
+            self.to_a_reader_that_goes("outcomes", "long", *words)
 
     def test_help(self):
         self.assertIn("--unified CACHE", self.good(self.run_tool("outcomes", "--help")))

@@ -1,7 +1,5 @@
 """Misses in steps of so many references."""
 
-import subprocess
-
 import base
 
 HEADER = "first,last,misses,percent\n"
@@ -70,10 +68,7 @@ class OverTime(base.ToolTest):
             self.refused(self.run_tool("over-time", *words, stdin=text), status, fault)
 
     def test_full_device(self):
-        command = [base.TOOLS / "over-time", base.EXAMPLES / "sort.din", "--data", "16,1,1", "--each", "9"]
-        with open("/dev/full", "wb") as full:
-            ran = subprocess.run(command, stdout=full, stderr=subprocess.PIPE)
-        self.assertEqual((ran.returncode, ran.stderr), (1, b"over-time: standard output: write failed\n"))
+        self.on_full_device("over-time", base.EXAMPLES / "sort.din", "--data", "16,1,1", "--each", "9")
 
     def test_help(self):
         self.assertIn("--each N", self.good(self.run_tool("over-time", "--help")))

@@ -11,15 +11,10 @@ import base
 import table
 
 # Eight caches and 100 references, so that misses are per cent. 32 and 2 are the block size and the ways nearest to 64 and 4.
-EIGHT = """16,2,1,32,60,40,38
-16,2,2,64,75,25,21
-16,4,1,64,70,30,26
-16,4,2,128,90,10,2
-32,1,1,32,50,50,49
-32,1,2,64,72,28,26
-32,2,1,64,68,32,30
-32,2,2,128,92,8,4
-"""
+EIGHT = base.rows_of(100, {
+    (16, 2, 1): 40, (16, 2, 2): 25, (16, 4, 1): 30, (16, 4, 2): 10,
+    (32, 1, 1): 50, (32, 1, 2): 28, (32, 2, 1): 32, (32, 2, 2): 8,
+})
 ALL = [(32, 40), (64, 25), (64, 30), (128, 10), (32, 50), (64, 28), (64, 32), (128, 8)]
 TITLES = (
     "Miss ratio by cache size: blocks of 32 bytes",

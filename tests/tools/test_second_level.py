@@ -1,9 +1,7 @@
 """What goes down from a first level."""
 
-import os
 import random
 import re
-import subprocess
 
 import base
 
@@ -157,13 +155,5 @@ class SecondLevel(base.ToolTest):
     def test_writing(self):
         (self.folder / "long").write_bytes(SORT * 100)
         for words in (["--unified", "16,1,1"], ["--fetches", "16,1,1", "--data", "16,1,1"]):
-            command = [base.TOOLS / "second-level", self.folder / "long", *words]
-            with open("/dev/full", "wb") as full:
-                ran = subprocess.run(command, stdout=full, stderr=subprocess.PIPE)
-            self.assertEqual((ran.returncode, ran.stderr), (1, b"second-level: standard output: write failed\n"))
-            reader, writer = os.pipe()
-            running = subprocess.Popen(command, stdout=writer, stderr=subprocess.PIPE)
-            os.close(writer)
-            os.read(reader, 10)
-            os.close(reader)
-            self.assertEqual((running.communicate(timeout=20)[1], running.returncode), (b"", 141))
+            self.on_full_device("second-level", "long", *words)
+            self.to_a_reader_that_goes("second-level", "long", *words)

@@ -138,11 +138,9 @@ class ThreeC(base.ToolTest):
     def test_packed(self):
         words = "--bsize 16 --sets 1-4 --assoc 1-2 --size 64".split()
         trace = base.EXAMPLES / "sort.din"
-        (self.folder / "t.xz").write_bytes(self.run_words("xz", "-c", trace).stdout)
-        (self.folder / "t.zst").write_bytes(self.run_words("zstd", "-qc", trace).stdout)
-        for name in ("t.xz", "t.zst"):
-            packed = self.good(self.run_tool("three-c", name, *words))
-            self.assertEqual(packed, self.good(self.run_tool("three-c", trace, *words)))
+        expected = self.good(self.run_tool("three-c", trace, *words))
+        for name in self.packed(trace):
+            self.assertEqual(self.good(self.run_tool("three-c", name, *words)), expected)
 
     def test_faults(self):
         words = "--bsize 16 --sets 1-4 --assoc 1-2 --size 64".split()
@@ -180,10 +178,7 @@ class ThreeC(base.ToolTest):
 
     def test_full_device(self):
         words = "--bsize 16 --sets 1-4 --assoc 1-2 --size 64".split()
-        command = [base.TOOLS / "three-c", base.EXAMPLES / "sort.din", *words]
-        with open("/dev/full", "wb") as full:
-            ran = subprocess.run(command, stdout=full, stderr=subprocess.PIPE)
-        self.assertEqual((ran.returncode, ran.stderr), (1, b"three-c: standard output: write failed\n"))
+        self.on_full_device("three-c", base.EXAMPLES / "sort.din", *words)
 
     def test_interrupt(self):
         words = "--bsize 16 --sets 1-4 --assoc 1-2 --size 64".split()

@@ -2,7 +2,6 @@
 
 import csv
 import random
-import subprocess
 
 import base
 import table
@@ -100,10 +99,9 @@ class Warm(base.ToolTest):
     @base.needs("xz-utils", "zstd")
     def test_packed(self):
         trace = base.EXAMPLES / "sort.din"
-        (self.folder / "t.xz").write_bytes(self.run_words("xz", "-c", trace).stdout)
-        (self.folder / "t.zst").write_bytes(self.run_words("zstd", "-qc", trace).stdout)
-        for name in ("t.xz", "t.zst"):
-            self.assertEqual(*(self.good(self.run_tool("warm", 700, packed, *SPACE)) for packed in (name, trace)))
+        expected = self.good(self.run_tool("warm", 700, trace, *SPACE))
+        for name in self.packed(trace):
+            self.assertEqual(self.good(self.run_tool("warm", 700, name, *SPACE)), expected)
 
     def test_faults(self):
         whole = self.run_words("gzip", "-c", base.EXAMPLES / "sort.din").stdout
@@ -126,10 +124,7 @@ class Warm(base.ToolTest):
         self.assertEqual(ran.stderr, b"cachesim: line 2: bad label\n")
 
     def test_full_device(self):
-        command = [base.TOOLS / "warm", "9", base.EXAMPLES / "sort.din", *SPACE]
-        with open("/dev/full", "wb") as full:
-            ran = subprocess.run(command, stdout=full, stderr=subprocess.PIPE)
-        self.assertEqual((ran.returncode, ran.stderr), (1, b"warm: standard output: write failed\n"))
+        self.on_full_device("warm", "9", base.EXAMPLES / "sort.din", *SPACE)
 
     def test_help(self):
         self.assertIn("LINES counts lines", self.good(self.run_tool("warm", "--help")))

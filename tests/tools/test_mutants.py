@@ -1,0 +1,116 @@
+"""Mutants, tried in a small repository with a stand-in for the kit's command rt."""
+
+import shutil
+
+from base import TOP, ToolTest
+
+SOURCE = """\
+//! Half of a number.
+impl Model for Half { }
+
+impl Half {
+    /// A half.
+    #[inline]
+    pub fn of(&self, number: u64) -> u64
+        ensures value { result ≡ number / 2 }
+    {
+        number / 2
+    }
+}
+"""
+EDIT = "file: src/lib.rt\nold:         number / 2\nnew:         number / 3\n"
+NOT_PROVED = "it is not proved that what the function ensures holds when it returns"
+IN_CODE = f"note: src/lib.rt:6:5: {NOT_PROVED} (`returns-in-Some-clause-value`); and more\n"
+FALSE = (
+    f"note: src/lib.rt:6:5: {NOT_PROVED} (`returns-clause-small`);"
+    " the facts known there allow values at which this goal is false\n"
+)
+IN_ANSWER = "./proofs/lib/Half/of/Answers.antt:7:3: error: `invariant_of-self-in-New-2`: types differ\n"
+GONE = "./proofs/lib/Half/of/Answers.antt:9:3: error: `returns-clause-value`: record has no field `x`\n"
+REFUSED, PROVED = "logic=not-proved\n", "logic=proved functions=1\n"
+# What is said of a source that has the mutant in it, and of the others
+RT = """\
+#!/bin/sh
+echo "$PWD $*" >> "$STAND_IN/calls"
+grep -q 'number / 3' src/lib.rt && said=mutant || said=whole
+cat -- "$STAND_IN/$said"
+! grep -q '^logic=not' "$STAND_IN/$said"
+"""
+
+
+class Mutants(ToolTest):
+    def setUp(self):
+        super().setUp()
+        self.top = self.folder / "a copy"
+        for folder in ("tests/mutants/low", "crates/low/src", "crates/low/must-fail"):
+            (self.top / folder).mkdir(parents=True)
+        for name in ("try-mutants", "common.py"):
+            shutil.copy(TOP / "tests" / name, self.top / "tests")
+        (self.top / "crates/low/src/lib.rt").write_text(SOURCE)
+        (self.top / "crates.txt").write_text("low:\n")
+        self.mutant = self.top / "tests/mutants/low/a_third.edit"
+        self.mutant.write_text("goal: Half::of value\n" + EDIT)
+        (self.folder / "rt").write_text(RT)
+        (self.folder / "rt").chmod(0o755)
+        (self.folder / "whole").write_text(PROVED)
+        self.run_words("git", "init", "-q", self.top)
+        self.run_words("git", "-C", self.top, "add", "crates", "crates.txt")
+
+    def tried(self, said, *words):
+        """The last two lines, and the status, where the prover says this of the mutant."""
+        (self.folder / "mutant").write_text(said)
+        stand_in = {"RT": str(self.folder / "rt"), "STAND_IN": str(self.folder)}
+        ran = self.run_words(self.top / "tests/try-mutants", "--jobs", "1", *words, env=stand_in)
+        self.assertEqual(ran.stderr, b"")
+        return ran.stdout.decode().splitlines()[-2:], ran.returncode
+
+    def refused(self, said, text):
+        lines, status = self.tried(said)
+        self.assertRegex(lines[0], rf"^FAILED low a_third \(\d+ s\): {text}")
+        self.assertEqual((lines[1], status), ("0 passed, 1 failed", 1))
+
+    def test_at_its_goal(self):
+        for said in (IN_CODE, FALSE + IN_CODE, IN_ANSWER + GONE + IN_CODE):
+            lines, status = self.tried(said + REFUSED)
+            self.assertRegex(lines[0], r"^ok low a_third \(\d+ s\) at Half::of value$")
+            self.assertEqual((lines[1], status), ("1 passed, 0 failed", 0))
+
+    def test_elsewhere_or_not_at_all(self):
+        elsewhere = "not at Half::of value, but at Half::of small; Half::of invariant_of-self"
+        self.refused(FALSE + IN_ANSWER + REFUSED, elsewhere)
+        self.refused(GONE + REFUSED, "only a stored proof no longer fits: .*has no field")
+        self.refused(PROVED, "it is proved")
+        self.refused("error: a mismatched type\n", "it did not reach the prover: error: a mismatched")
+        self.refused("src/lib.rt:6:5: error: no such word\n" + REFUSED, "it did not reach the prover")
+        self.mutant.write_text(EDIT.replace("number / 2", "number / 4"))
+        self.refused(IN_CODE + REFUSED, "an 'old:' text is in src/lib.rt 0 times, and not once")
+
+    def test_a_crate_that_is_not_proved(self):
+        (self.folder / "whole").write_text(IN_CODE + REFUSED)
+        lines, status = self.tried(IN_CODE + REFUSED)
+        self.assertIn("0 passed, 1 failed", lines)
+        self.assertEqual(status, 1)
+
+    def test_goals_are_written(self):
+        for said, goal in ((IN_CODE, "value"), (IN_CODE + FALSE, "small"), (IN_ANSWER, "invariant_of-self")):
+            self.mutant.write_text(EDIT)
+            self.tried(said + REFUSED)
+            self.assertEqual(self.mutant.read_text(), EDIT)
+            self.tried(said + REFUSED, "--write-goals")
+            self.assertEqual(self.mutant.read_text(), f"goal: Half::of {goal}\n{EDIT}")
+
+    def test_names_and_list(self):
+        gate = self.top / "crates/low/must-fail/no_half.edit"
+        gate.write_text(EDIT)
+        lines, _ = self.tried("", "--list")
+        self.assertEqual(lines, [
+            "low a_third: Half::of: a third. Refused at: Half::of value",
+            "low no_half (gate): Half::of: no half. Refused at: no goal named",
+        ])
+        for words, count in (([], 2), (["low"], 2), (["no_half"], 1)):
+            lines, _ = self.tried(IN_CODE + REFUSED, *words)
+            self.assertEqual(lines[1], f"{count} passed, 0 failed")
+        lines, status = self.tried("", "nosuch")
+        self.assertEqual((lines[0], status), ("FAILED nosuch: there is no such mutant or crate", 1))
+        calls = (self.folder / "calls").read_text().split()
+        self.assertNotIn(str(self.top / "crates/low"), calls)  # only copies are checked

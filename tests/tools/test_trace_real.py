@@ -1,0 +1,232 @@
+"""Tracing programs by QEMU and by lackey."""
+
+import fcntl
+import os
+import pty
+import shutil
+import signal
+import subprocess
+import termios
+
+from base import EXAMPLES, TOOLS, needs
+from trace_base import SPACE, TRACED, TraceTest, program_of, symbols_of, traced, within
+
+
+class Both:
+    """What is the same with each tracer."""
+
+    def test_exactly_the_accesses_of_a_known_program(self):
+        self.known(traced("known"))
+
+    def known(self, program, *options):
+        lines, _ = self.traced_to_file(*options, program)
+        places = ("numbers", "longs", "bytes")
+        expected = [("1", "numbers", 4 * at) for at in range(1000)] + [("0", "numbers", 4 * at) for at in range(999, -1, -3)]
+        expected += [(label, "longs", 8 * at) for at in range(10) for label in "01"] + [("0", "bytes", 0), ("1", "bytes", 2)]
+        self.assertEqual(self.own_data(lines, program, *places), expected)
+
+        main = symbols_of(program)["main"]
+        before = None  # each access stands behind the fetch of its instruction, or behind another access of the same
+        for label, at in lines:
+            if label != "2" and any(within(symbols_of(program)[name], at) for name in places):
+                self.assertTrue(within(main, before), f"{label} {at:x} behind {before:x}")
+            before = at if label == "2" else before
+
+        fetches = [at for label, at in lines if label == "2" and within(main, at)]
+        data, _ = self.traced_to_file(*options, "--kind", "d", program)
+        self.assertEqual({label for label, _ in data}, {"0", "1"})
+        self.assertEqual(self.own_data(data, program, *places), expected)
+        only_fetches, _ = self.traced_to_file(*options, "--kind", "i", program)
+        self.assertEqual({label for label, _ in only_fetches}, {"2"})
+        self.assertEqual([at for _, at in only_fetches if within(main, at)], fetches)
+
+    def test_a_transposed_matrix(self):
+        program = program_of(EXAMPLES / "transpose.c", "-static")
+        order = {
+            (): [(i, j) for i in range(32) for j in range(32)],
+            ("blocks",): [(r + i, c + j) for r in range(0, 32, 8) for c in range(0, 32, 8) for i in range(8) for j in range(8)],
+        }
+        for words, pairs in order.items():
+            lines, _ = self.traced_to_file("--kind", "d", program, *words)
+            expected = [access for i, j in pairs for access in (("0", "a", 4 * (32 * i + j)), ("1", "b", 4 * (32 * j + i)))]
+            self.assertEqual(self.own_data(lines, program, "a", "b"), expected)
+
+    def test_four_threads(self):
+        program = traced("threads")
+        lines, _ = self.traced_to_file("--kind", "d", program)
+        rows = [[], [], [], []]
+        for label, _, offset in self.own_data(lines, program, "rows"):
+            self.assertEqual(label, "1")
+            rows[offset // 80000].append(offset % 80000 // 4)
+        for row in rows:
+            self.assertEqual(row, list(range(20000)))
+
+    def test_threads_that_take_turns(self):
+        program = traced("turns")
+        lines, _ = self.traced_to_file("--kind", "d", program)
+        self.assertEqual(self.own_data(lines, program, "rows"), [("1", "rows", 4 * at) for at in range(1000)])
+
+    def test_ways_to_end(self):
+        program = traced("ends")
+        killed = {"abort": 134, "segment": 139, "kill": 137}
+        for way in ("exit", "_exit", "last", "thread", "beside", "exec", *killed):
+            status = killed.get(way, 7)
+            ran = self.trace("-o", "trace.din", "--kind", "d", program, way)
+            self.assertEqual(ran.returncode, status, way)
+            exec_is_told = b"trace: the program became another by exec" in ran.stderr
+            self.assertEqual(exec_is_told, way == "exec" and self.with_ == "qemu")
+            written = self.own_data(self.lines((self.folder / "trace.din").read_text()), program, "numbers")
+            self.assertEqual(written, [("1", "numbers", 4 * at) for at in range(10007)], way)
+
+    def test_children_are_left_out(self):
+        program = traced("forks")
+        lines, out = self.traced_to_file("--kind", "d", program, status=5)
+        self.assertEqual(out, "child\nanother\n")
+        written = self.own_data(lines, program, "parents", "childs")
+        self.assertEqual(written, [("1", "parents", 4 * at) for at in range(27003)])
+
+    def test_a_program_that_closes_what_it_does_not_know(self):
+        program = traced("closes")
+        lines, _ = self.traced_to_file("--kind", "d", program, "own file")
+        self.assertEqual(self.own_data(lines, program, "numbers"), [("1", "numbers", 4 * at) for at in range(20000)])
+        self.assertEqual((self.folder / "own file").read_text(), "own\n" * 37)
+
+    def test_input_and_output(self):
+        lines, out = self.traced_to_file("cat", stdin=b"some words\n")
+        self.assertEqual(out, "some words\n")
+        ran = self.trace("cat", "-", "nosuch", stdin=b"some words\n")
+        self.assertEqual((ran.returncode, ran.stderr), (1, b"some words\ncat: nosuch: No such file or directory\n"))
+        self.assertGreater(len(self.lines(ran.stdout.decode())), 10000)
+
+    def test_a_pipe_into_a_sweep(self):
+        program = traced("known")
+        ran = self.in_shell(f'trace --kind d "{program}" | tee trace.din | cachesim sweep {" ".join(SPACE)}')
+        self.assertEqual(self.good(ran), self.sweep(*SPACE, stdin=(self.folder / "trace.din").read_bytes()) + "0 0 0\n")
+
+    def test_skip_and_count(self):
+        program = traced("known")
+        lines, _ = self.traced_to_file("--kind", "d", program)
+        first = next(at for at, line in enumerate(lines) if line == ("1", symbols_of(program)["numbers"][0]))
+        part, _ = self.traced_to_file("--kind", "d", f"--skip={first}", "--count=1000", program)
+        self.assertEqual(self.own_data(part, program, "numbers")[0], ("1", "numbers", 0))
+        self.assertEqual(part, lines[first:first + 1000])
+
+    def test_a_reader_that_goes_away(self):
+        program = shutil.copy(traced("ends"), self.folder / "ends")
+        ran = self.in_shell(f'trace --program-output /dev/null "{program}" spin | head -1')
+        self.assertRegex(self.good(ran), r"^2 [0-9a-f]+\n141 0\n$")
+        self.no_process_is_left()
+
+    def test_a_full_device(self):
+        program = shutil.copy(traced("ends"), self.folder / "ends")
+        ran = self.trace("-o", "/dev/full", "--program-output", "own", program, "spin")
+        self.refused(ran, 125, "trace: /dev/full: No space left on device\n")
+        self.no_process_is_left()
+
+    def test_a_signal_to_all_processes(self):
+        started = self.begin(traced("ends"), "spin", stderr=subprocess.PIPE)
+        os.killpg(started.pid, signal.SIGTERM)
+        self.assertEqual((started.communicate(timeout=60)[1], started.returncode), (b"", 143))
+        self.all_numbers_are_there()
+
+    def test_an_interrupt_at_the_terminal(self):
+        terminal, end = pty.openpty()
+        ends = {"stdin": end, "stdout": end, "stderr": end}
+        started = self.begin(traced("ends"), "spin", **ends, preexec_fn=lambda: fcntl.ioctl(0, termios.TIOCSCTTY, 0))
+        os.close(end)
+        self.assertEqual(os.read(terminal, 100), b"spins\r\n")
+        os.write(terminal, b"\x03")
+        self.assertEqual(started.wait(60), 130)
+        os.close(terminal)
+        self.all_numbers_are_there()
+
+    def all_numbers_are_there(self):
+        written = self.own_data(self.lines((self.folder / "trace.din").read_text()), traced("ends"), "numbers")
+        self.assertEqual(written, [("1", "numbers", 4 * at) for at in range(10007)])
+
+    def test_scripts(self):
+        (self.folder / "bin").mkdir()
+        path = f"{self.folder}/bin:{os.environ['PATH']}"
+        for called, first in (("bin/plain", "#!/bin/sh"), ("-o ption", "#! /bin/sh -e"), ("by env", "#!/usr/bin/env sh")):
+            script = self.folder / "bin" / called.removeprefix("bin/")
+            script.write_text(f'{first}\necho "$0" "$#" "$@"; false; exit 4\n')
+            script.chmod(0o755)
+            natively = self.run_words("bash", "-c", '"$0" "$@"', called, "a b", "-c", env={"PATH": path})
+            lines, out = self.traced_to_file("--", called, "a b", "-c", status=natively.returncode, env={"PATH": path})
+            self.assertEqual(out, natively.stdout.decode())
+            self.assertGreater(len(lines), 10000)
+
+
+@needs("qemu-user")
+class ByQemu(Both, TraceTest):
+    def test_signals(self):
+        program = traced("signals")
+        lines, out = self.traced_to_file(program)
+        rounds, ticks, faults = map(int, out.split())
+        self.assertEqual(faults, -(-20000 * 4 // 4096))
+        self.assertEqual(self.own_data(lines, program, "numbers"), [("1", "numbers", 4 * at) for at in range(20000)] * rounds)
+        self.assertEqual(self.own_data(lines, program, "ticks").count(("1", "ticks", 0)), ticks)
+        self.assertEqual(self.own_data(lines, program, "faults").count(("1", "faults", 0)), faults)
+        storing = next(line for line, after in zip(lines, lines[1:]) if after == ("1", symbols_of(program)["numbers"][0]))
+        self.assertEqual(lines.count(storing), rounds * 20000 + faults)  # what faults is fetched again
+
+    def test_atomic_instructions(self):
+        program = traced("threads")
+        lines, _ = self.traced_to_file("--kind", "d", program)
+        added = [label for label, _, _ in self.own_data(lines, program, "sum")]
+        self.assertEqual((added.count("0"), added.count("1")), (80001, 80000))  # main reads it once more
+
+    @needs("gcc-aarch64-linux-gnu")
+    def test_another_machine(self):
+        compiler = "aarch64-linux-gnu-gcc"
+        self.known(traced("known", compiler=compiler))
+        dynamic = program_of(TRACED / "known.c", compiler=compiler)
+        self.known(dynamic)
+        self.known(dynamic, "--libraries", "/usr/aarch64-linux-gnu")
+        ran = self.trace("--libraries", "/nosuch", dynamic)
+        self.assertEqual((ran.returncode, ran.stdout), (126, b"trace: the program can't be run: see the message of its tracer\n"))
+        self.assertIn(b"ld-linux-aarch64", ran.stderr)
+        ran = self.trace(dynamic, env={"QEMU_LD_PREFIX": "/nosuch"})
+        self.assertEqual(ran.returncode, 126)
+
+
+@needs("valgrind")
+class ByLackey(Both, TraceTest):
+    with_ = "lackey"
+
+    def test_lines_that_cannot_be_converted(self):
+        for name in ("trace", "lib.bash", "trace-run.c", "trace-memory.h"):
+            shutil.copy(TOOLS / name, self.folder)
+        converter = self.folder / "to-din"
+        for way, status in (("exit 1", 125), ("kill -9 $$", 125)):
+            converter.write_text(f"#!/bin/sh\nhead -n 1 > /dev/null\necho 2 401000\n{way}\n")
+            converter.chmod(0o755)
+            ran = self.run_words(self.folder / "trace", "--with", "lackey", "--program-output", "own", traced("ends"), "spin")
+            self.fault(ran, status, "the tracer's lines can't be converted")
+            self.assertTrue(ran.stdout.startswith(b"2 401000\n"))
+
+
+@needs("qemu-user", "valgrind")
+class SameTrace(TraceTest):
+    def between_marks(self, tracer, program, *words):
+        self.with_ = tracer
+        lines, _ = self.traced_to_file(program, *words)
+        mark = ("1", symbols_of(program)["mark"][0])
+        first = lines.index(mark)
+        return lines[first + 1:lines.index(mark, first + 1)]
+
+    def test_a_transposed_matrix(self):
+        program = program_of(EXAMPLES / "transpose.c", "-static")
+        for words in ((), ("blocks",)):
+            lines = self.between_marks("qemu", program, *words)
+            self.assertEqual(lines, self.between_marks("lackey", program, *words))
+            self.assertGreater(len(lines), 8000)
+
+    def test_a_sort(self):
+        """All is the same, but that the stack lies elsewhere."""
+        program = program_of(EXAMPLES / "sort.c", "-static")
+        qemu, lackey = (self.between_marks(tracer, program) for tracer in ("qemu", "lackey"))
+        self.assertEqual([label for label, _ in qemu], [label for label, _ in lackey])
+        apart = {one[1] - other[1] for one, other in zip(qemu, lackey)}
+        self.assertEqual(len(apart), 2)
+        self.assertIn(0, apart)

@@ -1,0 +1,124 @@
+"""What the tests of `trace` share: programs to trace, and what is asked of a run."""
+
+import atexit
+import functools
+import pathlib
+import re
+import shutil
+import subprocess
+import tempfile
+import time
+
+from base import TOOLS, ToolTest
+
+TRACED = pathlib.Path(__file__).parent / "traced"
+LINE = re.compile(r"[012] (0|[1-9a-f][0-9a-f]{0,15})\n")
+SPACE = ("--bsize", "16-64", "--sets", "1-16", "--assoc", "1-4", "--size", "64-4k")
+
+
+@functools.cache
+def built():
+    """A folder for what is compiled. It is removed when the tests have ended."""
+    folder = pathlib.Path(tempfile.mkdtemp(prefix="cachesim-traced-"))
+    atexit.register(shutil.rmtree, folder, ignore_errors=True)
+    return folder
+
+
+@functools.cache
+def program_of(source, *flags, compiler="cc"):
+    """A program without position independence, so that the addresses of its own data are those of nm."""
+    target = built() / f"{source.stem} {compiler}{''.join(flags)}"
+    words = [compiler, "-O1", "-Wall", "-Wextra", "-Werror", "-no-pie", "-pthread", *flags, "-o", target, source]
+    subprocess.run(words, check=True)
+    return target
+
+
+def traced(name, **given):
+    return program_of(TRACED / f"{name}.c", "-static", **given)
+
+
+@functools.cache
+def symbols_of(program):
+    """Of each thing in a program its address and its size."""
+    lines = subprocess.run(["nm", "-S", program], capture_output=True, text=True, check=True).stdout.splitlines()
+    return {fields[3]: (int(fields[0], 16), int(fields[1], 16)) for fields in map(str.split, lines) if len(fields) == 4}
+
+
+def within(place, address):
+    return place[0] <= address < place[0] + place[1]
+
+
+class TraceTest(ToolTest):
+    with_ = "qemu"
+
+    def trace(self, *words, **given):
+        return self.run_tool("trace", "--with", self.with_, *words, **given)
+
+    def lines(self, text):
+        """The label and the address of each line of a trace; every line must be whole and good."""
+        for number, line in enumerate(text.splitlines(keepends=True), 1):
+            if not LINE.fullmatch(line):
+                self.fail(f"line {number}: {line!r}")
+        return [(line[0], int(line[2:], 16)) for line in text.splitlines()]
+
+    def traced_to_file(self, *words, status=0, message="", **given):
+        """The lines of a trace in a file; how the run ended must be as it is told."""
+        ran = self.trace("-o", "trace.din", *words, **given)
+        self.assertEqual((ran.returncode, ran.stderr.decode()), (status, message))
+        return self.lines((self.folder / "trace.din").read_text()), ran.stdout.decode()
+
+    def own_data(self, lines, program, *names):
+        """The data references to things of a program, as label, name and offset."""
+        places = [(name, symbols_of(program)[name]) for name in names]
+        data = [(label, at) for label, at in lines if label != "2"]
+        return [(label, name, at - place[0]) for label, at in data for name, place in places if within(place, at)]
+
+    def fault(self, ran, status, *texts):
+        """A fault of the tool: one message, and a trace that ends in a line which is none."""
+        message = ran.stderr.decode()
+        self.assertEqual((ran.returncode, message.count("\n")), (status, 1), message)
+        self.assertTrue(ran.stdout.splitlines()[-1].startswith(b"trace: "), ran.stdout)
+        for text in ("trace: ", *texts):
+            self.assertIn(text, message)
+
+    def in_shell(self, line, **given):
+        """Runs a line of bash in which `trace` is the tool with its tracer. Its last line has the statuses of the pipe."""
+        words = f"trace() {{ {TOOLS}/trace --with {self.with_} \"$@\"; }}; {line}; echo \"${{PIPESTATUS[@]}}\""
+        return self.run_words("bash", "-c", words, **given)
+
+    def begin(self, program, *words, **given):
+        """Starts a trace to a file, and waits until the program writes a line."""
+        words = [TOOLS / "trace", "--with", self.with_, "--kind", "d", "-o", self.folder / "trace.din", program, *words]
+        given = {"stdout": subprocess.PIPE, "start_new_session": True, **given}
+        started = subprocess.Popen([str(word) for word in words], cwd=self.folder, **given)
+        self.addCleanup(started.wait)
+        self.addCleanup(started.kill)
+        if started.stdout:
+            self.addCleanup(started.stdout.close)
+            started.stdout.readline()
+        return started
+
+    def wait_until(self, found, what):
+        for _ in range(600):
+            if found():
+                return
+            time.sleep(0.05)
+        self.fail(what)
+
+    def processes(self):
+        """Those whose words name a file of this test's folder."""
+        return [
+            int(entry.name)
+            for entry in pathlib.Path("/proc").iterdir()
+            if entry.name.isdigit() and str(self.folder).encode() in self.words_of(entry)
+        ]
+
+    @staticmethod
+    def words_of(entry):
+        try:
+            return (entry / "cmdline").read_bytes()
+        except OSError:
+            return b""
+
+    def no_process_is_left(self):
+        self.wait_until(lambda: not self.processes(), "the program still runs")
