@@ -10,7 +10,7 @@ use Rattle.std.proofs.Math.Pow.{pow-lt}
 use Rattle.std.proofs.Math.Nat.{mul_comm}
 use Rattle.sweep_core.proofs.Lists.{Member, Each-weaker, Each-both, Each-map, Each-filter, Member-map, passes-all, kept-of, max-is, max-above}
 use Rattle.sweep_core.proofs.Powers.{power-of}
-use Rattle.cache_core.specs.Geometry.{IsGeometry, shape, size_of}
+use Rattle.cache_core.specs.Geometry.{IsGeometry, geometry_value, size_of}
 use Rattle.sweep_core.specs.declared.space.Config.{Config}
 use Rattle.sweep_core.specs.Space.{Ranges, is_power, is_valid, bytes_of, config}
 use Rattle.sweep_core.specs.Table.{is_less, is_after, table, all_configs}
@@ -94,6 +94,6 @@ depth-above all c m =
     (inr (Member-map (λ d. d.assoc) c (filter (has_pair (c.bsize, c.sets)) all)
     (kept-of (has_pair (c.bsize, c.sets)) c all (and_from _ _ (eq-eqb c.bsize c.bsize refl) (eq-eqb c.sets c.sets refl)) m)))
 
--- equal numbers give one shape
-pub shapes : {s t e d b k : ℕ} → s ≡ t → e ≡ d → b ≡ k → shape s e b ≡ shape t d k
-shapes p q r = rw (p, q, r) refl
+-- equal numbers give one geometry
+pub same-geometry : {s t e d b k : ℕ} → s ≡ t → e ≡ d → b ≡ k → geometry_value s e b ≡ geometry_value t d k
+same-geometry p q r = rw (p, q, r) refl

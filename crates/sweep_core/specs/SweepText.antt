@@ -17,7 +17,7 @@ use Rattle.sweep_core.specs.Table.{table, first_rows}
 abbrev pub log2 : ℕ → ℕ
 log2 n = trailing_zeros w64 n
 
--- the shape of a configuration
+-- the geometry of a configuration
 abbrev pub shape_of_config : Config → GeometryValue
 shape_of_config c = geometry_value (log2 c.sets) c.assoc (log2 c.bsize)
 

@@ -41,7 +41,7 @@ ServeAll (x ∷ xs) ways (c ∷ cs) =
     (Serves x ways c × ServeAll (x ∷ xs) c.assoc cs)
     ⊎ ((is_of c x ≡ false) × Leads xs c × ServeAll xs c.assoc cs)
 
--- a profile stands for a trace, and has the shape of its pair
+-- a profile stands for a trace, and has the geometry of its pair
 pub record IsProfileOf (es : List Event) (x : PairProfile) : Type 0 where
   pub stands : StandsFor es x.profile
   pub geometry : x.profile.geometry ≡ geometry_value (log2 x.sets) x.profile.geometry.e (log2 x.bsize)

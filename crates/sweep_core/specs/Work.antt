@@ -25,7 +25,7 @@ pairs (c ∷ cs) = pair_of c ∷ filter (λ p. not (has_pair p c)) (pairs cs)
 unfoldable pub depth : List Config → ℕ × ℕ → ℕ
 depth all p = fold max 0 (map (λ c. c.assoc) (filter (has_pair p) all))
 
--- the shape of the deepest cache of a pair
+-- the geometry of the deepest cache of a pair
 abbrev pub shape_of_pair : List Config → ℕ × ℕ → GeometryValue
 shape_of_pair all p = geometry_value (log2 p.1) (depth all p) (log2 p.0)
 

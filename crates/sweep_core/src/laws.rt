@@ -38,7 +38,7 @@ pub fn log2_is()
     ensures { (n : ℕ) → is_power n ≡ true → 2 ^ log2 n ≡ n }
 {}
 
-/// Each configuration of a space is a cache within the limits, and its shape has as many bytes.
+/// Each configuration of a space is a cache within the limits, and its geometry has as many bytes.
 pub fn configs_are_geometries()
     ensures limits { (space : Ranges) (c : Config) →
         space_fault space ≡ None → is_valid space c ≡ true → IsGeometry (shape_of_config c) }

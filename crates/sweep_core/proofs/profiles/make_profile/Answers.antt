@@ -4,7 +4,7 @@ use Rattle.profile_core.specs.State.{ProfileState, empty}
 use Rattle.sweep_core.specs.declared.profiles.PairProfile.{PairProfile}
 use Rattle.sweep_core.specs.Space.{config}
 use Rattle.sweep_core.proofs.Validity.{space-limited}
-use Rattle.sweep_core.proofs.Depths.{geometry-of, depth-is, shapes}
+use Rattle.sweep_core.proofs.Depths.{geometry-of, depth-is, same-geometry}
 use Rattle.sweep_core.proofs.profiles.make_profile.Goals as goal
 
 pub new-requires : goal.new-requires
@@ -19,4 +19,4 @@ returns-clause-begun c after later =
     λ v. record { bsize = c.args.config.now.bsize; sets = c.args.config.now.sets; profile = v } in
     let deep = depth-is c.args.space.now after c.args.config.now c.depth_of-depth.result (space-limited c.args.space.now c.limits.ensures)
     c.requires later c.depth_of-depth.ensures.valid c.depth_of-depth.ensures.greatest in
-    ap pair (c.in_ok-profile.ensures ∙ ap empty (shapes c.bits_of-2.ensures (sym deep) c.bits_of.ensures))
+    ap pair (c.in_ok-profile.ensures ∙ ap empty (same-geometry c.bits_of-2.ensures (sym deep) c.bits_of.ensures))
