@@ -2,7 +2,7 @@
 use Rattle.std.proofs.Common.{◌≡◌, ℕ, suc, ◌+◌, ◌-◌, ◌*◌, ◌<◌, ◌≤◌, ◌^◌, cond, Bool, true, false, not, eqb, ◌||◌, min}
 use Rattle.std.proofs.Common.{List, [], ◌∷◌, length, take, get_or, set, sum, refl, sym, ◌∙◌, ap, subst, arith, add-one, length-set}
 use Rattle.std.proofs.Math.Nat.{suc-mul}
-use Rattle.std.proofs.lemmas.Bool.{ltb-true, eqb-true}
+use Rattle.std.proofs.lemmas.Bool.{ltb-true, eqb-true, false≢true}
 use Rattle.std.proofs.lemmas.List.{set-get_or, take_all}
 use Rattle.cache_core.proofs.Lists.{list_any_is}
 use Rattle.cache_core.specs.Geometry.{Shape, set_of_block}
@@ -74,6 +74,19 @@ found_nowhere x len xs touch =
       place_is = absent_at (is_in x xs) (place_of x xs) (length xs) (list_any_is (λ z. eqb z x) xs) at.0 (place-le x xs);
       len_is = at.1;
     }
+
+-- whether a list is empty, by its length
+pub not_empty : (xs : List ℕ) (b : Bool) → b ≡ eqb (length xs) 0 → b ≡ false → 0 < length xs
+not_empty [] b is no_block = absurd (false≢true (sym no_block ∙ is))
+not_empty (x ∷ xs) b is no_block = omega arith
+
+pub is_nil : (xs : List ℕ) (b : Bool) → b ≡ eqb (length xs) 0 → b ≡ true → xs ≡ []
+is_nil [] b is none = refl
+is_nil (x ∷ xs) b is none = absurd (omega (arith, eqb-true (suc (length xs)) 0 (sym is ∙ none)))
+
+pub nowhere_in : (x : ℕ) (xs : List ℕ) → xs ≡ [] → FoundNowhere x 0 xs
+nowhere_in x [] none = record { outside = refl; place_is = refl; len_is = refl }
+nowhere_in x (y ∷ ys) none = absurd (cc)
 
 -- the numbers of a profile before and after one reference, which made m comparisons
 pub record IsFed (behind fills behind' fills' : List ℕ) (probes probes' m : ℕ) : Type 0 where

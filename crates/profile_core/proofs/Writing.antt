@@ -39,6 +39,22 @@ touched_at n k held front fronts slab lens lists s is lt held_read front_read =
           ∙ ap (λ f. take held (f ∷ take n (drop (k * n) slab))) (sym front_is);
     }
 
+-- a set whose list is empty
+pub touched_empty : (n k : ℕ) (fronts slab lens : List ℕ) (lists : List (List ℕ)) → IsSlab n fronts slab lens → lists_in n fronts slab lens ≡ lists
+    → k < length lists → get_or lists k [] ≡ [] → IsTouched n k 0 (get_or fronts k 0) fronts slab lens lists
+touched_empty n k fronts slab lens lists s is lt none =
+    let stretch : List ℕ = take n (drop (k * n) slab) in
+    let row : get_or lists k [] ≡ take (get_or lens k 0) (get_or fronts k 0 ∷ stretch) = list_of_row n k fronts slab lens lists s is lt in
+    let held_is : 0 ≡ get_or lens k 0 = omega (arith, ap length row, ap length none, length-take (get_or lens k 0) (get_or fronts k 0 ∷ stretch)) in
+    record {
+      sound = s;
+      lists_are = is;
+      within = inside n k fronts slab lens lists s is lt;
+      held_is = held_is;
+      front_is = refl;
+      list_is = row ∙ ap (λ h. take h (get_or fronts k 0 ∷ stretch)) (sym held_is);
+    }
+
 -- the row of set k with a list of `len` blocks whose front is x: the list of the set before with x brought to the front
 pub record IsWritten (n k len x : ℕ) (fronts slab lens stretch fronts' slab' lens' : List ℕ) (list : List ℕ) : Type 0 where
   pub fronts_are : fronts' ≡ set fronts k x

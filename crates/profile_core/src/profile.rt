@@ -1,5 +1,5 @@
 //! A profile: one pass over references that counts for every associativity up to a depth.
-ghost use Rattle.std.specs.Prelude.{◌≡◌, ◌+◌, ◌-◌, ◌*◌, ◌%◌, ◌^◌, ◌<◌, ◌≤◌, List, IfOk, false, length, take, drop, sum, slice_index};
+ghost use Rattle.std.specs.Prelude.{◌≡◌, ◌+◌, ◌-◌, ◌*◌, ◌%◌, ◌^◌, ◌<◌, ◌≤◌, List, [], IfOk, false, length, take, drop, sum, slice_index};
 ghost use Rattle.trace_core.specs.declared.events.Event.{Event};
 ghost use Rattle.cache_core.specs.Geometry.{IsGeometry, shape, block_of, set_of_block};
 ghost use Rattle.cache_core.specs.Windows.{places, counts, probes, held};
@@ -110,10 +110,26 @@ impl Profile {
         ensures step { self.new ≡ after_reference self.old block }
         ensures one_more { fed_of self.new ≡ fed_of self.old + 1 }
     {
+        if self.lists.is_empty(set) {
+            return self.feed_first(set, block);
+        }
         match self.lists.bring(set, block, &mut self.probes) {
             Touch::Behind(place) => self.behind[place] += 1,
             Touch::New(held) => self.fills[held] += 1,
         }
+    }
+
+    /// Feeds a reference to a set whose list is empty, which makes no comparison.
+    #[inline(never)]
+    fn feed_first(&mut self, set: usize, block: u64)
+        requires few { fed_of self.old < 2 ^ 41 }
+        requires of_set { set ≡ set_of_block self.old.geometry block }
+        requires empty { list_of self.old set ≡ [] }
+        ensures step { self.new ≡ after_reference self.old block }
+        ensures one_more { fed_of self.new ≡ fed_of self.old + 1 }
+    {
+        self.lists.begin(set, block);
+        self.fills[0] += 1;
     }
 
     /// Empties the lists, as a flush of the caches does. The numbers stay.

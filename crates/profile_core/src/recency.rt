@@ -1,6 +1,6 @@
 //! A recency list for each set, the most recent block first: the front ones side by side, and the others in one slab.
 
-ghost use Rattle.std.specs.Prelude.{◌≡◌, ◌+◌, ◌*◌, ◌^◌, ◌<◌, ◌≤◌, [], ◌∷◌, false, min, length, take, sum, sum_by, replicate, IfOk, slice_set, slice_index_or};
+ghost use Rattle.std.specs.Prelude.{◌≡◌, ◌+◌, ◌*◌, ◌^◌, ◌<◌, ◌≤◌, [], ◌∷◌, false, nat_eq, min, length, take, sum, sum_by, replicate, IfOk, slice_set, slice_index_or};
 ghost use Rattle.std.specs.List.{remove};
 ghost use Rattle.cache_core.specs.Touched.{Covers, ListsFilled};
 ghost use Rattle.profile_core.specs.Moves.{place_of, is_front, move_to_front, touch_of, shifted_of};
@@ -78,12 +78,36 @@ impl RecencyLists {
         self.fronts[set] == block && (block != 0 || self.lens[set] != 0)
     }
 
+    /// Whether a set's list is empty.
+    #[inline(always)]
+    pub fn is_empty(&self, set: usize) -> bool
+        requires { set < length self.now.lists }
+        ensures { result ≡ nat_eq (length (slice_index_or self.now.lists set [])) 0 }
+    {
+        self.lens[set] == 0
+    }
+
+    /// Begins a set's empty list with a block.
+    #[inline(always)]
+    pub fn begin(&mut self, set: usize, block: u64)
+        requires within { set < length self.old.lists }
+        requires empty { slice_index_or self.old.lists set [] ≡ [] }
+        ensures { self.new ≡ record self.old {
+          lists = slice_set self.old.lists set (take self.old.depth (move_to_front block []));
+        } }
+    {
+        self.fronts[set] = block;
+        self.lens[set] = 1;
+        self.touched.note_growth(set, 0, 1);
+    }
+
     /// Brings a block that is not the front of a set's list there. It counts the comparisons with all entries, that
     /// with the front too, which found it to be another block.
     #[inline(always)]
     pub fn bring(&mut self, set: usize, block: u64, probes: &mut u64) -> Touch
         requires within { set < length self.old.lists }
         requires few { probes.old < 2 ^ 63 }
+        requires some { 0 < length (slice_index_or self.old.lists set []) }
         requires behind { is_front block (slice_index_or self.old.lists set []) ≡ false }
         ensures found { result ≡ touch_of block (slice_index_or self.old.lists set []) }
         ensures short { length (slice_index_or self.old.lists set []) ≤ self.old.depth }
@@ -96,12 +120,6 @@ impl RecencyLists {
     {
         let held = self.lens[set] as usize;
         let front = mem::replace(&mut self.fronts[set], block);
-        if held == 0 {
-            self.lens[set] = 1;
-            self.touched.note_growth(set, 0, 1);
-            return Touch::New(0);
-        }
-        *probes += 1;
         let start = set * self.stride;
         let end = start + held - 1;
         match shift_to(&mut self.slab[start..end], front, block, probes) {
@@ -166,22 +184,23 @@ fn total_len(lens: &[u32]) -> u64
     total
 }
 
-/// Puts `first` in front of a list. Each other block moves one place on, up to the place where `block` stood.
+/// Puts `first` in front of a list. Each other block moves one place on, up to the place where `block` stood. The
+/// comparison with `first`, which was another block, is counted with those that are made here.
 #[inline(always)]
 fn shift_to(list: &mut [u64], first: u64, block: u64, probes: &mut u64) -> Shifted
-    requires { probes.old + length list.old < 2 ^ 64 }
+    requires { probes.old + 1 + length list.old < 2 ^ 64 }
     ensures shifted { result ≡ shifted_of block first list.old }
-    ensures counted { probes.new ≡ probes.old + min (place_of block list.old + 1) (length list.old) }
+    ensures counted { probes.new ≡ probes.old + 1 + min (place_of block list.old + 1) (length list.old) }
     ensures moved { list.new ≡ take (length list.old) (first ∷ remove list.old (place_of block list.old)) }
 {
     let mut carried = first;
-    let mut compared: usize = 0;
+    let mut compared: usize = 1;
     for entry in list.iter_mut() {
         let other = mem::replace(entry, carried);
         compared += 1;
         if other == block {
             *probes += compared as u64;
-            return Shifted::Found(compared - 1);
+            return Shifted::Found(compared - 2);
         }
         carried = other;
     }

@@ -6,7 +6,7 @@ use Rattle.profile_core.specs.declared.recency.Touch.TheVariants.{Behind, New}
 use Rattle.profile_core.specs.State.{ProfileState, IsSound, fed_of, list_of, after_reference, compared_behind, distances_of}
 use Rattle.cache_core.specs.Geometry.{set_of_block}
 use Rattle.profile_core.proofs.Feeding.{FoundBehind, IsFed, found_behind, found_nowhere, fed_behind, fed_nowhere, sound_after}
-use Rattle.profile_core.proofs.Feeding.{behind_step, nowhere_step, sum-distances}
+use Rattle.profile_core.proofs.Feeding.{behind_step, nowhere_step, sum-distances, not_empty, is_nil}
 use Rattle.profile_core.proofs.Weighing.{raised_fits, sum-raised}
 use Rattle.profile_core.proofs.profile.Profile.feed_behind.Goals as goal
 use Rattle.profile_core.proofs.profile.Profile.feed_behind.Goals.{After-bring, In-Behind, In-New, After-index_mut, After-index_mut-in-New}
@@ -115,6 +115,14 @@ step_new c len n is read =
       sum-distances c.bring.new.probes behind (set fills len (n + 1))) in
     nowhere_step (before c) c.args.block c.args.set _ _ behind (of_set c) refl c.bring.new.self.lists c.bring.new.probes n same (moved c) len
     (found_nowhere c.args.block len (list c) is) (get_or_read fills len n fits read 0) numbers.probes_are
+
+pub bring-requires-clause-some : goal.bring-requires-clause-some
+bring-requires-clause-some c = not_empty (get_or c.self.inside.lists.lists c.args.set []) c.is_empty.result c.is_empty.ensures c.if-is_empty.false
+
+pub feed_first-requires-clause-empty : goal.feed_first-requires-clause-empty
+feed_first-requires-clause-empty c =
+    ap (λ v. list_of v c.args.set) (sym c.self.view_is)
+    ∙ is_nil (get_or c.self.inside.lists.lists c.args.set []) c.is_empty.result c.is_empty.ensures c.if-is_empty.true
 
 pub index_mut-requires : goal.index_mut-requires
 index_mut-requires c =
