@@ -1,5 +1,6 @@
 -- What a profile answers is what the definitions say of the events that it stands for.
-use Rattle.std.proofs.Common.{◌≡◌, ℕ, ◌+◌, ◌*◌, ◌≤◌, ◌^◌, Bool, true, false, not, ◌&&◌, cond, eqb, ltb, leb, min, List, [], ◌∷◌, length, take, drop, map, sum, refl, sym, ◌∙◌, ap, subst, arith, get_or, length-take}
+use Rattle.std.proofs.Common.{◌≡◌, ℕ, ◌+◌, ◌*◌, ◌≤◌, ◌^◌, Bool, true, false, not, ◌&&◌, cond, eqb, ltb, leb, min, List, [], ◌∷◌}
+use Rattle.std.proofs.Common.{length, take, drop, map, sum, refl, sym, ◌∙◌, ap, subst, arith, get_or, length-take}
 use Rattle.std.specs.List.{count_by, sum_by, range_with_len}
 use Rattle.std.proofs.lemmas.Bool.Decides.{nat_tests}
 use Rattle.std.proofs.lemmas.List.{take_all}
@@ -57,7 +58,8 @@ always true n m = refl
 always false n m = grind (arith, nat_tests)
 
 -- the first e numbers of the two histograms
-pub distances_sum : (es : List Event) (v : ProfileState) (e : ℕ) → StandsFor es v → e ≤ v.geometry.e → sum (take e v.distances) ≡ count_by (hit_at v.geometry e) (places v.geometry es)
+pub distances_sum : (es : List Event) (v : ProfileState) (e : ℕ) → StandsFor es v → e ≤ v.geometry.e
+    → sum (take e v.distances) ≡ count_by (hit_at v.geometry e) (places v.geometry es)
 distances_sum es v e h le =
     let g = v.geometry in
     let f : ℕ → ℕ = λ d. count_by (λ p. has_last p && eqb (distance g p) d) (places g es) in
@@ -85,21 +87,25 @@ fed_is es v h =
     ap sum (sym (take_all g.e v.distances (omega (arith, h.distance_count)))) ∙ distances_sum es v g.e h (omega arith) in
     let not_found : sum v.fills ≡ count_by (λ p. not (is_hit g p)) ps =
     ap sum (sym (take_all (g.e + 1) v.fills (omega (arith, h.fill_count)))) ∙ fills_sum es v (g.e + 1) h (omega arith)
-    ∙ sum_by_same (λ p. cond (not (is_hit g p) && ltb (min (seen g p) g.e) (g.e + 1)) 1 0) (λ p. cond (not (is_hit g p)) 1 0) ps (λ p. always (is_hit g p) (seen g p) g.e) in
+    ∙ sum_by_same (λ p. cond (not (is_hit g p) && ltb (min (seen g p) g.e) (g.e + 1)) 1 0) (λ p. cond (not (is_hit g p)) 1 0) ps
+    (λ p. always (is_hit g p) (seen g p) g.e) in
     omega (arith, found, not_found, all_of g g.e ps)
 
 evicted : (g : GeometryValue) (m e : ℕ) (p : Place) → e ≤ m →
     cond (evict_at g e p) 1 0 + cond (not (hit_at g m p) && ltb (min (seen g p) m) e) 1 0 ≡ cond (not (hit_at g e p)) 1 0
 evicted g m e p le =
     let f = looks_back g p in
-    subst (λ (b : Bool). cond (not (b && ltb (distance g p) e) && leb e (seen g p)) 1 0 + cond (not (b && ltb (distance g p) m) && ltb (min (seen g p) m) e) 1 0 ≡ cond (not (b && ltb (distance g p) e)) 1 0)
+    subst
+    (λ (b : Bool). cond (not (b && ltb (distance g p) e) && leb e (seen g p)) 1 0
+      + cond (not (b && ltb (distance g p) m) && ltb (min (seen g p) m) e) 1 0 ≡ cond (not (b && ltb (distance g p) e)) 1 0)
     (sym f.last) (in_or_out (distance g p) (seen g p) m e f.within le)
 
 -- the number of lines plays no part in places
 places_from_same : (g : GeometryValue) (e : ℕ) (w : List ℕ) (es : List Event) → places_from (record g { e = e }) w es ≡ places_from g w es
 unfolding places_from
 places_from_same g e w [] = refl
-places_from_same g e w (event.Reference r ∷ es) = ap (λ ps. record { block = block_of g r.addr; window = w } ∷ ps) (places_from_same g e (block_of g r.addr ∷ w) es)
+places_from_same g e w (event.Reference r ∷ es) = ap (λ ps. record { block = block_of g r.addr; window = w } ∷ ps)
+    (places_from_same g e (block_of g r.addr ∷ w) es)
 places_from_same g e w (event.Flush ∷ es) = places_from_same g e [] es
 
 places_same : (g : GeometryValue) (e : ℕ) (es : List Event) → places (record g { e = e }) es ≡ places g es
@@ -130,7 +136,8 @@ counts_are es v e h le =
     let misses : sum (drop e v.distances) + sum v.fills ≡ count_by (λ p. not (hit_at g e p)) ps = omega (arith, hits, fed, split, both) in
     let young = fills_sum es v e h (omega arith) in
     let old : count_by (evict_at g e) ps + count_by (λ p. not (is_hit g p) && ltb (min (seen g p) g.e) e) ps ≡ count_by (λ p. not (hit_at g e p)) ps =
-    sum_by_parts (λ p. cond (evict_at g e p) 1 0) (λ p. cond (not (is_hit g p) && ltb (min (seen g p) g.e) e) 1 0) (λ p. cond (not (hit_at g e p)) 1 0) ps (λ p. evicted g g.e e p le) in
+    sum_by_parts (λ p. cond (evict_at g e p) 1 0) (λ p. cond (not (is_hit g p) && ltb (min (seen g p) g.e) e) 1 0) (λ p. cond (not (hit_at g e p)) 1 0) ps
+    (λ p. evicted g g.e e p le) in
     let evictions : sum (drop e v.distances) + sum (drop e v.fills) ≡ count_by (evict_at g e) ps = omega (arith, misses, young, old, fills_split) in
     let same : counts_at v e ≡ counts_by g e ps = cc (hits, misses, evictions) in
     same ∙ sym (counts_same g e es)

@@ -2,8 +2,12 @@ pub mod Sums
 pub mod Steps
 pub mod Stands
 pub mod Counting
-pub mod Touch
+pub mod Shifting
+pub mod Bringing
 pub mod SlabLemmas
+pub mod Writing
+pub mod Emptying
+pub mod Weighing
 pub mod Feeding
 pub mod Runs
 pub mod Tallies

@@ -15,7 +15,8 @@ event_stands es v event.Flush h = flush_stands es v h
 -- more events after those that a profile stands for
 pub stands_with : (before es : List Event) (v : ProfileState) → StandsFor before v → StandsFor (before ++ es) (fold after_event v es)
 stands_with before [] v h = subst (λ (xs : List Event). StandsFor xs v) (sym (append-nil before)) h
-stands_with before (e ∷ es) v h = subst (λ (xs : List Event). StandsFor xs (fold after_event (after_event v e) es)) (append_assoc before (e ∷ []) es) (stands_with (before ++ e ∷ []) es (after_event v e) (event_stands before v e h))
+stands_with before (e ∷ es) v h = subst (λ (xs : List Event). StandsFor xs (fold after_event (after_event v e) es)) (append_assoc before (e ∷ []) es)
+    (stands_with (before ++ e ∷ []) es (after_event v e) (event_stands before v e h))
 
 pub stands_after : (g : GeometryValue) (es : List Event) → IsGeometry g → StandsFor es (fold after_event (empty g) es)
 stands_after g es h = stands_with [] es (empty g) (new_stands g h)

@@ -1,5 +1,6 @@
 -- A profile that stands for a list of events, and the list with one more event.
-use Rattle.std.proofs.Common.{◌≡◌, ◌≢◌, ℕ, ◌+◌, ◌<◌, ◌^◌, Bool, true, false, not, ◌&&◌, cond, eqb, ltb, min, List, [], ◌∷◌, ◌++◌, length, take, refl, sym, ◌∙◌, ap, subst, arith, get_or, set, ⊎_elim, get_or-set_same, get_or-set_other, length-set}
+use Rattle.std.proofs.Common.{◌≡◌, ◌≢◌, ℕ, ◌+◌, ◌<◌, ◌^◌, Bool, true, false, not, ◌&&◌, cond, eqb, ltb, min, List, [], ◌∷◌, ◌++◌, length, take}
+use Rattle.std.proofs.Common.{refl, sym, ◌∙◌, ap, subst, arith, get_or, set, ⊎_elim, get_or-set_same, get_or-set_other, length-set}
 use Rattle.std.proofs.lemmas.List.{length-replicate, get_or-replicate}
 use Rattle.std.specs.List.{count_by, sum_by}
 use Rattle.std.proofs.lemmas.Bool.{ne_eqb, cases_eq, ltb-true}
@@ -22,7 +23,8 @@ use Rattle.profile_core.proofs.Steps.{raise_if, raise_unless, Finds, finds, dist
 lists_step : (es : List Event) (v : ProfileState) (r : Ref) (xs : List ℕ) → StandsFor es v
     → xs ≡ take v.geometry.e (distinct_of_set v.geometry (set_of_block v.geometry (block_of v.geometry r.addr)) (window v.geometry es))
     → (k : ℕ) → k < 2 ^ v.geometry.s
-    → list_of (referenced_in v (block_of v.geometry r.addr) xs) k ≡ take v.geometry.e (distinct_of_set v.geometry k (window v.geometry (es ++ event.Reference r ∷ [])))
+    → list_of (referenced_in v (block_of v.geometry r.addr) xs) k ≡ take v.geometry.e
+    (distinct_of_set v.geometry k (window v.geometry (es ++ event.Reference r ∷ [])))
 lists_step es v r xs h e k lt =
     let g = v.geometry in
     let x : ℕ = block_of v.geometry r.addr in
@@ -63,11 +65,15 @@ referenced_in_stands es v r xs h e =
       geometry = h.geometry;
       set_count = length-set v.lists _ _ ∙ h.set_count;
       lists = lists_step es v r xs h e;
-      distance_count = length-either (is_in x xs) (raise v.distances (place_of x xs)) v.distances (length-raise v.distances (place_of x xs)) refl ∙ h.distance_count;
+      distance_count =
+          length-either (is_in x xs) (raise v.distances (place_of x xs)) v.distances (length-raise v.distances (place_of x xs)) refl ∙ h.distance_count;
       distances = λ d lt.
-          let step : (is_in x xs && eqb (place_of x xs) d) ≡ (has_last p && eqb (distance g p) d) = cc (distance_within (distance g p) (seen g p) v.geometry.e d lt, f.last, f.found, f.place) in
+          let step : (is_in x xs && eqb (place_of x xs) d) ≡ (has_last p && eqb (distance g p) d) =
+          cc (distance_within (distance g p) (seen g p) v.geometry.e d lt, f.last, f.found, f.place) in
           raise_if (is_in x xs) v.distances (place_of x xs) d
-          (λ found. let nearer : min (distance g p) v.geometry.e < min v.geometry.e (seen g p) = ltb-true _ _ (sym f.found ∙ found) in omega (arith, f.place, h.distance_count, nearer))
+          (λ found.
+            let nearer : min (distance g p) v.geometry.e < min v.geometry.e (seen g p) = ltb-true _ _ (sym f.found ∙ found) in
+            omega (arith, f.place, h.distance_count, nearer))
           ∙ ap (λ n. n + cond (is_in x xs && eqb (place_of x xs) d) 1 0) (h.distances d lt)
           ∙ ap (λ b. count_by (λ q. has_last q && eqb (distance g q) d) (places v.geometry es) + cond b 1 0) step
           ∙ sym (sum_by-reference (λ q. cond (has_last q && eqb (distance g q) d) 1 0) g es r);
@@ -82,15 +88,18 @@ referenced_in_stands es v r xs h e =
       comparisons =
           let more : min (place_of x xs + 1) (length xs) ≡ cond (is_hit g p) (distance g p + 1) (min (seen g p) v.geometry.e) =
           ap (λ i. min (i + 1) (length xs)) f.place ∙ ap (λ n. min (min (distance g p) v.geometry.e + 1) n) f.len
-          ∙ sym (ap (λ b. cond (b && ltb (distance g p) v.geometry.e) (distance g p + 1) (min (seen g p) v.geometry.e)) f.last ∙ probes_within (distance g p) (seen g p) v.geometry.e f.within) in
+          ∙ sym (ap (λ b. cond (b && ltb (distance g p) v.geometry.e) (distance g p + 1) (min (seen g p) v.geometry.e)) f.last
+            ∙ probes_within (distance g p) (seen g p) v.geometry.e f.within) in
           ap (λ n. n + min (place_of x xs + 1) (length xs)) h.comparisons
           ∙ ap (λ n. probes g es + n) more
           ∙ sym (sum_by-reference (λ q. cond (is_hit g q) (distance g q + 1) (min (seen g q) v.geometry.e)) g es r);
     }
 
-pub reference_stands : (es : List Event) (v : ProfileState) (r : Ref) → StandsFor es v → StandsFor (es ++ event.Reference r ∷ []) (after_reference v (block_of v.geometry r.addr))
+pub reference_stands : (es : List Event) (v : ProfileState) (r : Ref) → StandsFor es v
+    → StandsFor (es ++ event.Reference r ∷ []) (after_reference v (block_of v.geometry r.addr))
 reference_stands es v r h =
-    referenced_in_stands es v r (list_of v (set_of_block v.geometry (block_of v.geometry r.addr))) h (h.lists (set_of_block v.geometry (block_of v.geometry r.addr)) (mod_below _ _ (pow_pos v.geometry.s)))
+    referenced_in_stands es v r (list_of v (set_of_block v.geometry (block_of v.geometry r.addr))) h
+    (h.lists (set_of_block v.geometry (block_of v.geometry r.addr)) (mod_below _ _ (pow_pos v.geometry.s)))
 
 pub flush_stands : (es : List Event) (v : ProfileState) → StandsFor es v → StandsFor (es ++ event.Flush ∷ []) (after_flush v)
 unfolding probes
@@ -101,7 +110,9 @@ flush_stands es v h =
       set_count = length-replicate (2 ^ v.geometry.s) [];
       lists = λ k lt.
           get_or-replicate (2 ^ v.geometry.s) k [] [] lt
-          ∙ sym (take-nil v.geometry.e) ∙ ap (λ ys. take v.geometry.e ys) (sym (distinct_of_set-nil v.geometry k) ∙ ap (distinct_of_set v.geometry k) (sym (window-push v.geometry es event.Flush)));
+          ∙ sym (take-nil v.geometry.e)
+          ∙ ap (λ ys. take v.geometry.e ys) (sym (distinct_of_set-nil v.geometry k)
+            ∙ ap (distinct_of_set v.geometry k) (sym (window-push v.geometry es event.Flush)));
       distance_count = h.distance_count;
       distances = λ d lt. h.distances d lt ∙ ap (count_by (λ p. has_last p && eqb (distance v.geometry p) d)) same;
       fill_count = h.fill_count;
@@ -116,7 +127,8 @@ new_stands g h =
       geometry = h;
       set_count = length-replicate (2 ^ g.s) [];
       lists = λ k lt.
-          get_or-replicate (2 ^ g.s) k [] [] lt ∙ sym (take-nil g.e) ∙ ap (λ ys. take g.e ys) (sym (distinct_of_set-nil g k) ∙ ap (distinct_of_set g k) (sym (window-nil g)));
+          get_or-replicate (2 ^ g.s) k [] [] lt ∙ sym (take-nil g.e)
+          ∙ ap (λ ys. take g.e ys) (sym (distinct_of_set-nil g k) ∙ ap (distinct_of_set g k) (sym (window-nil g)));
       distance_count = length-replicate g.e 0;
       distances = λ d lt. get_or-replicate g.e d 0 0 lt;
       fill_count = length-replicate (g.e + 1) 0;

@@ -1,5 +1,6 @@
 -- What a reference does to a profile, over the trace that it stands for.
-use Rattle.std.proofs.Common.{◌≡◌, ℕ, ◌+◌, ◌<◌, ◌≤◌, Bool, true, false, not, ◌&&◌, cond, eqb, ltb, min, List, length, take, refl, sym, ◌∙◌, ap, subst, arith, get_or, get_or-set_same, get_or-set_other, length-take}
+use Rattle.std.proofs.Common.{◌≡◌, ℕ, ◌+◌, ◌<◌, ◌≤◌, Bool, true, false, not, ◌&&◌, cond, eqb, ltb, min, List, length, take, refl}
+use Rattle.std.proofs.Common.{sym, ◌∙◌, ap, subst, arith, get_or, get_or-set_same, get_or-set_other, length-take}
 use Rattle.std.proofs.lemmas.Bool.Decides.{nat_tests}
 use Rattle.std.proofs.lemmas.List.Sums.{prefix_len-le-length}
 use Rattle.cache_core.proofs.Lists.{is, list_any_is, position_or_len-take}
@@ -26,7 +27,8 @@ pub raise_if : (b : Bool) (ns : List ℕ) (i d : ℕ) → (b ≡ true → i < le
 raise_if true ns i d h = raise_at ns i d (h refl)
 raise_if false ns i d h = omega arith
 
-pub raise_unless : (b : Bool) (ns : List ℕ) (i d : ℕ) → (b ≡ false → i < length ns) → get_or (cond b ns (raise ns i)) d 0 ≡ get_or ns d 0 + cond (not b && eqb i d) 1 0
+pub raise_unless : (b : Bool) (ns : List ℕ) (i d : ℕ) → (b ≡ false → i < length ns)
+    → get_or (cond b ns (raise ns i)) d 0 ≡ get_or ns d 0 + cond (not b && eqb i d) 1 0
 raise_unless true ns i d h = omega arith
 raise_unless false ns i d h = raise_at ns i d (h refl)
 
@@ -47,7 +49,8 @@ finds g n p xs e =
     let within : distance g p ≤ seen g p = subst (λ (k : ℕ). k ≤ length st) (sym d) (prefix_len-le-length (λ y. not (eqb y p.block)) st) in
     let place : place_of p.block xs ≡ min (distance g p) n = ap (place_of p.block) e ∙ position_or_len-take (is p.block) n st ∙ ap (λ k. min k n) (sym d) in
     let len : length xs ≡ min n (seen g p) = ap length e ∙ length-take n st in
-    let found : is_in p.block xs ≡ ltb (min (distance g p) n) (min n (seen g p)) = list_any_is (is p.block) xs ∙ ap (λ k. ltb k (length xs)) place ∙ ap (λ k. ltb (min (distance g p) n) k) len in
+    let found : is_in p.block xs ≡ ltb (min (distance g p) n) (min n (seen g p)) =
+    list_any_is (is p.block) xs ∙ ap (λ k. ltb k (length xs)) place ∙ ap (λ k. ltb (min (distance g p) n) k) len in
     record {
       last = last;
       within = within;

@@ -1,20 +1,34 @@
 -- A tally that goes on from one associativity to a larger one.
-use Rattle.std.proofs.Common.{◌≡◌, ℕ, ◌+◌, ◌-◌, ◌≤◌, List, take, drop, sum, sym, ◌∙◌, ap, arith}
+use Rattle.std.proofs.Common.{◌≡◌, ℕ, suc, ◌+◌, ◌-◌, ◌≤◌, List, ◌∷◌, take, drop, sum, sym, ◌∙◌, ap, arith}
 use Rattle.cache_core.specs.declared.outcome.Counts.{Counts}
 use Rattle.profile_core.specs.State.{ProfileState, TallyState, tally_at, counts_at}
 use Rattle.std.proofs.lemmas.List.{take-take, drop-take}
-use Rattle.std.proofs.lemmas.List.Sums.{sum_by-take-drop, sum_by-take-le}
+use Rattle.std.proofs.lemmas.List.Sums.{sum_by-cons, sum_by-take-drop, sum_by-take-le}
 
 -- the first numbers of a histogram, and those up to a later place
 pub sum-more : (xs : List ℕ) (from to : ℕ) → from ≤ to → sum (take from xs) + sum (take (to - from) (drop from xs)) ≡ sum (take to xs)
 sum-more xs from to le =
     let there : from + (to - from) ≡ to = omega (arith, le) in
-    let rest : sum (drop from (take to xs)) ≡ sum (take (to - from) (drop from xs)) = ap (λ k. sum (drop from (take k xs))) (sym there) ∙ ap sum (drop-take from (to - from) xs) in
+    let rest : sum (drop from (take to xs)) ≡ sum (take (to - from) (drop from xs)) =
+    ap (λ k. sum (drop from (take k xs))) (sym there) ∙ ap sum (drop-take from (to - from) xs) in
     omega (arith, sum_by-take-drop (λ n. n) (take to xs) from, ap sum (take-take from to xs le), rest)
 
 -- the first numbers of a histogram, and the others
 pub sum-split : (xs : List ℕ) (e : ℕ) → sum (take e xs) + sum (drop e xs) ≡ sum xs
 sum-split xs e = omega (arith, sum_by-take-drop (λ n. n) xs e)
+
+-- the numbers for all places, whose first is h, from their start and from a later place on
+pub sum-first : (h : ℕ) (bs : List ℕ) (to : ℕ) → 1 ≤ to → h + sum (take (to - 1) bs) ≡ sum (take to (h ∷ bs))
+sum-first h bs to some =
+    let one_more : suc (to - 1) ≡ to = omega (arith, some) in
+    sym (sum_by-cons (λ n. n) h (take (to - 1) bs)) ∙ ap (λ k. sum (take k (h ∷ bs))) one_more
+
+pub sum-later : (h : ℕ) (bs : List ℕ) (from to : ℕ) → 1 ≤ from → from ≤ to
+    → sum (take (to - 1 - (from - 1)) (drop (from - 1) bs)) ≡ sum (take (to - from) (drop from (h ∷ bs)))
+sum-later h bs from to some le =
+    let one_more : suc (from - 1) ≡ from = omega (arith, some) in
+    let same : to - 1 - (from - 1) ≡ to - from = omega (arith, some, le) in
+    ap (λ k. sum (take k (drop (from - 1) bs))) same ∙ ap (λ k. sum (take (to - from) (drop k (h ∷ bs)))) one_more
 
 -- what a step of a tally adds up: the numbers of two histograms between two associativities
 pub record IsStep (v : ProfileState) (from to hits fills fed more_hits more_fills : ℕ) : Type 0 where
@@ -26,8 +40,10 @@ pub record IsStep (v : ProfileState) (from to hits fills fed more_hits more_fill
   pub more_fills_are : more_fills ≡ sum (take (to - from) (drop from v.fills))
 
 -- a step of a tally that a profile began
-pub step_of : (v : ProfileState) (t : TallyState) (from to hits fills fed more_hits more_fills : ℕ) → record { ways = from; hits = hits; fills = fills; fed = fed } ≡ t → t ≡ tally_at v t.ways → t.ways ≤ to
-    → more_hits ≡ sum (take (to - from) (drop from v.distances)) → more_fills ≡ sum (take (to - from) (drop from v.fills)) → IsStep v from to hits fills fed more_hits more_fills
+pub step_of : (v : ProfileState) (t : TallyState) (from to hits fills fed more_hits more_fills : ℕ)
+    → record { ways = from; hits = hits; fills = fills; fed = fed } ≡ t → t ≡ tally_at v t.ways → t.ways ≤ to
+    → more_hits ≡ sum (take (to - from) (drop from v.distances)) → more_fills ≡ sum (take (to - from) (drop from v.fills))
+    → IsStep v from to hits fills fed more_hits more_fills
 step_of v t from to hits fills fed more_hits more_fills view of_this le more_hits_are more_fills_are =
     let same : from ≡ t.ways = ap (λ u. u.ways) view in
     record {
@@ -53,8 +69,10 @@ module _ {v : ProfileState} {from to hits fills fed more_hits more_fills : ℕ} 
   pub within : (hits + more_hits) + (fills + more_fills) ≤ fed
   within = omega (arith, s.fed_is, hits_after, fills_after, sum-split v.distances to, sum-split v.fills to)
 
-  pub counts_after : ◌≡◌ {A = Counts} (record { hits = hits + more_hits; misses = fed - (hits + more_hits); evictions = fed - (hits + more_hits) - (fills + more_fills) }) (counts_at v to)
+  pub counts_after : ◌≡◌ {A = Counts}
+      (record { hits = hits + more_hits; misses = fed - (hits + more_hits); evictions = fed - (hits + more_hits) - (fills + more_fills) }) (counts_at v to)
   counts_after =
       let misses : fed - (hits + more_hits) ≡ sum (drop to v.distances) + sum v.fills = omega (arith, s.fed_is, hits_after, sum-split v.distances to) in
-      let evictions : fed - (hits + more_hits) - (fills + more_fills) ≡ sum (drop to v.distances) + sum (drop to v.fills) = omega (arith, misses, fills_after, sum-split v.fills to) in
+      let evictions : fed - (hits + more_hits) - (fills + more_fills) ≡ sum (drop to v.distances) + sum (drop to v.fills) =
+      omega (arith, misses, fills_after, sum-split v.fills to) in
       cc (hits_after, misses, evictions)

@@ -1,5 +1,6 @@
 -- What a profile holds, and how a reference and a flush change it.
-use Rattle.std.specs.Prelude.{ℕ, ◌≡◌, ◌≤◌, ◌+◌, ◌*◌, ◌^◌, min, if◌then◌else◌, List, [], length, take, drop, sum, sum_by, replicate, slice_set, slice_index, slice_index_or}
+use Rattle.std.specs.Prelude.{ℕ, ◌≡◌, ◌≤◌, ◌+◌, ◌-◌, ◌*◌, ◌^◌, min, if◌then◌else◌, List, [], ◌∷◌, length, take}
+use Rattle.std.specs.Prelude.{drop, sum, sum_by, replicate, slice_set, slice_index, slice_index_or}
 use Rattle.trace_core.specs.declared.events.Event.{Event}
 use Rattle.trace_core.specs.declared.events.Event.TheVariants as event
 use Rattle.cache_core.specs.declared.outcome.Counts.{Counts}
@@ -84,11 +85,26 @@ pub record TallyState : Type 0 where
 abbrev pub tally_at : ProfileState → ℕ → TallyState
 tally_at v e = record { ways = e; hits = sum (take e v.distances); fills = sum (take e v.fills); fed = fed_of v }
 
+-- the sum of a histogram's numbers, each times its place, counted from n
+unfoldable pub weighed : ℕ → List ℕ → ℕ
+weighed n [] = 0
+weighed n (x ∷ xs) = x * n + weighed (n + 1) xs
+
+-- the comparisons of the references that were not found in front: d + 1 where a block was found at place d, whose
+-- numbers `behind` has from place 1 on, and n where it was not found in a list of n blocks
+abbrev pub compared_behind : List ℕ → List ℕ → ℕ
+compared_behind behind fills = weighed 2 behind + weighed 0 fills
+
+-- the numbers for all places: a reference found in front made one comparison, so there were as many as are left
+abbrev pub distances_of : ℕ → List ℕ → List ℕ → List ℕ
+distances_of probes behind fills = (probes - compared_behind behind fills) ∷ behind
+
 -- what is true of the fields of every profile
-pub record IsSound (g : GeometryValue) (lists : Lists) (distances fills : List ℕ) (probes : ℕ) : Type 0 where
+pub record IsSound (g : GeometryValue) (lists : Lists) (behind fills : List ℕ) (probes : ℕ) : Type 0 where
   pub depth : lists.depth ≡ g.e
   pub set_count : length lists.lists ≡ 2 ^ g.s
-  pub distance_count : length distances ≡ g.e
+  pub behind_count : length behind + 1 ≡ g.e
   pub fill_count : length fills ≡ g.e + 1
-  pub fed : sum distances + sum fills ≤ 2 ^ 41
-  pub compared : probes ≤ (sum distances + sum fills) * g.e
+  pub told : compared_behind behind fills ≤ probes
+  pub fed : sum (distances_of probes behind fills) + sum fills ≤ 2 ^ 41
+  pub compared : probes ≤ (sum (distances_of probes behind fills) + sum fills) * g.e

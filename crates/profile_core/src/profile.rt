@@ -1,9 +1,10 @@
 //! A profile: one pass over references that counts for every associativity up to a depth.
-ghost use Rattle.std.specs.Prelude.{◌≡◌, ◌+◌, ◌-◌, ◌*◌, ◌%◌, ◌^◌, ◌<◌, ◌≤◌, List, IfOk, length, sum};
+ghost use Rattle.std.specs.Prelude.{◌≡◌, ◌+◌, ◌-◌, ◌*◌, ◌%◌, ◌^◌, ◌<◌, ◌≤◌, List, [], IfOk, false, length, take, drop, sum, slice_index};
 ghost use Rattle.trace_core.specs.declared.events.Event.{Event};
-ghost use Rattle.cache_core.specs.Geometry.{IsGeometry, geometry_value, block_of};
+ghost use Rattle.cache_core.specs.Geometry.{IsGeometry, geometry_value, block_of, set_of_block};
 ghost use Rattle.cache_core.specs.Windows.{places, counts, probes, held};
-ghost use Rattle.profile_core.specs.State.{empty, after_reference, after_flush, fed_of, held_of, counts_at, tally_at};
+ghost use Rattle.profile_core.specs.State.{empty, list_of, after_reference, after_flush, fed_of, held_of, counts_at, tally_at, weighed};
+ghost use Rattle.profile_core.specs.Moves.{is_front};
 ghost use Rattle.profile_core.specs.StandsFor.{StandsFor};
 
 use crate::recency::{RecencyLists, Touch};
@@ -12,31 +13,33 @@ use cache_core::outcome::Counts;
 use std::alloc::{AllocError, Global};
 use std::marker::Model;
 
-/// The recency lists of all sets (LRU stacks, Mattson 1970) and two histograms: references found, by their stack
-/// distance, which is the block's place in its list; references not found, by the number of blocks in the list.
+/// The recency lists of all sets (LRU stacks, Mattson 1970) and two histograms: references found behind the front of
+/// their list, by their stack distance less 1, which is the block's place behind the front; references not found, by
+/// the number of blocks in the list. Those found in front, which most are, are counted by their comparison alone: each
+/// made one, and how many the others made is told by the histograms.
 #[derive(Drop)]
 pub struct Profile {
     geometry: Geometry,
     lists: RecencyLists,
-    distances: Vec<u64>,
+    behind: Vec<u64>,
     fills: Vec<u64>,
     probes: u64,
 }
 
 impl Model for Profile {
-    ghost use Rattle.profile_core.specs.State.{ProfileState, IsSound};
+    ghost use Rattle.profile_core.specs.State.{ProfileState, IsSound, distances_of};
 
     ghost Value = { ProfileState };
 
     ghost view = { λ p. record {
       geometry = p.geometry;
       lists = p.lists.lists;
-      distances = p.distances.items;
+      distances = distances_of p.probes p.behind.items p.fills.items;
       fills = p.fills.items;
       probes = p.probes;
     } };
 
-    ghost invariant = { λ p. IsSound p.geometry p.lists p.distances.items p.fills.items p.probes };
+    ghost invariant = { λ p. IsSound p.geometry p.lists p.behind.items p.fills.items p.probes };
 }
 
 /// A walk over a profile's histograms towards larger associativities: of `fed` references so many hit at `ways` lines a
@@ -74,7 +77,7 @@ impl Profile {
         Ok(Profile {
             geometry,
             lists: RecencyLists::new(alloc, 1 << s, depth)?,
-            distances: vec![in alloc; 0; depth]?,
+            behind: vec![in alloc; 0; depth - 1]?,
             fills: vec![in alloc; 0; depth + 1]?,
             probes: 0,
         })
@@ -90,10 +93,43 @@ impl Profile {
     {
         let block = self.geometry.block_of(addr);
         let set = self.geometry.set_of_block(block) as usize;
-        match self.lists.touch(set, block, &mut self.probes) {
-            Touch::Found(place) => self.distances[place] += 1,
+        if self.lists.is_front(set, block) {
+            self.probes += 1;
+        } else {
+            self.feed_behind(set, block);
+        }
+    }
+
+    /// Feeds a reference to a block that is not the front of its set's list. It stands apart, so that the path of the
+    /// many references that find their block in front stays short.
+    #[inline(never)]
+    fn feed_behind(&mut self, set: usize, block: u64)
+        requires few { fed_of self.old < 2 ^ 41 }
+        requires of_set { set ≡ set_of_block self.old.geometry block }
+        requires behind { is_front block (list_of self.old set) ≡ false }
+        ensures step { self.new ≡ after_reference self.old block }
+        ensures one_more { fed_of self.new ≡ fed_of self.old + 1 }
+    {
+        if self.lists.is_empty(set) {
+            return self.feed_first(set, block);
+        }
+        match self.lists.bring(set, block, &mut self.probes) {
+            Touch::Behind(place) => self.behind[place] += 1,
             Touch::New(held) => self.fills[held] += 1,
         }
+    }
+
+    /// Feeds a reference to a set whose list is empty, which makes no comparison.
+    #[inline(never)]
+    fn feed_first(&mut self, set: usize, block: u64)
+        requires few { fed_of self.old < 2 ^ 41 }
+        requires of_set { set ≡ set_of_block self.old.geometry block }
+        requires empty { list_of self.old set ≡ [] }
+        ensures step { self.new ≡ after_reference self.old block }
+        ensures one_more { fed_of self.new ≡ fed_of self.old + 1 }
+    {
+        self.lists.begin(set, block);
+        self.fills[0] += 1;
     }
 
     /// Empties the lists, as a flush of the caches does. The numbers stay.
@@ -109,7 +145,28 @@ impl Profile {
         ensures trace { (es : List Event) → StandsFor es self.now
             → result ≡ length (places self.now.geometry es) }
     {
-        total(&self.distances) + total(&self.fills)
+        self.front_hits() + total(&self.behind) + total(&self.fills)
+    }
+
+    /// How many references found their block in front.
+    fn front_hits(&self) -> u64
+        ensures { result ≡ slice_index self.now.distances 0 }
+    {
+        self.probes - weighed(&self.behind, 2) - weighed(&self.fills, 0)
+    }
+
+    /// How many references found their block at a place from one associativity up to another.
+    fn hits_between(&self, from: usize, to: usize) -> u64
+        requires rising { from ≤ to }
+        requires some { 1 ≤ to }
+        requires within { to ≤ self.now.geometry.e }
+        ensures { result ≡ sum (take (to - from) (drop from self.now.distances)) }
+    {
+        if from == 0 {
+            self.front_hits() + total(&self.behind[..to - 1])
+        } else {
+            total(&self.behind[from - 1..to - 1])
+        }
     }
 
     /// How many comparisons of a block with an entry of its set's list were made.
@@ -172,7 +229,7 @@ impl Profile {
     {
         let from = tally.ways;
         let to = e as usize;
-        let hits = total(&self.distances[from..to]);
+        let hits = self.hits_between(from, to);
         let fills = total(&self.fills[from..to]);
         tally.ways = to;
         tally.hits += hits;
@@ -192,4 +249,19 @@ fn total(numbers: &[u64]) -> u64
     ensures { result ≡ sum numbers.now }
 {
     numbers.iter().sum()
+}
+
+/// The sum of a histogram's numbers, each times its place, counted from `first`.
+fn weighed(numbers: &[u64], first: u64) -> u64
+    requires sum { weighed first numbers.now < 2 ^ 64 }
+    requires places { first + length numbers.now < 2 ^ 64 }
+    ensures { result ≡ weighed first numbers.now }
+{
+    let mut sum = 0;
+    let mut weight = first;
+    for number in numbers {
+        sum += *number * weight;
+        weight += 1;
+    }
+    sum
 }

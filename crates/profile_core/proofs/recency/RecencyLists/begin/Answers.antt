@@ -1,0 +1,48 @@
+-- The first block of a set's list.
+use Rattle.std.proofs.Common.{◌≡◌, ◌+◌, ◌<◌, ◌≤◌, ◌*◌, ◌^◌, ℕ, List, ◌∙◌, [], ◌∷◌, length, take, get_or, set, sym, ap, subst, refl, arith}
+use Rattle.profile_core.specs.declared.recency.RecencyLists.TheInside.{Inside}
+use Rattle.profile_core.specs.Slab.{lists_in, Lists}
+use Rattle.profile_core.specs.Moves.{move_to_front}
+use Rattle.cache_core.specs.Touched.{Covers}
+use Rattle.cache_core.proofs.TouchedSets.{covers_change}
+use Rattle.profile_core.proofs.Writing.{IsTouched, IsBrought, touched_empty, written_first, brought}
+use Rattle.profile_core.proofs.recency.RecencyLists.begin.Goals as goal
+use Rattle.profile_core.proofs.recency.RecencyLists.begin.Goals.{After-self, After-note_growth}
+
+touched : (c : After-self) → IsTouched c.self.inside.stride c.args.set 0 (get_or c.self.inside.fronts.items c.args.set 0) c.self.inside.fronts.items
+    c.self.inside.slab.items c.self.inside.lens.items c.args.self.now.lists
+touched c =
+    touched_empty c.self.inside.stride c.args.set c.self.inside.fronts.items c.self.inside.slab.items c.self.inside.lens.items c.args.self.now.lists
+    c.self.invariant.sound (ap (λ v. v.lists) c.self.view_is) c.requires.within c.requires.empty
+
+pub index_mut-requires : goal.index_mut-requires
+index_mut-requires c =
+    let t = touched (goal.at.index_mut-requires c).After-self in
+    omega (arith, t.within, c.self.invariant.sound.fronts_len, c.self.inside.fronts.ok.0)
+
+pub index_mut-requires-2 : goal.index_mut-requires-2
+index_mut-requires-2 c = omega (arith, (touched (goal.at.index_mut-requires-2 c).After-self).within, c.self.inside.lens.ok.0)
+
+pub note_growth-requires : goal.note_growth-requires
+note_growth-requires c = omega (arith, (touched (goal.at.note_growth-requires c).After-self).within, c.self.invariant.sound.small)
+
+brought_first : (c : After-note_growth) → IsBrought c.self.inside.stride c.args.set c.args.block (set c.self.inside.fronts.items c.args.set c.args.block)
+    c.self.inside.slab.items (set c.self.inside.lens.items c.args.set 1) c.note_growth.new.self c.args.self.now.lists
+brought_first c =
+    let lens = c.self.inside.lens.items in
+    let t =
+    touched_empty c.self.inside.stride c.args.set c.self.inside.fronts.items c.self.inside.slab.items lens c.args.self.now.lists
+    c.self.invariant.sound (ap (λ v. v.lists) c.self.view_is) c.requires.within c.requires.empty in
+    let covers = covers_change c.self.inside.touched lens c.args.set 0 1 t.within t.held_is c.self.invariant.covers in
+    brought t (written_first t c.args.block _ refl refl) (subst (λ listed. Covers listed (set lens c.args.set 1)) (sym c.note_growth.ensures) covers)
+
+pub invariant_of-self : goal.invariant_of-self
+invariant_of-self c = (brought_first c).listed
+
+pub returns : goal.returns
+returns c =
+    let depth : c.self.inside.stride + 1 ≡ c.args.self.now.depth = ap (λ v. v.depth) c.self.view_is in
+    let first =
+    (brought_first c).lists_are
+    ∙ ap (λ xs. set c.args.self.now.lists c.args.set (take (c.self.inside.stride + 1) (move_to_front c.args.block xs))) c.requires.empty in
+    cc (depth, first)
