@@ -1,5 +1,5 @@
 -- Worked runs of `csim` and `din`: what they write, computed from the definitions.
-use Rattle.std.proofs.Common.{◌≡◌, ℕ, true, false, List, Option, Some, None, refl}
+use Rattle.std.proofs.Common.{◌≡◌, ℕ, true, false, List, ◌++◌, Option, Some, None, refl}
 use Rattle.std.specs.Prelude.{codes}
 use Rattle.std.specs.Fmt.{digits}
 use Rattle.trace_core.specs.declared.fault.TraceFault.TheVariants as fault
@@ -23,7 +23,8 @@ abbrev yi : List ℕ
 yi = codes " L 10,1\n M 20,1\n L 22,1\n S 18,1\n L 110,1\n L 210,1\n M 12,1\n"
 
 handout_example : csim_text (shape 4 1 4) true yi
-    ≡ codes "L 10,1 miss\nM 20,1 miss hit\nL 22,1 hit\nS 18,1 hit\nL 110,1 miss eviction\nL 210,1 miss eviction\nM 12,1 miss eviction hit\nhits:4 misses:5 evictions:3\n"
+    ≡ codes "L 10,1 miss\nM 20,1 miss hit\nL 22,1 hit\nS 18,1 hit\nL 110,1 miss eviction\nL 210,1 miss eviction\n"
+    ++ codes "M 12,1 miss eviction hit\nhits:4 misses:5 evictions:3\n"
 unfolding digits counts window places_after distinct distinct_of_set lines_after
 handout_example = refl
 
@@ -76,12 +77,16 @@ unfolding digits
 written_block_is_copied_back = refl
 
 second_level_hits : din_text (unified one (Some two)) 42 Din (codes "0 0\n0 10\n0 0\n")
-    ≡ codes "l1-u fetches=0 fetch-misses=0 reads=3 read-misses=3 writes=0 write-misses=0 evictions=2 copybacks=0\nl2-u fetches=0 fetch-misses=0 reads=3 read-misses=2 writes=0 write-misses=0 evictions=0 copybacks=0\nmemory reads=2 writes=0\nbypassed=0\n"
+    ≡ codes "l1-u fetches=0 fetch-misses=0 reads=3 read-misses=3 writes=0 write-misses=0 evictions=2 copybacks=0\n"
+    ++ codes "l2-u fetches=0 fetch-misses=0 reads=3 read-misses=2 writes=0 write-misses=0 evictions=0 copybacks=0\n"
+    ++ codes "memory reads=2 writes=0\nbypassed=0\n"
 unfolding digits
 second_level_hits = refl
 
 split_first_level : din_text (record { i = Some one; d = Some one; u = None; second = None }) 42 Din (codes "2 0\n1 0\n2 4\n")
-    ≡ codes "l1-i fetches=2 fetch-misses=1 reads=0 read-misses=0 writes=0 write-misses=0 evictions=0 copybacks=0\nl1-d fetches=0 fetch-misses=0 reads=0 read-misses=0 writes=1 write-misses=1 evictions=0 copybacks=0\nmemory reads=2 writes=0\nbypassed=0\n"
+    ≡ codes "l1-i fetches=2 fetch-misses=1 reads=0 read-misses=0 writes=0 write-misses=0 evictions=0 copybacks=0\n"
+    ++ codes "l1-d fetches=0 fetch-misses=0 reads=0 read-misses=0 writes=1 write-misses=1 evictions=0 copybacks=0\n"
+    ++ codes "memory reads=2 writes=0\nbypassed=0\n"
 unfolding digits
 split_first_level = refl
 
