@@ -36,18 +36,18 @@ is_some-map f None = refl
 ordered_where : (name : Text) (rows : List Row) → is_some (job_named name rows) ≡ true → is_some (chosen_command (name, rows)) ≡ true
 ordered_where name rows h = is_some-map (with_trace rows) (job_named name rows) ∙ h
 
-found_ordered : (p : Shape → Bool) (subs : List Shape) (words : List Text) → AllNamed subs
-    → is_some (option_map (λ s. rows_at s words) (find p subs)) ≡ true
-    → is_some (option_and_then chosen_command (option_map (λ s. rows_at s words) (find p subs))) ≡ true
-found_ordered p [] words named h = h
-found_ordered p (s ∷ rest) words named h = go (p s) refl (found_ordered p rest words named.1) h
+found_ordered : (p : Shape → Bool) (subs : List Shape) (arguments : List Text) → AllNamed subs
+    → is_some (option_map (λ s. rows_at s arguments) (find p subs)) ≡ true
+    → is_some (option_and_then chosen_command (option_map (λ s. rows_at s arguments) (find p subs))) ≡ true
+found_ordered p [] arguments named h = h
+found_ordered p (s ∷ rest) arguments named h = go (p s) refl (found_ordered p rest arguments named.1) h
   where
     go : (b : Bool) → p s ≡ b
-        → (is_some (option_map (λ s. rows_at s words) (find p rest)) ≡ true
-        → is_some (option_and_then chosen_command (option_map (λ s. rows_at s words) (find p rest))) ≡ true)
-        → is_some (option_map (λ s. rows_at s words) (find p (s ∷ rest))) ≡ true
-        → is_some (option_and_then chosen_command (option_map (λ s. rows_at s words) (find p (s ∷ rest)))) ≡ true
-    go true e rec h = rw e (ordered_where s.name (rows_at s words).1 (named.0 (rows_at s words).1))
+        → (is_some (option_map (λ s. rows_at s arguments) (find p rest)) ≡ true
+        → is_some (option_and_then chosen_command (option_map (λ s. rows_at s arguments) (find p rest))) ≡ true)
+        → is_some (option_map (λ s. rows_at s arguments) (find p (s ∷ rest))) ≡ true
+        → is_some (option_and_then chosen_command (option_map (λ s. rows_at s arguments) (find p (s ∷ rest)))) ≡ true
+    go true e rec h = rw e (ordered_where s.name (rows_at s arguments).1 (named.0 (rows_at s arguments).1))
     go false e rec h = rw e (rec (rw e at h))
 
 entered_ordered : (stop : Option (Text × List Text)) → is_some (entered (built cachesim_app) stop) ≡ true
@@ -55,10 +55,11 @@ entered_ordered : (stop : Option (Text × List Text)) → is_some (entered (buil
 entered_ordered None h = h
 entered_ordered (Some p) h = found_ordered (λ s. answers_to p.0 (label_of s)) (built cachesim_app).subs p.1 ((λ _. refl), ((λ _. refl), ((λ _. refl), tt))) h
 
--- a subcommand that the words name has a job
-pub subcommand_ordered : (words : List Text) → is_some (subcommand_of cachesim_app words) ≡ true
-    → is_some (option_and_then chosen_command (subcommand_of cachesim_app words)) ≡ true
-subcommand_ordered words h = entered_ordered (stop_after (built cachesim_app).top.rules (names_of (built cachesim_app)) (argument_words cachesim_app words)) h
+-- a subcommand that the arguments name has a job
+pub subcommand_ordered : (arguments : List Text) → is_some (subcommand_of cachesim_app arguments) ≡ true
+    → is_some (option_and_then chosen_command (subcommand_of cachesim_app arguments)) ≡ true
+subcommand_ordered arguments h =
+    entered_ordered (stop_after (built cachesim_app).top.rules (names_of (built cachesim_app)) (argument_words cachesim_app arguments)) h
 
 -- a parse of the command has met a subcommand
 pub subcommand_met : (c : Command) (m : ArgMatches) → app_of c ≡ cachesim_app → (out-Command c).has_globals ≡ false → IsParsedFrom c m
@@ -67,8 +68,8 @@ subcommand_met c m app local parsed =
     is_some-map _ (out-ArgMatches m).subcommand ∙ subcommand_required c m parsed local (ap (λ (a : App). a.top.subcommand_required) app)
 
 -- so it has read one that has a job
-pub parse_ordered : (c : Command) (m : ArgMatches) (words : List Text) → app_of c ≡ cachesim_app → (out-Command c).has_globals ≡ false
-    → IsParsedFrom c m → subcommand_rows_of m ≡ subcommand_of cachesim_app words
+pub parse_ordered : (c : Command) (m : ArgMatches) (arguments : List Text) → app_of c ≡ cachesim_app → (out-Command c).has_globals ≡ false
+    → IsParsedFrom c m → subcommand_rows_of m ≡ subcommand_of cachesim_app arguments
     → is_some (option_and_then chosen_command (subcommand_rows_of m)) ≡ true
-parse_ordered c m words app local parsed rows =
-    rw rows (subcommand_ordered words (rw rows at (subcommand_met c m app local parsed)))
+parse_ordered c m arguments app local parsed rows =
+    rw rows (subcommand_ordered arguments (rw rows at (subcommand_met c m app local parsed)))

@@ -1,15 +1,21 @@
--- Where `clap` refuses the words of this program because help was asked for, it has no other reason.
-use Rattle.std.proofs.Common.{◌≡◌, ℕ, zero, suc, Bool, true, false, not, ◌&&◌, ◌||◌, cond, List, [], ◌∷◌, Option, Some, None, length, drop, refl, sym, ap, ◌∙◌, inl, inr}
+-- Where `clap` refuses the arguments of this program because help was asked for, it has no other reason.
+use Rattle.std.proofs.Common.{◌≡◌, ℕ, zero, suc, Bool, true, false, not, ◌&&◌, ◌||◌, cond, List, [], ◌∷◌, Option, Some, None, length, drop, refl}
+use Rattle.std.proofs.Common.{sym, ap, ◌∙◌, inl, inr}
 use Rattle.std.specs.Prelude.{⊤, ◌==◌, nat_lt, IfSome, ◌⊎◌, ◌≢◌, codes, encode_utf8, find, is_some, slice_get}
 use Rattle.std.specs.List.{list_any}
 use Rattle.std.specs.Option.{option_map_or}
 use Rattle.std.specs.Str.{bytes_eq, chars}
 use Rattle.clap.specs.Lexer.{long_of, short_of}
 use Rattle.clap.specs.Facts.{parser_of_value, unwrap_or_range}
-use Rattle.clap.specs.Walk.{Held, Names, Row, Rule, Step, Text, Walk, action_of, answers_to, arg_by_id, arg_by_index, arg_by_long, arg_by_short, attached_value, has_row, is_empty, is_pending, most_values, next, nothing_held, reacted, settled, subcommand, subcommand_met, takes_several, takes_values, trailing, value, values_or_missing, walk, walk_from, walked, with_default, word_met}
+use Rattle.clap.specs.Walk.{Held, Names, Row, Rule, Step, Text, Walk, action_of, answers_to, arg_by_id, arg_by_index, arg_by_long, arg_by_short}
+use Rattle.clap.specs.Walk.{attached_value, has_row, is_empty, is_pending, most_values, next, nothing_held, reacted, settled, subcommand}
+use Rattle.clap.specs.Walk.{subcommand_met, takes_several, takes_values, trailing, value, values_or_missing, walk, walk_from, walked, with_default}
+use Rattle.clap.specs.Walk.{word_met}
 use Rattle.clap.specs.Simple.{App, Shape, argument_words, built, entered, label_of, names_of}
 use Rattle.clap.specs.Kinds.{IsAmong, Kinds, check_kinds, or_else, range_kinds, request_kinds, value_kinds, values_kinds}
-use Rattle.clap.specs.Faults.{action_fault, bundle_step_fault, count_fault, defaults_fault, entered_fault, fault_of, flag_word_fault, flags_fault, level_fault, long_fault, option_fault, other_fault, react_fault, set_fault, settle_fault, short_fault, step_fault, turn_fault, use_fault, walk_fault, stray_fault}
+use Rattle.clap.specs.Faults.{action_fault, bundle_step_fault, count_fault, defaults_fault, entered_fault, fault_of, flag_word_fault, flags_fault}
+use Rattle.clap.specs.Faults.{level_fault, long_fault, option_fault, other_fault, react_fault, set_fault, settle_fault, short_fault, step_fault}
+use Rattle.clap.specs.Faults.{turn_fault, use_fault, walk_fault, stray_fault}
 use Rattle.clap.specs.declared.builder.action.ArgAction.{ArgAction}
 use Rattle.clap.specs.declared.builder.action.ArgAction.TheVariants.{Set, Append, SetTrue, SetFalse, Count, Help, HelpShort, HelpLong, Version}
 use Rattle.clap.specs.declared.builder.value_parser.ValueParser.{ValueParser}
@@ -97,7 +103,9 @@ agree_action HelpLong again a vs rows = one _
 agree_action Version again a vs rows = one _
 
 agree_use : (again : Bool) (a : Rule) (vs : List Text) (rows : List Row) → Agree (use_fault again a vs rows)
-agree_use again a vs rows = agree_or _ _ (agree_range (unwrap_or_range a.range).start_inclusive (most_values a) (length vs)) (agree_action (action_of a) again a (values_or_missing a vs) rows)
+agree_use again a vs rows =
+    agree_or _ _ (agree_range (unwrap_or_range a.range).start_inclusive (most_values a) (length vs))
+    (agree_action (action_of a) again a (values_or_missing a vs) rows)
 
 agree_settle : (c : List Rule) (again : Bool) (h : Held) → Agree (settle_fault c again h)
 agree_settle c again h = agree_option _ h.pending [] (λ p. agree_option _ (arg_by_id c p.0) [] (λ a. agree_use again a p.1 h.rows) none) none
@@ -113,7 +121,8 @@ agree_long : (c : List Rule) (again : Bool) (a : Option Rule) (v : Option Text) 
 agree_long c again None v h = one _
 agree_long c again (Some a) v h = agree_if (takes_values a) _ _ (agree_given c again a v h) (agree_if (is_some v) _ _ (one _) (agree_react c again a [] h))
 
-agree_short : (c : List Rule) (again : Bool) (a : Option Rule) (rest : Text) (h : Held) (more : Held → Kinds) → ((x : Held) → Agree (more x)) → Agree (short_fault c again a rest h more)
+agree_short : (c : List Rule) (again : Bool) (a : Option Rule) (rest : Text) (h : Held) (more : Held → Kinds)
+    → ((x : Held) → Agree (more x)) → Agree (short_fault c again a rest h more)
 agree_short c again None rest h more all = one _
 agree_short c again (Some a) rest h more all =
     agree_if (takes_values a) _ _ (agree_given c again a (attached_value rest) h) (agree_or _ _ (agree_react c again a [] h) (all (reacted c a [] h)))
@@ -171,10 +180,12 @@ module _ (s : Shape) (no_help_command : s.disable_help_subcommand ≡ true) wher
   agree_defaults rows [] = none
   agree_defaults rows (a ∷ rest) =
       agree_or _ _
-      (agree_if (has_row a.id rows || is_empty a.defaults) _ _ none (agree_or _ _ (agree_request (action_of a)) (agree_values a.ignore_case (parser_of_value a.parser) a.defaults)))
+      (agree_if (has_row a.id rows || is_empty a.defaults) _ _ none
+      (agree_or _ _ (agree_request (action_of a)) (agree_values a.ignore_case (parser_of_value a.parser) a.defaults)))
       (agree_defaults (with_default rows a) rest)
 
-  agree_level : (names : Names) (h : Held) (words : List Text) (entered_one : Bool) (below : Kinds) → Agree below → Agree (level_fault s names h words entered_one below)
+  agree_level : (names : Names) (h : Held) (words : List Text) (entered_one : Bool) (below : Kinds)
+      → Agree below → Agree (level_fault s names h words entered_one below)
   agree_level names h words entered_one below agrees =
       let end = (walk s.rules names h words).held in
       agree_or _ _ (agree_walk names (walk_from h) words)

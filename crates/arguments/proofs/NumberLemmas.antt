@@ -1,5 +1,6 @@
 -- What a text of digits is read as.
-use Rattle.std.proofs.Common.{◌≡◌, ◌<◌, ◌^◌, ◌+◌, ℕ, Bool, true, false, List, [], ◌∷◌, length, nat_lt, Some, None, Result, Ok, Err, refl, rules, arith, ap, lt-ltb, ltb-true}
+use Rattle.std.proofs.Common.{◌≡◌, ◌<◌, ◌^◌, ◌+◌, ℕ, Bool, true, false, List, [], ◌∷◌, length, nat_lt, Some, None, Result, Ok, Err, refl, rules}
+use Rattle.std.proofs.Common.{arith, ap, lt-ltb, ltb-true}
 use Rattle.std.specs.List.{list_all, list_any, position_or_len}
 use Rattle.std.specs.Result.{result_ok, OkIff}
 use Rattle.std.specs.Char.{is_ascii_digit}

@@ -14,7 +14,8 @@ with_rules_more a old xs i d r lt was is =
     ap₂ with_rule was is
     ∙ ap (λ (rules : List Rule). record a { top = record a.top { rules = rules } })
     (append_assoc a.top.rules (map rule_of_option (take i xs)) (rule_of_option (get_or xs i d) ∷ [])
-    ∙ ap (λ (rs : List Rule). a.top.rules ++ rs) (sym (map-append rule_of_option (take i xs) (get_or xs i d ∷ [])) ∙ ap (map rule_of_option) (sym (take_more xs i d lt))))
+    ∙ ap (λ (rs : List Rule). a.top.rules ++ rs)
+    (sym (map-append rule_of_option (take i xs) (get_or xs i d ∷ [])) ∙ ap (map rule_of_option) (sym (take_more xs i d lt))))
 
 -- what has no global argument adds none
 pub or_none : (a b : Bool) → b ≡ false → (a || b) ≡ a
@@ -29,5 +30,6 @@ leaf_added name rules old sub new added is = record {
 }
 
 -- so it is where what the command was is known
-pub leaf_added_to : (a : App) (name : Text) (rules : List Rule) (old new : Command) → AddsLeaf name rules old new → app_of old ≡ a → app_of new ≡ with_subcommand a (leaf name rules)
+pub leaf_added_to : (a : App) (name : Text) (rules : List Rule) (old new : Command) → AddsLeaf name rules old new → app_of old ≡ a
+    → app_of new ≡ with_subcommand a (leaf name rules)
 leaf_added_to a name rules old new added was = added.app ∙ ap (λ (x : App). with_subcommand x (leaf name rules)) was

@@ -55,7 +55,8 @@ no_ranges = (refl, refl, refl)
 triples : triple_of (codes "16,1,7") ≡ Some (record { bsize = 16; sets = 1; assoc = 7 })
 triples = refl
 
-no_triples : (triple_of (codes "16,1") ≡ None) × (triple_of (codes "16, 1,7") ≡ None) × (triple_of (codes "1k,1,1") ≡ None) × (triple_of (codes "16,1,7,8") ≡ None)
+no_triples : (triple_of (codes "16,1") ≡ None) × (triple_of (codes "16, 1,7") ≡ None) × (triple_of (codes "1k,1,1") ≡ None)
+    × (triple_of (codes "16,1,7,8") ≡ None)
 no_triples = (refl, refl, refl, refl)
 
 -- ---- respelling
@@ -69,11 +70,11 @@ others_stay = refl
 
 -- ---- sweeps
 
-abbrev sweep_words : Text → Text → Text → Text → List Text → List Text
-sweep_words bsize sets assoc size more =
+abbrev sweep_arguments : Text → Text → Text → Text → List Text → List Text
+sweep_arguments bsize sets assoc size more =
     codes "cachesim" ∷ codes "sweep" ∷ codes "--bsize" ∷ bsize ∷ codes "--sets" ∷ sets ∷ codes "--assoc" ∷ assoc ∷ codes "--size" ∷ size ∷ more
 
-a_sweep : command_of (sweep_words (codes "16") (codes "1-2") (codes "1-2") (codes "16-64") []) ≡ Some (Ok (record {
+a_sweep : command_of (sweep_arguments (codes "16") (codes "1-2") (codes "1-2") (codes "16-64") []) ≡ Some (Ok (record {
   job = Sweep (record {
     space = record { bsize = (16, 16); sets = (1, 2); assoc = (1, 2); size = (16, 64); powers = false };
     kind = All;
@@ -87,8 +88,9 @@ a_sweep : command_of (sweep_words (codes "16") (codes "1-2") (codes "1-2") (code
 unfolding clap_on_literals is_power ones
 a_sweep = refl
 
-every_option : command_of (sweep_words (codes "16") (codes "1-2") (codes "1-2") (codes "16-64")
-    (codes "--kind" ∷ codes "d" ∷ codes "--format" ∷ codes "l" ∷ codes "--after" ∷ codes "16,1,2" ∷ codes "--rows" ∷ codes "9" ∷ codes "--pow2" ∷ codes "-t" ∷ codes "f" ∷ []))
+every_option : command_of (sweep_arguments (codes "16") (codes "1-2") (codes "1-2") (codes "16-64")
+    (codes "--kind" ∷ codes "d" ∷ codes "--format" ∷ codes "l" ∷ codes "--after" ∷ codes "16,1,2"
+    ∷ codes "--rows" ∷ codes "9" ∷ codes "--pow2" ∷ codes "-t" ∷ codes "f" ∷ []))
     ≡ Some (Ok (record {
       job = Sweep (record {
         space = record { bsize = (16, 16); sets = (1, 2); assoc = (1, 2); size = (16, 64); powers = true };
@@ -103,75 +105,81 @@ every_option : command_of (sweep_words (codes "16") (codes "1-2") (codes "1-2") 
 unfolding clap_on_literals is_power ones
 every_option = refl
 
-a_sweep_is_taken : takes cachesim_app (sweep_words (codes "16") (codes "1-2") (codes "1-2") (codes "16-64") []) ≡ true
+a_sweep_is_taken : takes cachesim_app (sweep_arguments (codes "16") (codes "1-2") (codes "1-2") (codes "16-64") []) ≡ true
 unfolding clap_on_literals
 a_sweep_is_taken = refl
 
-bsize_24 : command_of (sweep_words (codes "24") (codes "1-2") (codes "1-2") (codes "16-64") []) ≡ Some (Err (space (record { which = Bsize; cause = NotPower })))
+bsize_24 : command_of (sweep_arguments (codes "24") (codes "1-2") (codes "1-2") (codes "16-64") [])
+    ≡ Some (Err (space (record { which = Bsize; cause = NotPower })))
 unfolding clap_on_literals is_power ones
 bsize_24 = refl
 
-bsize_0 : command_of (sweep_words (codes "0") (codes "1-2") (codes "1-2") (codes "16-64") []) ≡ Some (Err (space (record { which = Bsize; cause = NotPower })))
+bsize_0 : command_of (sweep_arguments (codes "0") (codes "1-2") (codes "1-2") (codes "16-64") [])
+    ≡ Some (Err (space (record { which = Bsize; cause = NotPower })))
 unfolding clap_on_literals is_power ones
 bsize_0 = refl
 
-bsize_2m : command_of (sweep_words (codes "2m") (codes "1-2") (codes "1-2") (codes "16-64") []) ≡ Some (Err (space (record { which = Bsize; cause = Limit })))
+bsize_2m : command_of (sweep_arguments (codes "2m") (codes "1-2") (codes "1-2") (codes "16-64") [])
+    ≡ Some (Err (space (record { which = Bsize; cause = Limit })))
 unfolding clap_on_literals is_power ones
 bsize_2m = refl
 
-sets_4_to_2 : command_of (sweep_words (codes "16") (codes "4-2") (codes "1-2") (codes "16-64") []) ≡ Some (Err (space (record { which = Sets; cause = Reversed })))
+sets_4_to_2 : command_of (sweep_arguments (codes "16") (codes "4-2") (codes "1-2") (codes "16-64") [])
+    ≡ Some (Err (space (record { which = Sets; cause = Reversed })))
 unfolding clap_on_literals is_power ones
 sets_4_to_2 = refl
 
-assoc_0 : command_of (sweep_words (codes "16") (codes "1-2") (codes "0") (codes "16-64") []) ≡ Some (Err (space (record { which = Assoc; cause = Limit })))
+assoc_0 : command_of (sweep_arguments (codes "16") (codes "1-2") (codes "0") (codes "16-64") []) ≡ Some (Err (space (record { which = Assoc; cause = Limit })))
 unfolding clap_on_literals is_power ones
 assoc_0 = refl
 
-size_64_to_16 : command_of (sweep_words (codes "16") (codes "1-2") (codes "1-2") (codes "64-16") []) ≡ Some (Err (space (record { which = Size; cause = Reversed })))
+size_64_to_16 : command_of (sweep_arguments (codes "16") (codes "1-2") (codes "1-2") (codes "64-16") [])
+    ≡ Some (Err (space (record { which = Size; cause = Reversed })))
 unfolding clap_on_literals is_power ones
 size_64_to_16 = refl
 
-size_x : command_of (sweep_words (codes "16") (codes "1-2") (codes "1-2") (codes "x") []) ≡ Some (Err (value (codes "--size")))
+size_x : command_of (sweep_arguments (codes "16") (codes "1-2") (codes "1-2") (codes "x") []) ≡ Some (Err (value (codes "--size")))
 unfolding clap_on_literals
 size_x = refl
 
 -- the value that is judged first counts, and no range is judged before each value is read
-rows_x : command_of (sweep_words (codes "24") (codes "1-2") (codes "1-2") (codes "16") (codes "--rows" ∷ codes "x" ∷ [])) ≡ Some (Err (value (codes "--rows")))
+rows_x : command_of (sweep_arguments (codes "24") (codes "1-2") (codes "1-2") (codes "16") (codes "--rows" ∷ codes "x" ∷ []))
+    ≡ Some (Err (value (codes "--rows")))
 unfolding clap_on_literals
 rows_x = refl
 
 -- ---- csim
 
-abbrev csim_words : Text → Text → Text → List Text → List Text
-csim_words s e b more = codes "cachesim" ∷ codes "csim" ∷ codes "-s" ∷ s ∷ codes "-E" ∷ e ∷ codes "-b" ∷ b ∷ codes "-t" ∷ codes "f" ∷ more
+abbrev csim_arguments : Text → Text → Text → List Text → List Text
+csim_arguments s e b more = codes "cachesim" ∷ codes "csim" ∷ codes "-s" ∷ s ∷ codes "-E" ∷ e ∷ codes "-b" ∷ b ∷ codes "-t" ∷ codes "f" ∷ more
 
-a_csim : command_of (csim_words (codes "4") (codes "1") (codes "4") []) ≡ Some (Ok (record {
+a_csim : command_of (csim_arguments (codes "4") (codes "1") (codes "4") []) ≡ Some (Ok (record {
   job = Csim (record { s = 4; e = 1; b = 4 }) false (2 ^ 40);
   trace = Some (codes "f");
 }))
 unfolding clap_on_literals
 a_csim = refl
 
-a_verbose_csim : command_of (csim_words (codes "20") (codes "2") (codes "0") (codes "-v" ∷ [])) ≡ Some (Ok (record {
+a_verbose_csim : command_of (csim_arguments (codes "20") (codes "2") (codes "0") (codes "-v" ∷ [])) ≡ Some (Ok (record {
   job = Csim (record { s = 20; e = 2; b = 0 }) true (2 ^ 40);
   trace = Some (codes "f");
 }))
 unfolding clap_on_literals
 a_verbose_csim = refl
 
-too_many_lines : command_of (csim_words (codes "20") (codes "5") (codes "0") []) ≡ Some (Err bad_shape)
+too_many_lines : command_of (csim_arguments (codes "20") (codes "5") (codes "0") []) ≡ Some (Err bad_shape)
 unfolding clap_on_literals
 too_many_lines = refl
 
 -- ---- din
 
-abbrev din_words : List Text → List Text
-din_words more = codes "cachesim" ∷ codes "din" ∷ more
+abbrev din_arguments : List Text → List Text
+din_arguments more = codes "cachesim" ∷ codes "din" ∷ more
 
 abbrev unified : Text → Text → List Text → List Text
 unified size bsize more = codes "-l1-usize" ∷ size ∷ codes "-l1-ubsize" ∷ bsize ∷ more
 
-a_din : command_of (din_words (unified (codes "1k") (codes "16") [])) ≡ Some (Ok (record {
+a_din : command_of (din_arguments (unified (codes "1k") (codes "16") [])) ≡ Some (Ok (record {
   job = Din (record {
     i = None;
     d = None;
@@ -183,9 +191,11 @@ a_din : command_of (din_words (unified (codes "1k") (codes "16") [])) ≡ Some (
 unfolding clap_on_literals is_power exponent_of ones
 a_din = refl
 
-two_levels : command_of (din_words (codes "-l1-isize" ∷ codes "32" ∷ codes "-l1-ibsize" ∷ codes "16" ∷ codes "-l1-iassoc" ∷ codes "2" ∷ codes "-l1-irepl" ∷ codes "f"
+two_levels : command_of (din_arguments (codes "-l1-isize" ∷ codes "32" ∷ codes "-l1-ibsize" ∷ codes "16"
+    ∷ codes "-l1-iassoc" ∷ codes "2" ∷ codes "-l1-irepl" ∷ codes "f"
     ∷ codes "--l1-dsize" ∷ codes "16" ∷ codes "--l1-dbsize" ∷ codes "8" ∷ codes "--l1-dwalloc" ∷ codes "n" ∷ codes "--l1-dwback" ∷ codes "n"
-    ∷ codes "-l2-usize" ∷ codes "64" ∷ codes "-l2-ubsize" ∷ codes "16" ∷ codes "-l2-urepl" ∷ codes "r" ∷ codes "-informat" ∷ codes "l" ∷ codes "--seed" ∷ codes "7" ∷ codes "-t" ∷ codes "f" ∷ []))
+    ∷ codes "-l2-usize" ∷ codes "64" ∷ codes "-l2-ubsize" ∷ codes "16" ∷ codes "-l2-urepl" ∷ codes "r"
+    ∷ codes "-informat" ∷ codes "l" ∷ codes "--seed" ∷ codes "7" ∷ codes "-t" ∷ codes "f" ∷ []))
     ≡ Some (Ok (record {
       job = Din (record {
         i = Some (record { design = record { geometry = record { s = 0; e = 2; b = 4 }; write = Back; allocate = Always }; repl = Fifo });
@@ -198,35 +208,37 @@ two_levels : command_of (din_words (codes "-l1-isize" ∷ codes "32" ∷ codes "
 unfolding clap_on_literals is_power exponent_of ones
 two_levels = refl
 
-no_cache : command_of (din_words []) ≡ Some (Err (plan NoFirst))
+no_cache : command_of (din_arguments []) ≡ Some (Err (plan NoFirst))
 unfolding clap_on_literals
 no_cache = refl
 
-a_mixed_level : command_of (din_words (unified (codes "16") (codes "16") (codes "-l1-isize" ∷ codes "16" ∷ codes "-l1-ibsize" ∷ codes "16" ∷ []))) ≡ Some (Err (plan MixedFirst))
+a_mixed_level : command_of (din_arguments (unified (codes "16") (codes "16")
+    (codes "-l1-isize" ∷ codes "16" ∷ codes "-l1-ibsize" ∷ codes "16" ∷ []))) ≡ Some (Err (plan MixedFirst))
 unfolding clap_on_literals is_power ones
 a_mixed_level = refl
 
-no_geometry : command_of (din_words (unified (codes "16") (codes "32") [])) ≡ Some (Err (plan (BadGeometry L1U)))
+no_geometry : command_of (din_arguments (unified (codes "16") (codes "32") [])) ≡ Some (Err (plan (BadGeometry L1U)))
 unfolding clap_on_literals is_power exponent_of ones
 no_geometry = refl
 
-smaller_blocks_below : command_of (din_words (unified (codes "32") (codes "32") (codes "-l2-usize" ∷ codes "32" ∷ codes "-l2-ubsize" ∷ codes "16" ∷ []))) ≡ Some (Err (plan SmallBlock))
+smaller_blocks_below : command_of (din_arguments (unified (codes "32") (codes "32")
+    (codes "-l2-usize" ∷ codes "32" ∷ codes "-l2-ubsize" ∷ codes "16" ∷ []))) ≡ Some (Err (plan SmallBlock))
 unfolding clap_on_literals is_power exponent_of ones
 smaller_blocks_below = refl
 
-size_48 : command_of (din_words (unified (codes "48") (codes "16") [])) ≡ Some (Err (value (codes "-l1-usize")))
+size_48 : command_of (din_arguments (unified (codes "48") (codes "16") [])) ≡ Some (Err (value (codes "-l1-usize")))
 unfolding clap_on_literals is_power ones
 size_48 = refl
 
-size_0 : command_of (din_words (unified (codes "0") (codes "16") [])) ≡ Some (Err (value (codes "-l1-usize")))
+size_0 : command_of (din_arguments (unified (codes "0") (codes "16") [])) ≡ Some (Err (value (codes "-l1-usize")))
 unfolding clap_on_literals is_power ones
 size_0 = refl
 
-an_incomplete_cache : command_of (din_words (codes "-l1-uassoc" ∷ codes "2" ∷ [])) ≡ Some (Err (incomplete L1U))
+an_incomplete_cache : command_of (din_arguments (codes "-l1-uassoc" ∷ codes "2" ∷ [])) ≡ Some (Err (incomplete L1U))
 unfolding clap_on_literals
 an_incomplete_cache = refl
 
-din_is_taken_with_two_dashes : takes cachesim_app (din_words (codes "--l1-uassoc" ∷ codes "2" ∷ [])) ≡ true
+din_is_taken_with_two_dashes : takes cachesim_app (din_arguments (codes "--l1-uassoc" ∷ codes "2" ∷ [])) ≡ true
 unfolding clap_on_literals
 din_is_taken_with_two_dashes = refl
 
@@ -236,7 +248,8 @@ missing_options : fault_of cachesim_app (codes "cachesim" ∷ codes "sweep" ∷ 
 unfolding clap_on_literals
 missing_options = refl
 
-a_repeated_option : fault_of cachesim_app (sweep_words (codes "16") (codes "1-2") (codes "1-2") (codes "16-64") (codes "-t" ∷ codes "f" ∷ codes "-t" ∷ codes "g" ∷ [])) ≡ kind.ArgumentConflict ∷ []
+a_repeated_option : fault_of cachesim_app (sweep_arguments (codes "16") (codes "1-2") (codes "1-2") (codes "16-64")
+    (codes "-t" ∷ codes "f" ∷ codes "-t" ∷ codes "g" ∷ [])) ≡ kind.ArgumentConflict ∷ []
 unfolding clap_on_literals
 a_repeated_option = refl
 
@@ -253,11 +266,12 @@ unfolding clap_on_literals
 no_command = refl
 
 -- a value that begins with a dash is read as an option, unless it stands behind `=`
-a_dash : fault_of cachesim_app (sweep_words (codes "16") (codes "1-2") (codes "1-2") (codes "-4") []) ≡ kind.UnknownArgument ∷ []
+a_dash : fault_of cachesim_app (sweep_arguments (codes "16") (codes "1-2") (codes "1-2") (codes "-4") []) ≡ kind.UnknownArgument ∷ []
 unfolding clap_on_literals
 a_dash = refl
 
-a_dash_behind_equals : command_of (codes "cachesim" ∷ codes "sweep" ∷ codes "--bsize" ∷ codes "16" ∷ codes "--sets" ∷ codes "1-2" ∷ codes "--assoc" ∷ codes "1-2" ∷ codes "--size=-4" ∷ [])
+a_dash_behind_equals : command_of (codes "cachesim" ∷ codes "sweep" ∷ codes "--bsize" ∷ codes "16"
+    ∷ codes "--sets" ∷ codes "1-2" ∷ codes "--assoc" ∷ codes "1-2" ∷ codes "--size=-4" ∷ [])
     ≡ Some (Err (value (codes "--size")))
 unfolding clap_on_literals
 a_dash_behind_equals = refl

@@ -1,4 +1,4 @@
--- The command that the words give.
+-- The command that the arguments give.
 use Rattle.std.specs.Prelude.{Bool, true, false, List, Option, Some, None, Result, Ok, Err, codes}
 use Rattle.std.specs.Prelude.{if◌then◌else◌, option_and_then, option_map, string_bytes}
 use Rattle.std.specs.Str.{bytes_eq}
@@ -40,16 +40,16 @@ with_trace rows read = and_then read (λ j. Ok (record { job = j; trace = first_
 abbrev pub chosen_command : Text × List Row → Option (Result CommandValue Judgement)
 chosen_command s = option_map (with_trace s.1) (job_named s.0 s.1)
 
--- the subcommand and the entries that clap gives for the respelled words, read
+-- the subcommand and the entries that clap gives for the respelled arguments, read
 abbrev pub command_of : List Text → Option (Result CommandValue Judgement)
-command_of words = option_and_then chosen_command (subcommand_of cachesim_app (respelled words))
+command_of arguments = option_and_then chosen_command (subcommand_of cachesim_app (respelled arguments))
 
 -- what `parse` answers, but for want of memory and what clap refuses
 abbrev pub answer_of : Result Command WordsFault → Option (Result CommandValue Judgement)
 answer_of (Ok c) = Some (Ok (command_value c))
 answer_of (Err e) = option_map Err (judgement_of e)
 
--- where clap refused the words, whether it says that help was asked for
+-- where clap refused the arguments, whether it says that help was asked for
 abbrev pub usage_of : WordsFault → Option Bool
 usage_of (fault.Usage text help) = Some help
 usage_of _ = None

@@ -1,4 +1,4 @@
--- What the words after `csim` say.
+-- What the arguments after `csim` say.
 use Rattle.std.specs.Prelude.{List, Result, Ok, codes, ok_or}
 use Rattle.clap.specs.Words.{Row}
 use Rattle.cache_core.specs.Geometry.{geometry_of}

@@ -1,4 +1,4 @@
--- What the words after `din` say.
+-- What the arguments after `din` say.
 use Rattle.std.specs.Prelude.{ℕ, Bool, List, Option, Some, None, Result, Ok, codes, ◌||◌}
 use Rattle.std.specs.Prelude.{if◌then◌else◌, is_some, ok_or, option_and_then, unwrap_or}
 use Rattle.sweep_core.specs.Space.{is_power}

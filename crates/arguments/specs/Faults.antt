@@ -1,4 +1,4 @@
--- What a fault of the words tells, where it is neither want of memory nor clap's.
+-- What a fault of the arguments tells, where it is neither want of memory nor clap's.
 use Rattle.std.specs.Prelude.{ℕ, true, Option, Some, None, Result, Ok, Err, option_map}
 use Rattle.clap.specs.Words.{Text}
 use Rattle.cache_core.specs.declared.plan.CacheName.{CacheName}
@@ -7,7 +7,7 @@ use Rattle.sweep_core.specs.declared.space.SpaceFault.{SpaceFault}
 use Rattle.arguments.specs.declared.faults.WordsFault.{WordsFault}
 use Rattle.arguments.specs.declared.faults.WordsFault.TheVariants as fault
 
--- why words that clap takes give no job
+-- why arguments that clap takes give no job
 pub data Judgement : Type 0 where
   value : Text → Judgement
   incomplete : CacheName → Judgement

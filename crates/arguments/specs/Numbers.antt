@@ -1,4 +1,4 @@
--- How numbers are written in words.
+-- How numbers are written in arguments.
 use Rattle.std.specs.Prelude.{ℕ, Bool, List, [], ◌∷◌, ◌+◌, ◌-◌, ◌*◌, ◌^◌, ◌==◌, ◌&&◌, ◌||◌, Option, Some, None}
 use Rattle.std.specs.Prelude.{length, take, slice_get, if◌then◌else◌, nat_lt, option_map, option_and_then}
 use Rattle.std.specs.List.{list_all, list_any, before_first, after_first}

@@ -44,13 +44,13 @@ csim_rules = letter (codes "-s") 115
     ∷ record (new_rule (codes "-v")) { short = Some 118; action = Some SetTrue }
     ∷ []
 
--- the option of a cache that ends in this word, by the name that a fault has
+-- the option of a cache that ends so, by the name that a fault has
 abbrev pub option_of : CacheName → Text → Text
-option_of cache word = codes "-" ++ label_of cache ++ word
+option_of cache ending = codes "-" ++ label_of cache ++ ending
 
 -- the rule of that option, whose spelling stands behind two dashes
 abbrev pub cache_rule : CacheName → Text → Rule
-cache_rule cache word = optional (option_of cache word) (label_of cache ++ word)
+cache_rule cache ending = optional (option_of cache ending) (label_of cache ++ ending)
 
 -- the six options of a cache, which are Dinero IV's
 abbrev pub cache_rules : CacheName → List Rule

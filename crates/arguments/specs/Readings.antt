@@ -11,7 +11,7 @@ use Rattle.trace_core.specs.declared.events.Kind.{Kind}
 use Rattle.trace_core.specs.declared.events.Kind.TheVariants.{All, DataOnly, FetchOnly}
 use Rattle.arguments.specs.Faults.{Judgement, value}
 
--- the entries that clap gives for the words of a subcommand
+-- the entries that clap gives for the arguments of a subcommand
 abbrev pub rows_given : ArgMatches → List Row
 rows_given m = rows_of (found_of m)
 

@@ -5,23 +5,23 @@ use Rattle.std.specs.Option.{option_map_or}
 use Rattle.std.specs.Str.{bytes_eq}
 use Rattle.clap.specs.Words.{Text}
 
--- the word is an option of `din` that Dinero writes with one dash
+-- the argument is an option of `din` that Dinero writes with one dash
 abbrev pub is_dinero_option : Text → Bool
-is_dinero_option word = starts_with nat_eq word (codes "-l1-")
-    || (starts_with nat_eq word (codes "-l2-") || bytes_eq word (codes "-informat"))
+is_dinero_option argument = starts_with nat_eq argument (codes "-l1-")
+    || (starts_with nat_eq argument (codes "-l2-") || bytes_eq argument (codes "-informat"))
 
--- such an option with one dash more, and any other word as it is
+-- such an option with one dash more, and any other argument as it is
 abbrev pub with_two_dashes : Text → Text
-with_two_dashes word = if is_dinero_option word then codes "-" ++ word else word
+with_two_dashes argument = if is_dinero_option argument then codes "-" ++ argument else argument
 
--- the second word is `din`; the first is the program's name
+-- the second argument is `din`; the first is the program's name
 abbrev pub is_din : List Text → Bool
-is_din words = option_map_or (λ word. bytes_eq word (codes "din")) (slice_get words 1) false
+is_din arguments = option_map_or (λ argument. bytes_eq argument (codes "din")) (slice_get arguments 1) false
 
--- a word behind the command's name, as clap gets it
+-- an argument behind the command's name, as clap gets it
 abbrev pub spelled : Bool → Text → Text
-spelled is_din word = if is_din then with_two_dashes word else word
+spelled is_din argument = if is_din then with_two_dashes argument else argument
 
--- the words as clap gets them
+-- the arguments as clap gets them
 abbrev pub respelled : List Text → List Text
-respelled words = take 2 words ++ map (spelled (is_din words)) (drop 2 words)
+respelled arguments = take 2 arguments ++ map (spelled (is_din arguments)) (drop 2 arguments)

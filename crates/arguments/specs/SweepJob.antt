@@ -1,4 +1,4 @@
--- What the words after `sweep` say.
+-- What the arguments after `sweep` say.
 use Rattle.std.specs.Prelude.{ℕ, List, Result, Ok, codes}
 use Rattle.std.specs.Result.{result_map_both}
 use Rattle.clap.specs.Words.{Row}

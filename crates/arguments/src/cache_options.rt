@@ -28,12 +28,12 @@ const WALLOC: &str = "Whether a write that misses loads its block: a always, n n
 
 const WBACK: &str = "Writes: a go back when their block leaves, n go through at once [default: a]";
 
-/// An option of the cache of this name, which ends in this word.
+/// An option of the cache of this name, which ends so.
 macro_rules! cache_option {
-    ($cache:literal, $word:literal, $value:literal, $help:expr) => {
+    ($cache:literal, $ending:literal, $value:literal, $help:expr) => {
         CommandOption {
-            name: concat!("-", $cache, $word),
-            spelling: Long(concat!($cache, $word)),
+            name: concat!("-", $cache, $ending),
+            spelling: Long(concat!($cache, $ending)),
             presence: Optional($value),
             help: $help,
         }

@@ -8,13 +8,13 @@ use std::alloc::AllocError;
 use sweep_core::space::SpaceFault;
 use thiserror::Error;
 
-/// Why the words give no job. A fault's text is its `Display`.
+/// Why the arguments give no job. A fault's text is its `Display`.
 #[derive(Debug, Drop, Error)]
 pub enum WordsFault {
     /// Memory was refused.
     #[error("out of memory")]
     Memory,
-    /// The words are no call of a command, as the text of `clap` says; or help was asked for, which is then the text.
+    /// The arguments are no call of a command, as the text of `clap` says; or help was asked for, which is then the text.
     #[error("{text}")]
     Usage { text: String, help: bool },
     /// The value of an option can't be read. The option is named as the tables of options do.

@@ -1,4 +1,4 @@
-//! How numbers are written in words.
+//! How numbers are written in arguments.
 ghost use Rattle.std.specs.Prelude.{◌≡◌};
 ghost use Rattle.std.specs.List.{list_all};
 ghost use Rattle.std.specs.Char.{is_ascii_digit};

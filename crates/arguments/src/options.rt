@@ -2,7 +2,8 @@
 ghost use Rattle.std.specs.Prelude.{◌≡◌, IfOk, List, Some, false, codes, map};
 ghost use Rattle.clap.specs.Words.{Rule, Text, app_of, rule_of};
 ghost use Rattle.clap.specs.declared.builder.command.Command.TheViews.{out-Command as fields_of};
-ghost use Rattle.arguments.specs.Options.{AddsLeaf, IsLeaf, cache_rules, cachesim_app, csim_rules, din_rules, rule_of_option, sweep_rules, with_presence, with_rules, with_spelling};
+ghost use Rattle.arguments.specs.Options.{AddsLeaf, IsLeaf, cache_rules, cachesim_app, csim_rules, din_rules, rule_of_option, sweep_rules};
+ghost use Rattle.arguments.specs.Options.{with_presence, with_rules, with_spelling};
 
 use crate::cache_options::cache_options;
 use crate::help;

@@ -1,4 +1,4 @@
-//! From the words of the command line to a job.
+//! From the arguments of the command line to a job.
 ghost use Rattle.std.specs.Prelude.{codes, [], ◌≡◌, ◌≢◌, IfOk, IfSome, None, Some, true, is_some, map, option_and_then, option_map, string_bytes};
 ghost use Rattle.std.specs.List.{list_any};
 ghost use Rattle.clap.specs.Words.{fault_of, first_of, kind_of, subcommand_rows_of, takes};
@@ -29,12 +29,12 @@ pub struct Command {
     pub trace: Option<String>,
 }
 
-/// The job that the words ask for. The first word is the program's name. No file is opened.
+/// The job that the arguments ask for. The first argument is the program's name. No file is opened.
 ///
 /// Errors, the first that applies: `Usage` for what `clap` refuses or for help; `Value` for the first bad value, in the order of the manual's
 /// tables; `Incomplete`; then `BadShape`, `Plan` or `Space`. `Memory` wherever memory is refused.
 pub fn parse(alloc: Global, words: &[String]) -> Result<Command, WordsFault>
-    // But for want of memory and for what clap refuses, the answer is what the words mean, and clap refuses nothing.
+    // But for want of memory and for what clap refuses, the answer is what the arguments mean, and clap refuses nothing.
     ensures answer { IfSome (answer_of result) (λ answer.
         command_of (map string_bytes words.now) ≡ Some answer) }
     ensures accepted { IfSome (answer_of result) (λ _.

@@ -30,33 +30,33 @@ fn main(rt: HostRuntime) -> ExitCode {
     }
 }
 
-/// Does what the words ask for.
+/// Does what the arguments ask for.
 fn run(rt: &HostRuntime) -> Result<(), ProgramFault> {
-    let words = words_of(rt)?;
-    let Command { job, trace } = parse(rt.alloc(), words.as_slice())?;
+    let arguments = arguments_of(rt)?;
+    let Command { job, trace } = parse(rt.alloc(), arguments.as_slice())?;
     match trace {
         Some(name) => run_on(rt, &job, FromRead::new(open_trace(rt, name)?)),
         None => run_on(rt, &job, FromRead::new(rt.stdin())),
     }
 }
 
-/// The words of the command line.
-fn words_of(rt: &HostRuntime) -> Result<Vec<String>, ProgramFault> {
+/// The arguments of the command line.
+fn arguments_of(rt: &HostRuntime) -> Result<Vec<String>, ProgramFault> {
     let args = match env::args(rt) {
         Ok(args) => args,
         Err(error) if error.kind() == ErrorKind::OutOfMemory => return Err(ProgramFault::Memory),
         Err(_) => return Err(ProgramFault::NotText),
     };
-    Ok(collect_words(rt.alloc(), args)?)
+    Ok(collect_arguments(rt.alloc(), args)?)
 }
 
-/// Collects the words one by one: `collect` would ask for less room where the room for all of them is refused.
-fn collect_words(alloc: Global, args: Args) -> Result<Vec<String>, AllocError> {
-    let mut words = Vec::new(alloc);
-    for word in args {
-        words.push(word)?;
+/// Collects the arguments one by one: `collect` would ask for less room where the room for all of them is refused.
+fn collect_arguments(alloc: Global, args: Args) -> Result<Vec<String>, AllocError> {
+    let mut arguments = Vec::new(alloc);
+    for argument in args {
+        arguments.push(argument)?;
     }
-    Ok(words)
+    Ok(arguments)
 }
 
 /// Opens the file of the trace.

@@ -1,24 +1,25 @@
 -- How far `csim` has come, and what stands written then.
-use Rattle.std.proofs.Common.{◌≡◌, ◌≢◌, ℕ, ◌+◌, ◌*◌, ◌^◌, ◌<◌, ◌≤◌, List, [], ◌∷◌, ◌++◌, Bool, true, false, cond}
+use Rattle.std.proofs.Common.{◌≡◌, ℕ, ◌+◌, ◌*◌, ◌^◌, ◌<◌, ◌≤◌, List, [], ◌∷◌, ◌++◌, Bool, true, false, cond, Option, None, Some, Result, Ok, Err}
 use Rattle.std.proofs.Common.{refl, sym, ap, ◌∙◌, subst, arith, append-nil, append_assoc}
 use Rattle.std.proofs.lemmas.List.{map_push}
+use Rattle.std.specs.Prelude.{IfOk, IfSome}
 use Rattle.std.specs.List.{flat_map}
 use Rattle.trace_core.specs.declared.events.Entry.{Entry}
 use Rattle.trace_core.specs.declared.events.Event.{Event}
 use Rattle.trace_core.specs.declared.events.Kind.TheVariants.{DataOnly}
 use Rattle.trace_core.specs.declared.line.Format.TheVariants.{Lackey}
 use Rattle.trace_core.specs.declared.fault.TraceFault.{TraceFault}
-use Rattle.trace_core.specs.declared.state.ReaderState.TheVariants as state
-use Rattle.trace_core.specs.Device.{SourceView, SinkView, Wrote, WrotePart}
+use Rattle.trace_core.specs.declared.line.Format.{Format}
+use Rattle.trace_core.specs.Device.{SourceView, SinkView, Wrote, WrotePart, WroteLast, WroteLastPart}
 use Rattle.trace_core.specs.Events.{events_of}
 use Rattle.trace_core.specs.Reading.{entries}
-use Rattle.trace_core.specs.Reader.{Progress, Reached, begun}
-use Rattle.trace_core.specs.Task.{Stopped, WriteFailed, entries_of}
+use Rattle.trace_core.specs.Reader.{Progress, Reached, Tells, entries_returned, begun}
+use Rattle.trace_core.specs.Task.{Finished, Stopped, WriteFailed, entries_of}
 use Rattle.trace_core.proofs.Collecting.{collected-more}
 use Rattle.trace_core.proofs.Runs.{Reached-start}
 use Rattle.trace_core.proofs.Tasks.{ReadWhole, WritesAlong}
-use Rattle.trace_core.proofs.Performing.{Stopped-at, WriteFailed-early}
-use Rattle.trace_core.proofs.Written.{Wrote-none, Wrote-more, WrotePart-after}
+use Rattle.trace_core.proofs.Performing.{Finished-written, Stopped-at, WriteFailed-early, WriteFailed-late}
+use Rattle.trace_core.proofs.Written.{Wrote-none, Wrote-more, WrotePart-after, WroteLast-after, WroteLastPart-after}
 use Rattle.cache_core.specs.Geometry.{GeometryValue}
 use Rattle.cache_core.specs.Windows.{counts}
 use Rattle.commands.specs.declared.simulation.Lookup.{Lookup}
@@ -96,49 +97,71 @@ simulated_start {g} {verbose} {limit} {source} {sink} is few_lines stands few = 
   limited = rw is few_lines;
 }
 
-module _ {g : GeometryValue} {verbose : Bool} {limit : ℕ} {start mid now : SourceView} {sink between sink' : SinkView} {p q : Progress} {sim : Simulation}
-    (old : Simulated g verbose limit start mid sink between p sim) where
-  -- the line of one entry more
-  pub simulated_more : {sim' : Simulation} (x : ℕ × Entry) (lookups : List Lookup) → Reached Lackey limit start now (old.read ++ x ∷ []) q
-      → Simulates g (data_of (entries_of old.read) ++ events_of DataOnly x.1) sim' × (lookups ≡ lookups_of g (data_of (entries_of old.read)) x.1)
-      → Wrote between sink' (cond verbose (line_of x.1 lookups) []) → AreFew (2 * p.lines + 2) sim'.counts → p.lines < q.lines → q.limit ≡ p.limit
-      → Simulated g verbose limit start now sink sink' q sim'
-  simulated_more {sim' = sim'} x lookups reached stands wrote few further same = record {
-    read = old.read ++ x ∷ [];
-    reached = reached;
-    wrote = subst (Wrote sink sink') (sym (lines-more g verbose old.read x lookups stands.1)) (Wrote-more old.wrote wrote);
-    simulates = subst (λ es. Simulates g es sim') (sym (collected-more DataOnly old.read x)) stands.0;
-    few = record { hits = omega (arith, few.hits, further); misses = omega (arith, few.misses, further); evictions = omega (arith, few.evictions, further) };
-    limited = omega (arith, same, old.limited);
-  }
+-- a call of a reader that returned this reads on
+abbrev ReadsOn : SourceView → SourceView → Progress → Progress → Result (Option (ℕ × Entry)) TraceFault → Type 0
+ReadsOn mid now p q answer = (format : Format) (limit : ℕ) (start : SourceView) (xs : List (ℕ × Entry))
+    → Reached format limit start mid xs p → Reached format limit start now (xs ++ entries_returned answer) q
 
-  -- a line that was written in part
-  pub csim-part : (x : ℕ × Entry) (lookups : List Lookup) → Reached Lackey limit start now (old.read ++ x ∷ []) q
-      → ((f : TraceFault) → q.state ≢ state.Failed f) → lookups ≡ lookups_of g (data_of (entries_of old.read)) x.1
-      → WrotePart between sink' (cond verbose (line_of x.1 lookups) []) → WriteFailed (csim_task g verbose limit) start now sink sink'
+module _ {g : GeometryValue} {verbose : Bool} {limit : ℕ} {start mid now : SourceView} {sink between : SinkView} {p q : Progress} {sim : Simulation}
+    (old : Simulated g verbose limit start mid sink between p sim) {answer : Result (Option (ℕ × Entry)) TraceFault}
+    (reads_on : ReadsOn mid now p q answer) (tells : Tells q.state answer) where
+  module _ {found : Option (ℕ × Entry)} {x : ℕ × Entry} (was : answer ≡ Ok found) (is : found ≡ Some x) (lookups : List Lookup) where
+    -- one entry more was read
+    reached_more : Reached Lackey limit start now (old.read ++ x ∷ []) q
+    reached_more = rw (was ∙ ap Ok is) at (reads_on _ _ _ old.read old.reached)
+
+    -- the line of one entry more
+    pub simulated_more : {sink' : SinkView} {sim' : Simulation}
+        → Simulates g (data_of (entries_of old.read) ++ events_of DataOnly x.1) sim' × (lookups ≡ lookups_of g (data_of (entries_of old.read)) x.1)
+        → Wrote between sink' (cond verbose (line_of x.1 lookups) []) → AreFew (2 * p.lines + 2) sim'.counts
+        → IfOk answer (λ one. IfSome one (λ y. (y.0 ≡ q.lines) × (p.lines < q.lines))) → q.limit ≡ p.limit
+        → Simulated g verbose limit start now sink sink' q sim'
+    simulated_more {sink' = sink'} {sim' = sim'} stands wrote few bears same =
+        let further : p.lines < q.lines = (rw (was ∙ ap Ok is) at bears).1 in
+        record {
+          read = old.read ++ x ∷ [];
+          reached = reached_more;
+          wrote = subst (Wrote sink sink') (sym (lines-more g verbose old.read x lookups stands.1)) (Wrote-more old.wrote wrote);
+          simulates = subst (λ es. Simulates g es sim') (sym (collected-more DataOnly old.read x)) stands.0;
+          few = record {
+            hits = omega (arith, few.hits, further);
+            misses = omega (arith, few.misses, further);
+            evictions = omega (arith, few.evictions, further);
+          };
+          limited = omega (arith, same, old.limited);
+        }
+
+    -- a line that was written in part
+    pub csim-part : {sink' : SinkView} → lookups ≡ lookups_of g (data_of (entries_of old.read)) x.1
+        → WrotePart between sink' (cond verbose (line_of x.1 lookups) []) → WriteFailed (csim_task g verbose limit) start now sink sink'
+    unfolding csim_task
+    csim-part {sink' = sink'} stands part =
+        WriteFailed-early {task = csim_task g verbose limit} refl (along g verbose limit) reached_more
+        (subst (Tells q.state) (was ∙ ap Ok is) tells)
+        (subst (WrotePart sink sink') (sym (lines-more g verbose old.read x lookups stands)) (WrotePart-after old.wrote part))
+
+  -- at a fault the lines of what was read stand written
+  pub csim-stopped : {x : TraceFault} → answer ≡ Err x → Stopped (csim_task g verbose limit) x start now sink between
   unfolding csim_task
-  csim-part x lookups reached well stands part =
-      WriteFailed-early {task = csim_task g verbose limit} refl (along g verbose limit) reached well
-      (subst (WrotePart sink sink') (sym (lines-more g verbose old.read x lookups stands)) (WrotePart-after old.wrote part))
+  csim-stopped {x} was =
+      Stopped-at x (subst (Tells q.state) was tells) (rw (was, append-nil old.read) at (reads_on _ _ _ old.read old.reached)) old.wrote
 
--- at a fault the lines of what was read stand written
-pub csim-stopped : {g : GeometryValue} {verbose : Bool} {limit : ℕ} {start mid now : SourceView} {sink sink' : SinkView} {p q : Progress} {sim : Simulation}
-    (old : Simulated g verbose limit start mid sink sink' p sim) (x : TraceFault) → q.state ≡ state.Failed x → Reached Lackey limit start now old.read q
-    → Stopped (csim_task g verbose limit) x start now sink sink'
-unfolding csim_task
-csim-stopped old x failed reached = Stopped-at x failed reached old.wrote
+  module _ {found : Option (ℕ × Entry)} {bytes : List ℕ} (was : answer ≡ Ok found) (is : found ≡ None) (last : bytes ≡ summary sim.counts) where
+    -- at the end the lines and the summary are what has to be written
+    whole : ReadWhole (csim_task g verbose limit) start now (csim_lines g verbose (entries_of old.read) ++ bytes)
+    unfolding csim_task
+    whole = record {
+      read = old.read;
+      at = q;
+      reached = rw (was ∙ ap Ok is, append-nil old.read) at (reads_on _ _ _ old.read old.reached);
+      ended = subst (Tells q.state) (was ∙ ap Ok is) tells;
+      output = λ text all. ap (λ es. csim_lines g verbose es ++ summary (counts g (data_of es))) (sym all)
+          ∙ ap (λ c. csim_lines g verbose (entries_of old.read) ++ summary c) (sym old.simulates.counts)
+          ∙ ap (λ l. csim_lines g verbose (entries_of old.read) ++ l) (sym last);
+    }
 
--- at the end the lines and the summary are what has to be written
-pub csim-whole : {g : GeometryValue} {verbose : Bool} {limit : ℕ} {start mid now : SourceView} {sink sink' : SinkView} {p q : Progress} {sim : Simulation}
-    {bytes : List ℕ} (old : Simulated g verbose limit start mid sink sink' p sim) → q.state ≡ state.Ended → Reached Lackey limit start now old.read q
-    → bytes ≡ summary sim.counts → ReadWhole (csim_task g verbose limit) start now (csim_lines g verbose (entries_of old.read) ++ bytes)
-unfolding csim_task
-csim-whole {g = g} {verbose = verbose} {q = q} old ended reached is = record {
-  read = old.read;
-  at = q;
-  reached = reached;
-  ended = ended;
-  output = λ text all. ap (λ es. csim_lines g verbose es ++ summary (counts g (data_of es))) (sym all)
-      ∙ ap (λ c. csim_lines g verbose (entries_of old.read) ++ summary c) (sym old.simulates.counts)
-      ∙ ap (λ l. csim_lines g verbose (entries_of old.read) ++ l) (sym is);
-}
+    pub csim-finished : {sink' : SinkView} → WroteLast between sink' bytes → Finished (csim_task g verbose limit) start now sink sink'
+    csim-finished wrote = Finished-written whole (WroteLast-after old.wrote wrote)
+
+    pub csim-unfinished : {sink' : SinkView} → WroteLastPart between sink' bytes → WriteFailed (csim_task g verbose limit) start now sink sink'
+    csim-unfinished part = WriteFailed-late whole (WroteLastPart-after old.wrote part)

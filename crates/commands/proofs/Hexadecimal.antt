@@ -1,5 +1,5 @@
 -- Hexadecimal digits, written from the last one to the first.
-use Rattle.std.proofs.Common.{◌≡◌, ℕ, zero, suc, ◌+◌, ◌-◌, ◌/◌, ◌%◌, ◌^◌, ◌<◌, ◌≤◌, false, true, cond, eqb, List, [], ◌∷◌, sym, ap, ◌∙◌, subst, arith}
+use Rattle.std.proofs.Common.{◌≡◌, ℕ, zero, suc, ◌+◌, ◌-◌, ◌/◌, ◌%◌, ◌^◌, ◌<◌, ◌≤◌, Bool, false, true, cond, eqb, List, [], ◌∷◌, sym, ap, ◌∙◌, subst, arith}
 use Rattle.std.proofs.Math.Nat.{add-suc, pow-suc}
 use Rattle.std.proofs.lemmas.Nat.{div_below}
 use Rattle.std.specs.Fmt.{digits, digits_onto, digit_glyph}
@@ -12,22 +12,26 @@ pub digits_begin : (n : ℕ) (acc : List ℕ) → acc ≡ [] → digits 16 false
 unfolding digits digits_before
 digits_begin n acc none = ap (digits_onto 64 16 false n) (sym none)
 
-one_step : (room n : ℕ) (acc : List ℕ) → digits_before (suc room) n acc
-    ≡ cond (eqb (n / 16) 0) (digit_glyph false (n % 16) ∷ acc) (digits_before room (n / 16) (digit_glyph false (n % 16) ∷ acc))
+-- the digits once the last one is written, by whether it is the only one
+abbrev after_one : ℕ → ℕ → List ℕ → Bool → List ℕ
+after_one room n acc alone =
+    let written = digit_glyph false (n % 16) ∷ acc in
+    cond alone written (digits_before room (n / 16) written)
+
+one_step : (room n : ℕ) (acc : List ℕ) → digits_before (suc room) n acc ≡ after_one room n acc (eqb (n / 16) 0)
 unfolding digits_before
 one_step room n acc = ap (λ k. digits_onto k 16 false n acc) (add-suc 48 room)
 
 pub digits_last : (room n : ℕ) (acc : List ℕ) → 1 ≤ room → eqb (n / 16) 0 ≡ true → digits_before room n acc ≡ digit_glyph false (n % 16) ∷ acc
 digits_last zero n acc some last = absurd (omega arith)
-digits_last (suc room) n acc some last = one_step room n acc ∙ ap (λ b. cond b (digit_glyph false (n % 16) ∷ acc) (digits_before room (n / 16) (digit_glyph false (n % 16) ∷ acc))) last
+digits_last (suc room) n acc some last = one_step room n acc ∙ ap (after_one room n acc) last
 
 pub digits_more : (room n : ℕ) (acc : List ℕ) → 1 ≤ room → eqb (n / 16) 0 ≡ false
     → digits_before room n acc ≡ digits_before (room - 1) (n / 16) (digit_glyph false (n % 16) ∷ acc)
 digits_more zero n acc some more = absurd (omega arith)
 digits_more (suc room) n acc some more =
     let less : room ≡ suc room - 1 = omega arith in
-    one_step room n acc ∙ ap (λ b. cond b (digit_glyph false (n % 16) ∷ acc) (digits_before room (n / 16) (digit_glyph false (n % 16) ∷ acc))) more
-    ∙ ap (λ k. digits_before k (n / 16) (digit_glyph false (n % 16) ∷ acc)) less
+    one_step room n acc ∙ ap (after_one room n acc) more ∙ ap (λ k. digits_before k (n / 16) (digit_glyph false (n % 16) ∷ acc)) less
 
 pub sixteenth_fits : (room n : ℕ) → 1 ≤ room → n < 16 ^ room → n / 16 < 16 ^ (room - 1)
 sixteenth_fits zero n some fits = absurd (omega arith)

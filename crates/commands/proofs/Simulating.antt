@@ -1,5 +1,6 @@
 -- How a simulation follows a list of events.
-use Rattle.std.proofs.Common.{◌≡◌, ℕ, ◌+◌, Bool, true, false, not, ◌&&◌, cond, leb, List, [], ◌∷◌, ◌++◌, Some, map, refl, sym, ap, ap₂, ◌∙◌, append-nil, append_assoc, add-zero}
+use Rattle.std.proofs.Common.{◌≡◌, ℕ, ◌+◌, Bool, true, false, not, ◌&&◌, cond, leb, List, [], ◌∷◌, ◌++◌, Some, map, refl, sym, ap, ap₂, ◌∙◌}
+use Rattle.std.proofs.Common.{append-nil, append_assoc, add-zero}
 use Rattle.std.specs.Prelude.{is_some}
 use Rattle.std.specs.List.{filter, count_by}
 use Rattle.std.specs.Option.{option_to_list}
@@ -46,14 +47,17 @@ counts-reference g events r =
     let hits = sum_by-reference (λ q. cond (is_hit g q) 1 0) g events r in
     let misses = sum_by-reference (λ q. cond (not (is_hit g q)) 1 0) g events r in
     let evictions = sum_by-reference (λ q. cond (is_evict g q) 1 0) g events r in
-    cc (hits, misses, evictions, tallied (is_hit g p) (leb g.e (seen g p)) (count_by (is_hit g) (places g events)) (count_by (λ q. not (is_hit g q)) (places g events)) (count_by (is_evict g) (places g events)))
+    let before : (Place → Bool) → ℕ = λ test. count_by test (places g events) in
+    let one_more = tallied (is_hit g p) (leb g.e (seen g p)) (before (is_hit g)) (before (λ q. not (is_hit g q))) (before (is_evict g)) in
+    cc (hits, misses, evictions, one_more)
 
 pub counts-flush : (g : GeometryValue) (events : List Event) → counts g (events ++ event.Flush ∷ []) ≡ counts g events
 unfolding counts
 counts-flush g events = rw (places-flush g events) refl
 
 -- one more reference
-pub simulates_more : (g : GeometryValue) (events : List Event) (old new : Simulation) (r : Ref) (o : Outcome) → Accesses (lru_contents old.cache) r o (lru_contents new.cache)
+pub simulates_more : (g : GeometryValue) (events : List Event) (old new : Simulation) (r : Ref) (o : Outcome)
+    → Accesses (lru_contents old.cache) r o (lru_contents new.cache)
     → new.counts ≡ counted old.counts (lookup_of o) → Simulates g events old
     → Simulates g (events ++ event.Reference r ∷ []) new × (lookup_of o ≡ lookup_at g (place_after g events r))
 simulates_more g events old new r o step count h =
@@ -111,6 +115,7 @@ item_events item = split (keeps DataOnly (references item).0.access)
     rest : List Ref
     rest = filter (λ x. keeps DataOnly x.access) (option_to_list (references item).1)
 
-    split : (b : Bool) → map event.Reference (cond b ((references item).0 ∷ rest) rest) ≡ map event.Reference (cond b ((references item).0 ∷ []) []) ++ map event.Reference rest
+    split : (b : Bool) → map event.Reference (cond b ((references item).0 ∷ rest) rest)
+        ≡ map event.Reference (cond b ((references item).0 ∷ []) []) ++ map event.Reference rest
     split true = refl
     split false = refl

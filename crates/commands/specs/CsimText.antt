@@ -25,10 +25,10 @@ abbrev pub lookup_at : GeometryValue → Place → Lookup
 lookup_at g p = if is_hit g p then Hit else if is_evict g p then MissEviction else Miss
 
 -- the handout's words, each with a space in front
-abbrev pub words_of : Lookup → List ℕ
-words_of Hit = codes " hit"
-words_of Miss = codes " miss"
-words_of MissEviction = codes " miss eviction"
+abbrev pub lookup_text : Lookup → List ℕ
+lookup_text Hit = codes " hit"
+lookup_text Miss = codes " miss"
+lookup_text MissEviction = codes " miss eviction"
 
 -- The letter of an item's line: L, S or M. A fetch has no line.
 abbrev pub letter_of : Op → Option ℕ
@@ -41,7 +41,7 @@ letter_of Modify = Some 77
 abbrev pub item_line : Option ℕ → Item → List Lookup → List ℕ
 item_line None item lookups = []
 item_line (Some letter) item lookups =
-    letter ∷ codes " " ++ hexadecimal item.addr ++ codes "," ++ decimal item.size ++ flat_map words_of lookups ++ codes "\n"
+    letter ∷ codes " " ++ hexadecimal item.addr ++ codes "," ++ decimal item.size ++ flat_map lookup_text lookups ++ codes "\n"
 
 -- The line of an entry whose references went so. A flush has none; lackey traces have no flush.
 abbrev pub line_of : Entry → List Lookup → List ℕ

@@ -3,7 +3,7 @@ ghost use Rattle.std.specs.Prelude.{◌≡◌, ◌+◌, ◌≤◌, [], ◌++◌,
 ghost use Rattle.std.specs.Option.{option_to_list};
 ghost use Rattle.std.specs.Io.KnownBytes.{Appends};
 ghost use Rattle.trace_core.specs.Device.{Writes};
-ghost use Rattle.commands.specs.CsimText.{letter_of, words_of, item_line, line_of, summary};
+ghost use Rattle.commands.specs.CsimText.{letter_of, lookup_text, item_line, line_of, summary};
 ghost use Rattle.commands.specs.Simulation.{lookups_of_pair};
 
 use crate::simulation::Lookup;
@@ -24,14 +24,14 @@ fn letter(op: Op) -> Option<u8>
     }
 }
 
-/// Adds the words of a lookup, if there is one.
+/// Adds the text of a lookup, if there is one.
 fn push_lookup(text: &mut Text, lookup: Option<Lookup>)
     requires { length text.old + 14 ≤ CAPACITY }
-    ensures value { text.new ≡ text.old ++ flat_map words_of (option_to_list lookup) }
+    ensures value { text.new ≡ text.old ++ flat_map lookup_text (option_to_list lookup) }
     ensures short { length text.new ≤ length text.old + 14 }
 {
     if let Some(lookup) = lookup {
-        text.push(lookup.words());
+        text.push(lookup.text());
     }
 }
 

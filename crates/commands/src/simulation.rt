@@ -1,7 +1,7 @@
 //! One LRU cache, and how its references go.
 ghost use Rattle.std.specs.Prelude.{◌≡◌, ℕ, ◌+◌, ◌^◌, List, [], ◌∷◌, ◌++◌, IfOk, map};
 ghost use Rattle.std.specs.Option.{option_to_list};
-ghost use Rattle.commands.specs.CsimText.{words_of, lookup_at, lookups_of};
+ghost use Rattle.commands.specs.CsimText.{lookup_text, lookup_at, lookups_of};
 ghost use Rattle.commands.specs.Simulation.{lookup_of, counted, AreFew, Simulates, data_events, lookups_of_pair};
 ghost use Rattle.cache_core.specs.Geometry.{GeometryValue};
 ghost use Rattle.cache_core.specs.LruLaws.{place_after};
@@ -26,9 +26,9 @@ pub(crate) enum Lookup {
 }
 
 impl Lookup {
-    /// Its words, each behind a space.
-    pub(crate) fn words(self) -> &'static [u8]
-        ensures { result.now ≡ words_of self }
+    /// What a line of `csim` says of it, each word behind a space.
+    pub(crate) fn text(self) -> &'static [u8]
+        ensures { result.now ≡ lookup_text self }
     {
         match self {
             Lookup::Hit => b" hit",

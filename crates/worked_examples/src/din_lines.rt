@@ -45,31 +45,54 @@ fn a_written_block_is_copied_back(rt: HostRuntime) -> Result<(), Fail> {
 
 #[test]
 fn a_flush_copies_back(rt: HostRuntime) -> Result<(), Fail> {
-    let report =
-        "l1-u fetches=0 fetch-misses=0 reads=1 read-misses=1 writes=1 write-misses=1 evictions=0 copybacks=1\nmemory reads=2 writes=1\nbypassed=0\n";
+    let report = "\
+        l1-u fetches=0 fetch-misses=0 reads=1 read-misses=1 \
+        writes=1 write-misses=1 evictions=0 copybacks=1\n\
+        memory reads=2 writes=1\n\
+        bypassed=0\n";
     expect_report(&rt, rt.alloc(), ONE, b"1 0\n4 0\n0 0\n", report)
 }
 
 #[test]
 fn a_second_level_takes_what_goes_down(rt: HostRuntime) -> Result<(), Fail> {
-    let report =
-        "l1-u fetches=0 fetch-misses=0 reads=3 read-misses=3 writes=0 write-misses=0 evictions=2 copybacks=0\nl2-u fetches=0 fetch-misses=0 reads=3 read-misses=2 writes=0 write-misses=0 evictions=0 copybacks=0\nmemory reads=2 writes=0\nbypassed=0\n";
+    let report = "\
+        l1-u fetches=0 fetch-misses=0 reads=3 read-misses=3 \
+        writes=0 write-misses=0 evictions=2 copybacks=0\n\
+        l2-u fetches=0 fetch-misses=0 reads=3 read-misses=2 \
+        writes=0 write-misses=0 evictions=0 copybacks=0\n\
+        memory reads=2 writes=0\n\
+        bypassed=0\n";
     let text = b"0 0\n0 10\n0 0\n";
     expect_report(&rt, rt.alloc(), TWO_LEVELS, text, report)?;
     let options = "-l1-usize 16 -l1-ubsize 16 -l2-usize 16 -l2-ubsize 16";
-    let report =
-        "l1-u fetches=0 fetch-misses=0 reads=1 read-misses=1 writes=1 write-misses=1 evictions=1 copybacks=1\nl2-u fetches=0 fetch-misses=0 reads=2 read-misses=2 writes=1 write-misses=0 evictions=1 copybacks=1\nmemory reads=2 writes=1\nbypassed=0\n";
+    let report = "\
+        l1-u fetches=0 fetch-misses=0 reads=1 read-misses=1 \
+        writes=1 write-misses=1 evictions=1 copybacks=1\n\
+        l2-u fetches=0 fetch-misses=0 reads=2 read-misses=2 \
+        writes=1 write-misses=0 evictions=1 copybacks=1\n\
+        memory reads=2 writes=1\n\
+        bypassed=0\n";
     expect_report(&rt, rt.alloc(), options, b"1 0\n0 10\n", report)
 }
 
 #[test]
 fn a_flush_goes_past_the_second_level(rt: HostRuntime) -> Result<(), Fail> {
-    let report =
-        "l1-u fetches=0 fetch-misses=0 reads=1 read-misses=1 writes=1 write-misses=1 evictions=1 copybacks=1\nl2-u fetches=0 fetch-misses=0 reads=2 read-misses=2 writes=1 write-misses=0 evictions=0 copybacks=1\nmemory reads=2 writes=1\nbypassed=0\n";
+    let report = "\
+        l1-u fetches=0 fetch-misses=0 reads=1 read-misses=1 \
+        writes=1 write-misses=1 evictions=1 copybacks=1\n\
+        l2-u fetches=0 fetch-misses=0 reads=2 read-misses=2 \
+        writes=1 write-misses=0 evictions=0 copybacks=1\n\
+        memory reads=2 writes=1\n\
+        bypassed=0\n";
     let text = b"1 0\n0 10\n4 0\n";
     expect_report(&rt, rt.alloc(), TWO_LEVELS, text, report)?;
-    let report =
-        "l1-u fetches=0 fetch-misses=0 reads=0 read-misses=0 writes=1 write-misses=1 evictions=0 copybacks=1\nl2-u fetches=0 fetch-misses=0 reads=1 read-misses=1 writes=0 write-misses=0 evictions=0 copybacks=0\nmemory reads=1 writes=1\nbypassed=0\n";
+    let report = "\
+        l1-u fetches=0 fetch-misses=0 reads=0 read-misses=0 \
+        writes=1 write-misses=1 evictions=0 copybacks=1\n\
+        l2-u fetches=0 fetch-misses=0 reads=1 read-misses=1 \
+        writes=0 write-misses=0 evictions=0 copybacks=0\n\
+        memory reads=1 writes=1\n\
+        bypassed=0\n";
     expect_report(&rt, rt.alloc(), TWO_LEVELS, b"1 0\n4 0\n", report)
 }
 
@@ -77,20 +100,33 @@ fn a_flush_goes_past_the_second_level(rt: HostRuntime) -> Result<(), Fail> {
 fn a_data_cache_lets_fetches_pass(rt: HostRuntime) -> Result<(), Fail> {
     let text = b"2 0\n0 0\n";
     let options = "-l1-dsize 16 -l1-dbsize 16";
-    let report =
-        "l1-d fetches=0 fetch-misses=0 reads=1 read-misses=1 writes=0 write-misses=0 evictions=0 copybacks=0\nmemory reads=1 writes=0\nbypassed=1\n";
+    let report = "\
+        l1-d fetches=0 fetch-misses=0 reads=1 read-misses=1 \
+        writes=0 write-misses=0 evictions=0 copybacks=0\n\
+        memory reads=1 writes=0\n\
+        bypassed=1\n";
     expect_report(&rt, rt.alloc(), options, text, report)?;
     let options = "-l1-dsize 16 -l1-dbsize 16 -l2-usize 32 -l2-ubsize 16 -l2-uassoc 2";
-    let report =
-        "l1-d fetches=0 fetch-misses=0 reads=1 read-misses=1 writes=0 write-misses=0 evictions=0 copybacks=0\nl2-u fetches=0 fetch-misses=0 reads=1 read-misses=1 writes=0 write-misses=0 evictions=0 copybacks=0\nmemory reads=1 writes=0\nbypassed=1\n";
+    let report = "\
+        l1-d fetches=0 fetch-misses=0 reads=1 read-misses=1 \
+        writes=0 write-misses=0 evictions=0 copybacks=0\n\
+        l2-u fetches=0 fetch-misses=0 reads=1 read-misses=1 \
+        writes=0 write-misses=0 evictions=0 copybacks=0\n\
+        memory reads=1 writes=0\n\
+        bypassed=1\n";
     expect_report(&rt, rt.alloc(), options, text, report)
 }
 
 #[test]
 fn a_split_level_has_a_line_for_each_cache(rt: HostRuntime) -> Result<(), Fail> {
     let options = "-l1-isize 16 -l1-ibsize 16 -l1-dsize 16 -l1-dbsize 16";
-    let report =
-        "l1-i fetches=2 fetch-misses=1 reads=0 read-misses=0 writes=0 write-misses=0 evictions=0 copybacks=0\nl1-d fetches=0 fetch-misses=0 reads=0 read-misses=0 writes=1 write-misses=1 evictions=0 copybacks=0\nmemory reads=2 writes=0\nbypassed=0\n";
+    let report = "\
+        l1-i fetches=2 fetch-misses=1 reads=0 read-misses=0 \
+        writes=0 write-misses=0 evictions=0 copybacks=0\n\
+        l1-d fetches=0 fetch-misses=0 reads=0 read-misses=0 \
+        writes=1 write-misses=1 evictions=0 copybacks=0\n\
+        memory reads=2 writes=0\n\
+        bypassed=0\n";
     expect_report(&rt, rt.alloc(), options, b"2 0\n1 0\n2 4\n", report)
 }
 
@@ -99,7 +135,10 @@ fn a_split_level_has_a_line_for_each_cache(rt: HostRuntime) -> Result<(), Fail> 
 fn random_blocks_leave(rt: HostRuntime) -> Result<(), Fail> {
     let options = "-l1-usize 32 -l1-ubsize 16 -l1-uassoc 2 -l1-urepl r";
     let text = b"0 10\n0 20\n0 30\n0 10\n0 20\n0 10\n";
-    let report =
-        "l1-u fetches=0 fetch-misses=0 reads=6 read-misses=4 writes=0 write-misses=0 evictions=2 copybacks=0\nmemory reads=4 writes=0\nbypassed=0\n";
+    let report = "\
+        l1-u fetches=0 fetch-misses=0 reads=6 read-misses=4 \
+        writes=0 write-misses=0 evictions=2 copybacks=0\n\
+        memory reads=4 writes=0\n\
+        bypassed=0\n";
     expect_report(&rt, rt.alloc(), options, text, report)
 }

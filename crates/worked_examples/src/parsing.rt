@@ -95,12 +95,20 @@ fn triples_have_two_commas(rt: HostRuntime) {
 }
 
 #[test]
+fn a_line_without_a_cache(rt: HostRuntime) -> Result<(), Fail> {
+    match fault_of(rt.alloc(), "cachesim din")? {
+        WordsFault::Plan(fault) => assert!(rt; fault == PlanFault::NoFirst),
+        fault => return Err(fault.into()),
+    }
+    Ok(())
+}
+
+#[test]
 fn caches_that_give_no_plan(rt: HostRuntime) -> Result<(), Fail> {
     let geometry = PlanFault::BadGeometry {
         cache: CacheName::L1U,
     };
     for (options, wanted) in [
-        ("", PlanFault::NoFirst),
         (
             " -l1-usize 16 -l1-ubsize 16 -l1-isize 16 -l1-ibsize 16",
             PlanFault::MixedFirst,

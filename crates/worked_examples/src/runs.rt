@@ -1,12 +1,17 @@
-//! Runs of `csim` and `din` over devices in memory: a source without end under a small limit on lines, and sinks that fail.
+//! Runs of `csim`, `din` and `execute` over devices in memory: sources without end, and sources and sinks that fail.
 ghost use Rattle.std.specs.Prelude.{◌<◌, ◌≤◌, length};
+ghost use Rattle.arguments.specs.Job.{max_lines_of};
 
 use crate::csim_lines::{HANDOUT, HANDOUT_TEXT};
+use crate::samples::NINE;
+use crate::sweeps::{TABLE, request};
+use arguments::job::Job;
 use cache_core::geometry::Geometry;
 use cache_core::outcome::{AllocMode, Repl, WriteMode};
 use cache_core::plan::{CacheSpec, FirstLevel, Plan};
 use commands::csim::csim;
 use commands::din::din;
+use commands::execute::execute;
 use std::alloc::Global;
 use std::process::Abort;
 use std::test::Fail;
@@ -46,8 +51,11 @@ fn expect_endless(
     let mut sink = ArraySink::new(1024, 0);
     let plan = one_block()?;
     let answer = din(alloc, plan, 42, Format::Din, 3, &mut source, &mut sink);
-    assert!(rt; answer == Err(RunFault::Trace(fault)));
     assert!(rt; sink.calls() == 0);
+    if answer == Err(RunFault::Memory) {
+        return Err(RunFault::Memory.into());
+    }
+    assert!(rt; answer == Err(RunFault::Trace(fault)));
     Ok(())
 }
 
@@ -139,6 +147,17 @@ fn csim_leaves_a_failed_sink_alone(rt: HostRuntime) -> Result<(), Fail> {
     Ok(())
 }
 
+#[test]
+fn csim_writes_in_parts_of_any_size(rt: HostRuntime) -> Result<(), Fail> {
+    for most in [1, 3, 1024] {
+        let mut source = TapeSource::new(HANDOUT, most, 0);
+        let mut sink = ArraySink::new(most, 0);
+        assert!(rt; lines_of(&rt, rt.alloc(), &mut source, &mut sink)? == Ok(()));
+        assert!(rt; sink.held() == HANDOUT_TEXT);
+    }
+    Ok(())
+}
+
 // The summary is written last, and the last call is the flush.
 #[test]
 fn a_sink_of_csim_fails_at_each_of_its_calls(rt: HostRuntime) -> Result<(), Fail> {
@@ -226,4 +245,54 @@ fn a_source_of_din_fails_at_each_of_its_calls(rt: HostRuntime) -> Result<(), Fai
         assert!(rt; sink.calls() == 0);
     }
     Ok(())
+}
+
+/// A job ends well and writes this. Where memory is refused, nothing was read or written, and that ends a test.
+fn expect_done(
+    rt: &impl Abort,
+    alloc: Global,
+    job: &Job,
+    text: &[u8],
+    written: &[u8],
+) -> Result<(), Fail>
+    requires some { 1 ≤ max_lines_of job.now }
+    requires most { max_lines_of job.now ≤ MAX_LINES }
+{
+    let mut source = TapeSource::new(text, 100, 0);
+    let mut sink = ArraySink::new(100, 0);
+    let answer = execute(alloc, job, &mut source, &mut sink);
+    if answer == Err(RunFault::Memory) {
+        assert!(rt; (source.calls(), sink.calls()) == (0, 0));
+    }
+    answer?;
+    assert!(rt; sink.held() == written);
+    Ok(())
+}
+
+#[test]
+fn a_job_of_sweep(rt: HostRuntime) -> Result<(), Fail> {
+    let request = request(2, (1, 2), (16, 64))?;
+    expect_done(&rt, rt.alloc(), &Job::Sweep { request }, NINE, TABLE)
+}
+
+#[test]
+fn a_job_of_csim(rt: HostRuntime) -> Result<(), Fail> {
+    let geometry = Geometry::new(4, 1, 4).ok_or("no geometry")?;
+    let job = Job::Csim {
+        geometry,
+        verbose: true,
+        max_lines: MAX_LINES,
+    };
+    expect_done(&rt, rt.alloc(), &job, HANDOUT, HANDOUT_TEXT)
+}
+
+#[test]
+fn a_job_of_din(rt: HostRuntime) -> Result<(), Fail> {
+    let job = Job::Din {
+        plan: one_block()?,
+        seed: 42,
+        format: Format::Din,
+        max_lines: MAX_LINES,
+    };
+    expect_done(&rt, rt.alloc(), &job, TWO_BLOCKS, REPORT)
 }

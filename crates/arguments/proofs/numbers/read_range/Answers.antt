@@ -1,3 +1,4 @@
+-- A text that is not split at a dash has none.
 use Rattle.std.proofs.Common.{rules, ◌≡◌, sym, false, length, refl}
 use Rattle.std.specs.List.{list_any, position_or_len}
 use Rattle.arguments.specs.Numbers.{is_dash}

@@ -1,3 +1,4 @@
+-- The command gains its three subcommands one after another.
 use Rattle.std.proofs.Common.{rules, [], ◌∙◌, ◌≡◌, false, codes}
 use Rattle.std.proofs.lemmas.Result.{IfOk-weaker}
 use Rattle.clap.specs.Words.{app_of}

@@ -1,3 +1,4 @@
+-- One option of the table more.
 use Rattle.std.proofs.Common.{ap, ◌∙◌, ◌||◌}
 use Rattle.arguments.proofs.OptionLemmas.{or_none, with_rules_more}
 use Rattle.arguments.proofs.options.with_options.Goals as goal

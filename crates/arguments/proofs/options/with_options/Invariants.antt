@@ -1,3 +1,4 @@
+-- The command has the options of the table so far.
 use Rattle.std.proofs.Common.{◌≡◌, map, take}
 use Rattle.clap.specs.Words.{app_of}
 use Rattle.clap.specs.declared.builder.command.Command.TheViews.{out-Command as fields_of}

@@ -1,3 +1,4 @@
+-- The text of an option is the first one of clap's entries for it.
 use Rattle.std.proofs.Common.{◌∙◌}
 use Rattle.clap.specs.Words.{found_of}
 use Rattle.clap.proofs.WalkLemmas.{first_value-rows}

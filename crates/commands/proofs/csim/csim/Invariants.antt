@@ -1,3 +1,4 @@
+-- The loop of `csim` goes on while the reader has lines left.
 use Rattle.std.proofs.Common.{◌-◌}
 use Rattle.commands.proofs.CsimLemmas.{Simulated}
 use Rattle.commands.proofs.csim.csim.Given as goal

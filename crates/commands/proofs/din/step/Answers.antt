@@ -1,4 +1,5 @@
-use Rattle.std.proofs.Common.{sym, ap, ◌∙◌, subst, ◌++◌}
+-- An entry leads a system from a list of events to that list with its own behind it.
+use Rattle.std.proofs.Common.{sym, subst, ◌++◌}
 use Rattle.trace_core.specs.declared.events.Kind.TheVariants.{All}
 use Rattle.trace_core.specs.Events.{events_of}
 use Rattle.cache_core.specs.SystemStands.{SystemStands}
@@ -8,16 +9,13 @@ use Rattle.commands.proofs.din.step.Goals as goal
 
 pub returns-in-Some-clause-stands : goal.returns-in-Some-clause-stands
 returns-in-Some-clause-stands c = λ plan seed events good stands.
-    stands_both plan seed events (events_of All c.args.entry) c.args.system.now c.step.new.self c.step-in-Some.new.self c.refs_of-second.result.0 c.in-Some.second
-    (ap (events_of All) c.in-Item.is ∙ both_events c.in-Item.item c.refs_of-second.result.0 c.in-Some.second (sym c.refs_of-second.ensures ∙ ap (λ s. (c.refs_of-second.result.0, s)) c.in-Some.is))
-    c.step.ensures c.step-in-Some.ensures good stands
+    stands_both plan seed events (both_events c.in-Item.is c.refs_of-second.ensures c.in-Some.is) c.step.ensures c.step-in-Some.ensures good stands
 
 pub returns-in_default-clause-stands : goal.returns-in_default-clause-stands
 returns-in_default-clause-stands c = λ plan seed events good stands.
-    stands_one plan seed events (events_of All c.args.entry) c.args.system.now c.step.new.self c.refs_of-second.result.0
-    (ap (events_of All) c.in-Item.is ∙ one_event c.in-Item.item c.refs_of-second.result.0 (sym c.refs_of-second.ensures ∙ ap (λ s. (c.refs_of-second.result.0, s)) c.in_default.is))
-    c.step.ensures good stands
+    stands_one plan seed events (one_event c.in-Item.is c.refs_of-second.ensures c.in_default.is) c.step.ensures good stands
 
 pub returns-in-Flush-clause-stands : goal.returns-in-Flush-clause-stands
 returns-in-Flush-clause-stands c = λ plan seed events good stands.
-    subst (λ e. SystemStands plan seed (events ++ events_of All e) c.flush.new.self) (sym c.in-Flush.is) (flush_law plan seed events c.args.system.now c.flush.new.self stands c.flush.ensures)
+    subst (λ e. SystemStands plan seed (events ++ events_of All e) c.flush.new.self) (sym c.in-Flush.is)
+    (flush_law plan seed events c.args.system.now c.flush.new.self stands c.flush.ensures)

@@ -1,3 +1,4 @@
+-- An entry that was read is one that the system was stepped through.
 use Rattle.std.proofs.Common.{◌++◌, [], Ok, sym, ap, ◌∙◌, subst, arith, append-nil, append_assoc}
 use Rattle.std.specs.List.{flat_map}
 use Rattle.trace_core.specs.declared.events.Kind.TheVariants.{All}

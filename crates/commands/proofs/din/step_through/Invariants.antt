@@ -1,3 +1,4 @@
+-- The loop of `din` goes on while the reader has lines left.
 use Rattle.std.proofs.Common.{◌-◌, ◌*◌, ◌≤◌, ◌^◌}
 use Rattle.commands.specs.DinPass.{StepsThrough}
 use Rattle.commands.proofs.din.step_through.Given as goal

@@ -1,3 +1,4 @@
+-- A fault of `sweep` is passed on.
 use Rattle.trace_core.proofs.Performing.{err_is, Performs-passed_on}
 use Rattle.commands.proofs.execute.execute.Goals as goal
 

@@ -1,3 +1,4 @@
+-- One digit more, up to the first one.
 use Rattle.std.proofs.Common.{◌≡◌, ℕ, ◌+◌, ◌-◌, ◌/◌, ◌%◌, ◌<◌, ◌≤◌, List, ◌∷◌, length, drop, false, sym, ap, ◌∙◌, arith, eq-eqb, set, length-set}
 use Rattle.std.proofs.Math.ListN.{drop_of_length-le}
 use Rattle.std.proofs.lemmas.List.{drop-set}
@@ -20,24 +21,29 @@ loop-rest-init c = record {
   some = omega arith;
   within = omega arith;
   fits = c.ranges.number.fits;
-  written = digits_begin c.args.number (drop 16 c.args.digits.now) (let short : length c.args.digits.now ≤ 16 = omega (arith, c.told-digits) in drop_of_length-le c.args.digits.now short);
+  written =
+      let short : length c.args.digits.now ≤ 16 = omega (arith, c.told-digits) in
+      digits_begin c.args.number (drop 16 c.args.digits.now) (drop_of_length-le c.args.digits.now short);
 }
 
 pub returns-then-rest-eq0-clause-value : goal.returns-then-rest-eq0-clause-value
 returns-then-rest-eq0-clause-value c =
-    let inv = c.loop-rest.invariant in
-    one_more c.loop-rest.digits c.loop-rest.start (c.loop-rest.rest % 16) c.hexadecimal_digit.result inv.sized inv.some inv.within c.hexadecimal_digit.ensures
-    ∙ sym (inv.written ∙ digits_last c.loop-rest.start c.loop-rest.rest (drop c.loop-rest.start c.loop-rest.digits) inv.some (eq-eqb _ _ c.if-rest-eq0.true))
+    let l = c.loop-rest in
+    let inv = l.invariant in
+    one_more l.digits l.start (l.rest % 16) c.hexadecimal_digit.result inv.sized inv.some inv.within c.hexadecimal_digit.ensures
+    ∙ sym (inv.written ∙ digits_last l.start l.rest (drop l.start l.digits) inv.some (eq-eqb _ _ c.if-rest-eq0.true))
 
 pub loop-rest-preserved : goal.loop-rest-preserved
 loop-rest-preserved c =
-    let inv = c.loop-rest.invariant in
-    let fits = sixteenth_fits c.loop-rest.start c.loop-rest.rest inv.some inv.fits in
+    let l = c.loop-rest in
+    let inv = l.invariant in
+    let fits = sixteenth_fits l.start l.rest inv.some inv.fits in
+    let digit = one_more l.digits l.start (l.rest % 16) c.hexadecimal_digit.result inv.sized inv.some inv.within c.hexadecimal_digit.ensures in
     record {
-      sized = length-set c.loop-rest.digits (c.loop-rest.start - 1) c.hexadecimal_digit.result ∙ inv.sized;
-      some = room_left (c.loop-rest.start - 1) (c.loop-rest.rest / 16) fits c.if-rest-eq0.false;
+      sized = length-set l.digits (l.start - 1) c.hexadecimal_digit.result ∙ inv.sized;
+      some = room_left (l.start - 1) (l.rest / 16) fits c.if-rest-eq0.false;
       within = omega (arith, inv.within);
       fits = fits;
-      written = inv.written ∙ digits_more c.loop-rest.start c.loop-rest.rest (drop c.loop-rest.start c.loop-rest.digits) inv.some (ne_eqb _ _ c.if-rest-eq0.false)
-          ∙ ap (digits_before (c.loop-rest.start - 1) (c.loop-rest.rest / 16)) (sym (one_more c.loop-rest.digits c.loop-rest.start (c.loop-rest.rest % 16) c.hexadecimal_digit.result inv.sized inv.some inv.within c.hexadecimal_digit.ensures));
+      written = inv.written ∙ digits_more l.start l.rest (drop l.start l.digits) inv.some (ne_eqb _ _ c.if-rest-eq0.false)
+          ∙ ap (digits_before (l.start - 1) (l.rest / 16)) (sym digit);
     }

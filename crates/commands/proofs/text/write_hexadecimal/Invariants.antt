@@ -1,3 +1,4 @@
+-- The digits are written from the last one on: what is left of the number stands in front of those that are there.
 use Rattle.std.proofs.Common.{◌≡◌, ◌^◌, ◌<◌, ◌≤◌, length, drop, false}
 use Rattle.std.specs.Fmt.{digits}
 use Rattle.commands.proofs.Hexadecimal.{digits_before}

@@ -1,3 +1,4 @@
+-- A reference is made where it is none of an instruction, and else nothing changes.
 use Rattle.std.proofs.Common.{sym, ap, ◌∙◌}
 use Rattle.commands.specs.Simulation.{data_events}
 use Rattle.commands.proofs.Simulating.{follows_none, follows_one, data_kept, data_left}
@@ -10,7 +11,8 @@ returns-in-Some-clause-stands c = λ g events.
 
 pub returns-in_default-clause-stands : goal.returns-in_default-clause-stands
 returns-in_default-clause-stands c = λ g events.
-    follows_none g events c.args.self.now (data_events c.args.reference) (ap data_events c.in-Some.is ∙ data_left c.in-Some.reference (sym c.keeps.ensures ∙ c.if-keeps.false))
+    let left = data_left c.in-Some.reference (sym c.keeps.ensures ∙ c.if-keeps.false) in
+    follows_none g events c.args.self.now (data_events c.args.reference) (ap data_events c.in-Some.is ∙ left)
 
 pub returns-in_default-2-clause-stands : goal.returns-in_default-2-clause-stands
 returns-in_default-2-clause-stands c = λ g events.

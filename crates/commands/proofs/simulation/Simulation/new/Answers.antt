@@ -1,3 +1,4 @@
+-- A new simulation has the counts of no event.
 use Rattle.std.proofs.Common.{refl}
 use Rattle.cache_core.specs.declared.outcome.WriteMode.TheVariants.{Back}
 use Rattle.cache_core.specs.LruLaws.{lru_machine}

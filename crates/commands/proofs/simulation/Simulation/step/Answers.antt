@@ -1,8 +1,10 @@
+-- An entry leads the cache and its counts to the list with the events of its data references, or a flush, behind it.
 use Rattle.std.proofs.Common.{refl, sym, ap, ◌∙◌, subst, ◌≡◌, ◌++◌, Some}
 use Rattle.std.specs.Option.{option_to_list}
 use Rattle.trace_core.specs.declared.events.Kind.TheVariants.{DataOnly}
 use Rattle.trace_core.specs.Events.{events_of}
 use Rattle.cache_core.specs.Windows.{places_after}
+use Rattle.commands.specs.declared.simulation.Simulation.{Simulation}
 use Rattle.commands.specs.Simulation.{data_events}
 use Rattle.commands.proofs.Simulating.{Follows, follows_both, item_events, simulates_flush}
 use Rattle.commands.proofs.simulation.Simulation.step.Goals as goal
@@ -10,14 +12,18 @@ use Rattle.commands.proofs.simulation.Simulation.step.Goals as goal
 pub returns-in-Item-clause-stands : goal.returns-in-Item-clause-stands
 returns-in-Item-clause-stands c = λ g events.
     let refs = c.refs_of-second.result in
+    let one = option_to_list c.access_data-first.result in
+    let two = option_to_list c.access_data.result in
     let is : events_of DataOnly c.args.entry ≡ data_events (Some refs.0) ++ data_events refs.1 =
-    ap (events_of DataOnly) c.in-Item.is ∙ item_events c.in-Item.item ∙ ap (λ p. data_events (Some p.0) ++ data_events p.1) (sym c.refs_of-second.ensures) in
-    subst (λ es. Follows g events c.args.self.now es c.access_data.new.self (option_to_list c.access_data-first.result ++ option_to_list c.access_data.result)) (sym is)
-    (follows_both g events c.args.self.now c.access_data-first.new.self c.access_data.new.self (data_events (Some refs.0)) (data_events refs.1)
-    (option_to_list c.access_data-first.result) (option_to_list c.access_data.result)
+    ap (events_of DataOnly) c.in-Item.is ∙ item_events c.in-Item.item
+    ∙ ap (λ p. data_events (Some p.0) ++ data_events p.1) (sym c.refs_of-second.ensures) in
+    subst (λ es. Follows g events c.args.self.now es c.access_data.new.self (one ++ two)) (sym is)
+    (follows_both g events c.args.self.now c.access_data-first.new.self c.access_data.new.self
+    (data_events (Some refs.0)) (data_events refs.1) one two
     (c.access_data-first.ensures.stands g events) (c.access_data.ensures.stands g (events ++ data_events (Some refs.0))))
 
 pub returns-in-Flush-clause-stands : goal.returns-in-Flush-clause-stands
 unfolding places_after
 returns-in-Flush-clause-stands c = λ g events h.
-    rw c.in-Flush.is (simulates_flush g events c.args.self.now (record c.args.self.now { cache = c.flush.new.self }) c.flush.result c.flush.ensures refl h, refl)
+    let after : Simulation = record c.args.self.now { cache = c.flush.new.self } in
+    rw c.in-Flush.is (simulates_flush g events c.args.self.now after c.flush.result c.flush.ensures refl h, refl)

@@ -10,8 +10,8 @@ some_of : {A : Type 0} (b : Bool) (x y : A) → Some x ≡ cond b (Some y) None 
 some_of true x y is = cc
 some_of false x y is = absurd (cc)
 
-geometry_is : (g : GeometryValue) (s e b : ℕ) → Some g ≡ geometry_of s e b → g ≡ shape s e b
-geometry_is g s e b is = some_of _ g (shape s e b) is
+geometry_is : (g : GeometryValue) (s e b : ℕ) → Some g ≡ geometry_of s e b → g ≡ geometry_value s e b
+geometry_is g s e b is = some_of _ g (geometry_value s e b) is
 
 pub invariant_of-result : goal.invariant_of-result
 invariant_of-result c =
