@@ -67,12 +67,12 @@ distances_sum es v e h le =
     ∙ ap sum (take-map-range_with_len f 0 g.e e le)
     ∙ sum-counts has_last (distance g) (places g es) e
 
-pub fills_sum : (es : List Event) (v : ProfileState) (e : ℕ) → StandsFor es v → e ≤ v.geometry.e + 1 →
-    sum (take e v.fills) ≡ count_by (λ p. not (is_hit v.geometry p) && ltb (min (seen v.geometry p) v.geometry.e) e) (places v.geometry es)
-fills_sum es v e h le =
+pub misses_sum : (es : List Event) (v : ProfileState) (e : ℕ) → StandsFor es v → e ≤ v.geometry.e + 1 →
+    sum (take e v.misses_by_occupancy) ≡ count_by (λ p. not (is_hit v.geometry p) && ltb (min (seen v.geometry p) v.geometry.e) e) (places v.geometry es)
+misses_sum es v e h le =
     let g = v.geometry in
     let f : ℕ → ℕ = λ n. count_by (λ p. not (is_hit g p) && eqb (min (seen g p) g.e) n) (places g es) in
-    ap (λ ns. sum (take e ns)) (fill_by_all f v.fills (g.e + 1) 0 h.fill_count (λ k lt. h.fills k (omega arith)))
+    ap (λ ns. sum (take e ns)) (fill_by_all f v.misses_by_occupancy (g.e + 1) 0 h.occupancy_count (λ k lt. h.misses_by_occupancy k (omega arith)))
     ∙ ap sum (take-map-range_with_len f 0 (g.e + 1) e le)
     ∙ sum-counts (λ p. not (is_hit g p)) (λ p. min (seen g p) g.e) (places g es) e
 
@@ -85,8 +85,8 @@ fed_is es v h =
     let ps : List Place = places g es in
     let found : sum v.distances ≡ count_by (is_hit g) ps =
     ap sum (sym (take_all g.e v.distances (omega (arith, h.distance_count)))) ∙ distances_sum es v g.e h (omega arith) in
-    let not_found : sum v.fills ≡ count_by (λ p. not (is_hit g p)) ps =
-    ap sum (sym (take_all (g.e + 1) v.fills (omega (arith, h.fill_count)))) ∙ fills_sum es v (g.e + 1) h (omega arith)
+    let not_found : sum v.misses_by_occupancy ≡ count_by (λ p. not (is_hit g p)) ps =
+    ap sum (sym (take_all (g.e + 1) v.misses_by_occupancy (omega (arith, h.occupancy_count)))) ∙ misses_sum es v (g.e + 1) h (omega arith)
     ∙ sum_by_same (λ p. cond (not (is_hit g p) && ltb (min (seen g p) g.e) (g.e + 1)) 1 0) (λ p. cond (not (is_hit g p)) 1 0) ps
     (λ p. always (is_hit g p) (seen g p) g.e) in
     omega (arith, found, not_found, all_of g g.e ps)
@@ -131,14 +131,15 @@ counts_are es v e h le =
     let hits = distances_sum es v e h le in
     let fed = fed_is es v h in
     let split = sum_by-take-drop (λ n. n) v.distances e in
-    let fills_split = sum_by-take-drop (λ n. n) v.fills e in
+    let misses_split = sum_by-take-drop (λ n. n) v.misses_by_occupancy e in
     let both = all_of g e ps in
-    let misses : sum (drop e v.distances) + sum v.fills ≡ count_by (λ p. not (hit_at g e p)) ps = omega (arith, hits, fed, split, both) in
-    let young = fills_sum es v e h (omega arith) in
+    let misses : sum (drop e v.distances) + sum v.misses_by_occupancy ≡ count_by (λ p. not (hit_at g e p)) ps = omega (arith, hits, fed, split, both) in
+    let young = misses_sum es v e h (omega arith) in
     let old : count_by (evict_at g e) ps + count_by (λ p. not (is_hit g p) && ltb (min (seen g p) g.e) e) ps ≡ count_by (λ p. not (hit_at g e p)) ps =
     sum_by_parts (λ p. cond (evict_at g e p) 1 0) (λ p. cond (not (is_hit g p) && ltb (min (seen g p) g.e) e) 1 0) (λ p. cond (not (hit_at g e p)) 1 0) ps
     (λ p. evicted g g.e e p le) in
-    let evictions : sum (drop e v.distances) + sum (drop e v.fills) ≡ count_by (evict_at g e) ps = omega (arith, misses, young, old, fills_split) in
+    let evictions : sum (drop e v.distances) + sum (drop e v.misses_by_occupancy) ≡ count_by (evict_at g e) ps =
+    omega (arith, misses, young, old, misses_split) in
     let same : counts_at v e ≡ counts_by g e ps = cc (hits, misses, evictions) in
     same ∙ sym (counts_same g e es)
 

@@ -89,73 +89,73 @@ nowhere_in x [] none = record { outside = refl; place_is = refl; len_is = refl }
 nowhere_in x (y ∷ ys) none = absurd (cc)
 
 -- the numbers of a profile before and after one reference, which made m comparisons
-pub record IsFed (behind fills behind' fills' : List ℕ) (probes probes' m : ℕ) : Type 0 where
+pub record IsFed (behind missed behind' missed' : List ℕ) (probes probes' m : ℕ) : Type 0 where
   pub behind_long : length behind' ≡ length behind
-  pub fills_long : length fills' ≡ length fills
+  pub misses_long : length missed' ≡ length missed
   pub probes_are : probes' ≡ probes + m
-  pub told : compared_behind behind' fills' ≤ probes'
-  pub one_more : sum (distances_of probes' behind' fills') + sum fills' ≡ suc (sum (distances_of probes behind fills) + sum fills)
+  pub told : compared_behind behind' missed' ≤ probes'
+  pub one_more : sum (distances_of probes' behind' missed') + sum missed' ≡ suc (sum (distances_of probes behind missed) + sum missed)
 
 at_most : (p p' m n d : ℕ) → p ≤ n → p' ≡ p + m → m ≤ d → p' ≤ n + d
 at_most p p' m n d h e k = omega arith
 
-pub sound_after : {g : GeometryValue} {was now : Lists} {behind fills behind' fills' : List ℕ} {probes probes' m : ℕ} → IsSound g was behind fills probes
-    → IsFed behind fills behind' fills' probes probes' m → now.depth ≡ was.depth → length now.lists ≡ length was.lists
-    → sum (distances_of probes behind fills) + sum fills < 2 ^ 41 → m ≤ g.e → IsSound g now behind' fills' probes'
-sound_after {g} {was} {now} {behind} {fills} {behind'} {fills'} {probes} {probes'} {m} h f depth set_count fed few =
-    let n : ℕ = sum (distances_of probes behind fills) + sum fills in
-    let grown : (sum (distances_of probes' behind' fills') + sum fills') * g.e ≡ n * g.e + g.e = ap (λ k. k * g.e) f.one_more ∙ suc-mul n g.e in
+pub sound_after : {g : GeometryValue} {was now : Lists} {behind missed behind' missed' : List ℕ} {probes probes' m : ℕ} → IsSound g was behind missed probes
+    → IsFed behind missed behind' missed' probes probes' m → now.depth ≡ was.depth → length now.lists ≡ length was.lists
+    → sum (distances_of probes behind missed) + sum missed < 2 ^ 41 → m ≤ g.e → IsSound g now behind' missed' probes'
+sound_after {g} {was} {now} {behind} {missed} {behind'} {missed'} {probes} {probes'} {m} h f depth set_count fed few =
+    let n : ℕ = sum (distances_of probes behind missed) + sum missed in
+    let grown : (sum (distances_of probes' behind' missed') + sum missed') * g.e ≡ n * g.e + g.e = ap (λ k. k * g.e) f.one_more ∙ suc-mul n g.e in
     record {
       depth = depth ∙ h.depth;
       set_count = set_count ∙ h.set_count;
       behind_count = ap (λ k. k + 1) f.behind_long ∙ h.behind_count;
-      fill_count = f.fills_long ∙ h.fill_count;
+      occupancy_count = f.misses_long ∙ h.occupancy_count;
       told = f.told;
       fed = omega (arith, f.one_more, fed);
       compared = subst (λ (k : ℕ). probes' ≤ k) (sym grown) (at_most probes probes' m (n * g.e) g.e h.compared f.probes_are few);
     }
 
-pub sum-distances : (probes : ℕ) (behind fills : List ℕ) → sum (distances_of probes behind fills) ≡ probes - compared_behind behind fills + sum behind
-sum-distances probes behind fills = sum_by-cons (λ n. n) (probes - compared_behind behind fills) behind
+pub sum-distances : (probes : ℕ) (behind missed : List ℕ) → sum (distances_of probes behind missed) ≡ probes - compared_behind behind missed + sum behind
+sum-distances probes behind missed = sum_by-cons (λ n. n) (probes - compared_behind behind missed) behind
 
 -- a reference found in front
-pub fed_front : (behind fills : List ℕ) (probes : ℕ) → compared_behind behind fills ≤ probes → IsFed behind fills behind fills probes (probes + 1) 1
-fed_front behind fills probes told = record {
+pub fed_front : (behind missed : List ℕ) (probes : ℕ) → compared_behind behind missed ≤ probes → IsFed behind missed behind missed probes (probes + 1) 1
+fed_front behind missed probes told = record {
   behind_long = refl;
-  fills_long = refl;
+  misses_long = refl;
   probes_are = refl;
   told = omega (arith, told);
-  one_more = omega (arith, told, sum-distances probes behind fills, sum-distances (probes + 1) behind fills);
+  one_more = omega (arith, told, sum-distances probes behind missed, sum-distances (probes + 1) behind missed);
 }
 
 -- the numbers of a profile after a reference found behind the front: one more of them, and place + 2 comparisons
-pub fed_behind : (behind fills : List ℕ) (probes probes' place n : ℕ) → compared_behind behind fills ≤ probes → place < length behind
-    → n ≡ get_or behind place n → probes' ≡ probes + (place + 2) → IsFed behind fills (set behind place (n + 1)) fills probes probes' (place + 2)
-fed_behind behind fills probes probes' place n told lt read more =
+pub fed_behind : (behind missed : List ℕ) (probes probes' place n : ℕ) → compared_behind behind missed ≤ probes → place < length behind
+    → n ≡ get_or behind place n → probes' ≡ probes + (place + 2) → IsFed behind missed (set behind place (n + 1)) missed probes probes' (place + 2)
+fed_behind behind missed probes probes' place n told lt read more =
     let weight = weighed-raised 2 behind place n lt read in
     record {
       behind_long = length-set behind place (n + 1);
-      fills_long = refl;
+      misses_long = refl;
       probes_are = more;
       told = omega (arith, told, weight, more);
       one_more =
-          omega (arith, told, weight, more, sum-raised behind place n lt read, sum-distances probes behind fills,
-            sum-distances probes' (set behind place (n + 1)) fills);
+          omega (arith, told, weight, more, sum-raised behind place n lt read, sum-distances probes behind missed,
+            sum-distances probes' (set behind place (n + 1)) missed);
     }
 
 -- and after a reference not found in a list of `len` blocks: as many comparisons
-pub fed_nowhere : (behind fills : List ℕ) (probes probes' len n : ℕ) → compared_behind behind fills ≤ probes → len < length fills
-    → n ≡ get_or fills len n → probes' ≡ probes + len → IsFed behind fills behind (set fills len (n + 1)) probes probes' len
-fed_nowhere behind fills probes probes' len n told lt read more =
-    let weight = weighed-raised 0 fills len n lt read in
+pub fed_nowhere : (behind missed : List ℕ) (probes probes' len n : ℕ) → compared_behind behind missed ≤ probes → len < length missed
+    → n ≡ get_or missed len n → probes' ≡ probes + len → IsFed behind missed behind (set missed len (n + 1)) probes probes' len
+fed_nowhere behind missed probes probes' len n told lt read more =
+    let weight = weighed-raised 0 missed len n lt read in
     record {
       behind_long = refl;
-      fills_long = length-set fills len (n + 1);
+      misses_long = length-set missed len (n + 1);
       probes_are = more;
       told = omega (arith, told, weight, more);
       one_more =
-          omega (arith, told, weight, more, sum-raised fills len n lt read, sum-distances probes behind fills,
-            sum-distances probes' behind (set fills len (n + 1)));
+          omega (arith, told, weight, more, sum-raised missed len n lt read, sum-distances probes behind missed,
+            sum-distances probes' behind (set missed len (n + 1)));
     }
 
 -- The state after a reference, part by part. The front of its distances is h before and h' after.
@@ -173,10 +173,10 @@ module _ (v : ProfileState) (x k h h' : ℕ) (bs : List ℕ) (of_set : k ≡ set
       let distances : h' ∷ bs ≡ cond (is_in x xs) (raise v.distances (place_of x xs)) v.distances =
       ap (λ n. n ∷ bs) more ∙ sym (ap (λ b. cond b (raise v.distances (place_of x xs)) v.distances) f.inside ∙ ap (raise v.distances) f.place_is
         ∙ ap (λ ds. raise ds 0) split) in
-      let fills : v.fills ≡ cond (is_in x xs) v.fills (raise v.fills (length xs)) =
-      sym (ap (λ b. cond b v.fills (raise v.fills (length xs))) f.inside) in
+      let missed : v.misses_by_occupancy ≡ cond (is_in x xs) v.misses_by_occupancy (raise v.misses_by_occupancy (length xs)) =
+      sym (ap (λ b. cond b v.misses_by_occupancy (raise v.misses_by_occupancy (length xs))) f.inside) in
       let probes : v.probes + 1 ≡ v.probes + min (place_of x xs + 1) (length xs) = omega (arith, f.place_is, f.some) in
-      cc (lists, distances, fills, probes)
+      cc (lists, distances, missed, probes)
 
   module _ (lists' : List (List ℕ)) (probes' n : ℕ) (same : h' ≡ h)
       (moved : lists' ≡ set v.lists k (take v.geometry.e (move_to_front x (list_of v k)))) where
@@ -192,30 +192,31 @@ module _ (v : ProfileState) (x k h h' : ℕ) (bs : List ℕ) (of_set : k ≡ set
         ap (λ m. m ∷ set bs place (n + 1)) same ∙ ap (λ m. h ∷ set bs place (m + 1)) read
         ∙ sym (ap (λ b. cond b (raise v.distances (place_of x xs)) v.distances) f.inside ∙ ap (raise v.distances) f.place_is
           ∙ ap (λ ds. raise ds (suc place)) split) in
-        let fills : v.fills ≡ cond (is_in x xs) v.fills (raise v.fills (length xs)) =
-        sym (ap (λ b. cond b v.fills (raise v.fills (length xs))) f.inside) in
+        let missed : v.misses_by_occupancy ≡ cond (is_in x xs) v.misses_by_occupancy (raise v.misses_by_occupancy (length xs)) =
+        sym (ap (λ b. cond b v.misses_by_occupancy (raise v.misses_by_occupancy (length xs))) f.inside) in
         let probes : probes' ≡ v.probes + min (place_of x xs + 1) (length xs) = omega (arith, more, f.place_is, f.within) in
-        cc (lists, distances, fills, probes)
+        cc (lists, distances, missed, probes)
 
-    pub nowhere_step : (len : ℕ) → FoundNowhere x len (list_of v k) → n ≡ get_or v.fills len 0 → probes' ≡ v.probes + len
-        → record v { lists = lists'; distances = h' ∷ bs; fills = set v.fills len (n + 1); probes = probes' } ≡ after_reference v x
+    pub nowhere_step : (len : ℕ) → FoundNowhere x len (list_of v k) → n ≡ get_or v.misses_by_occupancy len 0 → probes' ≡ v.probes + len
+        → record v { lists = lists'; distances = h' ∷ bs; misses_by_occupancy = set v.misses_by_occupancy len (n + 1); probes = probes' } ≡ after_reference v x
     nowhere_step len found read more =
         let f : FoundNowhere x len xs = subst (λ j. FoundNowhere x len (list_of v j)) of_set found in
         let lists = lists_after in
         let distances : h' ∷ bs ≡ cond (is_in x xs) (raise v.distances (place_of x xs)) v.distances =
         ap (λ m. m ∷ bs) same ∙ sym split ∙ sym (ap (λ b. cond b (raise v.distances (place_of x xs)) v.distances) f.outside) in
-        let fills : set v.fills len (n + 1) ≡ cond (is_in x xs) v.fills (raise v.fills (length xs)) =
-        ap (λ m. set v.fills len (m + 1)) read ∙ ap (raise v.fills) f.len_is ∙ sym (ap (λ b. cond b v.fills (raise v.fills (length xs))) f.outside) in
+        let missed : set v.misses_by_occupancy len (n + 1) ≡ cond (is_in x xs) v.misses_by_occupancy (raise v.misses_by_occupancy (length xs)) =
+        ap (λ m. set v.misses_by_occupancy len (m + 1)) read ∙ ap (raise v.misses_by_occupancy) f.len_is
+        ∙ sym (ap (λ b. cond b v.misses_by_occupancy (raise v.misses_by_occupancy (length xs))) f.outside) in
         let probes : probes' ≡ v.probes + min (place_of x xs + 1) (length xs) = omega (arith, more, f.place_is, f.len_is) in
-        cc (lists, distances, fills, probes)
+        cc (lists, distances, missed, probes)
 
 -- A new profile, whose numbers are all 0
 pub none_fed : (d : ℕ) → distances_of 0 (replicate d 0) (replicate (d + 1 + 1) 0) ≡ replicate (d + 1) 0
 none_fed d = ap (λ n. n ∷ replicate d 0) (omega arith) ∙ sym (ap (λ m. replicate m 0) (add-one d))
 
-pub new_sound : (g : GeometryValue) (lists : Lists) (behind fills : List ℕ) (d : ℕ) → lists.depth ≡ g.e → length lists.lists ≡ 2 ^ g.s → d + 1 ≡ g.e
-    → behind ≡ replicate d 0 → fills ≡ replicate (d + 1 + 1) 0 → IsSound g lists behind fills 0
-new_sound g lists behind fills d depth sets one_more near far =
+pub new_sound : (g : GeometryValue) (lists : Lists) (behind missed : List ℕ) (d : ℕ) → lists.depth ≡ g.e → length lists.lists ≡ 2 ^ g.s → d + 1 ≡ g.e
+    → behind ≡ replicate d 0 → missed ≡ replicate (d + 1 + 1) 0 → IsSound g lists behind missed 0
+new_sound g lists behind missed d depth sets one_more near far =
     let near_none = ap (weighed 2) near ∙ weighed-zeros 2 d in
     let far_none = ap (weighed 0) far ∙ weighed-zeros 0 (d + 1 + 1) in
     let near_sum = ap sum near ∙ sum-zeros d in
@@ -224,8 +225,8 @@ new_sound g lists behind fills d depth sets one_more near far =
       depth = depth;
       set_count = sets;
       behind_count = omega (arith, ap length near ∙ length-replicate d 0, one_more);
-      fill_count = omega (arith, ap length far ∙ length-replicate (d + 1 + 1) 0, one_more);
+      occupancy_count = omega (arith, ap length far ∙ length-replicate (d + 1 + 1) 0, one_more);
       told = omega (arith, near_none, far_none);
-      fed = omega (arith, sum-distances 0 behind fills, near_sum, far_sum);
+      fed = omega (arith, sum-distances 0 behind missed, near_sum, far_sum);
       compared = omega arith;
     }

@@ -77,12 +77,14 @@ referenced_in_stands es v r xs h e =
           ∙ ap (λ n. n + cond (is_in x xs && eqb (place_of x xs) d) 1 0) (h.distances d lt)
           ∙ ap (λ b. count_by (λ q. has_last q && eqb (distance g q) d) (places v.geometry es) + cond b 1 0) step
           ∙ sym (sum_by-reference (λ q. cond (has_last q && eqb (distance g q) d) 1 0) g es r);
-      fill_count = length-either (is_in x xs) v.fills (raise v.fills (length xs)) refl (length-raise v.fills (length xs)) ∙ h.fill_count;
-      fills = λ n le.
+      occupancy_count =
+          length-either (is_in x xs) v.misses_by_occupancy (raise v.misses_by_occupancy (length xs)) refl (length-raise v.misses_by_occupancy (length xs))
+          ∙ h.occupancy_count;
+      misses_by_occupancy = λ n le.
           let same : min v.geometry.e (seen g p) ≡ min (seen g p) v.geometry.e = omega arith in
           let step : (not (is_in x xs) && eqb (length xs) n) ≡ (not (is_hit g p) && eqb (min (seen g p) v.geometry.e) n) = cc (f.hit, f.len, same) in
-          raise_unless (is_in x xs) v.fills (length xs) n (λ _. omega (arith, f.len, h.fill_count))
-          ∙ ap (λ m. m + cond (not (is_in x xs) && eqb (length xs) n) 1 0) (h.fills n le)
+          raise_unless (is_in x xs) v.misses_by_occupancy (length xs) n (λ _. omega (arith, f.len, h.occupancy_count))
+          ∙ ap (λ m. m + cond (not (is_in x xs) && eqb (length xs) n) 1 0) (h.misses_by_occupancy n le)
           ∙ ap (λ b. count_by (λ q. not (is_hit g q) && eqb (min (seen g q) v.geometry.e) n) (places v.geometry es) + cond b 1 0) step
           ∙ sym (sum_by-reference (λ q. cond (not (is_hit g q) && eqb (min (seen g q) v.geometry.e) n) 1 0) g es r);
       comparisons =
@@ -115,8 +117,9 @@ flush_stands es v h =
             ∙ ap (distinct_of_set v.geometry k) (sym (window-push v.geometry es event.Flush)));
       distance_count = h.distance_count;
       distances = λ d lt. h.distances d lt ∙ ap (count_by (λ p. has_last p && eqb (distance v.geometry p) d)) same;
-      fill_count = h.fill_count;
-      fills = λ n le. h.fills n le ∙ ap (count_by (λ p. not (is_hit v.geometry p) && eqb (min (seen v.geometry p) v.geometry.e) n)) same;
+      occupancy_count = h.occupancy_count;
+      misses_by_occupancy = λ n le.
+          h.misses_by_occupancy n le ∙ ap (count_by (λ p. not (is_hit v.geometry p) && eqb (min (seen v.geometry p) v.geometry.e) n)) same;
       comparisons = h.comparisons ∙ ap (sum_by (λ p. cond (is_hit v.geometry p) (distance v.geometry p + 1) (min (seen v.geometry p) v.geometry.e))) same;
     }
 
@@ -131,7 +134,7 @@ new_stands g h =
           ∙ ap (λ ys. take g.e ys) (sym (distinct_of_set-nil g k) ∙ ap (distinct_of_set g k) (sym (window-nil g)));
       distance_count = length-replicate g.e 0;
       distances = λ d lt. get_or-replicate g.e d 0 0 lt;
-      fill_count = length-replicate (g.e + 1) 0;
-      fills = λ n le. get_or-replicate (g.e + 1) n 0 0 (omega arith);
+      occupancy_count = length-replicate (g.e + 1) 0;
+      misses_by_occupancy = λ n le. get_or-replicate (g.e + 1) n 0 0 (omega arith);
       comparisons = refl;
     }

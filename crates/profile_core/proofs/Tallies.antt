@@ -31,48 +31,49 @@ sum-later h bs from to some le =
     ap (λ k. sum (take k (drop (from - 1) bs))) same ∙ ap (λ k. sum (take (to - from) (drop k (h ∷ bs)))) one_more
 
 -- what a step of a tally adds up: the numbers of two histograms between two associativities
-pub record IsStep (v : ProfileState) (from to hits fills fed more_hits more_fills : ℕ) : Type 0 where
+pub record IsStep (v : ProfileState) (from to hits free fed more_hits more_free : ℕ) : Type 0 where
   pub rising : from ≤ to
   pub hits_are : hits ≡ sum (take from v.distances)
-  pub fills_are : fills ≡ sum (take from v.fills)
-  pub fed_is : fed ≡ sum v.distances + sum v.fills
+  pub free_are : free ≡ sum (take from v.misses_by_occupancy)
+  pub fed_is : fed ≡ sum v.distances + sum v.misses_by_occupancy
   pub more_hits_are : more_hits ≡ sum (take (to - from) (drop from v.distances))
-  pub more_fills_are : more_fills ≡ sum (take (to - from) (drop from v.fills))
+  pub more_free_are : more_free ≡ sum (take (to - from) (drop from v.misses_by_occupancy))
 
 -- a step of a tally that a profile began
-pub step_of : (v : ProfileState) (t : TallyState) (from to hits fills fed more_hits more_fills : ℕ)
-    → record { ways = from; hits = hits; fills = fills; fed = fed } ≡ t → t ≡ tally_at v t.ways → t.ways ≤ to
-    → more_hits ≡ sum (take (to - from) (drop from v.distances)) → more_fills ≡ sum (take (to - from) (drop from v.fills))
-    → IsStep v from to hits fills fed more_hits more_fills
-step_of v t from to hits fills fed more_hits more_fills view of_this le more_hits_are more_fills_are =
+pub step_of : (v : ProfileState) (t : TallyState) (from to hits free fed more_hits more_free : ℕ)
+    → record { ways = from; hits = hits; free_misses = free; fed = fed } ≡ t → t ≡ tally_at v t.ways → t.ways ≤ to
+    → more_hits ≡ sum (take (to - from) (drop from v.distances)) → more_free ≡ sum (take (to - from) (drop from v.misses_by_occupancy))
+    → IsStep v from to hits free fed more_hits more_free
+step_of v t from to hits free fed more_hits more_free view of_this le more_hits_are more_free_are =
     let same : from ≡ t.ways = ap (λ u. u.ways) view in
     record {
       rising = omega (arith, same, le);
       hits_are = ap (λ u. u.hits) view ∙ ap (λ u. u.hits) of_this ∙ ap (λ k. sum (take k v.distances)) (sym same);
-      fills_are = ap (λ u. u.fills) view ∙ ap (λ u. u.fills) of_this ∙ ap (λ k. sum (take k v.fills)) (sym same);
+      free_are = ap (λ u. u.free_misses) view ∙ ap (λ u. u.free_misses) of_this ∙ ap (λ k. sum (take k v.misses_by_occupancy)) (sym same);
       fed_is = ap (λ u. u.fed) view ∙ ap (λ u. u.fed) of_this;
       more_hits_are = more_hits_are;
-      more_fills_are = more_fills_are;
+      more_free_are = more_free_are;
     }
 
 -- a part of a histogram
 pub part-le : (xs ys : List ℕ) (n e : ℕ) → xs ≡ ys → sum (take n (drop e xs)) ≤ sum ys
 part-le xs ys n e same = omega (arith, sum_by-take-le (λ m. m) (drop e xs) n, sum_by-take-drop (λ m. m) xs e, ap sum same)
 
-module _ {v : ProfileState} {from to hits fills fed more_hits more_fills : ℕ} (s : IsStep v from to hits fills fed more_hits more_fills) where
+module _ {v : ProfileState} {from to hits free fed more_hits more_free : ℕ} (s : IsStep v from to hits free fed more_hits more_free) where
   pub hits_after : hits + more_hits ≡ sum (take to v.distances)
   hits_after = omega (arith, s.hits_are, s.more_hits_are, sum-more v.distances from to s.rising)
 
-  pub fills_after : fills + more_fills ≡ sum (take to v.fills)
-  fills_after = omega (arith, s.fills_are, s.more_fills_are, sum-more v.fills from to s.rising)
+  pub free_after : free + more_free ≡ sum (take to v.misses_by_occupancy)
+  free_after = omega (arith, s.free_are, s.more_free_are, sum-more v.misses_by_occupancy from to s.rising)
 
-  pub within : (hits + more_hits) + (fills + more_fills) ≤ fed
-  within = omega (arith, s.fed_is, hits_after, fills_after, sum-split v.distances to, sum-split v.fills to)
+  pub within : (hits + more_hits) + (free + more_free) ≤ fed
+  within = omega (arith, s.fed_is, hits_after, free_after, sum-split v.distances to, sum-split v.misses_by_occupancy to)
 
   pub counts_after : ◌≡◌ {A = Counts}
-      (record { hits = hits + more_hits; misses = fed - (hits + more_hits); evictions = fed - (hits + more_hits) - (fills + more_fills) }) (counts_at v to)
+      (record { hits = hits + more_hits; misses = fed - (hits + more_hits); evictions = fed - (hits + more_hits) - (free + more_free) }) (counts_at v to)
   counts_after =
-      let misses : fed - (hits + more_hits) ≡ sum (drop to v.distances) + sum v.fills = omega (arith, s.fed_is, hits_after, sum-split v.distances to) in
-      let evictions : fed - (hits + more_hits) - (fills + more_fills) ≡ sum (drop to v.distances) + sum (drop to v.fills) =
-      omega (arith, misses, fills_after, sum-split v.fills to) in
+      let misses : fed - (hits + more_hits) ≡ sum (drop to v.distances) + sum v.misses_by_occupancy =
+      omega (arith, s.fed_is, hits_after, sum-split v.distances to) in
+      let evictions : fed - (hits + more_hits) - (free + more_free) ≡ sum (drop to v.distances) + sum (drop to v.misses_by_occupancy) =
+      omega (arith, misses, free_after, sum-split v.misses_by_occupancy to) in
       cc (hits_after, misses, evictions)

@@ -22,6 +22,6 @@ pub record StandsFor (es : List Event) (v : ProfileState) : Type 0 where
       list_of v k ≡ take v.geometry.e (distinct_of_set v.geometry k (window v.geometry es))
   pub distance_count : length v.distances ≡ v.geometry.e
   pub distances : (d : ℕ) → d < v.geometry.e → slice_index v.distances d ≡ found_at v.geometry es d
-  pub fill_count : length v.fills ≡ v.geometry.e + 1
-  pub fills : (n : ℕ) → n ≤ v.geometry.e → slice_index v.fills n ≡ not_found_at v.geometry es n
+  pub occupancy_count : length v.misses_by_occupancy ≡ v.geometry.e + 1
+  pub misses_by_occupancy : (n : ℕ) → n ≤ v.geometry.e → slice_index v.misses_by_occupancy n ≡ not_found_at v.geometry es n
   pub comparisons : v.probes ≡ probes v.geometry es

@@ -14,7 +14,7 @@ pub record ProfileState : Type 0 where
   pub geometry : GeometryValue
   pub lists : List (List ℕ)
   pub distances : List ℕ
-  pub fills : List ℕ
+  pub misses_by_occupancy : List ℕ
   pub probes : ℕ
 
 -- a profile to which nothing was fed
@@ -23,7 +23,7 @@ empty g = record {
   geometry = g;
   lists = replicate (2 ^ g.s) [];
   distances = replicate g.e 0;
-  fills = replicate (g.e + 1) 0;
+  misses_by_occupancy = replicate (g.e + 1) 0;
   probes = 0;
 }
 
@@ -40,7 +40,7 @@ abbrev pub referenced_in : ProfileState → ℕ → List ℕ → ProfileState
 referenced_in v x xs = record v {
   lists = slice_set v.lists (set_of_block v.geometry x) (take v.geometry.e (move_to_front x xs));
   distances = if is_in x xs then raise v.distances (place_of x xs) else v.distances;
-  fills = if is_in x xs then v.fills else raise v.fills (length xs);
+  misses_by_occupancy = if is_in x xs then v.misses_by_occupancy else raise v.misses_by_occupancy (length xs);
   probes = v.probes + min (place_of x xs + 1) (length xs);
 }
 
@@ -59,7 +59,7 @@ after_event v event.Flush = after_flush v
 
 -- the references fed
 abbrev pub fed_of : ProfileState → ℕ
-fed_of v = sum v.distances + sum v.fills
+fed_of v = sum v.distances + sum v.misses_by_occupancy
 
 -- the blocks in all lists
 abbrev pub held_of : ProfileState → ℕ
@@ -70,20 +70,20 @@ held_of v = sum_by length v.lists
 abbrev pub counts_at : ProfileState → ℕ → Counts
 counts_at v e = record {
   hits = sum (take e v.distances);
-  misses = sum (drop e v.distances) + sum v.fills;
-  evictions = sum (drop e v.distances) + sum (drop e v.fills);
+  misses = sum (drop e v.distances) + sum v.misses_by_occupancy;
+  evictions = sum (drop e v.distances) + sum (drop e v.misses_by_occupancy);
 }
 
 -- what a tally holds: an associativity, the sums of both histograms up to it, and the references fed
 pub record TallyState : Type 0 where
   pub ways : ℕ
   pub hits : ℕ
-  pub fills : ℕ
+  pub free_misses : ℕ
   pub fed : ℕ
 
 -- the tally of a profile at an associativity
 abbrev pub tally_at : ProfileState → ℕ → TallyState
-tally_at v e = record { ways = e; hits = sum (take e v.distances); fills = sum (take e v.fills); fed = fed_of v }
+tally_at v e = record { ways = e; hits = sum (take e v.distances); free_misses = sum (take e v.misses_by_occupancy); fed = fed_of v }
 
 -- the sum of a histogram's numbers, each times its place, counted from n
 unfoldable pub weighed : ℕ → List ℕ → ℕ
@@ -93,18 +93,18 @@ weighed n (x ∷ xs) = x * n + weighed (n + 1) xs
 -- the comparisons of the references that were not found in front: d + 1 where a block was found at place d, whose
 -- numbers `behind` has from place 1 on, and n where it was not found in a list of n blocks
 abbrev pub compared_behind : List ℕ → List ℕ → ℕ
-compared_behind behind fills = weighed 2 behind + weighed 0 fills
+compared_behind behind missed = weighed 2 behind + weighed 0 missed
 
 -- the numbers for all places: a reference found in front made one comparison, so there were as many as are left
 abbrev pub distances_of : ℕ → List ℕ → List ℕ → List ℕ
-distances_of probes behind fills = (probes - compared_behind behind fills) ∷ behind
+distances_of probes behind missed = (probes - compared_behind behind missed) ∷ behind
 
 -- what is true of the fields of every profile
-pub record IsSound (g : GeometryValue) (lists : Lists) (behind fills : List ℕ) (probes : ℕ) : Type 0 where
+pub record IsSound (g : GeometryValue) (lists : Lists) (behind missed : List ℕ) (probes : ℕ) : Type 0 where
   pub depth : lists.depth ≡ g.e
   pub set_count : length lists.lists ≡ 2 ^ g.s
   pub behind_count : length behind + 1 ≡ g.e
-  pub fill_count : length fills ≡ g.e + 1
-  pub told : compared_behind behind fills ≤ probes
-  pub fed : sum (distances_of probes behind fills) + sum fills ≤ 2 ^ 41
-  pub compared : probes ≤ (sum (distances_of probes behind fills) + sum fills) * g.e
+  pub occupancy_count : length missed ≡ g.e + 1
+  pub told : compared_behind behind missed ≤ probes
+  pub fed : sum (distances_of probes behind missed) + sum missed ≤ 2 ^ 41
+  pub compared : probes ≤ (sum (distances_of probes behind missed) + sum missed) * g.e

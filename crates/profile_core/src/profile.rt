@@ -22,7 +22,7 @@ pub struct Profile {
     geometry: Geometry,
     lists: RecencyLists,
     behind: Vec<u64>,
-    fills: Vec<u64>,
+    misses_by_occupancy: Vec<u64>,
     probes: u64,
 }
 
@@ -34,12 +34,12 @@ impl Model for Profile {
     ghost view = { λ p. record {
       geometry = p.geometry;
       lists = p.lists.lists;
-      distances = distances_of p.probes p.behind.items p.fills.items;
-      fills = p.fills.items;
+      distances = distances_of p.probes p.behind.items p.misses_by_occupancy.items;
+      misses_by_occupancy = p.misses_by_occupancy.items;
       probes = p.probes;
     } };
 
-    ghost invariant = { λ p. IsSound p.geometry p.lists p.behind.items p.fills.items p.probes };
+    ghost invariant = { λ p. IsSound p.geometry p.lists p.behind.items p.misses_by_occupancy.items p.probes };
 }
 
 /// A walk over a profile's histograms towards larger associativities: of `fed` references so many hit at `ways` lines a
@@ -48,7 +48,7 @@ impl Model for Profile {
 pub struct Tally {
     ways: usize,
     hits: u64,
-    fills: u64,
+    free_misses: u64,
     fed: u64,
 }
 
@@ -57,9 +57,9 @@ impl Model for Tally {
 
     ghost Value = { TallyState };
 
-    ghost view = { λ t. record { ways = t.ways; hits = t.hits; fills = t.fills; fed = t.fed } };
+    ghost view = { λ t. record { ways = t.ways; hits = t.hits; free_misses = t.free_misses; fed = t.fed } };
 
-    ghost inverse = { λ t. record { ways = t.ways; hits = t.hits; fills = t.fills; fed = t.fed } };
+    ghost inverse = { λ t. record { ways = t.ways; hits = t.hits; free_misses = t.free_misses; fed = t.fed } };
 }
 
 impl Profile {
@@ -78,7 +78,7 @@ impl Profile {
             geometry,
             lists: RecencyLists::new(alloc, 1 << s, depth)?,
             behind: vec![in alloc; 0; depth - 1]?,
-            fills: vec![in alloc; 0; depth + 1]?,
+            misses_by_occupancy: vec![in alloc; 0; depth + 1]?,
             probes: 0,
         })
     }
@@ -115,7 +115,7 @@ impl Profile {
         }
         match self.lists.bring(set, block, &mut self.probes) {
             Touch::Behind(place) => self.behind[place] += 1,
-            Touch::New(held) => self.fills[held] += 1,
+            Touch::New(held) => self.misses_by_occupancy[held] += 1,
         }
     }
 
@@ -129,7 +129,7 @@ impl Profile {
         ensures one_more { fed_of self.new ≡ fed_of self.old + 1 }
     {
         self.lists.begin(set, block);
-        self.fills[0] += 1;
+        self.misses_by_occupancy[0] += 1;
     }
 
     /// Empties the lists, as a flush of the caches does. The numbers stay.
@@ -145,14 +145,14 @@ impl Profile {
         ensures trace { (es : List Event) → StandsFor es self.now
             → result ≡ length (places self.now.geometry es) }
     {
-        self.front_hits() + total(&self.behind) + total(&self.fills)
+        self.front_hits() + total(&self.behind) + total(&self.misses_by_occupancy)
     }
 
     /// How many references found their block in front.
     fn front_hits(&self) -> u64
         ensures { result ≡ slice_index self.now.distances 0 }
     {
-        self.probes - weighed(&self.behind, 2) - weighed(&self.fills, 0)
+        self.probes - weighed(&self.behind, 2) - weighed(&self.misses_by_occupancy, 0)
     }
 
     /// How many references found their block at a place from one associativity up to another.
@@ -209,7 +209,7 @@ impl Profile {
         Tally {
             ways: 0,
             hits: 0,
-            fills: 0,
+            free_misses: 0,
             fed: self.fed(),
         }
     }
@@ -230,15 +230,15 @@ impl Profile {
         let from = tally.ways;
         let to = e as usize;
         let hits = self.hits_between(from, to);
-        let fills = total(&self.fills[from..to]);
+        let free = total(&self.misses_by_occupancy[from..to]);
         tally.ways = to;
         tally.hits += hits;
-        tally.fills += fills;
+        tally.free_misses += free;
         let misses = tally.fed - tally.hits;
         Counts {
             hits: tally.hits,
             misses,
-            evictions: misses - tally.fills,
+            evictions: misses - tally.free_misses,
         }
     }
 }

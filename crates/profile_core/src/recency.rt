@@ -1,6 +1,7 @@
 //! A recency list for each set, the most recent block first: the front ones side by side, and the others in one slab.
 
-ghost use Rattle.std.specs.Prelude.{◌≡◌, ◌+◌, ◌*◌, ◌^◌, ◌<◌, ◌≤◌, [], ◌∷◌, false, nat_eq, min, length, take, sum, sum_by, replicate, IfOk, slice_set, slice_index_or};
+ghost use Rattle.std.specs.Prelude.{◌≡◌, ◌+◌, ◌*◌, ◌^◌, ◌<◌, ◌≤◌, [], ◌∷◌, false, nat_eq, min, length, take};
+ghost use Rattle.std.specs.Prelude.{sum, sum_by, replicate, IfOk, slice_set, slice_index_or};
 ghost use Rattle.std.specs.List.{remove};
 ghost use Rattle.cache_core.specs.Touched.{Covers, ListsFilled};
 ghost use Rattle.profile_core.specs.Moves.{place_of, is_front, move_to_front, touch_of, shifted_of};
@@ -194,16 +195,16 @@ fn shift_to(list: &mut [u64], first: u64, block: u64, probes: &mut u64) -> Shift
     ensures moved { list.new ≡ take (length list.old) (first ∷ remove list.old (place_of block list.old)) }
 {
     let mut carried = first;
-    let mut compared: usize = 1;
+    let mut compared: usize = 0;
     for entry in list.iter_mut() {
         let other = mem::replace(entry, carried);
         compared += 1;
         if other == block {
-            *probes += compared as u64;
-            return Shifted::Found(compared - 2);
+            *probes += 1 + compared as u64;
+            return Shifted::Found(compared - 1);
         }
         carried = other;
     }
-    *probes += compared as u64;
+    *probes += 1 + compared as u64;
     Shifted::Out(carried)
 }

@@ -7,7 +7,8 @@ use Rattle.profile_core.proofs.profile.Profile.feed.Goals as goal
 
 pub invariant_of-self : goal.invariant_of-self
 invariant_of-self c =
-    sound_after c.self.invariant (fed_front c.self.inside.behind.items c.self.inside.fills.items c.self.inside.probes c.self.invariant.told) refl refl
+    sound_after c.self.invariant
+    (fed_front c.self.inside.behind.items c.self.inside.misses_by_occupancy.items c.self.inside.probes c.self.invariant.told) refl refl
     (omega (arith, c.requires, ap fed_of c.self.view_is)) (omega (arith, c.is_front.ensures.short, c.self.invariant.depth))
 
 pub returns-then-is_front-clause-step : goal.returns-then-is_front-clause-step
@@ -15,13 +16,13 @@ returns-then-is_front-clause-step c =
     let before : ProfileState = record {
       geometry = c.self.inside.geometry;
       lists = c.self.inside.lists.lists;
-      distances = distances_of c.self.inside.probes c.self.inside.behind.items c.self.inside.fills.items;
-      fills = c.self.inside.fills.items;
+      distances = distances_of c.self.inside.probes c.self.inside.behind.items c.self.inside.misses_by_occupancy.items;
+      misses_by_occupancy = c.self.inside.misses_by_occupancy.items;
       probes = c.self.inside.probes;
     } in
     let told = c.self.invariant.told in
-    let more : c.self.inside.probes + 1 - compared_behind c.self.inside.behind.items c.self.inside.fills.items
-        ≡ c.self.inside.probes - compared_behind c.self.inside.behind.items c.self.inside.fills.items + 1 = omega (arith, told) in
+    let more : c.self.inside.probes + 1 - compared_behind c.self.inside.behind.items c.self.inside.misses_by_occupancy.items
+        ≡ c.self.inside.probes - compared_behind c.self.inside.behind.items c.self.inside.misses_by_occupancy.items + 1 = omega (arith, told) in
     let block : c.block_of-block.result ≡ block_of c.args.self.now.geometry c.args.addr =
     c.block_of-block.ensures.value ∙ ap (λ v. block_of v.geometry c.args.addr) c.self.view_is in
     front_step before c.block_of-block.result c.set_of_block-set.result _ _ c.self.inside.behind.items c.set_of_block-set.ensures.value refl
@@ -30,5 +31,5 @@ returns-then-is_front-clause-step c =
 
 pub returns-then-is_front-clause-one_more : goal.returns-then-is_front-clause-one_more
 returns-then-is_front-clause-one_more c =
-    omega (arith, (fed_front c.self.inside.behind.items c.self.inside.fills.items c.self.inside.probes c.self.invariant.told).one_more,
+    omega (arith, (fed_front c.self.inside.behind.items c.self.inside.misses_by_occupancy.items c.self.inside.probes c.self.invariant.told).one_more,
       ap fed_of c.self.view_is)

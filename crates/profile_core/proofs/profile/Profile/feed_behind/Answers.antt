@@ -21,25 +21,27 @@ found c place is =
 place_fits : (c : After-bring) (place : ℕ) → Behind place ≡ touch_of c.args.block (list c) → place < length c.self.inside.behind.items
 place_fits c place is = omega (arith, (found c place is).within, c.bring.ensures.short, c.self.invariant.depth, c.self.invariant.behind_count)
 
-len_fits : (c : After-bring) (len : ℕ) → New len ≡ touch_of c.args.block (list c) → len < length c.self.inside.fills.items
+len_fits : (c : After-bring) (len : ℕ) → New len ≡ touch_of c.args.block (list c) → len < length c.self.inside.misses_by_occupancy.items
 len_fits c len is =
-    omega (arith, (found_nowhere c.args.block len (list c) is).len_is, c.bring.ensures.short, c.self.invariant.depth, c.self.invariant.fill_count)
+    omega (arith, (found_nowhere c.args.block len (list c) is).len_is, c.bring.ensures.short, c.self.invariant.depth, c.self.invariant.occupancy_count)
 
 -- the numbers after a reference found behind the front, and after one not found
 numbers_behind : (c : After-bring) (place n : ℕ) → Behind place ≡ touch_of c.args.block (list c) → n ≡ get_or c.self.inside.behind.items place n
-    → IsFed c.self.inside.behind.items c.self.inside.fills.items (set c.self.inside.behind.items place (n + 1)) c.self.inside.fills.items
+    → IsFed c.self.inside.behind.items c.self.inside.misses_by_occupancy.items
+    (set c.self.inside.behind.items place (n + 1)) c.self.inside.misses_by_occupancy.items
       c.self.inside.probes c.bring.new.probes (place + 2)
 numbers_behind c place n is read =
     let f = found c place is in
-    fed_behind c.self.inside.behind.items c.self.inside.fills.items c.self.inside.probes c.bring.new.probes place n c.self.invariant.told
+    fed_behind c.self.inside.behind.items c.self.inside.misses_by_occupancy.items c.self.inside.probes c.bring.new.probes place n c.self.invariant.told
     (place_fits c place is) read (omega (arith, c.bring.ensures.counted, f.place_is, f.within))
 
-numbers_new : (c : After-bring) (len n : ℕ) → New len ≡ touch_of c.args.block (list c) → n ≡ get_or c.self.inside.fills.items len n
-    → IsFed c.self.inside.behind.items c.self.inside.fills.items c.self.inside.behind.items (set c.self.inside.fills.items len (n + 1))
+numbers_new : (c : After-bring) (len n : ℕ) → New len ≡ touch_of c.args.block (list c) → n ≡ get_or c.self.inside.misses_by_occupancy.items len n
+    → IsFed c.self.inside.behind.items c.self.inside.misses_by_occupancy.items c.self.inside.behind.items
+    (set c.self.inside.misses_by_occupancy.items len (n + 1))
       c.self.inside.probes c.bring.new.probes len
 numbers_new c len n is read =
     let f = found_nowhere c.args.block len (list c) is in
-    fed_nowhere c.self.inside.behind.items c.self.inside.fills.items c.self.inside.probes c.bring.new.probes len n c.self.invariant.told
+    fed_nowhere c.self.inside.behind.items c.self.inside.misses_by_occupancy.items c.self.inside.probes c.bring.new.probes len n c.self.invariant.told
     (len_fits c len is) read (omega (arith, c.bring.ensures.counted, f.place_is, f.len_is))
 
 -- the profile before the reference, and the front of its distances before and after
@@ -47,15 +49,18 @@ abbrev before : After-bring → ProfileState
 before c = record {
   geometry = c.self.inside.geometry;
   lists = c.self.inside.lists.lists;
-  distances = distances_of c.self.inside.probes c.self.inside.behind.items c.self.inside.fills.items;
-  fills = c.self.inside.fills.items;
+  distances = distances_of c.self.inside.probes c.self.inside.behind.items c.self.inside.misses_by_occupancy.items;
+  misses_by_occupancy = c.self.inside.misses_by_occupancy.items;
   probes = c.self.inside.probes;
 }
 
 abbrev in_front : ℕ → List ℕ → List ℕ → ℕ
-in_front probes behind fills = probes - compared_behind behind fills
+in_front probes behind missed = probes - compared_behind behind missed
 
-few : (c : After-bring) → sum (distances_of c.self.inside.probes c.self.inside.behind.items c.self.inside.fills.items) + sum c.self.inside.fills.items < 2 ^ 41
+few : (c : After-bring)
+    → sum
+    (distances_of c.self.inside.probes c.self.inside.behind.items c.self.inside.misses_by_occupancy.items) + sum c.self.inside.misses_by_occupancy.items < 2 ^
+    41
 few c = omega (arith, c.requires.few, ap fed_of c.self.view_is)
 
 of_set : (c : After-bring) → c.args.set ≡ set_of_block c.self.inside.geometry c.args.block
@@ -68,53 +73,54 @@ moved c =
     ∙ ap (λ d. set c.self.inside.lists.lists c.args.set (take d (move_to_front c.args.block (list c)))) c.self.invariant.depth
 
 -- what a reference leaves sound, by the comparisons that it made
-sound : (c : After-bring) (behind' fills' : List ℕ) (m : ℕ)
-    → IsFed c.self.inside.behind.items c.self.inside.fills.items behind' fills' c.self.inside.probes c.bring.new.probes m → m ≤ c.self.inside.geometry.e
-    → IsSound c.self.inside.geometry c.bring.new.self behind' fills' c.bring.new.probes
-sound c behind' fills' m fed le =
+sound : (c : After-bring) (behind' missed' : List ℕ) (m : ℕ)
+    → IsFed c.self.inside.behind.items c.self.inside.misses_by_occupancy.items behind' missed' c.self.inside.probes c.bring.new.probes m
+    → m ≤ c.self.inside.geometry.e
+    → IsSound c.self.inside.geometry c.bring.new.self behind' missed' c.bring.new.probes
+sound c behind' missed' m fed le =
     sound_after c.self.invariant fed (ap (λ l. l.depth) c.bring.ensures.moved)
     (ap (λ l. length l.lists) c.bring.ensures.moved ∙ length-set c.self.inside.lists.lists c.args.set _) (few c) le
 
 -- one more reference is fed
-one_more : (c : After-bring) (behind' fills' : List ℕ) (m : ℕ)
-    → IsFed c.self.inside.behind.items c.self.inside.fills.items behind' fills' c.self.inside.probes c.bring.new.probes m
-    → sum (distances_of c.bring.new.probes behind' fills') + sum fills' ≡ fed_of c.args.self.now + 1
-one_more c behind' fills' m fed = omega (arith, fed.one_more, ap fed_of c.self.view_is)
+one_more : (c : After-bring) (behind' missed' : List ℕ) (m : ℕ)
+    → IsFed c.self.inside.behind.items c.self.inside.misses_by_occupancy.items behind' missed' c.self.inside.probes c.bring.new.probes m
+    → sum (distances_of c.bring.new.probes behind' missed') + sum missed' ≡ fed_of c.args.self.now + 1
+one_more c behind' missed' m fed = omega (arith, fed.one_more, ap fed_of c.self.view_is)
 
 step_behind : (c : After-bring) (place n : ℕ) → Behind place ≡ touch_of c.args.block (list c) → n ≡ get_or c.self.inside.behind.items place n
     → record (before c) {
       lists = c.bring.new.self.lists;
-      distances = distances_of c.bring.new.probes (set c.self.inside.behind.items place (n + 1)) c.self.inside.fills.items;
+      distances = distances_of c.bring.new.probes (set c.self.inside.behind.items place (n + 1)) c.self.inside.misses_by_occupancy.items;
       probes = c.bring.new.probes;
     } ≡ after_reference (before c) c.args.block
 step_behind c place n is read =
     let behind = c.self.inside.behind.items in
-    let fills = c.self.inside.fills.items in
+    let missed = c.self.inside.misses_by_occupancy.items in
     let numbers = numbers_behind c place n is read in
     let fits = place_fits c place is in
-    let same : in_front c.bring.new.probes (set behind place (n + 1)) fills ≡ in_front c.self.inside.probes behind fills =
-    omega (arith, numbers.one_more, sum-raised behind place n fits read, sum-distances c.self.inside.probes behind fills,
-      sum-distances c.bring.new.probes (set behind place (n + 1)) fills) in
+    let same : in_front c.bring.new.probes (set behind place (n + 1)) missed ≡ in_front c.self.inside.probes behind missed =
+    omega (arith, numbers.one_more, sum-raised behind place n fits read, sum-distances c.self.inside.probes behind missed,
+      sum-distances c.bring.new.probes (set behind place (n + 1)) missed) in
     behind_step (before c) c.args.block c.args.set _ _ behind (of_set c) refl c.bring.new.self.lists c.bring.new.probes n same (moved c) place
     (found c place is) (get_or_read behind place n fits read 0) numbers.probes_are
 
-step_new : (c : After-bring) (len n : ℕ) → New len ≡ touch_of c.args.block (list c) → n ≡ get_or c.self.inside.fills.items len n
+step_new : (c : After-bring) (len n : ℕ) → New len ≡ touch_of c.args.block (list c) → n ≡ get_or c.self.inside.misses_by_occupancy.items len n
     → record (before c) {
       lists = c.bring.new.self.lists;
-      distances = distances_of c.bring.new.probes c.self.inside.behind.items (set c.self.inside.fills.items len (n + 1));
-      fills = set c.self.inside.fills.items len (n + 1);
+      distances = distances_of c.bring.new.probes c.self.inside.behind.items (set c.self.inside.misses_by_occupancy.items len (n + 1));
+      misses_by_occupancy = set c.self.inside.misses_by_occupancy.items len (n + 1);
       probes = c.bring.new.probes;
     } ≡ after_reference (before c) c.args.block
 step_new c len n is read =
     let behind = c.self.inside.behind.items in
-    let fills = c.self.inside.fills.items in
+    let missed = c.self.inside.misses_by_occupancy.items in
     let numbers = numbers_new c len n is read in
     let fits = len_fits c len is in
-    let same : in_front c.bring.new.probes behind (set fills len (n + 1)) ≡ in_front c.self.inside.probes behind fills =
-    omega (arith, numbers.one_more, sum-raised fills len n fits read, sum-distances c.self.inside.probes behind fills,
-      sum-distances c.bring.new.probes behind (set fills len (n + 1))) in
+    let same : in_front c.bring.new.probes behind (set missed len (n + 1)) ≡ in_front c.self.inside.probes behind missed =
+    omega (arith, numbers.one_more, sum-raised missed len n fits read, sum-distances c.self.inside.probes behind missed,
+      sum-distances c.bring.new.probes behind (set missed len (n + 1))) in
     nowhere_step (before c) c.args.block c.args.set _ _ behind (of_set c) refl c.bring.new.self.lists c.bring.new.probes n same (moved c) len
-    (found_nowhere c.args.block len (list c) is) (get_or_read fills len n fits read 0) numbers.probes_are
+    (found_nowhere c.args.block len (list c) is) (get_or_read missed len n fits read 0) numbers.probes_are
 
 pub bring-requires-clause-some : goal.bring-requires-clause-some
 bring-requires-clause-some c = not_empty (get_or c.self.inside.lists.lists c.args.set []) c.is_empty.result c.is_empty.ensures c.if-is_empty.false
@@ -134,13 +140,13 @@ overflow_add-index_mut c =
     let at = (goal.at.overflow_add-index_mut c).After-bring in
     let fits = place_fits at c.in-Behind.place c.in-Behind.ensures.found in
     omega (arith, raised_fits c.self.inside.behind.items c.in-Behind.place c.index_mut.result.now fits c.index_mut.ensures.value, few at,
-      sum-distances c.self.inside.probes c.self.inside.behind.items c.self.inside.fills.items)
+      sum-distances c.self.inside.probes c.self.inside.behind.items c.self.inside.misses_by_occupancy.items)
 
 pub overflow_add-index_mut-in-New : goal.overflow_add-index_mut-in-New
 overflow_add-index_mut-in-New c =
     let at = (goal.at.overflow_add-index_mut-in-New c).After-bring in
     let fits = len_fits at c.in-New.held c.in-New.ensures.found in
-    omega (arith, raised_fits c.self.inside.fills.items c.in-New.held c.index_mut-in-New.result.now fits c.index_mut-in-New.ensures.value, few at)
+    omega (arith, raised_fits c.self.inside.misses_by_occupancy.items c.in-New.held c.index_mut-in-New.result.now fits c.index_mut-in-New.ensures.value, few at)
 
 pub invariant_of-self : goal.invariant_of-self
 invariant_of-self c =

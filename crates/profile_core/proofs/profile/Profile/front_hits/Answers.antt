@@ -8,5 +8,5 @@ pub returns : goal.returns
 returns c =
     let left = ap (λ v. slice_index v.distances 0) c.self.view_is in
     let behind = c.weighed.ensures ∙ ap (weighed 2) c.deref.ensures.value in
-    let fills = c.weighed-2.ensures ∙ ap (weighed 0) c.deref-2.ensures.value in
-    omega (arith, behind, fills) ∙ left
+    let missed = c.weighed-2.ensures ∙ ap (weighed 0) c.deref-2.ensures.value in
+    omega (arith, behind, missed) ∙ left

@@ -7,19 +7,19 @@ use Rattle.profile_core.proofs.Tallies.{part-le, sum-first, sum-later}
 use Rattle.profile_core.proofs.profile.Profile.hits_between.Goals as goal
 use Rattle.profile_core.proofs.profile.Profile.hits_between.Goals.{After-self}
 
-distances : (c : After-self) → distances_of c.self.inside.probes c.self.inside.behind.items c.self.inside.fills.items ≡ c.args.self.now.distances
+distances : (c : After-self) → distances_of c.self.inside.probes c.self.inside.behind.items c.self.inside.misses_by_occupancy.items ≡ c.args.self.now.distances
 distances c = ap (λ v. v.distances) c.self.view_is
 
 pub total-requires-else-from-eq0 : goal.total-requires-else-from-eq0
 total-requires-else-from-eq0 c =
     omega (arith, part-le c.deref-else-from-eq0.result.now c.self.inside.behind.items (c.args.to - 1 - (c.args.from - 1)) (c.args.from - 1)
       c.deref-else-from-eq0.ensures.value, c.self.invariant.fed,
-      sum-distances c.self.inside.probes c.self.inside.behind.items c.self.inside.fills.items)
+      sum-distances c.self.inside.probes c.self.inside.behind.items c.self.inside.misses_by_occupancy.items)
 
 pub returns-then-from-eq0 : goal.returns-then-from-eq0
 returns-then-from-eq0 c =
     let is = distances (goal.at.returns-then-from-eq0 c).After-self in
-    let front : ℕ = c.self.inside.probes - compared_behind c.self.inside.behind.items c.self.inside.fills.items in
+    let front : ℕ = c.self.inside.probes - compared_behind c.self.inside.behind.items c.self.inside.misses_by_occupancy.items in
     let hits : c.front_hits.result ≡ front = c.front_hits.ensures ∙ ap (λ ds. slice_index ds 0) (sym is) in
     let behind = c.total.ensures ∙ ap (λ ns. sum (take (c.args.to - 1) ns)) c.deref.ensures.value in
     let all : c.args.to - c.args.from ≡ c.args.to = omega (arith, c.if-from-eq0.true) in
