@@ -1,12 +1,11 @@
 -- One access under any lawful policy, as the cache sees it and as the machine sees it.
 use Rattle.std.proofs.Common.{◌≡◌, ◌≢◌, ℕ, ◌+◌, ◌<◌, ◌≤◌, ◌^◌, ◌==◌, ◌&&◌, Bool, true, false, not, cond, eqb, ltb}
 use Rattle.std.proofs.Common.{replicate}
-use Rattle.std.proofs.Common.{List, [], ◌∷◌, ◌++◌, length, get_or, Option, Some, None, sym, ◌∙◌, ap, refl, subst, arith, ⊎_elim, map}
+use Rattle.std.proofs.Common.{List, [], ◌∷◌, ◌++◌, length, get_or, Option, Some, None, sym, ◌∙◌, ap, refl, subst, arith, map}
 use Rattle.std.proofs.Common.{find}
 use Rattle.std.specs.Prelude.{MatchBool, sum_by, is_none, IsPermutation, Contains}
 use Rattle.std.specs.List.{list_any}
 use Rattle.std.proofs.lemmas.Bool.{eqb-true, or_parts, le-ltb, lt-ltb}
-use Rattle.std.proofs.lemmas.Bool.Decides.{eqb_tells}
 use Rattle.std.proofs.lemmas.List.{length-map, length-replicate}
 use Rattle.std.proofs.lemmas.List.Elements.{Contains-append_right}
 use Rattle.std.proofs.lemmas.List.Quantifiers.{position-Some}
@@ -24,15 +23,15 @@ use Rattle.cache_core.specs.Order.{Contents, dirty_in, VisitsAt, Fills, PassesOn
 use Rattle.cache_core.specs.Stands.{Absent, Distinct}
 use Rattle.cache_core.specs.AnyPolicy.{HoldsSame, MayLeave, AnyStartLaw, AnyAccessLaw, AnyFlushLaw}
 use Rattle.cache_core.proofs.Lawful.{marked_length, lawful_touch, lawful_place}
-use Rattle.cache_core.proofs.Lines.{in_place, found, not_found, find_in_set, absent_append, distinct_front, distinct_back}
+use Rattle.cache_core.proofs.Lines.{InPlace, in_place, Found, found, not_found, find_in_set, absent_append, distinct_front, distinct_back}
 use Rattle.cache_core.proofs.SetLaw.{with_mark}
 use Rattle.cache_core.proofs.StateLaw.{touch_here, touch_other, insert_here, insert_other, exchange_here, exchange_other, member_set}
-use Rattle.cache_core.proofs.Visits.{set_for, visit_for, others_for}
+use Rattle.cache_core.proofs.Visits.{at_each, set_for, visit_for, others_for}
 use Rattle.cache_core.proofs.FlushLaw.{none_anywhere, dirty_all}
 use Rattle.cache_core.proofs.LruSet.{blocks_of, place_none}
 use Rattle.cache_core.proofs.DownLaw.{any_clean, any_few}
 use Rattle.cache_core.proofs.Lists.{is}
-use Rattle.cache_core.proofs.SlotSums.{agree, same, same_is, one_for, one_self, by_sums, line_sum, sum_split, absent_sum, line_for, touch_sum}
+use Rattle.cache_core.proofs.SlotSums.{LineAt, agree, same, same_is, one_for, one_self, by_sums, line_sum, sum_split, absent_sum, line_for, touch_sum}
 use Rattle.cache_core.proofs.SlotSums.{touch_distinct, insert_sum, insert_distinct, exchange_sum, exchange_distinct}
 
 -- what a step has to do: the set of the block agrees again, the others stay
@@ -147,48 +146,67 @@ module _ (m : Machine) (st : MachineState) (ref : Ref) (rule : Option Repl) (wor
   abbrev slot : Slot
   slot = record { block = b; dirty = dirties m.design.write ref.access }
 
+  -- a hit
   hit_agrees : (line : Line) (at : ℕ) → find (is_block b) here ≡ Some line → position_of b slots ≡ Some at →
       Hits m.design rule words ref at slots outcome new rest →
       Agrees m st k false (λ gone. step_at m ref b gone st (Some line)) (λ gone. answer_at m ref b gone (Some line)) new outcome
-  hit_agrees line at e q hits =
-      let r = found b here line e in
-      let mark = dirties m.design.write ref.access in
-      let y = with_mark mark line in
-      let within = (position-Some (λ (s : Slot). s.block == b) slots at empty_slot q).0 in
-      let moved = lawful_touch rule (marked mark slots at) at new (omega (arith, within, marked_length mark slots at)) hits.order in
-      let in_set : set_of_block g line.block ≡ k = ap (set_of_block g) r.here in
-      let lines = touch_here m.policy clock g k y st.lines in_set ∙ ap (touch m.policy clock y) r.split in
-      let dr : Distinct (r.front ++ line ∷ r.back) = subst Distinct r.split d in
-      let i = in_place r.front line y r.back refl dr in
-      let sums : (f : Slot → ℕ) → sum_by f new ≡ line_sum f (touch m.policy clock y (r.front ++ line ∷ r.back)) = λ f.
-      omega (
-        arith,
-        sum_by-IsPermutation f (marked mark slots at) new moved,
-        marked_sum mark slots at line f within (slot_at_place b here line slots at d perm e q),
-        sums_around slots here r.front line r.back perm r.split f,
-        touch_sum m.policy clock y r.front line r.back f i,
-      ) in
-      record {
-        gone = None;
-        may = refl;
-        told = hits.answers;
-        held = rw lines (by_sums new (map slot_of (touch m.policy clock y (r.front ++ line ∷ r.back))) sums);
-        distinct = rw lines (touch_distinct m.policy clock y r.front line r.back i);
-        others = λ j ne. touch_other m.policy clock g j y st.lines (λ q. ne (q ∙ in_set));
-      }
+  hit_agrees line at e q hits = record {
+    gone = None;
+    may = refl;
+    told = hits.answers;
+    held = rw lines (by_sums new (map slot_of after) sums);
+    distinct = rw lines (touch_distinct m.policy clock y r.front line r.back i);
+    others = λ j ne. touch_other m.policy clock g j y st.lines (λ p. ne (p ∙ in_set));
+  }
+    where
+      r : Found b here line
+      r = found b here line e
 
-  -- a miss that places its block
-  fill_agrees : (word : ℕ) (evicted : Option Slot) → Absent b here → TakesIn None word g.e slots slot evicted new →
-      outcome ≡ outcome_of (on_placing g m.design.write ref b evicted) →
+      mark : Bool
+      mark = dirties m.design.write ref.access
+
+      -- the line after it
+      y : Line
+      y = with_mark mark line
+
+      i : InPlace r.front line y r.back
+      i = in_place r.front line y r.back refl (subst Distinct r.split d)
+
+      in_set : set_of_block g line.block ≡ k
+      in_set = ap (set_of_block g) r.here
+
+      after : List Line
+      after = touch m.policy clock y (r.front ++ line ∷ r.back)
+
+      lines : lines_of_set g k (touch m.policy clock y st.lines) ≡ after
+      lines = touch_here m.policy clock g k y st.lines in_set ∙ ap (touch m.policy clock y) r.split
+
+      within : at < length slots
+      within = (position-Some (λ (s : Slot). s.block == b) slots at empty_slot q).0
+
+      sums : (f : Slot → ℕ) → sum_by f new ≡ line_sum f after
+      sums f =
+          omega (
+            arith,
+            sum_by-IsPermutation f (marked mark slots at) new
+                (lawful_touch rule (marked mark slots at) at new (omega (arith, within, marked_length mark slots at)) hits.order),
+            marked_sum mark slots at line f within (slot_at_place b here line slots at d perm e q),
+            sums_around slots here r.front line r.back perm r.split f,
+            touch_sum m.policy clock y r.front line r.back f i,
+          )
+
+  -- a miss that places its block in a set with room
+  insert_agrees : Absent b here → length slots < g.e → IsPermutation (slot ∷ slots) new →
+      outcome ≡ outcome_of (on_placing g m.design.write ref b None) →
       Agrees m st k (is_full m st k) (λ gone. placing m ref b gone st) (λ gone. on_placing g m.design.write ref b (option_slot gone)) new outcome
-  fill_agrees word None a t o =
+  insert_agrees a free t o =
       let long : length here ≡ length slots = sym (length-map here slot_of) ∙ length_permutation slots (map slot_of here) perm in
-      let room : ltb (length here) g.e ≡ true = lt-ltb (length here) g.e (omega (arith, t.0, long)) in
+      let room : ltb (length here) g.e ≡ true = lt-ltb (length here) g.e (omega (arith, free, long)) in
       let lines = insert_here m.policy clock (length here) g k slot st.lines refl in
       let sums : (f : Slot → ℕ) → sum_by f new ≡ line_sum f (with_block m.policy clock (length here) slot None here) = λ f.
       omega (
         arith,
-        sum_by-IsPermutation f (slot ∷ slots) new t.1,
+        sum_by-IsPermutation f (slot ∷ slots) new t,
         sum_by-cons f slot slots,
         sum_by-IsPermutation f slots (map slot_of here) perm,
         insert_sum m.policy clock (length here) slot here f,
@@ -201,44 +219,71 @@ module _ (m : Machine) (st : MachineState) (ref : Ref) (rule : Option Repl) (wor
         distinct = rw lines (insert_distinct m.policy clock (length here) slot here a d);
         others = λ j ne. insert_other m.policy clock (length here) g j slot st.lines ne;
       }
+
+  -- in a full set, where this line leaves
+  leaving_agrees : (x : Slot) (rest : List Slot) (r : LineAt x here) → Absent b here → length slots ≡ g.e → IsPermutation slots (x ∷ rest) →
+      IsPermutation (slot ∷ rest) new → outcome ≡ outcome_of (on_placing g m.design.write ref b (Some x)) →
+      Agrees m st k (is_full m st k) (λ gone. placing m ref b gone st) (λ gone. on_placing g m.design.write ref b (option_slot gone)) new outcome
+  leaving_agrees x rest r a whole left t o = record {
+    gone = Some r.line;
+    may = (ap not full, subst (λ ls. Contains ls r.line) (sym r.split) (Contains-append_right r.front (r.line ∷ r.back) r.line (0, (omega arith), refl)));
+    told = o ∙ ap (λ v. outcome_of (on_placing g m.design.write ref b (Some v))) (sym r.slot);
+    held = rw lines (by_sums new (map slot_of after) sums);
+    distinct = rw lines (exchange_distinct m.policy clock (length here) slot r.front r.line r.back front back (subst (Absent b) r.split a) dr);
+    others = λ j ne. exchange_other m.policy clock (length here) g j slot r.line st.lines in_set ne;
+  }
+    where
+      full : ltb (length here) g.e ≡ false
+      full =
+          le-ltb (length here) g.e (omega (arith, whole, sym (length-map here slot_of) ∙ length_permutation slots (map slot_of here) perm))
+
+      dr : Distinct (r.front ++ r.line ∷ r.back)
+      dr = subst Distinct r.split d
+
+      front : Absent r.line.block r.front
+      front = distinct_front r.front r.line r.back dr
+
+      back : Absent r.line.block r.back
+      back = distinct_back r.front r.line r.back dr
+
+      in_set : set_of_block g r.line.block ≡ k
+      in_set = member_set g k r.line st.lines (record { front = r.front; back = r.back; split = r.split; here = refl })
+
+      after : List Line
+      after = with_block m.policy clock (length here) slot (Some r.line) (r.front ++ r.line ∷ r.back)
+
+      lines : lines_of_set g k (with_block m.policy clock (length here) slot (Some r.line) st.lines) ≡ after
+      lines =
+          exchange_here m.policy clock (length here) g k slot r.line st.lines refl in_set
+          ∙ ap (with_block m.policy clock (length here) slot (Some r.line)) r.split
+
+      sums : (f : Slot → ℕ) → sum_by f new ≡ line_sum f after
+      sums f =
+          omega (
+            arith,
+            sum_by-IsPermutation f (slot ∷ rest) new t,
+            sum_by-cons f slot rest,
+            sum_by-IsPermutation f slots (x ∷ rest) left,
+            sum_by-cons f x rest,
+            sums_around slots here r.front r.line r.back perm r.split f,
+            ap f r.slot,
+            exchange_sum m.policy clock (length here) slot r.front r.line r.back f front back,
+          )
+
+  fill_agrees : (word : ℕ) (evicted : Option Slot) → Absent b here → TakesIn None word g.e slots slot evicted new →
+      outcome ≡ outcome_of (on_placing g m.design.write ref b evicted) →
+      Agrees m st k (is_full m st k) (λ gone. placing m ref b gone st) (λ gone. on_placing g m.design.write ref b (option_slot gone)) new outcome
+  fill_agrees word None a t o = insert_agrees a t.0 t.1 o
   fill_agrees word (Some x) a t o =
-      let long : length here ≡ length slots = sym (length-map here slot_of) ∙ length_permutation slots (map slot_of here) perm in
-      let full : ltb (length here) g.e ≡ false = le-ltb (length here) g.e (omega (arith, t.0, long)) in
-      let rest : List Slot = t.1.0 in
-      let left : (f : Slot → ℕ) → f x + sum_by f rest ≡ line_sum f here =
-      λ f. omega (arith, sum_by-IsPermutation f slots (x ∷ rest) t.1.1, sum_by-cons f x rest, sum_by-IsPermutation f slots (map slot_of here) perm) in
-      let r = line_for x here (omega (arith, left (one_for x), one_self x)) in
-      let dr : Distinct (r.front ++ r.line ∷ r.back) = subst Distinct r.split d in
-      let front = distinct_front r.front r.line r.back dr in
-      let back = distinct_back r.front r.line r.back dr in
-      let in_set : set_of_block g r.line.block ≡ k =
-      member_set g k r.line st.lines (record { front = r.front; back = r.back; split = r.split; here = refl }) in
-      let lines =
-      exchange_here m.policy clock (length here) g k slot r.line st.lines refl in_set
-      ∙ ap (with_block m.policy clock (length here) slot (Some r.line)) r.split in
-      let sums : (f : Slot → ℕ) →
-      sum_by f new ≡ line_sum f (with_block m.policy clock (length here) slot (Some r.line) (r.front ++ r.line ∷ r.back)) = λ f.
+      let counted : 1 ≤ line_sum (one_for x) here =
       omega (
         arith,
-        sum_by-IsPermutation f (slot ∷ rest) new t.1.2,
-        sum_by-cons f slot rest,
-        left f,
-        ap (line_sum f) r.split,
-        sum_split f r.front r.line r.back,
-        ap f r.slot,
-        exchange_sum m.policy clock (length here) slot r.front r.line r.back f front back,
+        sum_by-IsPermutation (one_for x) slots (x ∷ t.1.0) t.1.1,
+        sum_by-cons (one_for x) x t.1.0,
+        sum_by-IsPermutation (one_for x) slots (map slot_of here) perm,
+        one_self x,
       ) in
-      record {
-        gone = Some r.line;
-        may = (
-          ap not full,
-          subst (λ ls. Contains ls r.line) (sym r.split) (Contains-append_right r.front (r.line ∷ r.back) r.line (0, (omega arith), refl)),
-        );
-        told = o ∙ ap (λ v. outcome_of (on_placing g m.design.write ref b (Some v))) (sym r.slot);
-        held = rw lines (by_sums new (map slot_of (with_block m.policy clock (length here) slot (Some r.line) (r.front ++ r.line ∷ r.back))) sums);
-        distinct = rw lines (exchange_distinct m.policy clock (length here) slot r.front r.line r.back front back (subst (Absent b) r.split a) dr);
-        others = λ j ne. exchange_other m.policy clock (length here) g j slot r.line st.lines in_set ne;
-      }
+      leaving_agrees x t.1.0 (line_for x here counted) a t.0 t.1.1 t.1.2 o
 
   miss_agrees : (fills : Bool) → Absent b here →
       MatchBool fills (Fills m.design rule words ref slots outcome new rest) (PassesOn words ref slots outcome new rest) →
@@ -277,14 +322,9 @@ any_access m st old ref outcome new some i a =
       holds = record {
         design = a.design ∙ i.design;
         count = a.count ∙ i.count;
-        sets = λ j. ⊎_elim
-            (λ t. subst (λ n. IsPermutation (slots_of new.sets n) (map slot_of (lines_of_set g n next.lines))) (sym t.1) r.held)
-            (λ f. rw (r.others j f.1, stay j f.1) (i.sets j))
-            (eqb_tells j k);
-        distinct = λ j. ⊎_elim
-            (λ t. subst (λ n. Distinct (lines_of_set g n next.lines)) (sym t.1) r.distinct)
-            (λ f. subst Distinct (sym (r.others j f.1)) (i.distinct j))
-            (eqb_tells j k);
+        sets = at_each (λ n. IsPermutation (slots_of new.sets n) (map slot_of (lines_of_set g n next.lines))) k r.held
+            (λ j ne. rw (r.others j ne, stay j ne) (i.sets j));
+        distinct = at_each (λ n. Distinct (lines_of_set g n next.lines)) k r.distinct (λ j ne. subst Distinct (sym (r.others j ne)) (i.distinct j));
         clean = any_clean m st ref r.gone i.clean;
       };
     }

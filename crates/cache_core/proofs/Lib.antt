@@ -1,3 +1,4 @@
+-- What the proofs on caches cite: lists and machines first, then one access, one set, runs, systems, and worked examples.
 pub mod Bounds
 pub mod Lists
 pub mod Distances

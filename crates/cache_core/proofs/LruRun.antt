@@ -24,6 +24,7 @@ use Rattle.cache_core.proofs.Lists.{is}
 use Rattle.cache_core.proofs.Distances.{distinct_of_set-nil, distinct_of_set-other}
 use Rattle.cache_core.proofs.Places.{places_from, places-from, window-nil, window-push}
 use Rattle.cache_core.proofs.StateLaw.{step_agrees}
+use Rattle.cache_core.proofs.Visits.{at_each}
 use Rattle.cache_core.proofs.FlushLaw.{start_sound}
 use Rattle.cache_core.proofs.SoundLaw.{IsFew, visit_exists, sound_ref, sound_next}
 use Rattle.cache_core.proofs.LruSet.{blocks_of, visit_moves}
@@ -78,11 +79,9 @@ follows g write w st ref some h =
       stacked = record {
         sound = after.0;
         few = after.1;
-        fronts = λ j. ⊎_elim
-            (λ t. subst (λ (i : ℕ). blocks_in (lines_of_set g i (step m st ref).lines) ≡ take g.e (distinct_of_set g i (x ∷ w))) (sym t.1)
-            (sym (blocks_slots (lines_of_set g k (step m st ref).lines)) ∙ ap blocks_of (sym a.held) ∙ moved.front))
-            (λ n. ap blocks_in (a.others j n.1) ∙ h.fronts j ∙ ap (take g.e) (sym (distinct_of_set-other g j x w (ne_eqb k j (λ q. n.1 (sym q))))))
-            (eqb_tells j k);
+        fronts = at_each (λ i. blocks_in (lines_of_set g i (step m st ref).lines) ≡ take g.e (distinct_of_set g i (x ∷ w))) k
+            (sym (blocks_slots (lines_of_set g k (step m st ref).lines)) ∙ ap blocks_of (sym a.held) ∙ moved.front)
+            (λ j ne. ap blocks_in (a.others j ne) ∙ h.fronts j ∙ ap (take g.e) (sym (distinct_of_set-other g j x w (ne_eqb k j (λ q. ne (sym q))))));
       };
       hits = ap (λ (o : Outcome). o.hit) (sym a.told) ∙ moved.hits;
       evicts = ap (λ (o : Outcome). is_some o.evicted) (sym a.told) ∙ moved.evicts;

@@ -7,7 +7,6 @@ use Rattle.std.proofs.lemmas.List.Edits.{length-remove}
 use Rattle.std.proofs.lemmas.List.Quantifiers.{position-Some}
 use Rattle.std.proofs.lemmas.Option.{slice_get-get_or}
 use Rattle.std.proofs.lemmas.Bool.{cases_lt}
-use Rattle.std.proofs.lemmas.Bool.Decides.{eqb_tells}
 use Rattle.trace_core.specs.declared.events.Ref.{Ref}
 use Rattle.trace_core.specs.declared.events.Event.{Event}
 use Rattle.trace_core.specs.declared.events.Event.TheVariants as event
@@ -22,6 +21,7 @@ use Rattle.cache_core.specs.Machine.{Machine, MachineState, slot_of, is_block, l
 use Rattle.cache_core.specs.Order.{Visits, VisitsAt, Fills, PassesOn, Touches, TakesIn, marked, position_of, words_after}
 use Rattle.cache_core.specs.Stands.{IsSoundState}
 use Rattle.cache_core.proofs.StateLaw.{step_agrees, sound_step}
+use Rattle.cache_core.proofs.Visits.{at_each}
 use Rattle.cache_core.proofs.FlushLaw.{start_sound, empty_good}
 use Rattle.cache_core.proofs.Lawful.{marked_length}
 
@@ -144,11 +144,9 @@ sound_ref m st ref r s f =
     let v = visit_exists m.design m.policy words ref (map slot_of here) r (omega (arith, f k, length-map here slot_of)) in
     let a = step_agrees m st ref words v.outcome v.new v.rest s refl (find (is_block b) st.lines) refl v.visit in (
       sound_step m st (step m st ref) k v.new v.rest v.outcome _ s a,
-      λ j. ⊎_elim
-          (λ t. subst (λ i. length (lines_of_set g i (step m st ref).lines) ≤ g.e) (sym t.1)
-          (omega (arith, v.few, ap length a.held, length-map (lines_of_set g k (step m st ref).lines) slot_of)))
-          (λ n. rw (a.others j n.1) (f j))
-          (eqb_tells j k),
+      at_each (λ i. length (lines_of_set g i (step m st ref).lines) ≤ g.e) k
+          (omega (arith, v.few, ap length a.held, length-map (lines_of_set g k (step m st ref).lines) slot_of))
+          (λ j ne. rw (a.others j ne) (f j)),
     )
 
 pub sound_next : (m : Machine) (st : MachineState) (e : Event) → 0 < m.design.geometry.e → IsSoundState m st → IsFew m st →

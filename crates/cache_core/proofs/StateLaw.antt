@@ -20,7 +20,7 @@ use Rattle.cache_core.specs.Stands.{IsState, Absent, IsGood, IsSoundState}
 use Rattle.cache_core.proofs.Lines.{ne-eqb, not_found, find_in_set, absent_other, set_without, set_exchange, without_absent, exchange_absent, Found, found}
 use Rattle.cache_core.proofs.Lines.{absent_right, falls_weaker}
 use Rattle.cache_core.proofs.SetLaw.{touched, with_mark, place_absent, insert_law, insert_good, exchange_law}
-use Rattle.cache_core.proofs.Visits.{set_for, visit_for, others_for}
+use Rattle.cache_core.proofs.Visits.{at_each, set_for, visit_for, others_for}
 
 -- a line of a set, and one of another
 cons_here : (g : GeometryValue) (k : ℕ) (x : Line) (ls : List Line) → set_of_block g x.block ≡ k →
@@ -240,10 +240,9 @@ module _ (m : Machine) (st : MachineState) (ref : Ref) (words : ℕ → ℕ) (ou
 -- the machine stays sound
 pub sound_step : (m : Machine) (st next : MachineState) (k : ℕ) (slots : List Slot) (rest : ℕ → ℕ) (outcome : Outcome) (a : Answer) →
     IsSoundState m st → Agrees m st next k slots rest outcome a → IsSoundState m next
-sound_step m st next k slots rest outcome a s r j = ⊎_elim
-    (λ t. subst (λ i. IsGood m.policy next.clock (lines_of_set m.design.geometry i next.lines)) (sym t.1) r.good)
-    (λ f. rw (r.others j f.1, r.clock) (later m.policy st.clock (lines_of_set m.design.geometry j st.lines) (s j)))
-    (eqb_tells j k)
+sound_step m st next k slots rest outcome a s r =
+    at_each (λ i. IsGood m.policy next.clock (lines_of_set m.design.geometry i next.lines)) k r.good
+    (λ j ne. rw (r.others j ne, r.clock) (later m.policy st.clock (lines_of_set m.design.geometry j st.lines) (s j)))
 
 -- what one access leads to
 pub record Follows (m : Machine) (st : MachineState) (ref : Ref) (outcome : Outcome) (new : Contents) : Type 0 where
@@ -252,8 +251,7 @@ pub record Follows (m : Machine) (st : MachineState) (ref : Ref) (outcome : Outc
   pub sound : IsSoundState m (step m st ref)
 
 pub access_law : (m : Machine) (st : MachineState) (old : Contents) (ref : Ref) (outcome : Outcome) (new : Contents) → IsSoundState m st →
-    IsState m st old →
-    Accesses old ref outcome new → Follows m st ref outcome new
+    IsState m st old → Accesses old ref outcome new → Follows m st ref outcome new
 access_law m st old ref outcome new s i a =
     let g = m.design.geometry in
     let k = set_for m ref in
@@ -266,10 +264,8 @@ access_law m st old ref outcome new s i a =
         rule = a.rule ∙ i.rule;
         words = r.words;
         count = a.count ∙ i.count;
-        sets = λ j. ⊎_elim
-            (λ t. subst (λ n. slots_of new.sets n ≡ map slot_of (lines_of_set g n (step m st ref).lines)) (sym t.1) r.held)
-            (λ f. others_for m old ref outcome new i.design a j f.1 ∙ i.sets j ∙ ap (map slot_of) (sym (r.others j f.1)))
-            (eqb_tells j k);
+        sets = at_each (λ n. slots_of new.sets n ≡ map slot_of (lines_of_set g n (step m st ref).lines)) k r.held
+            (λ j ne. others_for m old ref outcome new i.design a j ne ∙ i.sets j ∙ ap (map slot_of) (sym (r.others j ne)));
       };
       told = r.told;
       sound = sound_step m st (step m st ref) k (slots_of new.sets k) new.words outcome (answer m st ref) s r;

@@ -13,7 +13,7 @@ use Rattle.cache_core.specs.Outcomes.{Answer, is_write, outcome_of}
 use Rattle.cache_core.specs.Machine.{Machine, MachineState, start, run, next, step, answer, answered, dirty_count}
 use Rattle.cache_core.specs.Order.{is_dirty, one_if}
 use Rattle.cache_core.specs.Plans.{PlannedCaches}
-use Rattle.cache_core.specs.Systems.{machine_of, is_fetch, is_read, takes, takes_event, events_for, sent, below_from, below, flushed_from, flushed}
+use Rattle.cache_core.specs.Systems.{stats_from, machine_of, is_fetch, is_read, takes, takes_event, events_for, sent, below_from, below, flushed_from, flushed}
 use Rattle.cache_core.specs.Systems.{cache_stats, flushed_if_planned, references_in, to_memory}
 use Rattle.cache_core.specs.SystemCaches.{tally}
 use Rattle.cache_core.proofs.Pushes.{count_by_push, answered_push, answered_flush}
@@ -38,17 +38,14 @@ pub flushed_flush : (m : Machine) (events : List Event) → flushed m (events ++
 flushed_flush m events = flushed_flush_from m start events
 
 -- its counts
-pub counts_push : (m : Machine) (events : List Event) (ref : Ref) →
-    cache_stats m (events ++ event.Reference ref ∷ []) ≡ tally (cache_stats m events) ref (outcome_of (answer m (run m events) ref))
-counts_push m events ref =
-    let all : List (Ref × Answer) = answered m events in
-    let pair : Ref × Answer = (ref, answer m (run m events) ref) in
-    let more : (p : Ref × Answer → Bool) → count_by p (answered m (events ++ event.Reference ref ∷ [])) ≡ count_by p all + cond (p pair) 1 0 =
-    λ p. ap (count_by p) (answered_push m events ref) ∙ count_by_push p all pair in
-    let copybacks : count_by (λ (p : Ref × Answer). is_dirty p.1.evicted) (answered m (events ++ event.Reference ref ∷ []))
-    + flushed m (events ++ event.Reference ref ∷ [])
-    ≡ count_by (λ (p : Ref × Answer). is_dirty p.1.evicted) all + flushed m events + one_if (is_dirty pair.1.evicted) =
-    omega (arith, more (λ p. is_dirty p.1.evicted), flushed_push m events ref) in
+stats_push : (all : List (Ref × Answer)) (flushes : ℕ) (ref : Ref) (a : Answer) →
+    stats_from (all ++ (ref, a) ∷ []) flushes ≡ tally (stats_from all flushes) ref (outcome_of a)
+stats_push all flushes ref a =
+    let more : (p : Ref × Answer → Bool) → count_by p (all ++ (ref, a) ∷ []) ≡ count_by p all + cond (p (ref, a)) 1 0 =
+    λ p. count_by_push p all (ref, a) in
+    let copybacks : count_by (λ (p : Ref × Answer). is_dirty p.1.evicted) (all ++ (ref, a) ∷ []) + flushes
+    ≡ count_by (λ (p : Ref × Answer). is_dirty p.1.evicted) all + flushes + one_if (is_dirty a.evicted) =
+    omega (arith, more (λ p. is_dirty p.1.evicted)) in
     cc (
       more (λ p. is_fetch p.0.access),
       more (λ p. is_fetch p.0.access && not p.1.hit),
@@ -60,26 +57,23 @@ counts_push m events ref =
       copybacks,
     )
 
+pub counts_push : (m : Machine) (events : List Event) (ref : Ref) →
+    cache_stats m (events ++ event.Reference ref ∷ []) ≡ tally (cache_stats m events) ref (outcome_of (answer m (run m events) ref))
+counts_push m events ref =
+    ap (λ all. stats_from all (flushed m (events ++ event.Reference ref ∷ []))) (answered_push m events ref)
+    ∙ ap (stats_from (answered m events ++ (ref, answer m (run m events) ref) ∷ [])) (flushed_push m events ref)
+    ∙ stats_push (answered m events) (flushed m events) ref (answer m (run m events) ref)
+
 pub counts_flush : (m : Machine) (events : List Event) →
     cache_stats m (events ++ event.Flush ∷ [])
     ≡ record (cache_stats m events) { copybacks = (cache_stats m events).copybacks + dirty_count (run m events) }
 counts_flush m events =
-    let same : (p : Ref × Answer → Bool) → count_by p (answered m (events ++ event.Flush ∷ [])) ≡ count_by p (answered m events) =
-    λ p. ap (count_by p) (answered_flush m events) in
-    let copybacks : count_by (λ (p : Ref × Answer). is_dirty p.1.evicted) (answered m (events ++ event.Flush ∷ []))
-    + flushed m (events ++ event.Flush ∷ [])
-    ≡ count_by (λ (p : Ref × Answer). is_dirty p.1.evicted) (answered m events) + flushed m events + dirty_count (run m events) =
-    omega (arith, same (λ p. is_dirty p.1.evicted), flushed_flush m events) in
-    cc (
-      same (λ p. is_fetch p.0.access),
-      same (λ p. is_fetch p.0.access && not p.1.hit),
-      same (λ p. is_read p.0.access),
-      same (λ p. is_read p.0.access && not p.1.hit),
-      same (λ p. is_write p.0.access),
-      same (λ p. is_write p.0.access && not p.1.hit),
-      same (λ p. is_some p.1.evicted),
-      copybacks,
-    )
+    let all = answered m events in
+    let copybacks : count_by (λ (p : Ref × Answer). is_dirty p.1.evicted) all + flushed m (events ++ event.Flush ∷ [])
+    ≡ count_by (λ (p : Ref × Answer). is_dirty p.1.evicted) all + flushed m events + dirty_count (run m events) =
+    omega (arith, flushed_flush m events) in
+    ap (λ xs. stats_from xs (flushed m (events ++ event.Flush ∷ []))) (answered_flush m events)
+    ∙ ap (λ n. record (cache_stats m events) { copybacks = n }) copybacks
 
 -- the events of a cache of the first level
 pub events_taken : (name : CacheName) (events : List Event) (ref : Ref) → takes name ref ≡ true →

@@ -1,11 +1,16 @@
--- A reference at a cache, as its machine sees it: the set that it comes to, and what happens to that set and to the others.
-use Rattle.std.proofs.Common.{◌≡◌, ◌≢◌, ℕ, ◌∙◌, ap, subst}
+-- A reference at a cache, as its machine sees it: what happens to the set that it comes to, and to the others.
+use Rattle.std.proofs.Common.{◌≡◌, ◌≢◌, ℕ, ◌∙◌, ap, sym, subst, ⊎_elim}
+use Rattle.std.proofs.lemmas.Bool.Decides.{eqb_tells}
 use Rattle.trace_core.specs.declared.events.Ref.{Ref}
 use Rattle.cache_core.specs.declared.outcome.Outcome.{Outcome}
 use Rattle.cache_core.specs.declared.outcome.Design.{Design}
 use Rattle.cache_core.specs.Geometry.{set_of}
 use Rattle.cache_core.specs.Machine.{Machine}
 use Rattle.cache_core.specs.Order.{Contents, Accesses, Visits, slots_of}
+
+-- what holds of one set, and of each other one, holds of each
+pub at_each : (P : ℕ → Type 0) (k : ℕ) → P k → ((j : ℕ) → j ≢ k → P j) → (j : ℕ) → P j
+at_each P k here others j = ⊎_elim (λ t. subst P (sym t.1) here) (λ f. others j f.1) (eqb_tells j k)
 
 -- the set of a reference
 abbrev pub set_for : Machine → Ref → ℕ

@@ -14,7 +14,7 @@ use Rattle.cache_core.specs.declared.plan.CacheName.{CacheName}
 use Rattle.cache_core.specs.declared.plan.CacheName.TheVariants.{L1I, L1D, L1U, L2U}
 use Rattle.cache_core.specs.declared.stats.CacheStats.{CacheStats}
 use Rattle.cache_core.specs.declared.stats.Stats.{Stats}
-use Rattle.cache_core.specs.Outcomes.{is_write}
+use Rattle.cache_core.specs.Outcomes.{Answer, is_write}
 use Rattle.cache_core.specs.Machine.{Machine, MachineState, start, step, answer, next, run, dirty_count, answered}
 use Rattle.cache_core.specs.Order.{is_dirty}
 use Rattle.cache_core.specs.Plans.{PlannedCaches}
@@ -90,20 +90,22 @@ flushed_from m st (event.Flush ∷ events) = dirty_count st + flushed_from m (ne
 abbrev pub flushed : Machine → List Event → ℕ
 flushed m events = flushed_from m start events
 
+-- the counts of references with their answers, where so many dirty blocks were flushed
+abbrev pub stats_from : List (Ref × Answer) → ℕ → CacheStats
+stats_from all flushes = record {
+  fetches = count_by (λ p. is_fetch p.0.access) all;
+  fetch_misses = count_by (λ p. is_fetch p.0.access && not p.1.hit) all;
+  reads = count_by (λ p. is_read p.0.access) all;
+  read_misses = count_by (λ p. is_read p.0.access && not p.1.hit) all;
+  writes = count_by (λ p. is_write p.0.access) all;
+  write_misses = count_by (λ p. is_write p.0.access && not p.1.hit) all;
+  evictions = count_by (λ p. is_some p.1.evicted) all;
+  copybacks = count_by (λ p. is_dirty p.1.evicted) all + flushes;
+}
+
 -- what a cache counts over its events
 abbrev pub cache_stats : Machine → List Event → CacheStats
-cache_stats m events =
-    let all = answered m events in
-    record {
-      fetches = count_by (λ p. is_fetch p.0.access) all;
-      fetch_misses = count_by (λ p. is_fetch p.0.access && not p.1.hit) all;
-      reads = count_by (λ p. is_read p.0.access) all;
-      read_misses = count_by (λ p. is_read p.0.access && not p.1.hit) all;
-      writes = count_by (λ p. is_write p.0.access) all;
-      write_misses = count_by (λ p. is_write p.0.access && not p.1.hit) all;
-      evictions = count_by (λ p. is_some p.1.evicted) all;
-      copybacks = count_by (λ p. is_dirty p.1.evicted) all + flushed m events;
-    }
+cache_stats m events = stats_from (answered m events) (flushed m events)
 
 -- what a cache counts over its events, if the plan has it
 abbrev pub counts_if_planned : ℕ → Option PlannedCache → List Event → Option CacheStats

@@ -1,8 +1,12 @@
 //! One cache, under any policy.
-ghost use Rattle.std.specs.Prelude.{◌≡◌, ◌≤◌, ◌<◌, ◌+◌, ◌*◌, ◌^◌, ℕ, length, take, Some, IsSome, IfOk, All, Option, Bool, IfSome, option_to_list, count_by, replicate};
+ghost use Rattle.std.specs.Prelude.{◌≡◌, ◌≤◌, ◌<◌, ◌+◌, ◌*◌, ◌^◌, ℕ, length, take, Some, IsSome};
+ghost use Rattle.std.specs.Prelude.{IfOk, All, Option, Bool, IfSome, option_to_list, count_by};
+ghost use Rattle.std.specs.Prelude.{replicate};
 ghost use Rattle.cache_core.specs.Geometry.{block_of, address_of};
-ghost use Rattle.cache_core.specs.Outcomes.{outcome_of, on_hit, on_placing, on_passing, dirties, allocates, writes_through, fill_access};
-ghost use Rattle.cache_core.specs.Order.{Touches, TakesIn, Visits, words_after, position_of, marked, Accesses, Flushes, dirty_slots, DirtiesByWrites};
+ghost use Rattle.cache_core.specs.Outcomes.{outcome_of, on_hit, on_placing, on_passing, dirties};
+ghost use Rattle.cache_core.specs.Outcomes.{allocates, writes_through, fill_access};
+ghost use Rattle.cache_core.specs.Order.{Touches, TakesIn, Visits, words_after, position_of};
+ghost use Rattle.cache_core.specs.Order.{marked, Accesses, Flushes, dirty_slots, DirtiesByWrites};
 ghost use Rattle.cache_core.specs.Slab.{Addressable, IsCacheSlab, slab_contents, sets_of};
 ghost use Rattle.cache_core.specs.Touched.{Covers, ListsFilled, no_sets};
 
@@ -78,7 +82,8 @@ fn hit_outcome(write: WriteMode, reference: Ref) -> Outcome
 fn placing_outcome(design: Design, reference: Ref, block: u64, evicted: Option<Slot>) -> Outcome
     requires block { block * 2 ^ design.geometry.b < 2 ^ 64 }
     requires victim { IfSome evicted (λ slot. slot.block * 2 ^ design.geometry.b < 2 ^ 64) }
-    ensures { result ≡ outcome_of (on_placing design.geometry design.write reference block evicted) }
+    ensures { result
+        ≡ outcome_of (on_placing design.geometry design.write reference block evicted) }
 {
     let fill = block_load(design.geometry, reference, block);
     let down = match evicted {
@@ -172,9 +177,11 @@ fn visit_slab<P: Replacement>(
     ensures touched { Covers touched.new filled.new }
     ensures slab { IsCacheSlab design slots.new filled.new }
     ensures access { Accesses
-        (slab_contents design (P.rule policy.old) (P.words policy.old) slots.old filled.old) reference result
+        (slab_contents design (P.rule policy.old) (P.words policy.old) slots.old filled.old)
+        reference result
         (slab_contents design (P.rule policy.new) (P.words policy.new) slots.new filled.new) }
-    ensures dirty { DirtiesByWrites (sets_of design.geometry.e slots.old filled.old) reference result
+    ensures dirty { DirtiesByWrites
+        (sets_of design.geometry.e slots.old filled.old) reference result
         (sets_of design.geometry.e slots.new filled.new) }
 {
     design.geometry.limits();
@@ -220,8 +227,8 @@ fn clear(filled: &mut [u32])
     filled.fill(0);
 }
 
-/// Leaves no slot of the listed sets filled, which are all that have any, and returns how many were dirty. A set that is listed
-/// again has none any more.
+/// Leaves no slot of the listed sets filled, which are all that have any, and returns how many were
+/// dirty. A set that is listed again has none any more.
 fn empty_listed(slots: &[Slot], filled: &mut [u32], ways: usize, listed: &[u32]) -> u64
     requires segments { length slots.now ≡ ways * length filled.old }
     requires within { All (λ n. n ≤ ways) filled.old }
@@ -240,7 +247,8 @@ fn empty_listed(slots: &[Slot], filled: &mut [u32], ways: usize, listed: &[u32])
     dirty
 }
 
-/// Leaves no slot of a slab filled, and returns how many were dirty. It goes to the listed sets alone where they are listed.
+/// Leaves no slot of a slab filled, and returns how many were dirty. It goes to the listed sets
+/// alone where they are listed.
 fn empty_slab(touched: &mut TouchedSets, slots: &[Slot], filled: &mut [u32], ways: usize) -> u64
     requires segments { length slots.now ≡ ways * length filled.old }
     requires within { All (λ n. n ≤ ways) filled.old }
@@ -269,8 +277,9 @@ fn no_slots(alloc: Global, sets: usize) -> Result<Vec<u32>, AllocError>
     vec![in alloc; 0; sets]
 }
 
-/// A cache under a policy. A set's slots are in the policy's order in one array, each set in a segment of its own. `touched`
-/// lists the sets with filled slots, so that a flush goes to these alone.
+/// A cache under a policy. A set's slots are in the policy's order in one array, each set in a
+/// segment of its own. `touched` lists the sets with filled slots, so that a flush goes to these
+/// alone.
 #[derive(Drop)]
 pub struct Cache<P> {
     design: Design,
@@ -294,7 +303,8 @@ impl<P> Model for Cache<P> {
       sets = sets_of c.design.geometry.e c.slots.items c.filled.items;
     } };
 
-    ghost invariant = { λ c. IsCacheSlab c.design c.slots.items c.filled.items × Covers c.touched c.filled.items };
+    ghost invariant = { λ c. IsCacheSlab c.design c.slots.items c.filled.items
+        × Covers c.touched c.filled.items };
 }
 
 impl<P: Replacement> Cache<P> {
@@ -334,8 +344,8 @@ impl<P: Replacement> Cache<P> {
         })
     }
 
-    /// One reference: what the table of outcomes says of it, with the slot that leaves a full set by the policy. It takes no
-    /// memory.
+    /// One reference: what the table of outcomes says of it, with the slot that leaves a full set
+    /// by the policy. It takes no memory.
     #[inline(always)]
     pub fn access(&mut self, reference: Ref) -> Outcome
         ensures step { Accesses (contents_of P.rule P.words self.old) reference result
@@ -352,8 +362,8 @@ impl<P: Replacement> Cache<P> {
         )
     }
 
-    /// Empties the cache, and returns how many dirty lines it held. Nothing is evicted, and a random policy goes on with its
-    /// words.
+    /// Empties the cache, and returns how many dirty lines it held. Nothing is evicted, and a
+    /// random policy goes on with its words.
     pub fn flush(&mut self) -> u64
         ensures { Flushes (contents_of P.rule P.words self.old) result
             (contents_of P.rule P.words self.new) }

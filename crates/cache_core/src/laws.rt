@@ -1,5 +1,5 @@
-//! Laws over the definitions: each is the contract of a function with no code, so that the gate proves it. Proofs above may cite
-//! the lemma behind it.
+//! Laws over the definitions: each is the contract of a function with no code, so that the gate
+//! proves it. Proofs above may cite the lemma behind it.
 ghost use Rattle.std.specs.Prelude.{◌≡◌, ◌↔◌, true, List, [], ◌∷◌, ◌++◌};
 ghost use Rattle.trace_core.specs.declared.events.Ref.{Ref};
 ghost use Rattle.trace_core.specs.declared.events.Event.{Event};
@@ -8,9 +8,11 @@ ghost use Rattle.cache_core.specs.Geometry.{GeometryValue, IsGeometry, is_geomet
 ghost use Rattle.cache_core.specs.Windows.{window, window_after, places};
 ghost use Rattle.cache_core.specs.Stands.{StartLaw, AccessLaw, FlushLaw, RunLaw, OrderLaw, DownLaw};
 ghost use Rattle.cache_core.specs.AnyPolicy.{AnyStartLaw, AnyAccessLaw, AnyFlushLaw};
-ghost use Rattle.cache_core.specs.LruLaws.{place_after, HitLaw, VictimLaw, CountLaw, NextLaw, HitInclusion, HeldInclusion};
+ghost use Rattle.cache_core.specs.LruLaws.{place_after, HitLaw, VictimLaw, CountLaw, NextLaw};
+ghost use Rattle.cache_core.specs.LruLaws.{HitInclusion, HeldInclusion};
 ghost use Rattle.cache_core.specs.Plans.{GeometryLaw};
-ghost use Rattle.cache_core.specs.SystemStands.{NewSystemLaw, StepLaw, SystemFlushLaw, SystemRunLaw};
+ghost use Rattle.cache_core.specs.SystemStands.{NewSystemLaw, StepLaw, SystemFlushLaw};
+ghost use Rattle.cache_core.specs.SystemStands.{SystemRunLaw};
 
 /// A reference puts its block in front of the window, and a flush empties it.
 pub fn window_grows()
@@ -22,7 +24,8 @@ pub fn window_grows()
 /// One more reference is one more place, with the window of the list before it; a flush is none.
 pub fn places_grow()
     ensures reference { (g : GeometryValue) (events : List Event) (ref : Ref) →
-        places g (events ++ event.Reference ref ∷ []) ≡ places g events ++ place_after g events ref ∷ [] }
+        places g (events ++ event.Reference ref ∷ [])
+        ≡ places g events ++ place_after g events ref ∷ [] }
     ensures flush { (g : GeometryValue) (events : List Event) →
         places g (events ++ event.Flush ∷ []) ≡ places g events }
 {}
@@ -32,7 +35,8 @@ pub fn new_stands()
     ensures { StartLaw }
 {}
 
-/// An access adds its reference to the list that a cache stands for, and its outcome is the machine's.
+/// An access adds its reference to the list that a cache stands for, and its outcome is the
+/// machine's.
 pub fn access_stands()
     ensures { AccessLaw }
 {}
@@ -57,8 +61,8 @@ pub fn two_go_down_at_most()
     ensures { DownLaw }
 {}
 
-/// Under any lawful policy an access is a step of the machine in which any line of the full set may leave, and at most two
-/// references go down; the slots of a set are known up to their order then.
+/// Under any lawful policy an access is a step of the machine in which any line of the full set may
+/// leave, and at most two references go down; the slots of a set are known up to their order then.
 pub fn any_policy()
     ensures start { AnyStartLaw }
     ensures access { AnyAccessLaw }

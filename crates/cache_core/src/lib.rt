@@ -1,4 +1,5 @@
-//! Set-associative caches: geometry, replacement, one cache, levels of caches, and what an LRU cache does by look-back windows.
+//! Set-associative caches: geometry, replacement, one cache, levels of caches, and what an LRU
+//! cache does by look-back windows.
 #![tactic(auto)]
 
 pub mod cache;

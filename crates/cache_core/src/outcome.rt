@@ -2,8 +2,8 @@
 use crate::geometry::Geometry;
 use trace_core::events::Ref;
 
-/// A filled line: the number (not the address) of its block, and whether it is dirty: in a write-back cache, written since its
-/// block was placed or by the write that placed it.
+/// A filled line: the number (not the address) of its block, and whether it is dirty: in a
+/// write-back cache, written since its block was placed or by the write that placed it.
 #[derive(Clone, Copy, Debug, PartialEq, Eq)]
 pub struct Slot {
     pub block: u64,
@@ -40,8 +40,8 @@ pub struct Design {
     pub allocate: AllocMode,
 }
 
-/// What one access did: whether its block was held, the slot that left for it, whether it was placed, and what goes down to the
-/// next level, in order, from the first place on.
+/// What one access did: whether its block was held, the slot that left for it, whether it was
+/// placed, and what goes down to the next level, in order, from the first place on.
 #[derive(Clone, Copy, Debug, PartialEq, Eq)]
 pub struct Outcome {
     pub hit: bool,
@@ -62,7 +62,8 @@ impl Counts {
     ghost use Rattle.std.specs.Prelude.{◌≡◌, ◌<◌, ◌^◌, ◌+◌};
     ghost use Rattle.cache_core.specs.LruLaws.{counts_after};
 
-    /// Counts one access: a hit or a miss, and an eviction where a block left. No count may be at its type's limit.
+    /// Counts one access: a hit or a miss, and an eviction where a block left. No count may be at
+    /// its type's limit.
     pub(crate) fn count(&mut self, outcome: &Outcome)
         requires hits { self.old.hits + 1 < 2 ^ 64 }
         requires misses { self.old.misses + 1 < 2 ^ 64 }

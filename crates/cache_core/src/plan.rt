@@ -1,6 +1,9 @@
 //! Plans of a system of caches.
-ghost use Rattle.std.specs.Prelude.{◌≡◌, ◌≤◌, ◌<◌, ◌*◌, ◌^◌, true, false, IfSome, MatchResult, option_and_then};
-ghost use Rattle.cache_core.specs.Plans.{exponent_of, geometry_for, planned_cache, lacks_geometry, has_none, is_mixed, has_smaller_blocks_than, has_larger_blocks_than};
+ghost use Rattle.std.specs.Prelude.{◌≡◌, ◌≤◌, ◌<◌, ◌*◌, ◌^◌, true, false, IfSome, MatchResult};
+ghost use Rattle.std.specs.Prelude.{option_and_then};
+ghost use Rattle.cache_core.specs.Plans.{exponent_of, geometry_for, planned_cache, lacks_geometry};
+ghost use Rattle.cache_core.specs.Plans.{has_none, is_mixed, has_smaller_blocks_than};
+ghost use Rattle.cache_core.specs.Plans.{has_larger_blocks_than};
 
 use crate::geometry::{Geometry, MAX_BITS};
 use crate::outcome::{AllocMode, Design, Repl, WriteMode};
@@ -8,7 +11,8 @@ use std::fmt::{self, Display, Formatter, Write};
 use std::marker::Model;
 use thiserror::Error;
 
-/// A cache as it is asked for: its size and block size in bytes, and its lines in a set; named as the options of Dinero IV.
+/// A cache as it is asked for: its size and block size in bytes, and its lines in a set; named as
+/// the options of Dinero IV.
 #[derive(Clone, Copy, Debug, PartialEq, Eq)]
 pub struct CacheSpec {
     pub size: u64,
@@ -19,7 +23,8 @@ pub struct CacheSpec {
     pub walloc: AllocMode,
 }
 
-/// The first level as it is asked for: one cache for all references, or one for fetches, one for reads and writes, or both.
+/// The first level as it is asked for: one cache for all references, or one for fetches, one for
+/// reads and writes, or both.
 #[derive(Clone, Copy, Debug, PartialEq, Eq)]
 pub struct FirstLevel {
     /// The cache for fetches.
@@ -69,7 +74,8 @@ pub enum PlanFault {
     NoFirst,
     #[error("unified cache beside a split first planned")]
     MixedFirst,
-    /// The first cache, in the order of the names, that has no geometry of its size, block size and associativity.
+    /// The first cache, in the order of the names, that has no geometry of its size, block size and
+    /// associativity.
     #[error("{cache}: bad geometry")]
     BadGeometry { cache: CacheName },
     #[error("l2-u: block size smaller than in the first planned")]
@@ -218,8 +224,8 @@ impl Plan {
         })
     }
 
-    /// States the invariant for a caller's proof: some first level, none beside a unified one, and each cache within the limits.
-    /// It runs no code.
+    /// States the invariant for a caller's proof: some first level, none beside a unified one, and
+    /// each cache within the limits. It runs no code.
     pub fn limits(&self)
         ensures { IsPlan self.now }
     {

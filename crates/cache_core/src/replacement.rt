@@ -1,5 +1,6 @@
 //! Replacement: which slot leaves a full set.
-ghost use Rattle.std.specs.Prelude.{◌≡◌, ◌≤◌, ◌<◌, ◌+◌, ℕ, length, take, slice_get, Option, Some, None, IsPermutation};
+ghost use Rattle.std.specs.Prelude.{◌≡◌, ◌≤◌, ◌<◌, ◌+◌, ℕ, length, take, slice_get, Option, Some};
+ghost use Rattle.std.specs.Prelude.{None, IsPermutation};
 ghost use Rattle.cache_core.specs.Order.{Touches, TakesIn, words_after};
 
 use crate::outcome::{Repl, Slot};
@@ -29,16 +30,16 @@ pub trait Replacement: Drop {
         ensures words { words self.new ≡ words self.old }
         ensures rule { rule self.new ≡ rule self.old };
 
-    /// Puts a slot into a set whose first places are filled. Returns where it is in the part that is filled then, and the
-    /// slot that left, which is one exactly if the set was full.
+    /// Puts a slot into a set whose first places are filled. Returns where it is in the part that
+    /// is filled then, and the slot that left, which is one exactly if the set was full.
     fn place(&mut self, set: &mut [Slot], filled: usize, new: Slot) -> (usize, Option<Slot>)
         requires filled { filled ≤ length set.old }
         requires room { 1 ≤ length set.old }
         ensures lawful { TakesIn None 0 (length set.old) (take filled set.old) new
             result.1 (take (filled + 1) set.new) }
         ensures place { slice_get (take (filled + 1) set.new) result.0 ≡ Some new }
-        ensures order { TakesIn (rule self.old) (words self.old 0) (length set.old) (take filled set.old) new
-            result.1 (take (filled + 1) set.new) }
+        ensures order { TakesIn (rule self.old) (words self.old 0) (length set.old)
+            (take filled set.old) new result.1 (take (filled + 1) set.new) }
         ensures words { words self.new ≡ words_after (rule self.old) result.1 (words self.old) }
         ensures rule { rule self.new ≡ rule self.old };
 }
@@ -132,7 +133,8 @@ impl Model for Random {
 impl Random {
     ghost use Rattle.cache_core.specs.Words.{seeded, word_of};
 
-    /// The policy with the generator of a seed. It draws a word only where a full set has to give up a slot.
+    /// The policy with the generator of a seed. It draws a word only where a full set has to give
+    /// up a slot.
     pub fn new(seed: u64) -> Self
         ensures value { result ≡ seeded seed }
         ensures rule { ⟦<Random as Replacement>⟧.rule result ≡ Some Repl.Random }

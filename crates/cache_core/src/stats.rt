@@ -4,8 +4,8 @@ ghost use Rattle.std.specs.Prelude.{◌≡◌, ◌^◌};
 use crate::outcome::Outcome;
 use trace_core::events::{Access, Ref};
 
-/// What one cache counted: its accesses and misses by kind, the blocks that left, and the dirty ones among those that left or
-/// were flushed.
+/// What one cache counted: its accesses and misses by kind, the blocks that left, and the dirty
+/// ones among those that left or were flushed.
 #[derive(Clone, Copy, Debug, PartialEq, Eq)]
 pub struct CacheStats {
     pub fetches: u64,
@@ -48,7 +48,8 @@ impl CacheStats {
     }
 }
 
-/// What a system counted: for each of its caches, what came to memory, and the references that no first-level cache takes.
+/// What a system counted: for each of its caches, what came to memory, and the references that no
+/// first-level cache takes.
 #[derive(Clone, Copy, Debug, PartialEq, Eq)]
 pub struct Stats {
     pub l1i: Option<CacheStats>,

@@ -1,6 +1,8 @@
 //! A system of caches.
 ghost use Rattle.std.specs.Prelude.{◌≡◌, ◌≤◌, ◌<◌, ◌+◌, ◌^◌, ℕ, List, length, ◌∷◌, [], IfOk};
-ghost use Rattle.cache_core.specs.SystemSteps.{listed, reaches, all_reach, Descends, AllDescend, AccessesFirst, AccessesFirstLevel, EmptiesCache, copied, stats_held, IsNewCache};
+ghost use Rattle.cache_core.specs.SystemSteps.{listed, reaches, all_reach, Descends, AllDescend};
+ghost use Rattle.cache_core.specs.SystemSteps.{AccessesFirst, AccessesFirstLevel, EmptiesCache};
+ghost use Rattle.cache_core.specs.SystemSteps.{copied, stats_held, IsNewCache};
 ghost use Rattle.cache_core.specs.SystemCaches.{CacheWithin};
 
 use crate::outcome::Outcome;
@@ -58,7 +60,8 @@ fn descend(second: &mut Option<SystemCache>, memory: &mut Memory, reference: Ref
     requires memory { memory.old.reads + memory.old.writes < 2 ^ 62 }
     ensures value { Descends reference second.old memory.old second.new memory.new }
     ensures cache { (n : ℕ) → CacheWithin n second.old → CacheWithin (n + 1) second.new }
-    ensures memory { memory.new.reads + memory.new.writes ≤ memory.old.reads + memory.old.writes + 2 }
+    ensures memory { memory.new.reads + memory.new.writes
+        ≤ memory.old.reads + memory.old.writes + 2 }
 {
     match second {
         Some(cache) => {
@@ -85,9 +88,11 @@ fn access_first(cache: &mut Option<SystemCache>, reference: Ref) -> Option<[Opti
 fn descend_if(second: &mut Option<SystemCache>, memory: &mut Memory, reference: Option<Ref>)
     requires cache { CacheWithin (2 ^ 62) second.old }
     requires memory { memory.old.reads + memory.old.writes < 2 ^ 62 }
-    ensures value { AllDescend (listed (reference ∷ [])) second.old memory.old second.new memory.new }
+    ensures value { AllDescend (listed (reference ∷ []))
+        second.old memory.old second.new memory.new }
     ensures cache { (n : ℕ) → CacheWithin n second.old → CacheWithin (n + 1) second.new }
-    ensures memory { memory.new.reads + memory.new.writes ≤ memory.old.reads + memory.old.writes + 2 }
+    ensures memory { memory.new.reads + memory.new.writes
+        ≤ memory.old.reads + memory.old.writes + 2 }
 {
     if let Some(reference) = reference {
         descend(second, memory, reference);
@@ -100,7 +105,8 @@ fn descend_all(second: &mut Option<SystemCache>, memory: &mut Memory, down: [Opt
     requires memory { memory.old.reads + memory.old.writes < 2 ^ 61 }
     ensures value { AllDescend (listed down) second.old memory.old second.new memory.new }
     ensures cache { (n : ℕ) → CacheWithin n second.old → CacheWithin (n + 1 + 1) second.new }
-    ensures memory { memory.new.reads + memory.new.writes ≤ memory.old.reads + memory.old.writes + 4 }
+    ensures memory { memory.new.reads + memory.new.writes
+        ≤ memory.old.reads + memory.old.writes + 4 }
 {
     let [first, next] = down;
     descend_if(second, memory, first);
@@ -186,20 +192,37 @@ impl Model for System {
 
     ghost Value = { SystemValue };
 
-    ghost view = { λ s. record { i = s.i; d = s.d; u = s.u; second = s.second; memory = s.memory; bypassed = s.bypassed; steps = s.steps } };
+    ghost view = { λ s. record {
+      i = s.i;
+      d = s.d;
+      u = s.u;
+      second = s.second;
+      memory = s.memory;
+      bypassed = s.bypassed;
+      steps = s.steps;
+    } };
 
-    ghost invariant = { λ s. IsSystem (record { i = s.i; d = s.d; u = s.u; second = s.second; memory = s.memory; bypassed = s.bypassed; steps = s.steps }) };
+    ghost invariant = { λ s. IsSystem (record {
+      i = s.i;
+      d = s.d;
+      u = s.u;
+      second = s.second;
+      memory = s.memory;
+      bypassed = s.bypassed;
+      steps = s.steps;
+    }) };
 }
 
 impl System {
-    ghost use Rattle.cache_core.specs.SystemSteps.{Steps, FlushStep, stats_of, HasWritten, IsNewSystem};
+    ghost use Rattle.cache_core.specs.SystemSteps.{Steps, FlushStep, stats_of, HasWritten};
+    ghost use Rattle.cache_core.specs.SystemSteps.{IsNewSystem};
     ghost use Rattle.trace_core.specs.declared.events.Event.{Event};
     ghost use Rattle.cache_core.specs.Plans.{PlannedCaches};
     ghost use Rattle.cache_core.specs.Systems.{system_run};
     ghost use Rattle.cache_core.specs.SystemStands.{SystemStands};
 
-    /// A system of the caches of a plan, all empty; each with random replacement has a generator of its own, of this seed. Takes the
-    /// memory of all its caches; only want of memory fails.
+    /// A system of the caches of a plan, all empty; each with random replacement has a generator of
+    /// its own, of this seed. Takes the memory of all its caches; only want of memory fails.
     pub fn new(alloc: Global, plan: Plan, seed: u64) -> Result<Self, AllocError>
         ensures { IfOk result (IsNewSystem plan seed) }
     {
@@ -231,8 +254,9 @@ impl System {
         self.steps
     }
 
-    /// One reference, at the first-level cache that takes it; what that sends down goes to the second level or to memory. Where no
-    /// cache takes it, it is bypassed. At most `MAX_STEPS` steps and flushes.
+    /// One reference, at the first-level cache that takes it; what that sends down goes to the
+    /// second level or to memory. Where no cache takes it, it is bypassed. At most `MAX_STEPS`
+    /// steps and flushes.
     pub fn step(&mut self, reference: Ref)
         requires { self.old.steps < MAX_STEPS }
         ensures { Steps self.old reference self.new }
@@ -245,8 +269,8 @@ impl System {
         }
     }
 
-    /// Empties every cache. Each dirty line is a copyback and a write to memory; nothing enters the second level, and nothing is an
-    /// eviction. A flush is a step, too.
+    /// Empties every cache. Each dirty line is a copyback and a write to memory; nothing enters the
+    /// second level, and nothing is an eviction. A flush is a step, too.
     pub fn flush(&mut self)
         requires { self.old.steps < MAX_STEPS }
         ensures { FlushStep self.old self.new }

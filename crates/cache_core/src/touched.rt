@@ -1,15 +1,18 @@
 //! The sets that got a block since the last flush, so that a flush goes to them alone.
-ghost use Rattle.std.specs.Prelude.{◌≡◌, ◌<◌, ◌/◌, ◌^◌, [], length, Some, IfOk, option_map, replicate};
+ghost use Rattle.std.specs.Prelude.{◌≡◌, ◌<◌, ◌/◌, ◌^◌, [], length, Some, IfOk, option_map};
+ghost use Rattle.std.specs.Prelude.{replicate};
 ghost use Rattle.cache_core.specs.Touched.{after_count, joined, no_sets, Covers, ListsFilled};
 
 use std::alloc::{AllocError, Global};
 use std::marker::Model;
 
-/// How many sets share one place of the list. The list takes a quarter of a byte for each set, and a flush that has to walk all
-/// sets, since more were touched than are listed, walks no more than sixteen for each block that was placed.
+/// How many sets share one place of the list. The list takes a quarter of a byte for each set, and
+/// a flush that has to walk all sets, since more were touched than are listed, walks no more than
+/// sixteen for each block that was placed.
 const SETS_A_PLACE: usize = 16;
 
-/// The sets that got a block since the last flush, each by its number, as long as there are places for them.
+/// The sets that got a block since the last flush, each by its number, as long as there are places
+/// for them.
 #[derive(Drop)]
 pub struct TouchedSets {
     /// Room for the numbers of sets, as many as may be listed.
@@ -45,7 +48,8 @@ fn zero_listed(counts: &mut [u32], sets: &[u32])
 impl TouchedSets {
     /// An empty list for a number of sets. It takes all its places, and that alone can fail.
     pub fn new(alloc: Global, sets: usize) -> Result<TouchedSets, AllocError>
-        ensures { IfOk result (λ touched. touched ≡ record { room = sets / SETS_A_PLACE; listed = Some [] }) }
+        ensures { IfOk result (λ touched.
+            touched ≡ record { room = sets / SETS_A_PLACE; listed = Some [] }) }
     {
         Ok(TouchedSets {
             places: vec![in alloc; 0; sets / SETS_A_PLACE]?,
@@ -59,13 +63,15 @@ impl TouchedSets {
         requires { set < 2 ^ 32 }
         ensures { self.new ≡ after_count set before after self.old }
     {
-        // The counts are compared first: they are the same at most references, and often known to be.
+        // The counts are compared first: they are the same at most references, and often known to
+        // be.
         if before != after && before == 0 {
             self.note(set as u32);
         }
     }
 
-    /// Lists a set. It stands apart, so that the path of the many references that find their set filled stays short.
+    /// Lists a set. It stands apart, so that the path of the many references that find their set
+    /// filled stays short.
     #[inline(never)]
     fn note(&mut self, set: u32)
         ensures { self.new ≡ record self.old { listed = joined self.old.room set self.old.listed } }
@@ -93,7 +99,8 @@ impl TouchedSets {
         self.used = Some(0);
     }
 
-    /// Sets the counts of all sets to 0, and forgets the sets. Where they are listed, it goes to them alone.
+    /// Sets the counts of all sets to 0, and forgets the sets. Where they are listed, it goes to
+    /// them alone.
     pub fn empty(&mut self, counts: &mut [u32])
         requires { Covers self.old counts.old }
         ensures counts { counts.new ≡ replicate (length counts.old) 0 }

@@ -111,7 +111,7 @@ places_from_same g e w (event.Flush ∷ es) = places_from_same g e [] es
 places_same : (g : GeometryValue) (e : ℕ) (es : List Event) → places (record g { e = e }) es ≡ places g es
 places_same g e es = places-from (record g { e = e }) es ∙ places_from_same g e [] es ∙ sym (places-from g es)
 
--- the counts by places of the same shape with another number of lines
+-- the counts by places of the same geometry with another number of lines
 counts_by : (g : GeometryValue) (e : ℕ) (ps : List Place) → Counts
 counts_by g e ps = record {
   hits = count_by (hit_at g e) ps;

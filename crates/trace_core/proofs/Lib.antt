@@ -1,3 +1,4 @@
+-- What the proofs on traces cite: lines and fields, readings, the steps of a scan, runs and tasks.
 pub mod Tables
 pub mod Fronts
 pub mod FastLines

@@ -17,11 +17,16 @@ module _ (radix most : ℕ) (some : 0 < radix) where
       let power = pow-le-pow_right some {i = length (take (i + 1) ds)} {j = most} (omega (arith, length-take-le (i + 1) ds (omega arith))) in
       omega (arith, below, power, digits_value_more radix ds i inside)
 
-  pub value-below : (ds : List ℕ) → length ds ≤ most → AllDigits radix ds → digits_value radix ds < radix ^ most
+  value-below : (ds : List ℕ) → length ds ≤ most → AllDigits radix ds → digits_value radix ds < radix ^ most
   value-below ds short digits =
       let below = digits_value-lt radix ds digits in
       let power = pow-le-pow_right some {i = length ds} {j = most} short in
       omega (arith, below, power)
+
+  -- the value of the first digits
+  pub value-of_front : (ds : List ℕ) (n value : ℕ) → n ≤ length ds → n ≤ most → AllDigits radix (take n ds) → value ≡ digits_value radix (take n ds)
+      → value < radix ^ most
+  value-of_front ds n value within short digits is = omega (arith, value-below (take n ds) (omega (arith, length-take-le n ds within)) digits, is)
 
   all_digits : (ds : List ℕ) → AllDigits radix ds → list_all (λ c. is_digit c radix) ds ≡ true
   all_digits [] digits = refl

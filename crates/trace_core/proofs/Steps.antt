@@ -13,6 +13,7 @@ use Rattle.trace_core.specs.declared.events.Entry.{Entry}
 use Rattle.trace_core.specs.declared.line.Format.{Format}
 use Rattle.trace_core.specs.declared.line.LineFault.{LineFault}
 use Rattle.trace_core.specs.declared.fault.TraceFault.{TraceFault}
+use Rattle.trace_core.specs.declared.scan.Scan.{Scan}
 use Rattle.trace_core.specs.declared.fault.TraceFault.TheVariants as fault
 use Rattle.trace_core.specs.declared.state.ReaderState.{ReaderState}
 use Rattle.trace_core.specs.declared.state.ReaderState.TheVariants as state
@@ -25,21 +26,20 @@ with_line-err : (n : ℕ) (r : Result (Option Entry) LineFault) (x : TraceFault)
 with_line-err n (Ok o) x h = absurd cc
 with_line-err n (Err y) x h = (y, cc)
 
--- a short line within the limit has no other fault than its own
+-- a short line within the limit is judged by what it means
+judge-own : (f : Format) (limit n : ℕ) (w : List ℕ) → n ≤ limit → length w ≤ MAX_LINE → judge f limit n w ≡ with_line n (meaning f w)
+judge-own f limit n w within short =
+    let in_limit : ltb limit n ≡ false = search (rules, tests) in
+    let in_length : ltb MAX_LINE (length w) ≡ false = search (rules, tests) in
+    rw (in_limit, in_length) refl
+
 judge-fault : (f : Format) (limit n : ℕ) (w : List ℕ) (x : TraceFault) → n ≤ limit → length w ≤ MAX_LINE → judge f limit n w ≡ Err x
     → (y : LineFault) × (x ≡ fault.Line n y)
-judge-fault f limit n w x within short judged =
-    let in_limit : ltb limit n ≡ false = search (rules, tests) in
-    let in_length : ltb MAX_LINE (length w) ≡ false = search (rules, tests) in
-    with_line-err n (meaning f w) x (rw (in_limit, in_length) at judged)
+judge-fault f limit n w x within short judged = with_line-err n (meaning f w) x (sym (judge-own f limit n w within short) ∙ judged)
 
--- a short line within the limit that means something
 pub judge-ok : (f : Format) (limit n : ℕ) (w : List ℕ) (o : Option Entry) → n ≤ limit → length w ≤ MAX_LINE → meaning f w ≡ Ok o
     → judge f limit n w ≡ Ok o
-judge-ok f limit n w o within short means =
-    let in_limit : ltb limit n ≡ false = search (rules, tests) in
-    let in_length : ltb MAX_LINE (length w) ≡ false = search (rules, tests) in
-    rw (in_limit, in_length, means) refl
+judge-ok f limit n w o within short means = judge-own f limit n w within short ∙ ap (with_line n) means
 
 -- the bytes before the first LF
 pub line-before : (u : List ℕ) (k : ℕ) → IsFirstByte (is_byte 10) u (Some k) → HoldsNoFeed (take k u)
@@ -57,7 +57,25 @@ line-split u k found =
 pub no-line : (u : List ℕ) → IsFirstByte (is_byte 10) u None → HoldsNoFeed u
 no-line u none = NoFeed-from_places u (fails-all is_line_feed u none)
 
-module _ (told : Option (List ℕ)) (f : Format) (limit n : ℕ) (u : List ℕ) (s : ReaderState) (opened : s ≡ state.Open) where
+-- an open scan
+module _ (told : Option (List ℕ)) (scan : Scan) (opened : scan.state ≡ state.Open) where
+  abbrev f : Format
+  f = scan.format
+
+  abbrev limit : ℕ
+  limit = scan.limit
+
+  -- the lines that were read
+  abbrev n : ℕ
+  n = scan.lines
+
+  -- the bytes that were not
+  abbrev u : List ℕ
+  u = scan.buffer
+
+  abbrev s : ReaderState
+  s = scan.state
+
   from_open : (q : Progress) (d : List ℕ) (xs : List (ℕ × Entry)) → Advances told (at f limit n u state.Open) q d xs
       → Advances told (at f limit n u s) q d xs
   from_open q d xs = subst (λ v. Advances told (at f limit n u v) q d xs) (sym opened)
@@ -121,3 +139,8 @@ module _ (told : Option (List ℕ)) (f : Format) (limit n : ℕ) (u : List ℕ) 
           → Advances told (at f limit n v state.Open) q [] []
       last_of y [] none some judged failed = absurd (omega arith)
       last_of y (c ∷ v) none some judged failed = Advances-bad_last told f limit n q c v y over none judged failed
+
+  -- a line is judged as the code judged the bytes that it read
+  pub judged-as : (line bytes : List ℕ) (r x : Result (Option Entry) TraceFault) → bytes ≡ line
+      → ((most : ℕ) → n + 1 ≤ most → r ≡ judge f most (n + 1) bytes) → r ≡ x → n < limit → judge f limit (n + 1) line ≡ x
+  judged-as line bytes r x same judged is within = ap (judge f limit (n + 1)) (sym same) ∙ sym (judged limit (omega arith)) ∙ is

@@ -71,7 +71,7 @@ module _ {a b : SourceView} (now : SourceView) {old mid : Scan} (new : Scan) (sk
         advances = next.2;
         at_end = λ began. steps.at_end;
         counted = λ began. Skips-counted began steps.counted;
-        format = steps.same.0 ∙ skips.format;
-        limit = steps.same.1 ∙ skips.limit;
-        lines = omega (arith, skips.lines, steps.lines);
+        format = steps.on.same.0 ∙ skips.format;
+        limit = steps.on.same.1 ∙ skips.limit;
+        lines = omega (arith, skips.lines, steps.on.lines);
       }

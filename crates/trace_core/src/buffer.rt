@@ -1,5 +1,6 @@
 //! A buffer of fixed size between a source and a reader.
-ghost use Rattle.std.specs.Prelude.{◌≡◌, ℕ, ◌+◌, ◌-◌, ◌<◌, ◌≤◌, List, [], ◌++◌, length, take, drop, slice_range, vec_len, IfOk, OnErr};
+ghost use Rattle.std.specs.Prelude.{◌≡◌, ℕ, ◌+◌, ◌-◌, ◌<◌, ◌≤◌, List, [], ◌++◌, length, take, drop};
+ghost use Rattle.std.specs.Prelude.{slice_range, vec_len, IfOk, OnErr};
 ghost use Rattle.std.specs.Io.KnownBytes.{Consumes, IsAtEnd};
 ghost use Rattle.trace_core.specs.Device.{CountsFailure, StaysOrUntold};
 ghost use Rattle.trace_core.specs.declared.buffer.TheConstants.{CAPACITY};
@@ -27,7 +28,8 @@ impl Model for Buffer {
 
     ghost view = { λ b. slice_range b.bytes.items b.start b.end };
 
-    ghost invariant = { λ b. (b.start ≤ b.end) × (b.end ≤ CAPACITY) × (vec_len b.bytes ≡ CAPACITY) };
+    ghost invariant = { λ b. (b.start ≤ b.end) × (b.end ≤ CAPACITY)
+        × (vec_len b.bytes ≡ CAPACITY) };
 }
 
 impl Buffer {
@@ -65,7 +67,8 @@ impl Buffer {
     /// Asks for as many bytes as there is room for, and returns how many came.
     pub(crate) fn refill<S: Source>(&mut self, source: &mut S) -> Result<usize, DeviceFault>
         requires { length self.old < CAPACITY }
-        ensures more { IfOk result (λ n. (more : List ℕ) × (length more ≡ n) × (self.new ≡ self.old ++ more)
+        ensures more { IfOk result (λ n. (more : List ℕ) × (length more ≡ n)
+            × (self.new ≡ self.old ++ more)
             × Consumes (S.view source.old).remaining (S.view source.new).remaining more) }
         ensures end { IfOk result (λ n. n ≡ 0 → IsAtEnd (S.view source.new).remaining) }
         ensures fits { length self.new ≤ CAPACITY }

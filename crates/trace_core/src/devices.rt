@@ -1,5 +1,6 @@
 //! Devices over memory, for tests.
-ghost use Rattle.std.specs.Prelude.{◌≡◌, ◌+◌, ◌-◌, ◌<◌, ◌≤◌, [], ◌++◌, None, Some, IsOk, IsErr, IfOk, ◌↔◌, ◌⊎◌, length, take, drop, min};
+ghost use Rattle.std.specs.Prelude.{◌≡◌, ◌+◌, ◌-◌, ◌<◌, ◌≤◌, [], ◌++◌, None, Some, IsOk, IsErr};
+ghost use Rattle.std.specs.Prelude.{IfOk, ◌↔◌, ◌⊎◌, length, take, drop, min};
 ghost use Rattle.trace_core.specs.Device.{CountsFailure, Gives, Takes, one_more};
 
 use crate::io::{DeviceFault, Sink, Source};

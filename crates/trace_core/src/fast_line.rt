@@ -17,7 +17,8 @@ use memchr::memchr;
 #[inline(always)]
 pub(crate) fn read_fast_line(format: Format, text: &[u8]) -> Option<(Item, usize)>
     ensures line { IfSome result (λ found. IsFirstByte (is_byte 10) text.now (Some found.1)) }
-    ensures item { IfSome result (λ found. meaning format (take found.1 text.now) ≡ Ok (Some (Entry.Item found.0))) }
+    ensures item { IfSome result (λ found.
+        meaning format (take found.1 text.now) ≡ Ok (Some (Entry.Item found.0))) }
 {
     let (item, rest) = read_front(format, text)?;
     let end = line_end(rest)?;

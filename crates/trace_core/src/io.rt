@@ -39,7 +39,8 @@ pub trait Sink {
 }
 
 /// A source over a reader. Every error of the reader, `Interrupted` included, is one failure, and
-/// it doesn't try again. It reports what the reader reports until a read fails, and nothing afterwards.
+/// it doesn't try again. It reports what the reader reports until a read fails, and nothing
+/// afterwards.
 #[derive(Drop)]
 pub struct FromRead<R: Drop> {
     reader: R,
@@ -72,7 +73,8 @@ impl<R: Read + Drop> Source for FromRead<R> {
             Gives (view self.old) (view self.new) result into.new }
 
         // What it returns was read of the reader, and nothing was at a fault, also after one.
-        ensures passed { ReadConsumes (R.remaining self.old.reader) (R.remaining self.new.reader) result into.new }
+        ensures passed { ReadConsumes (R.remaining self.old.reader)
+            (R.remaining self.new.reader) result into.new }
     {
         match self.reader.read(into) {
             Ok(count) => Ok(count),
@@ -122,7 +124,8 @@ impl<W: Write + Drop> Sink for ToWrite<W> {
             Takes (view self.old) (view self.new) result from.now }
 
         // What it returns was written to the writer, and nothing was at a fault, also after one.
-        ensures passed { WriteAppends (W.contents self.old.writer) (W.contents self.new.writer) result from.now }
+        ensures passed { WriteAppends (W.contents self.old.writer)
+            (W.contents self.new.writer) result from.now }
     {
         match self.writer.write(from) {
             Ok(count) if count > 0 || from.is_empty() => Ok(count),

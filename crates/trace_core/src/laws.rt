@@ -1,12 +1,16 @@
 //! Laws over the definitions: each is the contract of a function with no code, so that the gate
 //! proves it. Proofs above may cite the lemma behind it.
-ghost use Rattle.std.specs.Prelude.{◌≡◌, ℕ, List, [], ◌++◌, Option, None, Some, Err, false, ◌↔◌, All, IsOk, is_ok, slice_get, take, drop, ◌+◌, filter_map, flat_map};
+ghost use Rattle.std.specs.Prelude.{◌≡◌, ℕ, List, [], ◌++◌, Option, None, Some, Err, false, ◌↔◌};
+ghost use Rattle.std.specs.Prelude.{All, IsOk, is_ok, slice_get, take, drop, ◌+◌, filter_map};
+ghost use Rattle.std.specs.Prelude.{flat_map};
 ghost use Rattle.std.specs.List.{enumerate_from, prefix_len, slice_split};
 ghost use Rattle.trace_core.specs.Device.{SourceView};
 ghost use Rattle.trace_core.specs.Events.{events_of};
 ghost use Rattle.trace_core.specs.Lines.{is_line_feed, lines, line_feeds, without_empty_last};
 ghost use Rattle.trace_core.specs.Reader.{Progress, Reached, begun, device_failed, entries_then};
-ghost use Rattle.trace_core.specs.Reading.{Reading, reading, cut_reading, first_fault, judgements, whole_judgements, cut_off, numbered_entry, entries, events};
+ghost use Rattle.trace_core.specs.Reading.{Reading, reading, cut_reading, first_fault, judgements};
+ghost use Rattle.trace_core.specs.Reading.{whole_judgements, cut_off, numbered_entry, entries};
+ghost use Rattle.trace_core.specs.Reading.{events};
 ghost use Rattle.trace_core.specs.Task.{entries_of};
 ghost use Rattle.trace_core.specs.declared.events.Entry.{Entry};
 ghost use Rattle.trace_core.specs.declared.events.Kind.{Kind};
@@ -69,7 +73,8 @@ pub fn faultless_reading_is_whole()
         entries_of (reading format limit text).entries ≡ entries format text }
     ensures events { (format : Format) (limit : ℕ) (kind : Kind) (text : List ℕ) →
         first_fault format limit text ≡ None →
-        flat_map (events_of kind) (entries_of (reading format limit text).entries) ≡ events format kind text }
+        flat_map (events_of kind) (entries_of (reading format limit text).entries)
+        ≡ events format kind text }
 {}
 
 /// A reader that began has read nothing.
@@ -111,7 +116,8 @@ pub fn cut_reader_has_read_what_was_delivered()
         Reached format limit start now given reader →
         reader.state ≡ ReaderState.Failed (TraceFault.Read line) →
         (delivered : List ℕ) × (text ≡ delivered ++ rest)
-        × (cut_reading format limit delivered ≡ record { entries = given; fault = Some (TraceFault.Read line) }) }
+        × (cut_reading format limit delivered
+        ≡ record { entries = given; fault = Some (TraceFault.Read line) }) }
 {}
 
 /// A reader that reads on gave the first entries of the text.

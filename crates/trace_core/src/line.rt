@@ -1,8 +1,10 @@
 //! Judging one line.
 ghost use Rattle.std.specs.Prelude.{◌≡◌, ◌≤◌, [], ◌∷◌, length, MatchOption};
 ghost use Rattle.std.specs.List.{position_or_len, before_first, after_first};
-ghost use Rattle.trace_core.specs.Fields.{is_blank, is_field_byte, is_trailing, trimmed, fields, without_0x};
-ghost use Rattle.trace_core.specs.Line.{meaning, din_meaning, din_address, din_entry, lackey_meaning, lackey_access, lackey_op, item, is_comma};
+ghost use Rattle.trace_core.specs.Fields.{is_blank, is_field_byte, is_trailing, trimmed, fields};
+ghost use Rattle.trace_core.specs.Fields.{without_0x};
+ghost use Rattle.trace_core.specs.Line.{meaning, din_meaning, din_address, din_entry};
+ghost use Rattle.trace_core.specs.Line.{lackey_meaning, lackey_access, lackey_op, item, is_comma};
 
 use crate::digits::read_number;
 use crate::events::{Entry, Item, Op};

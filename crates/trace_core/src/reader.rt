@@ -30,7 +30,8 @@ impl Model for Lines {
 }
 
 impl Lines {
-    ghost use Rattle.trace_core.specs.Reader.{Progress, Reached, Tells, entries_returned, begun, device_failed, stopped_answer};
+    ghost use Rattle.trace_core.specs.Reader.{Progress, Reached, Tells, entries_returned, begun};
+    ghost use Rattle.trace_core.specs.Reader.{device_failed, stopped_answer};
 
     /// A reader of lines in a format, of which there may be at most `max_lines`. It takes one
     /// buffer of a fixed size, the same for every limit, and fails only where there is no memory
@@ -61,7 +62,8 @@ impl Lines {
         // What was read of a source is read on.
         ensures reached { (format : Format) (limit : ℕ) (start : SourceView)
             (xs : List (ℕ × Entry)) → Reached format limit start (S.view source.old) xs self.old →
-            Reached format limit start (S.view source.new) (xs ++ entries_returned result) self.new }
+            Reached format limit start (S.view source.new)
+            (xs ++ entries_returned result) self.new }
 
         // The state tells what was returned, and after the end and after a fault it is returned
         // again, without a read.

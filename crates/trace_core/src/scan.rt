@@ -1,5 +1,6 @@
 //! The lines of what a source delivers, judged one by one.
-ghost use Rattle.std.specs.Prelude.{◌≡◌, ◌≢◌, ℕ, ◌+◌, ◌<◌, ◌≤◌, List, [], Option, None, Some, length, drop, IfNone, OnSome};
+ghost use Rattle.std.specs.Prelude.{◌≡◌, ◌≢◌, ℕ, ◌+◌, ◌<◌, ◌≤◌, List, [], Option, None, Some};
+ghost use Rattle.std.specs.Prelude.{length, drop, IfNone, OnSome};
 ghost use Rattle.std.specs.Option.{option_to_list};
 ghost use Rattle.std.specs.Io.KnownBytes.{IsAtEnd};
 ghost use Rattle.memchr.specs.Find.{IsFirstByte, is_byte};
@@ -122,7 +123,8 @@ impl Scan {
         ensures state { self.new.state ≢ ReaderState.Ended }
         ensures judges { Judges self.old self.new result }
         ensures goes_on { OnSome result (self.new.state ≡ ReaderState.Open) }
-        ensures nearer { self.new.state ≡ ReaderState.Open → left_to_limit self.new < left_to_limit self.old }
+        ensures nearer { self.new.state ≡ ReaderState.Open →
+            left_to_limit self.new < left_to_limit self.old }
     {
         let line = self.lines + 1;
         match judge(self.format, line, &self.buffer.as_slice()[..at]) {

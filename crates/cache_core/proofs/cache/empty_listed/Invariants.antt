@@ -1,3 +1,4 @@
+-- How far the listed sets are emptied.
 use Rattle.std.proofs.Common.{drop}
 use Rattle.cache_core.proofs.SlabFlush.{Emptying}
 use Rattle.cache_core.proofs.cache.empty_listed.Given as goal

@@ -1,3 +1,4 @@
+-- The geometry of a cache that is asked for, as a function and as a relation.
 use Rattle.cache_core.proofs.GeometryLaw.{geometry_law}
 use Rattle.cache_core.proofs.laws.geometry_is.Goals as goal
 

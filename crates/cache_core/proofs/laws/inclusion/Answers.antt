@@ -1,3 +1,4 @@
+-- A cache with a line more in each set hits and holds all that the smaller one does.
 use Rattle.cache_core.proofs.LruRun.{hit_inclusion, held_law}
 use Rattle.cache_core.proofs.laws.inclusion.Goals as goal
 

@@ -1,3 +1,4 @@
+-- What look-back windows say is what the LRU machine does.
 use Rattle.cache_core.proofs.LruRun.{hit_law, victim_law, count_law, next_law}
 use Rattle.cache_core.proofs.laws.window_is_machine.Goals as goal
 

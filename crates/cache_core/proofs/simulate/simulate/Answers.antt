@@ -1,3 +1,4 @@
+-- Each access adds the machine's outcome to the counts, and in the end they are the windows'.
 use Rattle.std.proofs.Common.{◌≡◌, map, take, List, get_or, sym, ap, subst, arith, ◌∙◌}
 use Rattle.std.proofs.lemmas.List.{take_all}
 use Rattle.trace_core.specs.declared.events.Event.{Event}

@@ -1,3 +1,4 @@
+-- What the cache and the counts stand for as the references are taken one by one.
 use Rattle.std.proofs.Common.{◌+◌, ◌≤◌, map, take}
 use Rattle.trace_core.specs.declared.events.Event.TheVariants as event
 use Rattle.cache_core.specs.declared.outcome.WriteMode.TheVariants.{Back}

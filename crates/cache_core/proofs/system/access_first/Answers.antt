@@ -1,3 +1,4 @@
+-- The bounds on the counts of a first-level cache, where it is there.
 use Rattle.std.proofs.Common.{subst}
 use Rattle.cache_core.specs.SystemCaches.{CacheWithin}
 use Rattle.cache_core.proofs.system.access_first.Goals as goal

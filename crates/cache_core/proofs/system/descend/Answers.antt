@@ -1,3 +1,4 @@
+-- The bounds on the counts of the second level, where it is there.
 use Rattle.std.proofs.Common.{subst}
 use Rattle.cache_core.specs.SystemCaches.{CacheWithin}
 use Rattle.cache_core.proofs.system.descend.Goals as goal

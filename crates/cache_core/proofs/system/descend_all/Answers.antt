@@ -1,3 +1,4 @@
+-- Two references in turn raise the counts of the second level by two at most.
 use Rattle.std.proofs.Common.{arith, ◌+◌, ◌^◌}
 use Rattle.cache_core.proofs.Counters.{within_more}
 use Rattle.cache_core.proofs.system.descend_all.Goals as goal

@@ -1,3 +1,4 @@
+-- Where no set is left, no count is.
 use Rattle.std.proofs.Common.{◌∙◌, ap, arith, subst, replicate}
 use Rattle.std.proofs.lemmas.List.{drop_all}
 use Rattle.cache_core.specs.Touched.{ListsFilled}

@@ -1,3 +1,4 @@
+-- The sets that are still to come are all that have a count.
 use Rattle.std.proofs.Common.{drop}
 use Rattle.cache_core.specs.Touched.{ListsFilled}
 use Rattle.cache_core.proofs.touched.zero_listed.Given as goal

@@ -1,3 +1,4 @@
+-- One digit more keeps the value within its bound.
 use Rattle.std.proofs.Common.{arith, ap, ℕ, ◌≡◌, ◌<◌, ◌+◌, ◌*◌, ◌^◌, get_or, length}
 use Rattle.std.specs.Char.{digit_value}
 use Rattle.std.proofs.lemmas.Int.Digits.{digits_value_more, digits_more}

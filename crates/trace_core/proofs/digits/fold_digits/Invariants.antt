@@ -1,3 +1,4 @@
+-- The value of the digits so far.
 use Rattle.std.proofs.Common.{◌≡◌, take}
 use Rattle.std.specs.Str.Parse.{AllDigits, digits_value}
 use Rattle.trace_core.proofs.digits.fold_digits.Given as goal

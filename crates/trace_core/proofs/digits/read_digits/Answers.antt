@@ -1,3 +1,4 @@
+-- As many digits as may be read fit.
 use Rattle.std.proofs.Common.{arith, length}
 use Rattle.std.proofs.Math.Nat.{pow-le-pow_right}
 use Rattle.trace_core.proofs.digits.read_digits.Goals as goal

@@ -1,3 +1,4 @@
+-- A label and an address begin a din line.
 use Rattle.std.proofs.Common.{sym, ◌∙◌}
 use Rattle.trace_core.proofs.FastLines.{din-front}
 use Rattle.trace_core.proofs.fast_line.read_din_front.Goals as goal

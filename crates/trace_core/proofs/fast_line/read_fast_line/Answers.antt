@@ -1,3 +1,4 @@
+-- The line of a text that begins with an item's fields means that item.
 use Rattle.std.proofs.Common.{refl}
 use Rattle.trace_core.proofs.FastLines.{line-end}
 use Rattle.trace_core.proofs.fast_line.read_fast_line.Goals as goal

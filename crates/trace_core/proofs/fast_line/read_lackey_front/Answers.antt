@@ -1,3 +1,4 @@
+-- A label, an address, a comma and a size begin a lackey line.
 use Rattle.std.proofs.Common.{rules, tests, ◌≡◌, ◌∙◌, ◌-◌, ◌++◌, ◌∷◌, get_or, sym, ap, take, drop, length, Some}
 use Rattle.trace_core.specs.Line.{lackey_op}
 use Rattle.trace_core.proofs.Fronts.{one-front}

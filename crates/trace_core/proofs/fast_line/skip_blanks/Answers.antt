@@ -1,3 +1,4 @@
+-- One blank more is passed over.
 use Rattle.std.proofs.Common.{rules, tests, ◌≡◌, true, get_or}
 use Rattle.trace_core.specs.Fields.{is_blank}
 use Rattle.trace_core.proofs.Fronts.{blanks-more}

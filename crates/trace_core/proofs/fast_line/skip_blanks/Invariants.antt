@@ -1,3 +1,4 @@
+-- What was passed over is blank.
 use Rattle.std.proofs.Common.{◌≡◌, ℕ, true, List, ◌++◌, length}
 use Rattle.std.specs.List.{list_all}
 use Rattle.trace_core.specs.Fields.{is_blank}

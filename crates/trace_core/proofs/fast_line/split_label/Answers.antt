@@ -1,3 +1,4 @@
+-- A label of one byte between blanks.
 use Rattle.std.proofs.Common.{rules, tests, ◌≡◌, true, get_or, refl}
 use Rattle.trace_core.specs.Fields.{is_blank}
 use Rattle.trace_core.proofs.Fronts.{label-front}

@@ -1,3 +1,4 @@
+-- One write more takes some bytes of what is left.
 use Rattle.std.proofs.Common.{arith, ◌+◌, ap, ◌∙◌, drop, length}
 use Rattle.std.proofs.lemmas.List.{drop-drop, length-drop}
 use lib.Seq.{take-add}

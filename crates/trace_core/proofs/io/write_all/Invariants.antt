@@ -1,3 +1,4 @@
+-- What was written so far, and what is left.
 use Rattle.std.proofs.Common.{◌≡◌, ℕ, ◌≤◌, length, take, drop}
 use Rattle.trace_core.specs.Device.{Wrote}
 use Rattle.trace_core.proofs.io.write_all.Given as goal

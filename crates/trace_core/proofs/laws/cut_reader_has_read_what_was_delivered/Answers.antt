@@ -1,3 +1,4 @@
+-- A reader whose device failed has read what was delivered.
 use Rattle.trace_core.proofs.Runs.{Reached-cut}
 use Rattle.trace_core.proofs.laws.cut_reader_has_read_what_was_delivered.Goals as goal
 

@@ -1,3 +1,4 @@
+-- A reader at its end has read all entries, and there is no fault.
 use Rattle.trace_core.proofs.Runs.{Reached-end, Reached-left}
 use Rattle.trace_core.proofs.laws.ended_reader_has_read_all.Goals as goal
 

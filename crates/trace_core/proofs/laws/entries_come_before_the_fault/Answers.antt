@@ -1,3 +1,4 @@
+-- The entries of a reading are those of the lines before its fault.
 use Rattle.std.proofs.Common.{None}
 use Rattle.trace_core.specs.Lines.{lines}
 use Rattle.trace_core.proofs.Judging.{entries-before}

@@ -1,3 +1,4 @@
+-- A failed reader met the first fault of the text.
 use Rattle.std.proofs.Common.{ap, sym, ◌∙◌}
 use Rattle.trace_core.specs.Reader.{device_failed}
 use Rattle.trace_core.proofs.Runs.{Reached-fault}

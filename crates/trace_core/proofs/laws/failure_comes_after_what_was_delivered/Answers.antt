@@ -1,3 +1,4 @@
+-- Delivered bytes are judged before a failure of the device.
 use Rattle.trace_core.proofs.Judging.{cut-first, cut-last}
 use Rattle.trace_core.proofs.laws.failure_comes_after_what_was_delivered.Goals as goal
 

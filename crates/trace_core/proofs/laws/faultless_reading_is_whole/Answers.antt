@@ -1,3 +1,4 @@
+-- A reading has no fault where all its lines are right, and then has all their entries.
 use Rattle.std.proofs.Common.{ap}
 use Rattle.std.specs.List.{flat_map}
 use Rattle.trace_core.specs.Events.{events_of}

@@ -1,3 +1,4 @@
+-- The fault of a text is that of its first line at fault.
 use Rattle.std.proofs.Common.{None}
 use Rattle.trace_core.specs.Lines.{lines}
 use Rattle.trace_core.specs.Reading.{ends}

@@ -1,3 +1,4 @@
+-- A flushed cache has no filled slot, and lists no set.
 use Rattle.std.proofs.Common.{◌≡◌, ◌++◌, ◌^◌, ◌∙◌, arith, sym, refl, ap, [], length, take, drop, replicate}
 use Rattle.cache_core.proofs.Slabs.{slab_made, sets_of-empty, length-sets_of, none_filled}
 use Rattle.cache_core.proofs.TouchedSets.{covers_none}

@@ -1,3 +1,4 @@
+-- A new cache has no filled slot, and lists no set.
 use Rattle.std.proofs.Common.{replicate, ◌^◌, ◌∙◌, ap, ◌≡◌, arith}
 use Rattle.cache_core.proofs.Slabs.{slab_made, sets_of-empty}
 use Rattle.cache_core.proofs.TouchedSets.{covers_none}

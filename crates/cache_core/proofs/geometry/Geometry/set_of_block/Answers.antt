@@ -1,3 +1,4 @@
+-- The mask takes the block modulo the number of sets.
 use Rattle.std.proofs.Common.{refl}
 use Rattle.std.proofs.lemmas.Nat.{and_mask}
 use Rattle.cache_core.proofs.geometry.Geometry.set_of_block.Goals as goal

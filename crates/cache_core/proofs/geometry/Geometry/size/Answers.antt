@@ -1,3 +1,4 @@
+-- The size in bytes fits.
 use Rattle.std.proofs.Common.{refl}
 use Rattle.cache_core.proofs.Bounds.{size_fits}
 use Rattle.cache_core.proofs.geometry.Geometry.size.Goals as goal

@@ -1,3 +1,4 @@
+-- What FIFO does is lawful.
 use Rattle.std.proofs.Common.{Some}
 use Rattle.cache_core.specs.declared.outcome.Repl.TheVariants.{Fifo}
 use Rattle.cache_core.proofs.Lawful.{lawful_place}

@@ -1,3 +1,4 @@
+-- What LRU does is lawful.
 use Rattle.std.proofs.Common.{Some}
 use Rattle.cache_core.specs.declared.outcome.Repl.TheVariants.{Lru}
 use Rattle.cache_core.proofs.Lawful.{lawful_place}

@@ -1,3 +1,4 @@
+-- Random takes the next free way, or the way that its next word names.
 use Rattle.rand_pcg.specs.Lcg.{Lcg}
 use Rattle.rand_pcg.specs.Pcg.{pcg32}
 use Rattle.cache_core.specs.Words.{word_of}

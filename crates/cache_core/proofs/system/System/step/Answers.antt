@@ -1,3 +1,4 @@
+-- A step keeps the bounds on the counts, and is one reference at the first level and what goes down from it.
 use Rattle.std.proofs.Common.{◌≡◌, ◌+◌, Some, arith, refl, ap}
 use Rattle.cache_core.specs.SystemSteps.{SystemValue, listed}
 use Rattle.cache_core.proofs.Counters.{within_more, first_copied, all_copied}

@@ -1,3 +1,4 @@
+-- A placing draws the words of the policy that is in use.
 use Rattle.std.proofs.Common.{◌∙◌, ap, sym}
 use Rattle.cache_core.specs.declared.system_cache.Policy.{Policy}
 use Rattle.cache_core.specs.Order.{words_after}

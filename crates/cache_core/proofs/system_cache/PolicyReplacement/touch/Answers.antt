@@ -1,3 +1,4 @@
+-- A touch draws no word, under whichever policy.
 use Rattle.std.proofs.Common.{◌∙◌, ap, sym}
 use Rattle.cache_core.specs.SystemCaches.{random_words}
 use Rattle.cache_core.proofs.system_cache.PolicyReplacement.touch.Goals as goal

@@ -1,3 +1,4 @@
+-- The bytes that came are behind those that waited.
 use Rattle.std.proofs.Common.{rules, ◌≡◌, ◌≤◌, ◌+◌, ◌-◌, ◌++◌, take, length, slice_range, ap, ◌∙◌}
 use Rattle.std.proofs.lemmas.List.{length-take-le, with_items_is}
 use borrow.Rule.Slice.PartMut.{put_mid}

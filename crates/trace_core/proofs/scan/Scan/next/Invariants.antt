@@ -1,3 +1,4 @@
+-- What the scan has done so far without an entry, and how far it is from its end.
 use Rattle.std.proofs.Common.{◌≡◌, ◌≢◌}
 use Rattle.trace_core.specs.declared.state.ReaderState.TheVariants as state
 use Rattle.trace_core.proofs.Turns.{Skips, turns}

@@ -1,3 +1,4 @@
+-- What a scan does with a byte past the limit, and with a fast line.
 use Rattle.std.proofs.Common.{arith, rules, tests, sym, ap, subst, ◌∙◌, ◌≡◌, ◌+◌, ◌<◌, ◌≤◌, [], ◌∷◌, length, take, Some, Ok}
 use Rattle.std.proofs.Common.{refl}
 use Rattle.std.proofs.lemmas.List.{length-take-le}
@@ -15,7 +16,7 @@ pub returns-then-not-is_empty-clause-advances : goal.returns-then-not-is_empty-c
 returns-then-not-is_empty-clause-advances g c =
     let s = c.args.self.now in
     let some : 0 < length s.buffer = search (rules, tests, ap length c.as_slice-unread.ensures.value) in
-    ([], Consumes-none _, steps-past _ s.format s.limit s.lines s.buffer s.state c.requires _ some (omega arith) refl)
+    ([], Consumes-none _, steps-past _ s c.requires _ some (omega arith) refl)
 
 pub returns-in-Some-clause-advances : goal.returns-in-Some-clause-advances
 returns-in-Some-clause-advances g c =
@@ -29,7 +30,7 @@ returns-in-Some-clause-advances g c =
     let short : length (take at s.buffer) ≤ MAX_LINE = omega (arith, length-take-le at s.buffer (omega (arith, found.0.high))) in
     let passed = c.pass_line.ensures in
     let advances : Advances told (progress s) (progress c.pass_line.new.self) [] ((s.lines + 1, entry.Item c.in-Some.item) ∷ []) =
-    steps-line told s.format s.limit s.lines s.buffer s.state c.requires at (Some (entry.Item c.in-Some.item)) (progress c.pass_line.new.self)
+    steps-line told s c.requires at (Some (entry.Item c.in-Some.item)) (progress c.pass_line.new.self)
     found (judge-ok s.format s.limit (s.lines + 1) (take at s.buffer) _ (omega arith) short means) passed.lines passed.buffer passed.same in
     let number = sym (passed.number ∙ passed.lines) in
     ([], Delivers-none _ _, subst (λ n. Advances told (progress s) (progress c.pass_line.new.self) [] ((n, entry.Item c.in-Some.item) ∷ [])) number advances)
