@@ -62,10 +62,14 @@ class Sum:
 
 
 def run(program, words, **given):
-    """What a run writes to standard output and to standard error, and its status."""
+    """What a run writes to standard output and to standard error, and its status, or none if it takes too long."""
     stdin = {} if "input" in given else {"stdin": subprocess.DEVNULL}
     streams = {"stdout": subprocess.PIPE, "stderr": subprocess.PIPE}
-    ran = subprocess.run([program, *words], **{**streams, **stdin, "timeout": 120, **given})
+    given = {**streams, **stdin, "timeout": 120, **given}
+    try:
+        ran = subprocess.run([program, *words], **given)
+    except subprocess.TimeoutExpired:
+        return b"", b"not done after %d seconds" % given["timeout"], None
     return ran.stdout or b"", ran.stderr, ran.returncode
 
 
