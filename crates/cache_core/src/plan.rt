@@ -70,15 +70,15 @@ pub struct PlannedCache {
 /// Why a plan is refused: the first cause that applies, in this order.
 #[derive(Clone, Copy, Debug, PartialEq, Eq, Error)]
 pub enum PlanFault {
-    #[error("no first-planned cache")]
+    #[error("no first-level cache")]
     NoFirst,
-    #[error("unified cache beside a split first planned")]
+    #[error("unified cache beside a split first level")]
     MixedFirst,
     /// The first cache, in the order of the names, that has no geometry of its size, block size and
     /// associativity.
     #[error("{cache}: bad geometry")]
     BadGeometry { cache: CacheName },
-    #[error("l2-u: block size smaller than in the first planned")]
+    #[error("l2-u: block size smaller than in the first level")]
     SmallBlock,
 }
 

@@ -11,7 +11,7 @@ use Rattle.cache_core.specs.declared.outcome.Repl.{Repl}
 use Rattle.cache_core.specs.declared.outcome.Repl.TheVariants.{Lru, Fifo}
 use Rattle.cache_core.specs.declared.outcome.WriteMode.TheVariants.{Back}
 use Rattle.cache_core.specs.declared.outcome.AllocMode.TheVariants.{Always}
-use Rattle.cache_core.specs.declared.plan.Level.{PlannedCache}
+use Rattle.cache_core.specs.declared.plan.PlannedCache.{PlannedCache}
 use Rattle.cache_core.specs.Plans.{PlannedCaches}
 use Rattle.cache_core.specs.Geometry.{geometry_value}
 use Rattle.cache_core.specs.Windows.{window, places_after, distinct, distinct_of_set, counts}
