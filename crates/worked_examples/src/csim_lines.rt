@@ -10,8 +10,9 @@ use trace_core::line::LineFault;
 pub const HANDOUT: &[u8] = b" L 10,1\n M 20,1\n L 22,1\n S 18,1\n L 110,1\n L 210,1\n M 12,1\n";
 
 /// What `csim -v -s 4 -E 1 -b 4` writes of it, by the handout: 147 bytes.
-pub const HANDOUT_TEXT: &[u8] =
-    b"L 10,1 miss\nM 20,1 miss hit\nL 22,1 hit\nS 18,1 hit\nL 110,1 miss eviction\nL 210,1 miss eviction\nM 12,1 miss eviction hit\nhits:4 misses:5 evictions:3\n";
+pub const HANDOUT_TEXT: &[u8] = b"L 10,1 miss\nM 20,1 miss hit\nL 22,1 hit\nS 18,1 hit\n\
+    L 110,1 miss eviction\nL 210,1 miss eviction\nM 12,1 miss eviction hit\n\
+    hits:4 misses:5 evictions:3\n";
 
 /// The last line of that.
 const SUMMARY: &[u8] = b"hits:4 misses:5 evictions:3\n";

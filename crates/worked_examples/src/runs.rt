@@ -76,17 +76,9 @@ const LINES: &[u8] = b"L 10,1 miss\nM 20,1 miss hit\n";
 
 #[test]
 fn csim_writes_the_lines_before_a_bad_one(rt: HostRuntime) -> Result<(), Fail> {
-    let geometry = Geometry::new(4, 1, 4).ok_or("no geometry")?;
     let mut source = TapeSource::new(BAD, 1, 0);
     let mut sink = ArraySink::new(1, 0);
-    let answer = csim(
-        rt.alloc(),
-        geometry,
-        true,
-        MAX_LINES,
-        &mut source,
-        &mut sink,
-    );
+    let answer = lines_of(&rt, rt.alloc(), &mut source, &mut sink)?;
     let fault = LineFault::Label;
     let fault = TraceFault::Line { line: 3, fault };
     assert!(rt; answer == Err(RunFault::Trace(fault)));
@@ -200,8 +192,10 @@ fn a_source_of_csim_fails_at_each_of_its_calls(rt: HostRuntime) -> Result<(), Fa
 /// A write and a read of two blocks, and what `din` reports of them with a cache of one.
 const TWO_BLOCKS: &[u8] = b"1 0\n0 10\n";
 
-const REPORT: &[u8] =
-    b"l1-u fetches=0 fetch-misses=0 reads=1 read-misses=1 writes=1 write-misses=1 evictions=1 copybacks=1\nmemory reads=2 writes=1\nbypassed=0\n";
+const REPORT: &[u8] = b"l1-u fetches=0 fetch-misses=0 reads=1 read-misses=1 \
+    writes=1 write-misses=1 evictions=1 copybacks=1\n\
+    memory reads=2 writes=1\n\
+    bypassed=0\n";
 
 #[test]
 fn din_reports_in_parts_of_any_size(rt: HostRuntime) -> Result<(), Fail> {
