@@ -97,8 +97,13 @@ module _ (x y h : ℕ) (rest after : List ℕ) (s : IsShifted x y h rest after) 
   pub after_long : length after ≡ h
   after_long =
       ap length passed ∙ length-take h zs
-      ∙ omega (arith, length-append (take (place_of x ys) ys) (drop (suc (place_of x ys)) ys), length-take (place_of x ys) ys,
-        length-drop (suc (place_of x ys)) ys, size)
+      ∙ omega (
+        arith,
+        length-append (take (place_of x ys) ys) (drop (suc (place_of x ys)) ys),
+        length-take (place_of x ys) ys,
+        length-drop (suc (place_of x ys)) ys,
+        size,
+      )
 
   -- as much of the row as before holds the list again
   row_kept : take h zs ≡ take (length rest) zs → take (suc h) (x ∷ (after ++ drop h rest)) ≡ take (length rest + 1) (move_to_front x (y ∷ ys))
@@ -119,7 +124,7 @@ module _ (x y h : ℕ) (rest after : List ℕ) (s : IsShifted x y h rest after) 
       ap (λ xs. x ∷ take (suc h) (set (xs ++ drop h rest) h last)) (passed ∙ ap (λ xs. take h (y ∷ xs)) none)
       ∙ ap (λ v. x ∷ take (suc h) (set (take h (y ∷ ys) ++ drop h rest) h v)) (out ∙ ap (λ j. get_or (y ∷ ys) j 0) size)
       ∙ ap (λ xs. x ∷ xs) (put_last y h rest lt ∙ sym (take_all (length rest) (y ∷ ys) (omega (arith, size)))
-        ∙ ap (λ xs. take (length rest) (y ∷ xs)) (sym none))
+      ∙ ap (λ xs. take (length rest) (y ∷ xs)) (sym none))
       ∙ sym (moved_behind x y ys s.other (length rest))
 
 -- whether x is the front of a row's list, which is 0 where the list is empty: by the front f, and by the length only where x is 0

@@ -97,7 +97,7 @@ evicted g m e p le =
     let f = looks_back g p in
     subst
     (λ (b : Bool). cond (not (b && ltb (distance g p) e) && leb e (seen g p)) 1 0
-      + cond (not (b && ltb (distance g p) m) && ltb (min (seen g p) m) e) 1 0 ≡ cond (not (b && ltb (distance g p) e)) 1 0)
+    + cond (not (b && ltb (distance g p) m) && ltb (min (seen g p) m) e) 1 0 ≡ cond (not (b && ltb (distance g p) e)) 1 0)
     (sym f.last) (in_or_out (distance g p) (seen g p) m e f.within le)
 
 -- the number of lines plays no part in places

@@ -139,8 +139,15 @@ fed_behind behind missed probes probes' place n told lt read more =
       probes_are = more;
       told = omega (arith, told, weight, more);
       one_more =
-          omega (arith, told, weight, more, sum-raised behind place n lt read, sum-distances probes behind missed,
-            sum-distances probes' (set behind place (n + 1)) missed);
+          omega (
+            arith,
+            told,
+            weight,
+            more,
+            sum-raised behind place n lt read,
+            sum-distances probes behind missed,
+            sum-distances probes' (set behind place (n + 1)) missed,
+          );
     }
 
 -- and after a reference not found in a list of `len` blocks: as many comparisons
@@ -154,8 +161,15 @@ fed_nowhere behind missed probes probes' len n told lt read more =
       probes_are = more;
       told = omega (arith, told, weight, more);
       one_more =
-          omega (arith, told, weight, more, sum-raised missed len n lt read, sum-distances probes behind missed,
-            sum-distances probes' behind (set missed len (n + 1)));
+          omega (
+            arith,
+            told,
+            weight,
+            more,
+            sum-raised missed len n lt read,
+            sum-distances probes behind missed,
+            sum-distances probes' behind (set missed len (n + 1)),
+          );
     }
 
 -- The state after a reference, part by part. The front of its distances is h before and h' after.
@@ -172,7 +186,7 @@ module _ (v : ProfileState) (x k h h' : ℕ) (bs : List ℕ) (of_set : k ≡ set
       sym (ap (set v.lists (set_of_block v.geometry x)) f.stays ∙ set-get_or v.lists (set_of_block v.geometry x) []) in
       let distances : h' ∷ bs ≡ cond (is_in x xs) (raise v.distances (place_of x xs)) v.distances =
       ap (λ n. n ∷ bs) more ∙ sym (ap (λ b. cond b (raise v.distances (place_of x xs)) v.distances) f.inside ∙ ap (raise v.distances) f.place_is
-        ∙ ap (λ ds. raise ds 0) split) in
+      ∙ ap (λ ds. raise ds 0) split) in
       let missed : v.misses_by_occupancy ≡ cond (is_in x xs) v.misses_by_occupancy (raise v.misses_by_occupancy (length xs)) =
       sym (ap (λ b. cond b v.misses_by_occupancy (raise v.misses_by_occupancy (length xs))) f.inside) in
       let probes : v.probes + 1 ≡ v.probes + min (place_of x xs + 1) (length xs) = omega (arith, f.place_is, f.some) in
@@ -191,7 +205,7 @@ module _ (v : ProfileState) (x k h h' : ℕ) (bs : List ℕ) (of_set : k ≡ set
         let distances : h' ∷ set bs place (n + 1) ≡ cond (is_in x xs) (raise v.distances (place_of x xs)) v.distances =
         ap (λ m. m ∷ set bs place (n + 1)) same ∙ ap (λ m. h ∷ set bs place (m + 1)) read
         ∙ sym (ap (λ b. cond b (raise v.distances (place_of x xs)) v.distances) f.inside ∙ ap (raise v.distances) f.place_is
-          ∙ ap (λ ds. raise ds (suc place)) split) in
+        ∙ ap (λ ds. raise ds (suc place)) split) in
         let missed : v.misses_by_occupancy ≡ cond (is_in x xs) v.misses_by_occupancy (raise v.misses_by_occupancy (length xs)) =
         sym (ap (λ b. cond b v.misses_by_occupancy (raise v.misses_by_occupancy (length xs))) f.inside) in
         let probes : probes' ≡ v.probes + min (place_of x xs + 1) (length xs) = omega (arith, more, f.place_is, f.within) in

@@ -67,4 +67,3 @@ pub moved_out : (x y i : ℕ) (xs : List ℕ) → place_of x xs ≡ length xs �
 moved_out x y i xs at e =
     ap (λ ys. take i (y ∷ xs) ++ ys) (drop_all i xs (omega arith)) ∙ append-nil (take i (y ∷ xs)) ∙ ap (λ j. take j (y ∷ xs)) e
     ∙ ap (λ ys. take (length xs) (y ∷ ys)) (sym (ap (remove xs) at ∙ remove_end xs (length xs) (omega arith)))
-

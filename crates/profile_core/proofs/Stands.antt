@@ -72,8 +72,8 @@ referenced_in_stands es v r xs h e =
           cc (distance_within (distance g p) (seen g p) v.geometry.e d lt, f.last, f.found, f.place) in
           raise_if (is_in x xs) v.distances (place_of x xs) d
           (λ found.
-            let nearer : min (distance g p) v.geometry.e < min v.geometry.e (seen g p) = ltb-true _ _ (sym f.found ∙ found) in
-            omega (arith, f.place, h.distance_count, nearer))
+          let nearer : min (distance g p) v.geometry.e < min v.geometry.e (seen g p) = ltb-true _ _ (sym f.found ∙ found) in
+          omega (arith, f.place, h.distance_count, nearer))
           ∙ ap (λ n. n + cond (is_in x xs && eqb (place_of x xs) d) 1 0) (h.distances d lt)
           ∙ ap (λ b. count_by (λ q. has_last q && eqb (distance g q) d) (places v.geometry es) + cond b 1 0) step
           ∙ sym (sum_by-reference (λ q. cond (has_last q && eqb (distance g q) d) 1 0) g es r);
@@ -91,7 +91,7 @@ referenced_in_stands es v r xs h e =
           let more : min (place_of x xs + 1) (length xs) ≡ cond (is_hit g p) (distance g p + 1) (min (seen g p) v.geometry.e) =
           ap (λ i. min (i + 1) (length xs)) f.place ∙ ap (λ n. min (min (distance g p) v.geometry.e + 1) n) f.len
           ∙ sym (ap (λ b. cond (b && ltb (distance g p) v.geometry.e) (distance g p + 1) (min (seen g p) v.geometry.e)) f.last
-            ∙ probes_within (distance g p) (seen g p) v.geometry.e f.within) in
+          ∙ probes_within (distance g p) (seen g p) v.geometry.e f.within) in
           ap (λ n. n + min (place_of x xs + 1) (length xs)) h.comparisons
           ∙ ap (λ n. probes g es + n) more
           ∙ sym (sum_by-reference (λ q. cond (is_hit g q) (distance g q + 1) (min (seen g q) v.geometry.e)) g es r);
@@ -114,7 +114,7 @@ flush_stands es v h =
           get_or-replicate (2 ^ v.geometry.s) k [] [] lt
           ∙ sym (take-nil v.geometry.e)
           ∙ ap (λ ys. take v.geometry.e ys) (sym (distinct_of_set-nil v.geometry k)
-            ∙ ap (distinct_of_set v.geometry k) (sym (window-push v.geometry es event.Flush)));
+          ∙ ap (distinct_of_set v.geometry k) (sym (window-push v.geometry es event.Flush)));
       distance_count = h.distance_count;
       distances = λ d lt. h.distances d lt ∙ ap (count_by (λ p. has_last p && eqb (distance v.geometry p) d)) same;
       occupancy_count = h.occupancy_count;

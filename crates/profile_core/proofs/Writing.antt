@@ -108,8 +108,16 @@ module _ {n k held front : ℕ} {fronts slab lens : List ℕ} {lists : List (Lis
     slab_long : length slab' ≡ length slab
     slab_long =
         ap length w.slab_is
-        ∙ omega (arith, length-append (take (k * n) slab) (new ++ drop n (drop (k * n) slab)), length-append new (drop n (drop (k * n) slab)),
-          length-take (k * n) slab, length-drop n (drop (k * n) slab), length-drop (k * n) slab, ends, w.long)
+        ∙ omega (
+          arith,
+          length-append (take (k * n) slab) (new ++ drop n (drop (k * n) slab)),
+          length-append new (drop n (drop (k * n) slab)),
+          length-take (k * n) slab,
+          length-drop n (drop (k * n) slab),
+          length-drop (k * n) slab,
+          ends,
+          w.long,
+        )
 
     lens_long : length lens' ≡ length lens
     lens_long = ap length w.lens_are ∙ length-set lens k len
@@ -167,8 +175,14 @@ module _ {n k held front : ℕ} {fronts slab lens : List ℕ} {lists : List (Lis
 
     shifted_long : length shifted ≡ n
     shifted_long =
-        omega (arith, length-append after (drop (held - 1) stretch), after_long x front (held - 1) stretch after s,
-          length-drop (held - 1) stretch, stretch_long, held_short)
+        omega (
+          arith,
+          length-append after (drop (held - 1) stretch),
+          after_long x front (held - 1) stretch after s,
+          length-drop (held - 1) stretch,
+          stretch_long,
+          held_short,
+        )
 
     slab_shifted : put_mid (k * n) m now after ≡ take (k * n) slab ++ (shifted ++ drop n (drop (k * n) slab))
     slab_shifted =
@@ -179,8 +193,16 @@ module _ {n k held front : ℕ} {fronts slab lens : List ℕ} {lists : List (Lis
     pub put_long : length (put_mid (k * n) m now after) ≡ length slab
     put_long =
         ap length slab_shifted
-        ∙ omega (arith, length-append (take (k * n) slab) (shifted ++ drop n (drop (k * n) slab)), length-append shifted (drop n (drop (k * n) slab)),
-          length-take (k * n) slab, length-drop n (drop (k * n) slab), length-drop (k * n) slab, ends, shifted_long)
+        ∙ omega (
+          arith,
+          length-append (take (k * n) slab) (shifted ++ drop n (drop (k * n) slab)),
+          length-append shifted (drop n (drop (k * n) slab)),
+          length-take (k * n) slab,
+          length-drop n (drop (k * n) slab),
+          length-drop (k * n) slab,
+          ends,
+          shifted_long,
+        )
 
     one_more : suc (held - 1) ≡ held
     one_more = omega (arith, some)

@@ -121,6 +121,7 @@ impl RecencyLists {
     {
         let held = self.lens[set] as usize;
         let front = mem::replace(&mut self.fronts[set], block);
+        *probes += 1;
         let start = set * self.stride;
         let end = start + held - 1;
         match shift_to(&mut self.slab[start..end], front, block, probes) {
@@ -185,13 +186,12 @@ fn total_len(lens: &[u32]) -> u64
     total
 }
 
-/// Puts `first` in front of a list. Each other block moves one place on, up to the place where `block` stood. The
-/// comparison with `first`, which was another block, is counted with those that are made here.
+/// Puts `first` in front of a list. Each other block moves one place on, up to the place where `block` stood.
 #[inline(always)]
 fn shift_to(list: &mut [u64], first: u64, block: u64, probes: &mut u64) -> Shifted
-    requires { probes.old + 1 + length list.old < 2 ^ 64 }
+    requires { probes.old + length list.old < 2 ^ 64 }
     ensures shifted { result ≡ shifted_of block first list.old }
-    ensures counted { probes.new ≡ probes.old + 1 + min (place_of block list.old + 1) (length list.old) }
+    ensures counted { probes.new ≡ probes.old + min (place_of block list.old + 1) (length list.old) }
     ensures moved { list.new ≡ take (length list.old) (first ∷ remove list.old (place_of block list.old)) }
 {
     let mut carried = first;
@@ -200,11 +200,11 @@ fn shift_to(list: &mut [u64], first: u64, block: u64, probes: &mut u64) -> Shift
         let other = mem::replace(entry, carried);
         compared += 1;
         if other == block {
-            *probes += 1 + compared as u64;
+            *probes += compared as u64;
             return Shifted::Found(compared - 1);
         }
         carried = other;
     }
-    *probes += 1 + compared as u64;
+    *probes += compared as u64;
     Shifted::Out(carried)
 }

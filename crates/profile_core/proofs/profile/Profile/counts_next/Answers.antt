@@ -21,8 +21,11 @@ few c = omega (arith, (step c).fed_is, c.self.invariant.fed, ap fed_of c.self.vi
 
 pub total-free-requires : goal.total-free-requires
 total-free-requires c =
-    omega (arith, part-le c.deref.result.now c.self.inside.misses_by_occupancy.items (c.args.e - c.tally.inside.ways) c.tally.inside.ways c.deref.ensures.value,
-      c.self.invariant.fed)
+    omega (
+      arith,
+      part-le c.deref.result.now c.self.inside.misses_by_occupancy.items (c.args.e - c.tally.inside.ways) c.tally.inside.ways c.deref.ensures.value,
+      c.self.invariant.fed,
+    )
 
 pub overflow_add-tally : goal.overflow_add-tally
 overflow_add-tally c = let at = (goal.at.overflow_add-tally c).After-total-free in omega (arith, within (step at), few at)

@@ -10,8 +10,15 @@ use Rattle.profile_core.proofs.profile.Profile.fed.Goals.{After-total-2}
 all_fed : (c : After-total-2) → c.front_hits.result + c.total.result + c.total-2.result ≡ fed_of c.args.self.now
 all_fed c =
     let hits = c.front_hits.ensures ∙ ap (λ v. slice_index v.distances 0) (sym c.self.view_is) in
-    omega (arith, hits, c.total.ensures, c.total-2.ensures, ap sum c.deref.ensures.value, ap sum c.deref-2.ensures.value,
-      sum-distances c.self.inside.probes c.self.inside.behind.items c.self.inside.misses_by_occupancy.items)
+    omega (
+      arith,
+      hits,
+      c.total.ensures,
+      c.total-2.ensures,
+      ap sum c.deref.ensures.value,
+      ap sum c.deref-2.ensures.value,
+      sum-distances c.self.inside.probes c.self.inside.behind.items c.self.inside.misses_by_occupancy.items,
+    )
     ∙ ap fed_of c.self.view_is
 
 pub returns-clause-value : goal.returns-clause-value

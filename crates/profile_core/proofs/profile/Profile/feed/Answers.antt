@@ -22,7 +22,7 @@ returns-then-is_front-clause-step c =
     } in
     let told = c.self.invariant.told in
     let more : c.self.inside.probes + 1 - compared_behind c.self.inside.behind.items c.self.inside.misses_by_occupancy.items
-        ≡ c.self.inside.probes - compared_behind c.self.inside.behind.items c.self.inside.misses_by_occupancy.items + 1 = omega (arith, told) in
+    ≡ c.self.inside.probes - compared_behind c.self.inside.behind.items c.self.inside.misses_by_occupancy.items + 1 = omega (arith, told) in
     let block : c.block_of-block.result ≡ block_of c.args.self.now.geometry c.args.addr =
     c.block_of-block.ensures.value ∙ ap (λ v. block_of v.geometry c.args.addr) c.self.view_is in
     front_step before c.block_of-block.result c.set_of_block-set.result _ _ c.self.inside.behind.items c.set_of_block-set.ensures.value refl
@@ -31,5 +31,8 @@ returns-then-is_front-clause-step c =
 
 pub returns-then-is_front-clause-one_more : goal.returns-then-is_front-clause-one_more
 returns-then-is_front-clause-one_more c =
-    omega (arith, (fed_front c.self.inside.behind.items c.self.inside.misses_by_occupancy.items c.self.inside.probes c.self.invariant.told).one_more,
-      ap fed_of c.self.view_is)
+    omega (
+      arith,
+      (fed_front c.self.inside.behind.items c.self.inside.misses_by_occupancy.items c.self.inside.probes c.self.invariant.told).one_more,
+      ap fed_of c.self.view_is,
+    )

@@ -29,7 +29,7 @@ len_fits c len is =
 numbers_behind : (c : After-bring) (place n : ℕ) → Behind place ≡ touch_of c.args.block (list c) → n ≡ get_or c.self.inside.behind.items place n
     → IsFed c.self.inside.behind.items c.self.inside.misses_by_occupancy.items
     (set c.self.inside.behind.items place (n + 1)) c.self.inside.misses_by_occupancy.items
-      c.self.inside.probes c.bring.new.probes (place + 2)
+    c.self.inside.probes c.bring.new.probes (place + 2)
 numbers_behind c place n is read =
     let f = found c place is in
     fed_behind c.self.inside.behind.items c.self.inside.misses_by_occupancy.items c.self.inside.probes c.bring.new.probes place n c.self.invariant.told
@@ -38,7 +38,7 @@ numbers_behind c place n is read =
 numbers_new : (c : After-bring) (len n : ℕ) → New len ≡ touch_of c.args.block (list c) → n ≡ get_or c.self.inside.misses_by_occupancy.items len n
     → IsFed c.self.inside.behind.items c.self.inside.misses_by_occupancy.items c.self.inside.behind.items
     (set c.self.inside.misses_by_occupancy.items len (n + 1))
-      c.self.inside.probes c.bring.new.probes len
+    c.self.inside.probes c.bring.new.probes len
 numbers_new c len n is read =
     let f = found_nowhere c.args.block len (list c) is in
     fed_nowhere c.self.inside.behind.items c.self.inside.misses_by_occupancy.items c.self.inside.probes c.bring.new.probes len n c.self.invariant.told
@@ -99,8 +99,13 @@ step_behind c place n is read =
     let numbers = numbers_behind c place n is read in
     let fits = place_fits c place is in
     let same : in_front c.bring.new.probes (set behind place (n + 1)) missed ≡ in_front c.self.inside.probes behind missed =
-    omega (arith, numbers.one_more, sum-raised behind place n fits read, sum-distances c.self.inside.probes behind missed,
-      sum-distances c.bring.new.probes (set behind place (n + 1)) missed) in
+    omega (
+      arith,
+      numbers.one_more,
+      sum-raised behind place n fits read,
+      sum-distances c.self.inside.probes behind missed,
+      sum-distances c.bring.new.probes (set behind place (n + 1)) missed,
+    ) in
     behind_step (before c) c.args.block c.args.set _ _ behind (of_set c) refl c.bring.new.self.lists c.bring.new.probes n same (moved c) place
     (found c place is) (get_or_read behind place n fits read 0) numbers.probes_are
 
@@ -117,8 +122,13 @@ step_new c len n is read =
     let numbers = numbers_new c len n is read in
     let fits = len_fits c len is in
     let same : in_front c.bring.new.probes behind (set missed len (n + 1)) ≡ in_front c.self.inside.probes behind missed =
-    omega (arith, numbers.one_more, sum-raised missed len n fits read, sum-distances c.self.inside.probes behind missed,
-      sum-distances c.bring.new.probes behind (set missed len (n + 1))) in
+    omega (
+      arith,
+      numbers.one_more,
+      sum-raised missed len n fits read,
+      sum-distances c.self.inside.probes behind missed,
+      sum-distances c.bring.new.probes behind (set missed len (n + 1)),
+    ) in
     nowhere_step (before c) c.args.block c.args.set _ _ behind (of_set c) refl c.bring.new.self.lists c.bring.new.probes n same (moved c) len
     (found_nowhere c.args.block len (list c) is) (get_or_read missed len n fits read 0) numbers.probes_are
 
@@ -139,8 +149,12 @@ pub overflow_add-index_mut : goal.overflow_add-index_mut
 overflow_add-index_mut c =
     let at = (goal.at.overflow_add-index_mut c).After-bring in
     let fits = place_fits at c.in-Behind.place c.in-Behind.ensures.found in
-    omega (arith, raised_fits c.self.inside.behind.items c.in-Behind.place c.index_mut.result.now fits c.index_mut.ensures.value, few at,
-      sum-distances c.self.inside.probes c.self.inside.behind.items c.self.inside.misses_by_occupancy.items)
+    omega (
+      arith,
+      raised_fits c.self.inside.behind.items c.in-Behind.place c.index_mut.result.now fits c.index_mut.ensures.value,
+      few at,
+      sum-distances c.self.inside.probes c.self.inside.behind.items c.self.inside.misses_by_occupancy.items,
+    )
 
 pub overflow_add-index_mut-in-New : goal.overflow_add-index_mut-in-New
 overflow_add-index_mut-in-New c =

@@ -1,5 +1,5 @@
 -- The first reference to a set, which is not found and makes no comparison.
-use Rattle.std.proofs.Common.{◌≡◌, ◌+◌, ◌<◌, ◌≤◌, ◌-◌, ◌^◌, ℕ, List, ◌∙◌, [], ◌∷◌, length, get_or, set, sum, sym, ap, take, arith, length-set, refl}
+use Rattle.std.proofs.Common.{◌≡◌, ◌+◌, ◌<◌, ◌-◌, ◌^◌, ℕ, ◌∙◌, [], length, get_or, set, sum, sym, ap, take, arith, length-set, refl}
 use Rattle.std.proofs.lemmas.List.{get_or_read}
 use Rattle.cache_core.specs.Geometry.{set_of_block}
 use Rattle.profile_core.specs.Moves.{move_to_front}
@@ -24,7 +24,7 @@ few c = omega (arith, c.requires.few, ap fed_of c.self.view_is)
 numbers : (c : After-begin) (n : ℕ) → n ≡ get_or c.self.inside.misses_by_occupancy.items 0 n
     → IsFed c.self.inside.behind.items c.self.inside.misses_by_occupancy.items c.self.inside.behind.items
     (set c.self.inside.misses_by_occupancy.items 0 (n + 1))
-      c.self.inside.probes c.self.inside.probes 0
+    c.self.inside.probes c.self.inside.probes 0
 numbers c n read =
     fed_nowhere c.self.inside.behind.items c.self.inside.misses_by_occupancy.items c.self.inside.probes c.self.inside.probes 0 n c.self.invariant.told
     (some_occupancy c) read (omega arith)
@@ -57,8 +57,13 @@ returns-clause-step c =
       probes = c.self.inside.probes;
     } in
     let same : c.self.inside.probes - compared_behind behind (set missed 0 (n + 1)) ≡ c.self.inside.probes - compared_behind behind missed =
-    omega (arith, (numbers at n c.index_mut.ensures.value).one_more, sum-raised missed 0 n (some_occupancy at) c.index_mut.ensures.value,
-      sum-distances c.self.inside.probes behind missed, sum-distances c.self.inside.probes behind (set missed 0 (n + 1))) in
+    omega (
+      arith,
+      (numbers at n c.index_mut.ensures.value).one_more,
+      sum-raised missed 0 n (some_occupancy at) c.index_mut.ensures.value,
+      sum-distances c.self.inside.probes behind missed,
+      sum-distances c.self.inside.probes behind (set missed 0 (n + 1)),
+    ) in
     let of_set = c.requires.of_set ∙ ap (λ v. set_of_block v.geometry c.args.block) (sym c.self.view_is) in
     let moved =
     ap (λ l. l.lists) c.begin.ensures
@@ -72,5 +77,8 @@ returns-clause-step c =
 
 pub returns-clause-one_more : goal.returns-clause-one_more
 returns-clause-one_more c =
-    omega (arith, (numbers (goal.at.returns-clause-one_more c).After-begin c.index_mut.result.now c.index_mut.ensures.value).one_more,
-      ap fed_of c.self.view_is)
+    omega (
+      arith,
+      (numbers (goal.at.returns-clause-one_more c).After-begin c.index_mut.result.now c.index_mut.ensures.value).one_more,
+      ap fed_of c.self.view_is,
+    )

@@ -12,9 +12,13 @@ distances c = ap (λ v. v.distances) c.self.view_is
 
 pub total-requires-else-from-eq0 : goal.total-requires-else-from-eq0
 total-requires-else-from-eq0 c =
-    omega (arith, part-le c.deref-else-from-eq0.result.now c.self.inside.behind.items (c.args.to - 1 - (c.args.from - 1)) (c.args.from - 1)
-      c.deref-else-from-eq0.ensures.value, c.self.invariant.fed,
-      sum-distances c.self.inside.probes c.self.inside.behind.items c.self.inside.misses_by_occupancy.items)
+    omega (
+      arith,
+      part-le c.deref-else-from-eq0.result.now c.self.inside.behind.items (c.args.to - 1 - (c.args.from - 1)) (c.args.from - 1)
+          c.deref-else-from-eq0.ensures.value,
+      c.self.invariant.fed,
+      sum-distances c.self.inside.probes c.self.inside.behind.items c.self.inside.misses_by_occupancy.items,
+    )
 
 pub returns-then-from-eq0 : goal.returns-then-from-eq0
 returns-then-from-eq0 c =

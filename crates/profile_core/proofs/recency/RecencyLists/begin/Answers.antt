@@ -1,7 +1,5 @@
 -- The first block of a set's list.
-use Rattle.std.proofs.Common.{◌≡◌, ◌+◌, ◌<◌, ◌≤◌, ◌*◌, ◌^◌, ℕ, List, ◌∙◌, [], ◌∷◌, length, take, get_or, set, sym, ap, subst, refl, arith}
-use Rattle.profile_core.specs.declared.recency.RecencyLists.TheInside.{Inside}
-use Rattle.profile_core.specs.Slab.{lists_in, Lists}
+use Rattle.std.proofs.Common.{◌≡◌, ◌+◌, ◌∙◌, take, get_or, set, sym, ap, subst, refl, arith}
 use Rattle.profile_core.specs.Moves.{move_to_front}
 use Rattle.cache_core.specs.Touched.{Covers}
 use Rattle.cache_core.proofs.TouchedSets.{covers_change}

@@ -1,5 +1,5 @@
 -- The length of a set's list, read.
-use Rattle.std.proofs.Common.{◌≡◌, ◌<◌, ◌∙◌, List, length, eqb, sym, ap, arith}
+use Rattle.std.proofs.Common.{◌<◌, ◌∙◌, length, eqb, sym, ap, arith}
 use Rattle.std.proofs.lemmas.List.{get_or_read}
 use Rattle.profile_core.proofs.SlabLemmas.{inside, list_size}
 use Rattle.profile_core.proofs.recency.RecencyLists.is_empty.Goals as goal

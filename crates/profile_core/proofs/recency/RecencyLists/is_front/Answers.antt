@@ -18,9 +18,12 @@ within c = inside c.self.inside.stride c.args.set c.self.inside.fronts.items c.s
 
 short : (c : After-self) → length (get_or c.args.self.now.lists c.args.set []) ≤ c.args.self.now.depth
 short c =
-    omega (arith, ap (λ v. v.depth) c.self.view_is,
+    omega (
+      arith,
+      ap (λ v. v.depth) c.self.view_is,
       list_short c.self.inside.stride c.args.set c.self.inside.fronts.items c.self.inside.slab.items c.self.inside.lens.items
-      c.args.self.now.lists c.self.invariant.sound (lists_are c) c.requires)
+          c.args.self.now.lists c.self.invariant.sound (lists_are c) c.requires,
+    )
 
 -- the list, by the length and the front of its row
 list_is : (c : After-self) → get_or c.args.self.now.lists c.args.set [] ≡ take (get_or c.self.inside.lens.items c.args.set 0)
