@@ -4,7 +4,7 @@
 #   make test-tools             builds the program and tests the tools and the package with it
 #   make strain                 what takes longer: more random cases, refused memory in the libraries too, Cachegrind, C code
 #   make refusals               of these, refused memory alone, for the program and for each call of the libraries
-#   make mutants                functions with a wrong body, each of which the prover must refuse at the goal that it names
+#   make mutants                small changes that make the code wrong, each of which the prover must refuse at the goal that it names
 #   make tools                  compiles the C parts of the tools, which else are compiled at their first use
 #   make install PREFIX=/usr    builds the program and puts it, tools, manual, completion and documents below PREFIX (/usr/local)
 #   make uninstall PREFIX=/usr  removes what make install has put there
