@@ -3,7 +3,7 @@ ghost use Rattle.std.specs.Prelude.{◌≤◌, IfOk};
 
 use std::io::{Error, ErrorKind, Read, Write};
 use std::test::Fail;
-use trace_core::devices::{ArraySink, SINK_ROOM, TapeSource};
+use trace_core::devices::{ArraySink, TapeSource};
 use trace_core::io::{DeviceFault, FromRead, Sink, Source, ToWrite, write_all};
 
 #[test]
@@ -53,14 +53,14 @@ fn a_flush_of_an_array_is_a_call(rt: HostRuntime) -> Result<(), Fail> {
 #[test]
 fn a_full_array_fails(rt: HostRuntime) -> Result<(), Fail> {
     let mut sink = ArraySink::new(usize::MAX, 0);
-    let bytes = [b'x'; SINK_ROOM];
+    let bytes = [b'x'; 1024];
     assert!(rt; write_all(&mut sink, &bytes[1..]) == Ok(()));
     assert!(rt; sink.write(b"yz") == Ok(1));
     assert!(rt; sink.write(b"z") == Err(DeviceFault));
     assert!(rt; sink.write(b"") == Ok(0));
     assert!(rt; sink.flush() == Ok(()));
-    assert!(rt; sink.held().len() == SINK_ROOM);
-    assert!(rt; &sink.held()[SINK_ROOM - 2..] == b"xy".as_slice());
+    assert!(rt; sink.held().len() == 1024);
+    assert!(rt; &sink.held()[1022..] == b"xy".as_slice());
     Ok(())
 }
 
