@@ -46,7 +46,8 @@ lines_after-append g before (e ∷ xs) ys =
 abbrev later_lines : GeometryValue → Bool → List Entry → List Entry → List ℕ
 later_lines g verbose xs ys = cond verbose (lines_after g (data_of xs) ys) []
 
-csim_lines-append : (g : GeometryValue) (verbose : Bool) (xs ys : List Entry) → csim_lines g verbose (xs ++ ys) ≡ csim_lines g verbose xs ++ later_lines g verbose xs ys
+csim_lines-append : (g : GeometryValue) (verbose : Bool) (xs ys : List Entry)
+    → csim_lines g verbose (xs ++ ys) ≡ csim_lines g verbose xs ++ later_lines g verbose xs ys
 csim_lines-append g true xs ys = lines_after-append g [] xs ys
 csim_lines-append g false xs ys = refl
 
@@ -57,7 +58,8 @@ one_line g true xs e = append-nil (line_of e (lookups_of g (data_of xs) e))
 one_line g false xs e = refl
 
 -- one entry more
-lines-more : (g : GeometryValue) (verbose : Bool) (xs : List (ℕ × Entry)) (x : ℕ × Entry) (lookups : List Lookup) → lookups ≡ lookups_of g (data_of (entries_of xs)) x.1
+lines-more : (g : GeometryValue) (verbose : Bool) (xs : List (ℕ × Entry)) (x : ℕ × Entry) (lookups : List Lookup)
+    → lookups ≡ lookups_of g (data_of (entries_of xs)) x.1
     → csim_lines g verbose (entries_of (xs ++ x ∷ [])) ≡ csim_lines g verbose (entries_of xs) ++ cond verbose (line_of x.1 lookups) []
 lines-more g verbose xs x lookups is =
     ap (csim_lines g verbose) (map_push (λ y. y.1) xs x) ∙ csim_lines-append g verbose (entries_of xs) (x.1 ∷ [])
@@ -78,7 +80,8 @@ no-lines g true = refl
 no-lines g false = refl
 
 -- the invariant of the loop: what was read, simulated and written
-pub record Simulated (g : GeometryValue) (verbose : Bool) (limit : ℕ) (start now : SourceView) (sink sink' : SinkView) (p : Progress) (sim : Simulation) : Type 0 where
+pub record Simulated (g : GeometryValue) (verbose : Bool) (limit : ℕ) (start now : SourceView) (sink sink' : SinkView) (p : Progress)
+    (sim : Simulation) : Type 0 where
   pub read : List (ℕ × Entry)
   pub reached : Reached Lackey limit start now read p
   pub wrote : Wrote sink sink' (csim_lines g verbose (entries_of read))

@@ -70,7 +70,8 @@ simulates_more g events old new r o step count h =
     (record { some = h.some; cache = law.0; counts = count ∙ ap₂ counted h.counts lookup ∙ sym (counts-reference g events r) }, lookup)
 
 -- one more flush
-pub simulates_flush : (g : GeometryValue) (events : List Event) (old new : Simulation) (dirty : ℕ) → Flushes (lru_contents old.cache) dirty (lru_contents new.cache)
+pub simulates_flush : (g : GeometryValue) (events : List Event) (old new : Simulation) (dirty : ℕ)
+    → Flushes (lru_contents old.cache) dirty (lru_contents new.cache)
     → new.counts ≡ old.counts → Simulates g events old → Simulates g (events ++ event.Flush ∷ []) new
 simulates_flush g events old new dirty flush same h =
     let law = flush_run (lru_machine g Back) events (lru_contents old.cache) dirty (lru_contents new.cache) h.cache flush in
@@ -85,7 +86,8 @@ pub follows_none : (g : GeometryValue) (events : List Event) (sim : Simulation) 
 unfolding places_after
 follows_none g events sim more none h = rw (none, append-nil events) (h, refl)
 
-pub follows_one : (g : GeometryValue) (events : List Event) (old new : Simulation) (r : Ref) (more : List Event) (lookup : Lookup) → more ≡ event.Reference r ∷ []
+pub follows_one : (g : GeometryValue) (events : List Event) (old new : Simulation) (r : Ref) (more : List Event) (lookup : Lookup)
+    → more ≡ event.Reference r ∷ []
     → (Simulates g events old → Simulates g (events ++ event.Reference r ∷ []) new × (lookup ≡ lookup_at g (place_after g events r)))
     → Follows g events old more new (lookup ∷ [])
 unfolding places_after
