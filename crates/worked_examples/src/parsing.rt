@@ -7,8 +7,7 @@ use cache_core::plan::{CacheName, PlanFault};
 use std::alloc::Global;
 use std::process::Abort;
 use std::test::Fail;
-use sweep_core::space::Config;
-use sweep_core::space::{Cause, SpaceFault, Which};
+use sweep_core::space::{Cause, Config, SpaceFault, Which};
 
 /// The fault of a line that is no call, or whose values give no job.
 fn fault_of(alloc: Global, line: &str) -> Result<WordsFault, Fail> {
