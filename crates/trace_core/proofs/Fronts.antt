@@ -192,3 +192,33 @@ label-front text cut tail rest before some blank tail_is after =
           unfed-append before.0 (label ∷ b ∷ after.0) (unfed-blanks before.0 before.2) (byte, (unfed-blank b blank, unfed-blanks after.0 after.2));
       first = λ more plain. ap (λ l. fields (trimmed l)) (sym (split more)) ∙ fields-label before.0 after.0 more label b before.2 after.2 blank plain;
     }
+
+-- a label and one blank
+pub single-front : (text : List ℕ) → 2 ≤ length text → is_blank (get_or text 1 0) ≡ true
+    → BeginsLabel text (take (length text - 2) (drop 2 text)) (get_or text 0 0)
+single-front text some blank =
+    let rest = take (length text - 2) (drop 2 text) in
+    label-front text text rest rest ([], refl, refl) some blank refl ([], refl, refl)
+
+-- a blank, a label, and one blank
+pub blank-front : (text : List ℕ) → 3 ≤ length text → is_blank (get_or text 0 0) ≡ true → is_blank (get_or text 2 0) ≡ true
+    → BeginsLabel text (take (length text - 3) (drop 3 text)) (get_or text 1 0)
+blank-front [] some first last = absurd (omega arith)
+blank-front (b ∷ []) some first last = absurd (omega arith)
+blank-front (b ∷ label ∷ []) some first last = absurd (omega arith)
+blank-front (b ∷ label ∷ c ∷ cs) some first last =
+    let rest = take (length (b ∷ label ∷ c ∷ cs) - 3) cs in
+    label-front (b ∷ label ∷ c ∷ cs) (label ∷ c ∷ cs) rest rest (b ∷ [], refl, rw first refl) (omega arith) last
+    (ap (λ n. take n cs) (omega arith)) ([], refl, refl)
+
+-- a label and two blanks
+pub doubled-front : (text : List ℕ) → 3 ≤ length text → is_blank (get_or text 1 0) ≡ true → is_blank (get_or text 2 0) ≡ true
+    → BeginsLabel text (take (length text - 3) (drop 3 text)) (get_or text 0 0)
+doubled-front [] some first last = absurd (omega arith)
+doubled-front (label ∷ []) some first last = absurd (omega arith)
+doubled-front (label ∷ b ∷ []) some first last = absurd (omega arith)
+doubled-front (label ∷ b ∷ c ∷ cs) some first last =
+    let text = label ∷ b ∷ c ∷ cs in
+    let rest = take (length text - 3) cs in
+    label-front text text (c ∷ rest) rest ([], refl, refl) (omega arith) first
+    (ap (λ cs. c ∷ cs) (take_all (length text - 3) cs (omega arith)) ∙ sym (take_all (length text - 2) (c ∷ cs) (omega arith))) (c ∷ [], refl, rw last refl)

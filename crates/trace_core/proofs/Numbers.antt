@@ -1,13 +1,72 @@
--- The number that a loop over digits has read.
-use Rattle.std.proofs.Common.{◌≡◌, ℕ, ◌+◌, ◌*◌, ◌<◌, ◌≤◌, ◌^◌, true, List, [], ◌∷◌, length, take, get_or, Some, refl}
-use Rattle.std.proofs.Common.{arith, rules, tests, ltb, leb}
+-- The number that digits in front of a text write.
+use Rattle.std.proofs.Common.{◌≡◌, ℕ, ◌+◌, ◌*◌, ◌<◌, ◌≤◌, ◌^◌, ◌⊎◌, inl, inr, Bool, true, false, List, [], ◌∷◌, ◌++◌, length, take, drop}
+use Rattle.std.proofs.Common.{get_or, Some, refl, sym, ap, ◌∙◌}
+use Rattle.std.proofs.Common.{arith, rules, tests, ltb, leb, if◌then◌else◌}
 use Rattle.std.specs.List.{list_all}
 use Rattle.std.specs.Char.{digit_value, is_digit}
 use Rattle.std.specs.Str.Parse.{AllDigits, digits_value}
 use Rattle.std.proofs.Math.Nat.{pow-le-pow_right}
-use Rattle.std.proofs.lemmas.List.{length-take-le}
+use Rattle.std.proofs.lemmas.List.{length-take-le, take-append-drop}
 use Rattle.std.proofs.lemmas.Int.Digits.{digits_value-lt, digits_value_more, digits_more}
-use Rattle.trace_core.specs.Fields.{number_written}
+use Rattle.trace_core.specs.Fields.{Writes, number_written}
+use Rattle.trace_core.specs.declared.digits.TheConstants.{NO_DIGIT}
+
+-- what the table has for a byte
+abbrev pub entry : ℕ → ℕ
+entry c = if is_digit c 16 then digit_value c else NO_DIGIT
+
+abbrev Known : ℕ → Type 0
+Known c = ((entry c ≡ digit_value c) × (digit_value c < 16)) ⊎ ((entry c ≡ NO_DIGIT) × (16 ≤ digit_value c))
+
+known : (c : ℕ) → Known c
+known c = by_case (is_digit c 16) refl
+  where
+    by_case : (t : Bool) → is_digit c 16 ≡ t → Known c
+    by_case true is = inl (rw is refl, search (rules, tests))
+    by_case false is = inr (rw is refl, search (rules, tests))
+
+pub at_most : (c : ℕ) → entry c ≤ NO_DIGIT
+at_most c = by_case (known c)
+  where
+    by_case : Known c → entry c ≤ NO_DIGIT
+    by_case (inl digit) = omega (arith, digit.0, digit.1)
+    by_case (inr other) = omega (arith, other.0)
+
+-- a byte with another entry than `NO_DIGIT` is a digit
+pub digit-known : (c : ℕ) → entry c < NO_DIGIT → (entry c ≡ digit_value c) × (digit_value c < 16)
+digit-known c below = by_case (known c)
+  where
+    by_case : Known c → (entry c ≡ digit_value c) × (digit_value c < 16)
+    by_case (inl digit) = digit
+    by_case (inr other) = absurd (omega (arith, other.0, below))
+
+-- a byte whose entry is below a radix is a digit in it
+pub digit-below : (c radix : ℕ) → radix ≤ 16 → entry c < radix → (entry c ≡ digit_value c) × (digit_value c < radix)
+digit-below c radix small below = by_case (known c)
+  where
+    by_case : Known c → (entry c ≡ digit_value c) × (digit_value c < radix)
+    by_case (inl digit) = (digit.0, omega (arith, digit.0, below))
+    by_case (inr other) = absurd (omega (arith, other.0, below))
+
+pub no-digit : (c radix : ℕ) → radix ≤ 16 → radix ≤ entry c → is_digit c radix ≡ false
+no-digit c radix small above = by_case (known c)
+  where
+    by_case : Known c → is_digit c radix ≡ false
+    by_case (inl digit) = let high : radix ≤ digit_value c = omega (arith, digit.0, above) in search (rules, tests)
+    by_case (inr other) = let high : radix ≤ digit_value c = omega (arith, other.1) in search (rules, tests)
+
+-- one digit more
+pub writes-more : (radix : ℕ) (text : List ℕ) (value at digit : ℕ) → at < length text → digit ≡ digit_value (get_or text at 0)
+    → digit_value (get_or text at 0) < radix → Writes radix text (value, at) → Writes radix text (value * radix + digit, at + 1)
+writes-more radix text value at digit inside is below written = (
+  omega (arith, is, ap (λ v. v * radix) written.0, digits_value_more radix text at inside),
+  digits_more radix text at inside written.1 below,
+  omega arith,
+)
+
+-- a number written before any digit
+pub writes-none : (radix : ℕ) (text : List ℕ) → Writes radix text (0, 0)
+writes-none radix text = (refl, tt, omega arith)
 
 module _ (radix most : ℕ) (some : 0 < radix) where
   pub number-fits : (ds : List ℕ) (i : ℕ) → i < length ds → i < most → AllDigits radix (take i ds) → digit_value (get_or ds i 0) < radix
@@ -40,3 +99,13 @@ module _ (radix most : ℕ) (some : 0 < radix) where
       let at_least : leb 1 (length ds) ≡ true = search (rules, tests) in
       let at_most : leb (length ds) most ≡ true = search (rules, tests) in
       rw (at_least, at_most, all_digits ds digits) refl
+
+  -- a text is the digits in front, which write a number, and the rest
+  pub number-front : (text : List ℕ) (n value : ℕ) (rest : List ℕ) → Writes radix text (value, n) → 1 ≤ n → n ≤ most → rest ≡ drop n text
+      → (digits : List ℕ) × (text ≡ digits ++ rest) × (number_written radix most digits ≡ Some value)
+  number-front text n value rest written low high is =
+      let len = length-take-le n text (omega (arith, written.2)) in (
+        take n text,
+        sym (take-append-drop n text) ∙ ap (λ back. take n text ++ back) (sym is),
+        number_written-some (take n text) (omega (arith, len)) (omega (arith, len)) written.1 ∙ ap Some (sym written.0),
+      )

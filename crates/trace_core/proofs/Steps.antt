@@ -10,6 +10,8 @@ use Rattle.trace_core.specs.Line.{meaning}
 use Rattle.trace_core.specs.Reading.{judge, with_line, ends, reading_after, Ending}
 use Rattle.trace_core.specs.Reader.{Progress, Advances}
 use Rattle.trace_core.specs.declared.events.Entry.{Entry}
+use Rattle.trace_core.specs.declared.events.Entry.TheVariants as entry
+use Rattle.trace_core.specs.declared.events.Item.{Item}
 use Rattle.trace_core.specs.declared.line.Format.{Format}
 use Rattle.trace_core.specs.declared.line.LineFault.{LineFault}
 use Rattle.trace_core.specs.declared.fault.TraceFault.{TraceFault}
@@ -37,7 +39,7 @@ judge-fault : (f : Format) (limit n : ℕ) (w : List ℕ) (x : TraceFault) → n
     → (y : LineFault) × (x ≡ fault.Line n y)
 judge-fault f limit n w x within short judged = with_line-err n (meaning f w) x (sym (judge-own f limit n w within short) ∙ judged)
 
-pub judge-ok : (f : Format) (limit n : ℕ) (w : List ℕ) (o : Option Entry) → n ≤ limit → length w ≤ MAX_LINE → meaning f w ≡ Ok o
+judge-ok : (f : Format) (limit n : ℕ) (w : List ℕ) (o : Option Entry) → n ≤ limit → length w ≤ MAX_LINE → meaning f w ≡ Ok o
     → judge f limit n w ≡ Ok o
 judge-ok f limit n w o within short means = judge-own f limit n w within short ∙ ap (with_line n) means
 
@@ -90,6 +92,18 @@ module _ (told : Option (List ℕ)) (scan : Scan) (opened : scan.state ≡ state
       (subst (λ p. Advances told (at f limit n u state.Open) p [] (numbered (n + 1) o)) passed
       (subst (λ v. Advances told (at f limit n v state.Open) (at f limit (n + 1) (drop (k + 1) u) state.Open) [] (numbered (n + 1) o))
       (sym (line-split u k found)) (Advances-line told f limit n (take k u) (drop (k + 1) u) o (line-before u k found) judged)))
+
+  -- a line whose item was read apart
+  pub steps-item : (unread : List ℕ) (k : ℕ) (item : Item) (q : Progress) (number : ℕ) → unread ≡ u → IsFirstByte (is_byte 10) unread (Some k)
+      → meaning f (take k unread) ≡ Ok (Some (entry.Item item)) → k ≤ MAX_LINE → n < limit
+      → number ≡ q.lines → q.lines ≡ n + 1 → q.unread ≡ drop (k + 1) u → (q.format ≡ f) × (q.limit ≡ limit) × (q.state ≡ s)
+      → Advances told (at f limit n u s) q [] ((number, entry.Item item) ∷ [])
+  steps-item unread k item q number is found means short within numbered_is line rest same =
+      let own : IsFirstByte (is_byte 10) u (Some k) = subst (λ v. IsFirstByte (is_byte 10) v (Some k)) is found in
+      let meant : meaning f (take k u) ≡ Ok (Some (entry.Item item)) = subst (λ v. meaning f (take k v) ≡ Ok (Some (entry.Item item))) is means in
+      let fits : length (take k u) ≤ MAX_LINE = omega (arith, length-take-le k u (omega (arith, own.0.high))) in
+      subst (λ m. Advances told (at f limit n u s) q [] ((m, entry.Item item) ∷ [])) (sym (numbered_is ∙ line))
+      (steps-line k (Some (entry.Item item)) q own (judge-ok f limit (n + 1) (take k u) _ (omega arith) fits meant) line rest same)
 
   pub steps-bad_line : (q : Progress) (k : ℕ) (x : TraceFault) → IsFirstByte (is_byte 10) u (Some k) → judge f limit (n + 1) (take k u) ≡ Err x
       → q.state ≡ state.Failed x

@@ -1,54 +1,74 @@
 //! Digits, and the numbers that they write.
 ghost use Rattle.std.specs.Prelude.{◌≡◌, ℕ, ◌+◌, ◌*◌, ◌^◌, ◌<◌, ◌≤◌, ◌++◌, List, Some, false};
-ghost use Rattle.std.specs.Prelude.{length, take, slice_index, IfSome};
+ghost use Rattle.std.specs.Prelude.{length, slice_index, IfSome, if◌then◌else◌};
 ghost use Rattle.std.specs.Char.{digit_value, is_digit};
-ghost use Rattle.std.specs.Str.Parse.{AllDigits, digits_value};
-ghost use Rattle.trace_core.specs.Fields.{number_written};
+ghost use Rattle.trace_core.specs.Fields.{Writes, number_written};
 
-/// For each byte its value as a digit in base 36, or 36.
-static DIGITS: [u8; 256] = [
-    36, 36, 36, 36, 36, 36, 36, 36, 36, 36, 36, 36, 36, 36, 36, 36, 36, 36, 36, 36, 36, 36, 36, 36,
-    36, 36, 36, 36, 36, 36, 36, 36, 36, 36, 36, 36, 36, 36, 36, 36, 36, 36, 36, 36, 36, 36, 36, 36,
-    0, 1, 2, 3, 4, 5, 6, 7, 8, 9, 36, 36, 36, 36, 36, 36, 36, 10, 11, 12, 13, 14, 15, 16, 17, 18,
-    19, 20, 21, 22, 23, 24, 25, 26, 27, 28, 29, 30, 31, 32, 33, 34, 35, 36, 36, 36, 36, 36, 36, 10,
-    11, 12, 13, 14, 15, 16, 17, 18, 19, 20, 21, 22, 23, 24, 25, 26, 27, 28, 29, 30, 31, 32, 33, 34,
-    35, 36, 36, 36, 36, 36, 36, 36, 36, 36, 36, 36, 36, 36, 36, 36, 36, 36, 36, 36, 36, 36, 36, 36,
-    36, 36, 36, 36, 36, 36, 36, 36, 36, 36, 36, 36, 36, 36, 36, 36, 36, 36, 36, 36, 36, 36, 36, 36,
-    36, 36, 36, 36, 36, 36, 36, 36, 36, 36, 36, 36, 36, 36, 36, 36, 36, 36, 36, 36, 36, 36, 36, 36,
-    36, 36, 36, 36, 36, 36, 36, 36, 36, 36, 36, 36, 36, 36, 36, 36, 36, 36, 36, 36, 36, 36, 36, 36,
-    36, 36, 36, 36, 36, 36, 36, 36, 36, 36, 36, 36, 36, 36, 36, 36, 36, 36, 36, 36, 36, 36, 36, 36,
-    36, 36, 36, 36, 36, 36, 36, 36, 36, 36, 36, 36, 36, 36,
+/// What the table has for a byte that is no hexadecimal digit. It is above what four of them write,
+/// so one comparison tells whether four bytes are digits.
+const NO_DIGIT: u32 = 65536;
+
+/// For each byte its value as a hexadecimal digit, or `NO_DIGIT`.
+static DIGITS: [u32; 256] = [
+    NO_DIGIT, NO_DIGIT, NO_DIGIT, NO_DIGIT, NO_DIGIT, NO_DIGIT, NO_DIGIT, NO_DIGIT, NO_DIGIT,
+    NO_DIGIT, NO_DIGIT, NO_DIGIT, NO_DIGIT, NO_DIGIT, NO_DIGIT, NO_DIGIT, NO_DIGIT, NO_DIGIT,
+    NO_DIGIT, NO_DIGIT, NO_DIGIT, NO_DIGIT, NO_DIGIT, NO_DIGIT, NO_DIGIT, NO_DIGIT, NO_DIGIT,
+    NO_DIGIT, NO_DIGIT, NO_DIGIT, NO_DIGIT, NO_DIGIT, NO_DIGIT, NO_DIGIT, NO_DIGIT, NO_DIGIT,
+    NO_DIGIT, NO_DIGIT, NO_DIGIT, NO_DIGIT, NO_DIGIT, NO_DIGIT, NO_DIGIT, NO_DIGIT, NO_DIGIT,
+    NO_DIGIT, NO_DIGIT, NO_DIGIT, 0, 1, 2, 3, 4, 5, 6, 7, 8, 9, NO_DIGIT, NO_DIGIT, NO_DIGIT,
+    NO_DIGIT, NO_DIGIT, NO_DIGIT, NO_DIGIT, 10, 11, 12, 13, 14, 15, NO_DIGIT, NO_DIGIT, NO_DIGIT,
+    NO_DIGIT, NO_DIGIT, NO_DIGIT, NO_DIGIT, NO_DIGIT, NO_DIGIT, NO_DIGIT, NO_DIGIT, NO_DIGIT,
+    NO_DIGIT, NO_DIGIT, NO_DIGIT, NO_DIGIT, NO_DIGIT, NO_DIGIT, NO_DIGIT, NO_DIGIT, NO_DIGIT,
+    NO_DIGIT, NO_DIGIT, NO_DIGIT, NO_DIGIT, NO_DIGIT, 10, 11, 12, 13, 14, 15, NO_DIGIT, NO_DIGIT,
+    NO_DIGIT, NO_DIGIT, NO_DIGIT, NO_DIGIT, NO_DIGIT, NO_DIGIT, NO_DIGIT, NO_DIGIT, NO_DIGIT,
+    NO_DIGIT, NO_DIGIT, NO_DIGIT, NO_DIGIT, NO_DIGIT, NO_DIGIT, NO_DIGIT, NO_DIGIT, NO_DIGIT,
+    NO_DIGIT, NO_DIGIT, NO_DIGIT, NO_DIGIT, NO_DIGIT, NO_DIGIT, NO_DIGIT, NO_DIGIT, NO_DIGIT,
+    NO_DIGIT, NO_DIGIT, NO_DIGIT, NO_DIGIT, NO_DIGIT, NO_DIGIT, NO_DIGIT, NO_DIGIT, NO_DIGIT,
+    NO_DIGIT, NO_DIGIT, NO_DIGIT, NO_DIGIT, NO_DIGIT, NO_DIGIT, NO_DIGIT, NO_DIGIT, NO_DIGIT,
+    NO_DIGIT, NO_DIGIT, NO_DIGIT, NO_DIGIT, NO_DIGIT, NO_DIGIT, NO_DIGIT, NO_DIGIT, NO_DIGIT,
+    NO_DIGIT, NO_DIGIT, NO_DIGIT, NO_DIGIT, NO_DIGIT, NO_DIGIT, NO_DIGIT, NO_DIGIT, NO_DIGIT,
+    NO_DIGIT, NO_DIGIT, NO_DIGIT, NO_DIGIT, NO_DIGIT, NO_DIGIT, NO_DIGIT, NO_DIGIT, NO_DIGIT,
+    NO_DIGIT, NO_DIGIT, NO_DIGIT, NO_DIGIT, NO_DIGIT, NO_DIGIT, NO_DIGIT, NO_DIGIT, NO_DIGIT,
+    NO_DIGIT, NO_DIGIT, NO_DIGIT, NO_DIGIT, NO_DIGIT, NO_DIGIT, NO_DIGIT, NO_DIGIT, NO_DIGIT,
+    NO_DIGIT, NO_DIGIT, NO_DIGIT, NO_DIGIT, NO_DIGIT, NO_DIGIT, NO_DIGIT, NO_DIGIT, NO_DIGIT,
+    NO_DIGIT, NO_DIGIT, NO_DIGIT, NO_DIGIT, NO_DIGIT, NO_DIGIT, NO_DIGIT, NO_DIGIT, NO_DIGIT,
+    NO_DIGIT, NO_DIGIT, NO_DIGIT, NO_DIGIT, NO_DIGIT, NO_DIGIT, NO_DIGIT, NO_DIGIT, NO_DIGIT,
+    NO_DIGIT, NO_DIGIT, NO_DIGIT, NO_DIGIT, NO_DIGIT, NO_DIGIT, NO_DIGIT, NO_DIGIT, NO_DIGIT,
+    NO_DIGIT, NO_DIGIT, NO_DIGIT, NO_DIGIT, NO_DIGIT, NO_DIGIT, NO_DIGIT, NO_DIGIT, NO_DIGIT,
+    NO_DIGIT, NO_DIGIT, NO_DIGIT, NO_DIGIT, NO_DIGIT, NO_DIGIT, NO_DIGIT, NO_DIGIT, NO_DIGIT,
+    NO_DIGIT, NO_DIGIT, NO_DIGIT, NO_DIGIT, NO_DIGIT, NO_DIGIT, NO_DIGIT,
 ];
 
-/// The value of a digit in base 36, or 36 for another byte.
+/// The value of a hexadecimal digit, or `NO_DIGIT` for another byte.
 #[inline(always)]
-fn digit_value(c: u8) -> u8
-    ensures { result ≡ digit_value c }
+fn digit_value(c: u8) -> u32
+    ensures { result ≡ if is_digit c 16 then digit_value c else NO_DIGIT }
 {
     DIGITS[c as usize]
 }
 
-/// What the digits in front write, and how many they are, in a text in which any digits write a
-/// number below 2^64.
+/// Reads on from the digits in front, which write a number already, as far as digits go, but not
+/// past an end up to which any digits write a number below 2^64.
 #[inline(always)]
-fn fold_digits(radix: u8, text: &[u8]) -> (u64, usize)
+fn more_digits(radix: u8, text: &[u8], end: usize, front: (u64, usize)) -> (u64, usize)
     requires some { 0 < radix }
-    requires fits { radix ^ length text.now ≤ 2 ^ 64 }
-    ensures value { result.0 ≡ digits_value radix (take result.1 text.now) }
-    ensures digits { AllDigits radix (take result.1 text.now) }
-    ensures within { result.1 ≤ length text.now }
-    ensures stops { result.1 < length text.now →
-        is_digit (slice_index text.now result.1) radix ≡ false }
+    requires known { radix ≤ 16 }
+    requires fits { radix ^ end ≤ 2 ^ 64 }
+    requires within { (front.1 ≤ end) × (end ≤ length text.now) }
+    requires begun { Writes radix text.now front }
+    ensures value { Writes radix text.now result }
+    ensures end { result.1 ≤ end }
+    ensures stops { result.1 < end → is_digit (slice_index text.now result.1) radix ≡ false }
 {
-    let mut value = 0u64;
-    for at in 0..text.len() {
+    let (mut value, from) = front;
+    for at in from..end {
         let digit = digit_value(text[at]);
-        if digit >= radix {
+        if digit >= radix as u32 {
             return (value, at);
         }
         value = value * radix as u64 + digit as u64;
     }
-    (value, text.len())
+    (value, end)
 }
 
 /// What the digits in front write, and how many they are; at most `most` are read. Where the text
@@ -56,24 +76,76 @@ fn fold_digits(radix: u8, text: &[u8]) -> (u64, usize)
 #[inline(always)]
 fn read_digits(radix: u8, most: usize, text: &[u8]) -> (u64, usize)
     requires some { 0 < radix }
+    requires known { radix ≤ 16 }
     requires fits { radix ^ most ≤ 2 ^ 64 }
-    ensures value { result.0 ≡ digits_value radix (take result.1 text.now) }
-    ensures digits { AllDigits radix (take result.1 text.now) }
+    ensures value { Writes radix text.now result }
     ensures most { result.1 ≤ most }
-    ensures within { result.1 ≤ length text.now }
     ensures stops { result.1 < most → result.1 < length text.now →
         is_digit (slice_index text.now result.1) radix ≡ false }
 {
     if text.len() < most {
-        return fold_digits(radix, text);
+        return more_digits(radix, text, text.len(), (0, 0));
     }
-    fold_digits(radix, &text[..most])
+    more_digits(radix, text, most, (0, 0))
+}
+
+/// What four bytes write, from some place of a text on, or at least `NO_DIGIT` where one of them is
+/// no hexadecimal digit.
+#[inline(always)]
+fn four_digits(text: &[u8], at: usize) -> u32
+    requires { at + 4 ≤ length text.now }
+    ensures { result < NO_DIGIT → (value : ℕ) → Writes 16 text.now (value, at) →
+        Writes 16 text.now (value * NO_DIGIT + result, at + 4) }
+{
+    let first = digit_value(text[at]);
+    let second = digit_value(text[at + 1]);
+    let third = digit_value(text[at + 2]);
+    let fourth = digit_value(text[at + 3]);
+    ((first * 16 + second) * 16 + third) * 16 + fourth
+}
+
+/// What the hexadecimal digits in front write, and how many they are; at most 16 are read. Four at
+/// a time take half the time of one at a time: the processor guesses where the digits end, and has
+/// fewer places to choose from.
+#[inline(always)]
+fn read_hexadecimal(text: &[u8]) -> (u64, usize)
+    ensures value { Writes 16 text.now result }
+    ensures most { result.1 ≤ 16 }
+{
+    if text.len() < 16 {
+        return more_digits(16, text, text.len(), (0, 0));
+    }
+    let mut value = 0u64;
+    for group in 0..4usize {
+        let at = 4 * group;
+        let four = four_digits(text, at);
+        if four >= NO_DIGIT {
+            return more_digits(16, text, at + 4, (value, at));
+        }
+        value = value * NO_DIGIT as u64 + four as u64;
+    }
+    (value, 16)
+}
+
+/// The number that 1 to 16 hexadecimal digits in front write, and what follows them.
+#[inline(always)]
+pub(crate) fn split_hexadecimal(text: &[u8]) -> Option<(u64, &[u8])>
+    ensures { IfSome result (λ parts. (digits : List ℕ) × (text.now ≡ digits ++ parts.1.now)
+        × (number_written 16 16 digits ≡ Some parts.0)) }
+{
+    let (value, len) = read_hexadecimal(text);
+    if len == 0 {
+        return None;
+    }
+    let (_, rest) = text.split_at(len);
+    Some((value, rest))
 }
 
 /// The number that 1 to `most` digits in front write, and what follows them.
 #[inline(always)]
 pub(crate) fn split_number(radix: u8, most: usize, text: &[u8]) -> Option<(u64, &[u8])>
     requires some { 0 < radix }
+    requires known { radix ≤ 16 }
     requires fits { radix ^ most ≤ 2 ^ 64 }
     ensures parts { IfSome result (λ parts. (digits : List ℕ) × (text.now ≡ digits ++ parts.1.now)
         × (number_written radix most digits ≡ Some parts.0)) }
@@ -91,6 +163,7 @@ pub(crate) fn split_number(radix: u8, most: usize, text: &[u8]) -> Option<(u64, 
 #[inline(always)]
 pub(crate) fn read_number(radix: u8, most: usize, digits: &[u8]) -> Option<u64>
     requires some { 0 < radix }
+    requires known { radix ≤ 16 }
     requires fits { radix ^ most ≤ 2 ^ 64 }
     ensures value { result ≡ number_written radix most digits.now }
     ensures bound { IfSome result (λ n. n < radix ^ most) }

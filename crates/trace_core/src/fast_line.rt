@@ -7,20 +7,43 @@ ghost use Rattle.trace_core.specs.Line.{meaning, din_entry, item};
 ghost use Rattle.trace_core.specs.FastLine.{BeginsLine, BeginsLabel};
 ghost use Rattle.trace_core.specs.declared.events.Entry.TheVariants as entry;
 
-use crate::digits::split_number;
+use crate::digits::{split_hexadecimal, split_number};
 use crate::events::{Entry, Item, Op};
 use crate::line::{Format, lackey_op, without_0x};
 use memchr::memchr;
 
-/// The item of the line that a text begins with, where the line has the form of most, and the place
-/// of the line's LF.
+/// The item of the line that a text begins with, and the place of the line's LF, where the line has
+/// the form of most, with the blanks beside its label that tracers write.
 #[inline(always)]
-pub(crate) fn read_fast_line(format: Format, text: &[u8]) -> Option<(Item, usize)>
+pub(crate) fn read_plain_line(format: Format, text: &[u8]) -> Option<(Item, usize)>
     ensures line { IfSome result (λ found. IsFirstByte (is_byte 10) text.now (Some found.1)) }
     ensures item { IfSome result (λ found.
         meaning format (take found.1 text.now) ≡ Ok (Some (Entry.Item found.0))) }
 {
-    let (item, rest) = read_front(format, text)?;
+    let (label, rest) = split_plain_label(format, text)?;
+    read_labelled(format, text, label, rest)
+}
+
+/// The same with any blanks beside the label.
+#[inline(always)]
+pub(crate) fn read_spaced_line(format: Format, text: &[u8]) -> Option<(Item, usize)>
+    ensures line { IfSome result (λ found. IsFirstByte (is_byte 10) text.now (Some found.1)) }
+    ensures item { IfSome result (λ found.
+        meaning format (take found.1 text.now) ≡ Ok (Some (Entry.Item found.0))) }
+{
+    let (label, rest) = split_label(text)?;
+    read_labelled(format, text, label, rest)
+}
+
+/// The same for a text that begins with a label, and goes on with its other fields.
+#[inline(always)]
+fn read_labelled(format: Format, text: &[u8], label: u8, fields: &[u8]) -> Option<(Item, usize)>
+    requires { BeginsLabel text.now fields.now label }
+    ensures line { IfSome result (λ found. IsFirstByte (is_byte 10) text.now (Some found.1)) }
+    ensures item { IfSome result (λ found.
+        meaning format (take found.1 text.now) ≡ Ok (Some (Entry.Item found.0))) }
+{
+    let (item, rest) = read_item(format, label, fields)?;
     let end = line_end(rest)?;
     Some((item, text.len() - rest.len() + end))
 }
@@ -50,37 +73,37 @@ fn late_end(rest: &[u8]) -> Option<usize>
     }
 }
 
-/// The item of a line that begins like a text, if a field ends where the returned rest of the text
-/// begins.
+/// The item of a line with this label, if a field ends where the returned rest begins.
 #[inline(always)]
-fn read_front(format: Format, text: &[u8]) -> Option<(Item, &[u8])>
-    ensures { IfSome result (λ found. BeginsLine format text.now found.1.now found.0) }
+fn read_item(format: Format, label: u8, rest: &[u8]) -> Option<(Item, &[u8])>
+    ensures { IfSome result (λ found. (text : List ℕ) → BeginsLabel text rest.now label →
+        BeginsLine format text found.1.now found.0) }
 {
     match format {
-        Format::Din => read_din_front(text),
-        Format::Lackey => read_lackey_front(text),
+        Format::Din => read_din_item(label, rest),
+        Format::Lackey => read_lackey_item(label, rest),
     }
 }
 
-/// A label and an address.
+/// An address comes after the label.
 #[inline(always)]
-fn read_din_front(text: &[u8]) -> Option<(Item, &[u8])>
-    ensures { IfSome result (λ found. BeginsLine Format.Din text.now found.1.now found.0) }
+fn read_din_item(label: u8, rest: &[u8]) -> Option<(Item, &[u8])>
+    ensures { IfSome result (λ found. (text : List ℕ) → BeginsLabel text rest.now label →
+        BeginsLine Format.Din text found.1.now found.0) }
 {
-    let (label, rest) = split_label(text)?;
     let op = din_op(label)?;
-    let (addr, rest) = split_number(16, 16, without_0x(rest))?;
+    let (addr, rest) = split_hexadecimal(without_0x(rest))?;
     Some((Item { op, addr, size: 0 }, rest))
 }
 
-/// A label, an address, a comma and a size.
+/// An address, a comma and a size come after the label.
 #[inline(always)]
-fn read_lackey_front(text: &[u8]) -> Option<(Item, &[u8])>
-    ensures { IfSome result (λ found. BeginsLine Format.Lackey text.now found.1.now found.0) }
+fn read_lackey_item(label: u8, rest: &[u8]) -> Option<(Item, &[u8])>
+    ensures { IfSome result (λ found. (text : List ℕ) → BeginsLabel text rest.now label →
+        BeginsLine Format.Lackey text found.1.now found.0) }
 {
-    let (label, rest) = split_label(text)?;
     let op = lackey_op(label)?;
-    let (addr, rest) = split_number(16, 16, rest)?;
+    let (addr, rest) = split_hexadecimal(rest)?;
     let [b',', rest @ ..] = rest else {
         return None;
     };
@@ -99,6 +122,19 @@ fn din_op(label: u8) -> Option<Op>
         b'0' => Some(Op::Load),
         b'1' => Some(Op::Store),
         b'2' => Some(Op::Fetch),
+        _ => None,
+    }
+}
+
+/// A label with the blanks beside it that tracers write, and what comes after them.
+#[inline(always)]
+fn split_plain_label(format: Format, text: &[u8]) -> Option<(u8, &[u8])>
+    ensures { IfSome result (λ parts. BeginsLabel text.now parts.1.now parts.0) }
+{
+    match (format, text) {
+        (Format::Din, [label, b' ', rest @ ..]) => Some((*label, rest)),
+        (Format::Lackey, [b' ', label, b' ', rest @ ..]) => Some((*label, rest)),
+        (Format::Lackey, [label, b' ', b' ', rest @ ..]) => Some((*label, rest)),
         _ => None,
     }
 }

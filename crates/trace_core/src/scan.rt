@@ -9,7 +9,7 @@ ghost use Rattle.trace_core.specs.declared.limits.TheConstants.{MAX_LINES};
 
 use crate::buffer::Buffer;
 use crate::events::Entry;
-use crate::fast_line::read_fast_line;
+use crate::fast_line::{read_plain_line, read_spaced_line};
 use crate::fault::TraceFault;
 use crate::io::{DeviceFault, Source};
 use crate::limits::MAX_LINE;
@@ -74,7 +74,7 @@ impl Scan {
             self.state = ReaderState::Failed(TraceFault::TooManyLines { limit: self.limit });
             return None;
         }
-        match read_fast_line(self.format, unread) {
+        match read_plain_line(self.format, unread) {
             Some((item, at)) if at <= MAX_LINE => Some((self.pass_line(at + 1), Entry::Item(item))),
             _ => self
                 .step_any(source)
@@ -90,9 +90,13 @@ impl Scan {
         ensures advances { Reads (S.view source.old) (S.view source.new) self.old self.new result }
         ensures steps { Steps (S.view source.old) (S.view source.new) self.old self.new result }
     {
-        match memchr(b'\n', self.buffer.as_slice()) {
-            Some(at) => self.take_line(at),
-            None => self.refill(source),
+        let unread = self.buffer.as_slice();
+        match read_spaced_line(self.format, unread) {
+            Some((item, at)) if at <= MAX_LINE => Some((self.pass_line(at + 1), Entry::Item(item))),
+            _ => match memchr(b'\n', unread) {
+                Some(at) => self.take_line(at),
+                None => self.refill(source),
+            },
         }
     }
 

@@ -1,0 +1,84 @@
+-- Four digits, each one more.
+use Rattle.std.proofs.Common.{arith, ◌≡◌, ◌+◌, ◌*◌, ℕ, get_or, subst}
+use Rattle.trace_core.specs.Fields.{Writes}
+use Rattle.trace_core.proofs.Numbers.{at_most, digit-known, writes-more}
+use Rattle.trace_core.proofs.digits.four_digits.Goals as goal
+
+pub overflow_add-result : goal.overflow_add-result
+overflow_add-result c =
+    let byte : ℕ → ℕ = λ i. get_or c.args.text.now i 0 in
+    omega (arith, at_most (byte c.args.at), at_most (byte (c.args.at + 1)), c.digit_value-first.ensures, c.digit_value-second.ensures)
+
+pub overflow_mul-result-2 : goal.overflow_mul-result-2
+overflow_mul-result-2 c =
+    let byte : ℕ → ℕ = λ i. get_or c.args.text.now i 0 in
+    omega (arith, at_most (byte c.args.at), at_most (byte (c.args.at + 1)), c.digit_value-first.ensures, c.digit_value-second.ensures)
+
+pub overflow_add-result-2 : goal.overflow_add-result-2
+overflow_add-result-2 c =
+    let byte : ℕ → ℕ = λ i. get_or c.args.text.now i 0 in
+    let at = c.args.at in
+    omega (
+      arith,
+      at_most (byte at),
+      at_most (byte (at + 1)),
+      at_most (byte (at + 2)),
+      c.digit_value-first.ensures,
+      c.digit_value-second.ensures,
+      c.digit_value-third.ensures,
+    )
+
+pub overflow_mul-result-3 : goal.overflow_mul-result-3
+overflow_mul-result-3 c =
+    let byte : ℕ → ℕ = λ i. get_or c.args.text.now i 0 in
+    let at = c.args.at in
+    omega (
+      arith,
+      at_most (byte at),
+      at_most (byte (at + 1)),
+      at_most (byte (at + 2)),
+      c.digit_value-first.ensures,
+      c.digit_value-second.ensures,
+      c.digit_value-third.ensures,
+    )
+
+pub overflow_add-result-3 : goal.overflow_add-result-3
+overflow_add-result-3 c =
+    let byte : ℕ → ℕ = λ i. get_or c.args.text.now i 0 in
+    let at = c.args.at in
+    omega (
+      arith,
+      at_most (byte at),
+      at_most (byte (at + 1)),
+      at_most (byte (at + 2)),
+      at_most (byte (at + 3)),
+      c.digit_value-first.ensures,
+      c.digit_value-second.ensures,
+      c.digit_value-third.ensures,
+      c.digit_value-fourth.ensures,
+    )
+
+pub returns : goal.returns
+returns c = λ below value written.
+    let text = c.args.text.now in
+    let at = c.args.at in
+    let first = c.digit_value-first.result in
+    let second = c.digit_value-second.result in
+    let third = c.digit_value-third.result in
+    let fourth = c.digit_value-fourth.result in
+    let a = digit-known (get_or text at 0) (omega (arith, c.digit_value-first.ensures, below)) in
+    let b = digit-known (get_or text (at + 1) 0) (omega (arith, c.digit_value-second.ensures, below)) in
+    let d = digit-known (get_or text (at + 2) 0) (omega (arith, c.digit_value-third.ensures, below)) in
+    let e = digit-known (get_or text (at + 3) 0) (omega (arith, c.digit_value-fourth.ensures, below)) in
+    let one : Writes 16 text (value * 16 + first, at + 1) =
+    writes-more 16 text value at first (omega arith) (omega (arith, c.digit_value-first.ensures, a.0)) a.1 written in
+    let two : Writes 16 text ((value * 16 + first) * 16 + second, at + 1 + 1) =
+    writes-more 16 text (value * 16 + first) (at + 1) second (omega arith) (omega (arith, c.digit_value-second.ensures, b.0)) b.1 one in
+    let behind : (value n m : ℕ) → n ≡ m → Writes 16 text (value, n) → Writes 16 text (value, m) = λ value n m is. subst (λ k. Writes 16 text (value, k)) is in
+    let three : Writes 16 text (((value * 16 + first) * 16 + second) * 16 + third, at + 2 + 1) =
+    writes-more 16 text ((value * 16 + first) * 16 + second) (at + 2) third (omega arith) (omega (arith, c.digit_value-third.ensures, d.0)) d.1
+    (behind _ (at + 1 + 1) (at + 2) (omega arith) two) in
+    let four : Writes 16 text ((((value * 16 + first) * 16 + second) * 16 + third) * 16 + fourth, at + 3 + 1) =
+    writes-more 16 text (((value * 16 + first) * 16 + second) * 16 + third) (at + 3) fourth (omega arith) (omega (arith, c.digit_value-fourth.ensures, e.0)) e.1
+    (behind _ (at + 2 + 1) (at + 3) (omega arith) three) in
+    subst (λ v. Writes 16 text (v, at + 4)) (omega arith) (behind _ (at + 3 + 1) (at + 4) (omega arith) four)
