@@ -1,6 +1,6 @@
 -- A list y ∷ ys that gets a block x in front, which is not its front already: where x stood, how many comparisons find
 -- that, and the row that holds the list then.
-use Rattle.std.proofs.Common.{◌≡◌, ℕ, zero, suc, ◌+◌, ◌-◌, ◌<◌, ◌≤◌, Bool, true, false, not, cond, eqb, ltb, min}
+use Rattle.std.proofs.Common.{◌≡◌, ℕ, zero, suc, ◌+◌, ◌-◌, ◌<◌, ◌≤◌, ◌⊎◌, inl, inr, Bool, true, false, not, cond, eqb, ltb, min}
 use Rattle.std.proofs.Common.{List, [], ◌∷◌, ◌++◌, length, take, drop, get_or, set, refl, sym, ◌∙◌, ap, arith, add-one, one-add}
 use Rattle.std.proofs.Common.{length-take, length-append, length-drop, eq-eqb}
 use Rattle.std.specs.List.{remove}
@@ -127,15 +127,12 @@ module _ (x y h : ℕ) (rest after : List ℕ) (s : IsShifted x y h rest after) 
       ∙ ap (λ xs. take (length rest) (y ∷ xs)) (sym none))
       ∙ sym (moved_behind x y ys s.other (length rest))
 
--- whether x is the front of a row's list, which is 0 where the list is empty: by the front f, and by the length only where x is 0
-pub front_other : (x len f : ℕ) (rest : List ℕ) → (f ≡ x → ⊥) → eqb f x ≡ is_front x (take len (f ∷ rest))
-front_other x zero f rest ne = ne_eqb f x ne
-front_other x (suc len) f rest ne = refl
+-- Whether x is the front of a row's list: by the front f, which is 0 where the list is empty, unless both are 0.
+pub front_of_some : (x len f : ℕ) (rest : List ℕ) → (len ≡ 0 → f ≡ 0) → (x ≡ 0 → ⊥) ⊎ (len ≡ 0 → ⊥) → eqb f x ≡ is_front x (take len (f ∷ rest))
+front_of_some x zero f rest blank (inl other) = ne_eqb f x (λ e. other (sym e ∙ blank refl))
+front_of_some x zero f rest blank (inr some) = absurd (some refl)
+front_of_some x (suc len) f rest blank some = refl
 
-pub front_block : (x len f : ℕ) (rest : List ℕ) → (len ≡ 0 → f ≡ 0) → f ≡ x → (x ≡ 0 → ⊥) → not (eqb x 0) ≡ is_front x (take len (f ∷ rest))
-front_block x zero f rest blank same ne = absurd (ne (sym same ∙ blank refl))
-front_block x (suc len) f rest blank same ne = ap not (ne_eqb x 0 ne) ∙ sym (eq-eqb f x same)
-
-pub front_zero : (x len f : ℕ) (rest : List ℕ) → f ≡ x → not (eqb len 0) ≡ is_front x (take len (f ∷ rest))
-front_zero x zero f rest same = refl
-front_zero x (suc len) f rest same = ap not (ne_eqb (suc len) 0 (λ e. absurd (omega (arith, e)))) ∙ sym (eq-eqb f x same)
+pub front_of_none : (x len f : ℕ) (rest : List ℕ) → len ≡ 0 → false ≡ is_front x (take len (f ∷ rest))
+front_of_none x zero f rest none = refl
+front_of_none x (suc len) f rest none = absurd (omega (arith, none))

@@ -1,5 +1,5 @@
 //! A profile: one pass over references that counts for every associativity up to a depth.
-ghost use Rattle.std.specs.Prelude.{◌≡◌, ◌+◌, ◌-◌, ◌*◌, ◌%◌, ◌^◌, ◌<◌, ◌≤◌, List, [], IfOk, false, length, take, drop, sum, slice_index};
+ghost use Rattle.std.specs.Prelude.{◌≡◌, ◌+◌, ◌-◌, ◌*◌, ◌%◌, ◌^◌, ◌<◌, ◌≤◌, List, [], IfOk, true, false, length, take, drop, sum, slice_index};
 ghost use Rattle.trace_core.specs.declared.events.Event.{Event};
 ghost use Rattle.cache_core.specs.Geometry.{IsGeometry, geometry_value, block_of, set_of_block};
 ghost use Rattle.cache_core.specs.Windows.{places, counts, probes, held};
@@ -91,9 +91,22 @@ impl Profile {
         ensures step { self.new ≡ after_reference self.old (block_of self.old.geometry addr) }
         ensures one_more { fed_of self.new ≡ fed_of self.old + 1 }
     {
+        self.feed_known(addr, false);
+    }
+
+    /// The same, where a caller may say that the address is past the first block, however large the blocks are. So one
+    /// test serves all the profiles that an address is fed to.
+    #[inline(always)]
+    pub fn feed_known(&mut self, addr: u64, past_first: bool)
+        requires few { fed_of self.old < 2 ^ 41 }
+        requires known { past_first ≡ true → 2 ^ 20 ≤ addr }
+        ensures step { self.new ≡ after_reference self.old (block_of self.old.geometry addr) }
+        ensures one_more { fed_of self.new ≡ fed_of self.old + 1 }
+    {
+        self.geometry.limits();
         let block = self.geometry.block_of(addr);
         let set = self.geometry.set_of_block(block) as usize;
-        if self.lists.is_front(set, block) {
+        if self.lists.is_front(set, block, past_first) {
             self.probes += 1;
         } else {
             self.feed_behind(set, block);

@@ -1,6 +1,6 @@
 //! A recency list for each set, the most recent block first: the front ones side by side, and the others in one slab.
 
-ghost use Rattle.std.specs.Prelude.{◌≡◌, ◌+◌, ◌*◌, ◌^◌, ◌<◌, ◌≤◌, [], ◌∷◌, false, nat_eq, min, length, take};
+ghost use Rattle.std.specs.Prelude.{◌≡◌, ◌+◌, ◌*◌, ◌^◌, ◌<◌, ◌≤◌, [], ◌∷◌, true, false, nat_eq, min, length, take};
 ghost use Rattle.std.specs.Prelude.{sum, sum_by, replicate, IfOk, slice_set, slice_index_or};
 ghost use Rattle.std.specs.List.{remove};
 ghost use Rattle.cache_core.specs.Touched.{Covers, ListsFilled};
@@ -69,14 +69,20 @@ impl RecencyLists {
         })
     }
 
-    /// Whether a block is the front of a set's list. Only block 0 has to look at the length.
+    /// Whether a block is the front of a set's list. Only block 0 has to look at the length. A caller that knows the
+    /// block to be past the first says so, and spares the test.
     #[inline(always)]
-    pub fn is_front(&self, set: usize, block: u64) -> bool
-        requires { set < length self.now.lists }
+    pub fn is_front(&self, set: usize, block: u64, past_first: bool) -> bool
+        requires within { set < length self.now.lists }
+        requires known { past_first ≡ true → 0 < block }
         ensures front { result ≡ is_front block (slice_index_or self.now.lists set []) }
         ensures short { length (slice_index_or self.now.lists set []) ≤ self.now.depth }
     {
-        self.fronts[set] == block && (block != 0 || self.lens[set] != 0)
+        if past_first || block != 0 {
+            self.fronts[set] == block
+        } else {
+            self.lens[set] != 0 && self.fronts[set] == block
+        }
     }
 
     /// Whether a set's list is empty.

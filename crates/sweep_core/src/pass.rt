@@ -1,17 +1,18 @@
 //! One pass over a trace: what is read is fed to each profile as it comes.
-ghost use Rattle.std.specs.Prelude.{◌≡◌, ◌∷◌, [], ℕ, ◌+◌, ◌^◌, ◌<◌, ◌≤◌, All, map};
+ghost use Rattle.std.specs.Prelude.{◌≡◌, ◌∷◌, [], ℕ, ◌+◌, ◌^◌, ◌<◌, ◌≤◌, true, All, map};
 ghost use Rattle.trace_core.specs.Events.{events_of};
 ghost use Rattle.trace_core.specs.Reader.{begun};
 ghost use Rattle.profile_core.specs.State.{fed_of};
 ghost use Rattle.sweep_core.specs.Pass.{pair_after_reference, pair_after_flush, kept_events, all_after, state_after, Feeds};
 
 use crate::profiles::PairProfile;
+use cache_core::geometry::MAX_BITS;
 use trace_core::events::{Entry, Kind, Ref, refs_of};
 use trace_core::fault::TraceFault;
 use trace_core::io::Source;
 use trace_core::reader::Lines;
 
-/// Feeds a reference to an address to each profile.
+/// Feeds a reference to an address to each profile. No address from the greatest block size on is in the first block.
 #[inline(always)]
 fn feed_reference(profiles: &mut [PairProfile], addr: u64)
     requires { All (λ x. fed_of x.profile < 2 ^ 41) profiles.old }
@@ -19,8 +20,35 @@ fn feed_reference(profiles: &mut [PairProfile], addr: u64)
     ensures few { (n : ℕ) → All (λ x. fed_of x.profile ≤ n) profiles.old
         → All (λ x. fed_of x.profile ≤ n + 1) profiles.new }
 {
+    if addr >= 1 << MAX_BITS {
+        feed_each(profiles, addr, true);
+    } else {
+        feed_low(profiles, addr);
+    }
+}
+
+/// The same for an address that may be in the first block, which few are.
+#[inline(never)]
+fn feed_low(profiles: &mut [PairProfile], addr: u64)
+    requires { All (λ x. fed_of x.profile < 2 ^ 41) profiles.old }
+    ensures fed { profiles.new ≡ map (pair_after_reference addr) profiles.old }
+    ensures few { (n : ℕ) → All (λ x. fed_of x.profile ≤ n) profiles.old
+        → All (λ x. fed_of x.profile ≤ n + 1) profiles.new }
+{
+    feed_each(profiles, addr, false);
+}
+
+/// The same, where the caller may say that the address is past the first block.
+#[inline(always)]
+fn feed_each(profiles: &mut [PairProfile], addr: u64, past_first: bool)
+    requires few { All (λ x. fed_of x.profile < 2 ^ 41) profiles.old }
+    requires known { past_first ≡ true → 2 ^ 20 ≤ addr }
+    ensures fed { profiles.new ≡ map (pair_after_reference addr) profiles.old }
+    ensures few { (n : ℕ) → All (λ x. fed_of x.profile ≤ n) profiles.old
+        → All (λ x. fed_of x.profile ≤ n + 1) profiles.new }
+{
     for pair in profiles.iter_mut() {
-        pair.profile.feed(addr);
+        pair.profile.feed_known(addr, past_first);
     }
 }
 

@@ -4,17 +4,17 @@ use Rattle.std.proofs.Math.ListN.{set}
 use Rattle.std.proofs.lemmas.List.Edits.{map_over_more}
 use Rattle.sweep_core.specs.Pass.{pair_after_reference}
 use Rattle.sweep_core.proofs.Passes.{fed-more}
-use Rattle.sweep_core.proofs.pass.feed_reference.Goals as goal
+use Rattle.sweep_core.proofs.pass.feed_each.Goals as goal
 
 pub loop-pair-preserved : goal.loop-pair-preserved
 loop-pair-preserved c =
     let ys = c.loop-pair.profiles in let i = c.loop-pair.pair-index in let x = c.pair-item.result in
-    let after = pair_after_reference c.args.addr in let fed = record (get_or ys i x) { profile = c.feed.new.self } in
-    let value : fed ≡ after x = ap (λ p. record (get_or ys i x) { profile = p }) c.feed.ensures.step ∙ ap after (sym c.pair-item.is) in (
+    let after = pair_after_reference c.args.addr in let fed = record (get_or ys i x) { profile = c.feed_known.new.self } in
+    let value : fed ≡ after x = ap (λ p. record (get_or ys i x) { profile = p }) c.feed_known.ensures.step ∙ ap after (sym c.pair-item.is) in (
       ap (λ v. set ys i v) value
           ∙ map_over_more after c.args.profiles.now ys i x c.loop-pair-test.true c.loop-pair.invariant.0 c.pair-item.is,
       λ n all. fed-more ys i n fed (omega arith)
-          (omega (arith, c.feed.ensures.one_more, (c.loop-pair.invariant.1 n all i x (omega arith)).1 (omega arith)))
+          (omega (arith, c.feed_known.ensures.one_more, (c.loop-pair.invariant.1 n all i x (omega arith)).1 (omega arith)))
           (c.loop-pair.invariant.1 n all),
     )
 

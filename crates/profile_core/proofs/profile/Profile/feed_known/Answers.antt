@@ -1,15 +1,24 @@
 -- A reference, which mostly finds its block in front of its set's list.
-use Rattle.std.proofs.Common.{◌≡◌, ◌+◌, ◌-◌, ◌∙◌, sym, ap, refl, arith}
+use Rattle.std.proofs.Common.{◌≡◌, ◌≤◌, ◌+◌, ◌-◌, ◌/◌, ◌^◌, ◌∙◌, sym, ap, refl, arith}
+use Rattle.std.proofs.Math.Nat.{pow-le-pow_right}
+use Rattle.std.proofs.lemmas.Nat.{le-div, pow_pos}
 use Rattle.cache_core.specs.Geometry.{block_of}
 use Rattle.profile_core.specs.State.{ProfileState, fed_of, after_reference, compared_behind, distances_of}
 use Rattle.profile_core.proofs.Feeding.{fed_front, sound_after, front_step}
-use Rattle.profile_core.proofs.profile.Profile.feed.Goals as goal
+use Rattle.profile_core.proofs.profile.Profile.feed_known.Goals as goal
+
+pub is_front-requires-clause-known : goal.is_front-requires-clause-known
+is_front-requires-clause-known c = λ high.
+    let geometry = c.self.inside.geometry in
+    let power : 2 ^ geometry.b ≤ 2 ^ 20 = pow-le-pow_right (omega arith) {i = geometry.b} {j = 20} c.limits.ensures.blocks in
+    let some : 1 ≤ c.args.addr / 2 ^ geometry.b = le-div 1 c.args.addr (2 ^ geometry.b) (pow_pos geometry.b) (omega (arith, power, c.requires.known high)) in
+    omega (arith, some, c.block_of-block.ensures.value)
 
 pub invariant_of-self : goal.invariant_of-self
 invariant_of-self c =
     sound_after c.self.invariant
     (fed_front c.self.inside.behind.items c.self.inside.misses_by_occupancy.items c.self.inside.probes c.self.invariant.told) refl refl
-    (omega (arith, c.requires, ap fed_of c.self.view_is)) (omega (arith, c.is_front.ensures.short, c.self.invariant.depth))
+    (omega (arith, c.requires.few, ap fed_of c.self.view_is)) (omega (arith, c.is_front.ensures.short, c.self.invariant.depth))
 
 pub returns-then-is_front-clause-step : goal.returns-then-is_front-clause-step
 returns-then-is_front-clause-step c =
