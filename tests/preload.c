@@ -10,6 +10,7 @@
    WRITE_MOST=N     the same of writes to standard output
    WRITE_FAILS=N
    TELL_CALLS=1     at the end of the process the numbers of reads and writes are written to standard error
+   TELL_PEAK=1      the same of the most memory that it had, in KiB
 
    A read or a write after one that failed ends the process with status 98: a device that failed is not to be asked again. */
 #include <errno.h>
@@ -52,8 +53,19 @@ __attribute__((constructor)) static void begin(void) {
     is_on = refused_call > 0;
 }
 
+/* What wait4 tells of a process has the memory of the one that forked it in it; this is the program's own. */
+static void tell_peak(void) {
+    FILE *status = fopen("/proc/self/status", "r");
+    char line[256];
+    long kib;
+    while (status && fgets(line, sizeof line, status))
+        if (sscanf(line, "VmHWM: %ld kB", &kib) == 1) fprintf(stderr, "%ld\n", kib);
+    if (status) fclose(status);
+}
+
 __attribute__((destructor)) static void end(void) {
     if (number("TELL_CALLS")) fprintf(stderr, "%lu reads, %lu writes\n", reads.made, writes.made);
+    if (number("TELL_PEAK")) tell_peak();
 }
 
 /* Memory. */
