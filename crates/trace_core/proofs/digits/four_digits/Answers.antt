@@ -1,62 +1,34 @@
 -- Four digits, each one more.
-use Rattle.std.proofs.Common.{arith, ◌≡◌, ◌+◌, ◌*◌, ℕ, get_or, subst}
+use Rattle.std.proofs.Common.{arith, ◌≡◌, ◌+◌, ◌*◌, ◌≤◌, ℕ, get_or, subst}
 use Rattle.trace_core.specs.Fields.{Writes}
+use Rattle.trace_core.specs.declared.digits.TheConstants.{NO_DIGIT}
 use Rattle.trace_core.proofs.Numbers.{at_most, digit-known, writes-more}
 use Rattle.trace_core.proofs.digits.four_digits.Goals as goal
+use Rattle.trace_core.proofs.digits.four_digits.Goals.{After-digit_value-fourth}
+
+small : (c : After-digit_value-fourth) → (c.digit_value-first.result ≤ NO_DIGIT) × (c.digit_value-second.result ≤ NO_DIGIT)
+    × (c.digit_value-third.result ≤ NO_DIGIT) × (c.digit_value-fourth.result ≤ NO_DIGIT)
+small c = (
+  omega (arith, at_most (get_or c.args.text.now c.args.at 0), c.digit_value-first.ensures),
+  omega (arith, at_most (get_or c.args.text.now (c.args.at + 1) 0), c.digit_value-second.ensures),
+  omega (arith, at_most (get_or c.args.text.now (c.args.at + 2) 0), c.digit_value-third.ensures),
+  omega (arith, at_most (get_or c.args.text.now (c.args.at + 3) 0), c.digit_value-fourth.ensures),
+)
 
 pub overflow_add-result : goal.overflow_add-result
-overflow_add-result c =
-    let byte : ℕ → ℕ = λ i. get_or c.args.text.now i 0 in
-    omega (arith, at_most (byte c.args.at), at_most (byte (c.args.at + 1)), c.digit_value-first.ensures, c.digit_value-second.ensures)
+overflow_add-result c = omega (arith, small (goal.at.overflow_add-result c).After-digit_value-fourth)
 
 pub overflow_mul-result-2 : goal.overflow_mul-result-2
-overflow_mul-result-2 c =
-    let byte : ℕ → ℕ = λ i. get_or c.args.text.now i 0 in
-    omega (arith, at_most (byte c.args.at), at_most (byte (c.args.at + 1)), c.digit_value-first.ensures, c.digit_value-second.ensures)
+overflow_mul-result-2 c = omega (arith, small (goal.at.overflow_mul-result-2 c).After-digit_value-fourth)
 
 pub overflow_add-result-2 : goal.overflow_add-result-2
-overflow_add-result-2 c =
-    let byte : ℕ → ℕ = λ i. get_or c.args.text.now i 0 in
-    let at = c.args.at in
-    omega (
-      arith,
-      at_most (byte at),
-      at_most (byte (at + 1)),
-      at_most (byte (at + 2)),
-      c.digit_value-first.ensures,
-      c.digit_value-second.ensures,
-      c.digit_value-third.ensures,
-    )
+overflow_add-result-2 c = omega (arith, small (goal.at.overflow_add-result-2 c).After-digit_value-fourth)
 
 pub overflow_mul-result-3 : goal.overflow_mul-result-3
-overflow_mul-result-3 c =
-    let byte : ℕ → ℕ = λ i. get_or c.args.text.now i 0 in
-    let at = c.args.at in
-    omega (
-      arith,
-      at_most (byte at),
-      at_most (byte (at + 1)),
-      at_most (byte (at + 2)),
-      c.digit_value-first.ensures,
-      c.digit_value-second.ensures,
-      c.digit_value-third.ensures,
-    )
+overflow_mul-result-3 c = omega (arith, small (goal.at.overflow_mul-result-3 c).After-digit_value-fourth)
 
 pub overflow_add-result-3 : goal.overflow_add-result-3
-overflow_add-result-3 c =
-    let byte : ℕ → ℕ = λ i. get_or c.args.text.now i 0 in
-    let at = c.args.at in
-    omega (
-      arith,
-      at_most (byte at),
-      at_most (byte (at + 1)),
-      at_most (byte (at + 2)),
-      at_most (byte (at + 3)),
-      c.digit_value-first.ensures,
-      c.digit_value-second.ensures,
-      c.digit_value-third.ensures,
-      c.digit_value-fourth.ensures,
-    )
+overflow_add-result-3 c = omega (arith, small (goal.at.overflow_add-result-3 c).After-digit_value-fourth)
 
 pub returns : goal.returns
 returns c = λ below value written.
