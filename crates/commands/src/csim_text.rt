@@ -3,12 +3,11 @@ ghost use Rattle.std.specs.Prelude.{◌≡◌, ◌+◌, ◌≤◌, [], ◌++◌,
 ghost use Rattle.std.specs.Option.{option_to_list};
 ghost use Rattle.std.specs.Io.KnownBytes.{Appends};
 ghost use Rattle.trace_core.specs.Device.{Writes};
-ghost use Rattle.commands.specs.CsimText.{letter_of, lookup_text, item_line, line_of, summary};
-ghost use Rattle.commands.specs.Simulation.{lookups_of_pair};
+ghost use Rattle.commands.specs.CsimText.{letter_of, lookup_text, item_line, line_of, lookups_of_pair, summary};
 
-use crate::simulation::Lookup;
 use crate::text::{CAPACITY, Text};
 use cache_core::outcome::Counts;
+use cache_core::simulation::Lookup;
 use trace_core::events::{Entry, Item, Op};
 use trace_core::io::{DeviceFault, Sink, write_all};
 
@@ -24,6 +23,17 @@ fn letter(op: Op) -> Option<u8>
     }
 }
 
+/// What a line says of a lookup, each word behind a space.
+fn lookup_text(lookup: Lookup) -> &'static [u8]
+    ensures { result.now ≡ lookup_text lookup }
+{
+    match lookup {
+        Lookup::Hit => b" hit",
+        Lookup::Miss => b" miss",
+        Lookup::MissEviction => b" miss eviction",
+    }
+}
+
 /// Adds the text of a lookup, if there is one.
 fn push_lookup(text: &mut Text, lookup: Option<Lookup>)
     requires { length text.old + 14 ≤ CAPACITY }
@@ -31,7 +41,7 @@ fn push_lookup(text: &mut Text, lookup: Option<Lookup>)
     ensures short { length text.new ≤ length text.old + 14 }
 {
     if let Some(lookup) = lookup {
-        text.push(lookup.text());
+        text.push(lookup_text(lookup));
     }
 }
 
