@@ -10,7 +10,7 @@ ghost use Rattle.cache_core.specs.Windows.{places_after};
 ghost use Rattle.commands.specs.CsimText.{csim_task, data_events, lookups_of, lookups_of_pair};
 
 use crate::csim_text::{set_summary, write_line};
-use crate::text::{Text, write_last};
+use crate::text::write_last;
 use cache_core::geometry::Geometry;
 use cache_core::simulation::{Lookup, Simulation};
 use std::alloc::Global;
@@ -19,6 +19,7 @@ use trace_core::fault::RunFault;
 use trace_core::io::{Sink, Source};
 use trace_core::line::Format;
 use trace_core::reader::{Lines, MAX_LINES};
+use trace_core::text::Text;
 
 /// Runs a lackey trace through an LRU cache of this geometry, in which a store that misses places its block. With `verbose` the line
 /// of each data item is written as soon as the item was stepped, and the summary after the last one; then the sink is flushed, once.
