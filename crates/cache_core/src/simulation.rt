@@ -82,8 +82,9 @@ impl Simulation {
         ensures few { (n : ℕ) → AreFew n self.old → AreFew (n + 1) self.new }
     {
         let outcome = self.cache.access(reference);
+        let lookup = Lookup::of(&outcome);
         self.counts.count(&outcome);
-        Lookup::of(&outcome)
+        lookup
     }
 
     /// Empties the cache. Its counts stay.
