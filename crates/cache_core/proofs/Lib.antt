@@ -19,6 +19,7 @@ pub mod DownLaw
 pub mod LruSet
 pub mod LruRun
 pub mod Pushes
+pub mod Simulating
 pub mod Exponents
 pub mod GeometryLaw
 pub mod Counters

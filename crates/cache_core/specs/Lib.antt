@@ -8,6 +8,7 @@ pub mod Slab
 pub mod Touched
 pub mod Stands
 pub mod LruLaws
+pub mod Simulation
 pub mod Plans
 pub mod Systems
 pub mod SystemCaches

@@ -9,6 +9,7 @@ pub mod outcome;
 pub mod plan;
 pub mod replacement;
 pub mod simulate;
+pub mod simulation;
 pub mod stats;
 pub mod system;
 mod system_cache;

@@ -5,10 +5,9 @@ ghost use Rattle.cache_core.specs.Windows.{counts};
 ghost use Rattle.cache_core.specs.Machine.{answers, counts_in};
 ghost use Rattle.cache_core.specs.LruLaws.{lru_machine};
 
-use crate::cache::Cache;
 use crate::geometry::Geometry;
-use crate::outcome::{AllocMode, Counts, WriteMode};
-use crate::replacement::Lru;
+use crate::outcome::{Counts, WriteMode};
+use crate::simulation::Simulation;
 use std::alloc::{AllocError, Global};
 use trace_core::events::Ref;
 
@@ -19,22 +18,9 @@ pub fn simulate(alloc: Global, geometry: &Geometry, refs: &[Ref]) -> Result<Coun
         c ≡ counts_in (answers (lru_machine geometry.now WriteMode.Back) (map event.Reference refs.now))) }
     ensures windows { IfOk result (λ c. c ≡ counts geometry.now (map event.Reference refs.now)) }
 {
-    geometry.limits();
-    let mut cache = Cache::new(
-        alloc,
-        *geometry,
-        Lru::new(),
-        WriteMode::Back,
-        AllocMode::Always,
-    )?;
-    let mut counts = Counts {
-        hits: 0,
-        misses: 0,
-        evictions: 0,
-    };
+    let mut simulation = Simulation::new(alloc, *geometry)?;
     for reference in refs {
-        let outcome = cache.access(*reference);
-        counts.count(&outcome);
+        simulation.access(*reference);
     }
-    Ok(counts)
+    Ok(simulation.counts())
 }

@@ -20,12 +20,13 @@ use Rattle.trace_core.proofs.Runs.{Reached-start}
 use Rattle.trace_core.proofs.Tasks.{ReadWhole, WritesAlong}
 use Rattle.trace_core.proofs.Performing.{Finished-written, Stopped-at, WriteFailed-early, WriteFailed-late}
 use Rattle.trace_core.proofs.Written.{Wrote-none, Wrote-more, WrotePart-after, WroteLast-after, WroteLastPart-after}
+use Rattle.cache_core.specs.declared.outcome.Counts.{Counts}
+use Rattle.cache_core.specs.declared.simulation.Lookup.{Lookup}
+use Rattle.cache_core.specs.declared.simulation.Simulation.{Simulation}
 use Rattle.cache_core.specs.Geometry.{GeometryValue}
+use Rattle.cache_core.specs.Simulation.{AreFew, Simulates}
 use Rattle.cache_core.specs.Windows.{counts}
-use Rattle.commands.specs.declared.simulation.Lookup.{Lookup}
-use Rattle.commands.specs.declared.simulation.Simulation.{Simulation}
 use Rattle.commands.specs.CsimText.{csim_task, csim_lines, lines_after, line_of, lookups_of, summary}
-use Rattle.commands.specs.Simulation.{Simulates, AreFew}
 
 -- the data references of entries
 abbrev pub data_of : List Entry → List Event
@@ -86,11 +87,11 @@ pub record Simulated (g : GeometryValue) (verbose : Bool) (limit : ℕ) (start n
   pub reached : Reached Lackey limit start now read p
   pub wrote : Wrote sink sink' (csim_lines g verbose (entries_of read))
   pub simulates : Simulates g (data_of (entries_of read)) sim
-  pub few : AreFew (2 * p.lines) sim.counts
+  pub few : AreFew (2 * p.lines) sim
   pub limited : p.limit ≤ 2 ^ 40
 
 pub simulated_start : {g : GeometryValue} {verbose : Bool} {limit : ℕ} {source : SourceView} {sink : SinkView} {p : Progress} {sim : Simulation}
-    → p ≡ begun Lackey limit → limit ≤ 2 ^ 40 → Simulates g [] sim → AreFew 0 sim.counts → Simulated g verbose limit source source sink sink p sim
+    → p ≡ begun Lackey limit → limit ≤ 2 ^ 40 → Simulates g [] sim → AreFew 0 sim → Simulated g verbose limit source source sink sink p sim
 simulated_start {g} {verbose} {limit} {source} {sink} is few_lines stands few = record {
   read = [];
   reached = rw is (Reached-start Lackey limit source);
@@ -116,7 +117,7 @@ module _ {g : GeometryValue} {verbose : Bool} {limit : ℕ} {start mid now : Sou
     -- the line of one entry more
     pub simulated_more : {sink' : SinkView} {sim' : Simulation}
         → Simulates g (data_of (entries_of old.read) ++ events_of DataOnly x.1) sim' × (lookups ≡ lookups_of g (data_of (entries_of old.read)) x.1)
-        → Wrote between sink' (cond verbose (line_of x.1 lookups) []) → AreFew (2 * p.lines + 2) sim'.counts
+        → Wrote between sink' (cond verbose (line_of x.1 lookups) []) → AreFew (2 * p.lines + 2) sim'
         → IfOk answer (λ one. IfSome one (λ y. (y.0 ≡ q.lines) × (p.lines < q.lines))) → q.limit ≡ p.limit
         → Simulated g verbose limit start now sink sink' q sim'
     simulated_more {sink' = sink'} {sim' = sim'} stands wrote few bears same =
@@ -149,7 +150,8 @@ module _ {g : GeometryValue} {verbose : Bool} {limit : ℕ} {start mid now : Sou
   csim-stopped {x} was =
       Stopped-at x (subst (Tells q.state) was tells) (rw (was, append-nil old.read) at (reads_on _ _ _ old.read old.reached)) old.wrote
 
-  module _ {found : Option (ℕ × Entry)} {bytes : List ℕ} (was : answer ≡ Ok found) (is : found ≡ None) (last : bytes ≡ summary sim.counts) where
+  module _ {found : Option (ℕ × Entry)} {bytes : List ℕ} {c : Counts} (was : answer ≡ Ok found) (is : found ≡ None)
+      (counted : c ≡ counts g (data_of (entries_of old.read))) (last : bytes ≡ summary c) where
     -- at the end the lines and the summary are what has to be written
     whole : ReadWhole (csim_task g verbose limit) start now (csim_lines g verbose (entries_of old.read) ++ bytes)
     unfolding csim_task
@@ -159,7 +161,7 @@ module _ {g : GeometryValue} {verbose : Bool} {limit : ℕ} {start mid now : Sou
       reached = rw (was ∙ ap Ok is, append-nil old.read) at (reads_on _ _ _ old.read old.reached);
       ended = subst (Tells q.state) (was ∙ ap Ok is) tells;
       output = λ text all. ap (λ es. csim_lines g verbose es ++ summary (counts g (data_of es))) (sym all)
-          ∙ ap (λ c. csim_lines g verbose (entries_of old.read) ++ summary c) (sym old.simulates.counts)
+          ∙ ap (λ x. csim_lines g verbose (entries_of old.read) ++ summary x) (sym counted)
           ∙ ap (λ l. csim_lines g verbose (entries_of old.read) ++ l) (sym last);
     }
 

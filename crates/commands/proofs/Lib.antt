@@ -1,5 +1,5 @@
 pub mod CsimLemmas
 pub mod DinLemmas
 pub mod Hexadecimal
-pub mod Simulating
+pub mod DataSteps
 mod TextRows

@@ -1,28 +1,28 @@
 -- What `csim` writes of a trace, in the form of the CS:APP cache lab handout: a line for each data item where lines are wanted, and
 -- a summary.
-use Rattle.std.specs.Prelude.{ℕ, Bool, true, List, [], ◌∷◌, ◌++◌, Option, None, Some, if◌then◌else◌, map, flat_map, codes}
+use Rattle.std.specs.Prelude.{ℕ, Bool, true, List, [], ◌∷◌, ◌++◌, Option, None, Some, if◌then◌else◌, filter, map, flat_map, codes}
+use Rattle.std.specs.Option.{option_to_list}
 use Rattle.std.specs.Fmt.{decimal}
 use Rattle.trace_core.specs.declared.events.Op.{Op}
 use Rattle.trace_core.specs.declared.events.Op.TheVariants.{Fetch, Load, Store, Modify}
 use Rattle.trace_core.specs.declared.events.Item.{Item}
 use Rattle.trace_core.specs.declared.events.Entry.{Entry}
 use Rattle.trace_core.specs.declared.events.Entry.TheVariants as entry
+use Rattle.trace_core.specs.declared.events.Ref.{Ref}
 use Rattle.trace_core.specs.declared.events.Event.{Event}
+use Rattle.trace_core.specs.declared.events.Event.TheVariants as event
 use Rattle.trace_core.specs.declared.events.Kind.TheVariants.{DataOnly}
 use Rattle.trace_core.specs.declared.line.Format.TheVariants.{Lackey}
-use Rattle.trace_core.specs.Events.{events_of}
+use Rattle.trace_core.specs.Events.{events_of, keeps}
 use Rattle.trace_core.specs.Reading.{entries, events}
 use Rattle.trace_core.specs.Task.{Task}
 use Rattle.cache_core.specs.declared.outcome.Counts.{Counts}
+use Rattle.cache_core.specs.declared.simulation.Lookup.{Lookup}
+use Rattle.cache_core.specs.declared.simulation.Lookup.TheVariants.{Hit, Miss, MissEviction}
 use Rattle.cache_core.specs.Geometry.{GeometryValue}
-use Rattle.cache_core.specs.Windows.{Place, places_after, is_hit, is_evict, counts}
-use Rattle.commands.specs.declared.simulation.Lookup.{Lookup}
-use Rattle.commands.specs.declared.simulation.Lookup.TheVariants.{Hit, Miss, MissEviction}
+use Rattle.cache_core.specs.Simulation.{lookup_at}
+use Rattle.cache_core.specs.Windows.{places_after, counts}
 use Rattle.commands.specs.Text.{hexadecimal}
-
--- how a reference goes in an LRU cache
-abbrev pub lookup_at : GeometryValue → Place → Lookup
-lookup_at g p = if is_hit g p then Hit else if is_evict g p then MissEviction else Miss
 
 -- the handout's words, each with a space in front
 abbrev pub lookup_text : Lookup → List ℕ
@@ -51,6 +51,14 @@ line_of entry.Flush lookups = []
 -- how the data references of an entry go, which comes after these events
 abbrev pub lookups_of : GeometryValue → List Event → Entry → List Lookup
 lookups_of g before e = map (lookup_at g) (places_after g before (events_of DataOnly e))
+
+-- the event of a reference, if there is one and it is no fetch
+abbrev pub data_events : Option Ref → List Event
+data_events r = map event.Reference (filter (λ x. keeps DataOnly x.access) (option_to_list r))
+
+-- the lookups of a pair, in order
+abbrev pub lookups_of_pair : Option Lookup × Option Lookup → List Lookup
+lookups_of_pair p = option_to_list p.0 ++ option_to_list p.1
 
 -- the lines of entries that come after these events
 unfoldable pub lines_after : GeometryValue → List Event → List Entry → List ℕ

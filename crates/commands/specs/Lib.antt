@@ -2,5 +2,4 @@ pub mod CsimText
 pub mod DinPass
 pub mod DinText
 pub mod Execute
-pub mod Simulation
 pub mod Text

@@ -3,14 +3,14 @@ ghost use Rattle.std.specs.Prelude.{◌≡◌, ◌+◌, ◌≤◌, [], ◌++◌,
 ghost use Rattle.std.specs.Option.{option_to_list};
 ghost use Rattle.std.specs.Io.KnownBytes.{Appends};
 ghost use Rattle.trace_core.specs.Device.{Writes};
-ghost use Rattle.commands.specs.CsimText.{letter_of, lookup_text, item_line, line_of, summary};
-ghost use Rattle.commands.specs.Simulation.{lookups_of_pair};
+ghost use Rattle.commands.specs.CsimText.{letter_of, lookup_text, item_line, line_of, lookups_of_pair, summary};
 
-use crate::simulation::Lookup;
-use crate::text::{CAPACITY, Text};
+use crate::text::{CAPACITY, push_hexadecimal};
 use cache_core::outcome::Counts;
+use cache_core::simulation::Lookup;
 use trace_core::events::{Entry, Item, Op};
 use trace_core::io::{DeviceFault, Sink, write_all};
+use trace_core::text::Text;
 
 /// The letter of an item's line. A fetch has no line.
 fn letter(op: Op) -> Option<u8>
@@ -24,19 +24,30 @@ fn letter(op: Op) -> Option<u8>
     }
 }
 
+/// What a line says of a lookup, each word behind a space.
+fn lookup_text(lookup: Lookup) -> &'static [u8]
+    ensures { result.now ≡ lookup_text lookup }
+{
+    match lookup {
+        Lookup::Hit => b" hit",
+        Lookup::Miss => b" miss",
+        Lookup::MissEviction => b" miss eviction",
+    }
+}
+
 /// Adds the text of a lookup, if there is one.
-fn push_lookup(text: &mut Text, lookup: Option<Lookup>)
+fn push_lookup(text: &mut Text<CAPACITY>, lookup: Option<Lookup>)
     requires { length text.old + 14 ≤ CAPACITY }
     ensures value { text.new ≡ text.old ++ flat_map lookup_text (option_to_list lookup) }
     ensures short { length text.new ≤ length text.old + 14 }
 {
     if let Some(lookup) = lookup {
-        text.push(lookup.text());
+        text.push(lookup_text(lookup));
     }
 }
 
 /// Adds the line of an item whose references went so.
-fn push_item(text: &mut Text, item: Item, lookups: (Option<Lookup>, Option<Lookup>))
+fn push_item(text: &mut Text<CAPACITY>, item: Item, lookups: (Option<Lookup>, Option<Lookup>))
     requires { length text.old + 68 ≤ CAPACITY }
     ensures { text.new ≡ text.old ++ item_line (letter_of item.op) item (lookups_of_pair lookups) }
 {
@@ -44,7 +55,7 @@ fn push_item(text: &mut Text, item: Item, lookups: (Option<Lookup>, Option<Looku
         return;
     };
     text.push(&[letter, b' ']);
-    text.push_hexadecimal(item.addr);
+    push_hexadecimal(text, item.addr);
     text.push(b",");
     text.push_decimal(item.size as u64);
     push_lookup(text, lookups.0);
@@ -53,7 +64,7 @@ fn push_item(text: &mut Text, item: Item, lookups: (Option<Lookup>, Option<Looku
 }
 
 /// Puts the line of an entry whose references went so in place of what a text held.
-fn set_line(text: &mut Text, entry: Entry, lookups: (Option<Lookup>, Option<Lookup>))
+fn set_line(text: &mut Text<CAPACITY>, entry: Entry, lookups: (Option<Lookup>, Option<Lookup>))
     ensures { text.new ≡ line_of entry (lookups_of_pair lookups) }
 {
     text.clear();
@@ -65,7 +76,7 @@ fn set_line(text: &mut Text, entry: Entry, lookups: (Option<Lookup>, Option<Look
 /// Writes the line of an entry, if lines are wanted.
 pub(crate) fn write_line<K: Sink>(
     verbose: bool,
-    text: &mut Text,
+    text: &mut Text<CAPACITY>,
     entry: Entry,
     lookups: (Option<Lookup>, Option<Lookup>),
     sink: &mut K,
@@ -81,7 +92,7 @@ pub(crate) fn write_line<K: Sink>(
 }
 
 /// Puts the summary in place of what a text held.
-pub(crate) fn set_summary(text: &mut Text, counts: Counts)
+pub(crate) fn set_summary(text: &mut Text<CAPACITY>, counts: Counts)
     ensures { text.new ≡ summary counts }
 {
     text.clear();

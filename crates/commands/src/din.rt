@@ -11,7 +11,7 @@ ghost use Rattle.commands.specs.DinPass.{StepsThrough};
 ghost use Rattle.commands.specs.DinText.{din_task};
 
 use crate::din_text::set_report;
-use crate::text::{Text, write_last};
+use crate::text::write_last;
 use cache_core::plan::Plan;
 use cache_core::stats::Stats;
 use cache_core::system::System;
@@ -21,6 +21,7 @@ use trace_core::fault::{RunFault, TraceFault};
 use trace_core::io::{Sink, Source};
 use trace_core::line::Format;
 use trace_core::reader::{Lines, MAX_LINES, ReaderState};
+use trace_core::text::Text;
 
 /// Steps a system through all the references of an entry, or flushes it.
 #[inline(always)]

@@ -2,11 +2,12 @@
 ghost use Rattle.std.specs.Prelude.{◌≡◌, ◌+◌, ◌≤◌, ◌++◌, length};
 ghost use Rattle.commands.specs.DinText.{field, cache_line, report_of};
 
-use crate::text::{CAPACITY, Text};
+use crate::text::CAPACITY;
 use cache_core::stats::{CacheStats, Stats};
+use trace_core::text::Text;
 
 /// Adds a name, and a number behind it.
-fn push_field(text: &mut Text, name: &[u8], number: u64)
+fn push_field(text: &mut Text<CAPACITY>, name: &[u8], number: u64)
     requires { length text.old + length name.now + 20 ≤ CAPACITY }
     ensures value { text.new ≡ text.old ++ field name.now number }
     ensures short { length text.new ≤ length text.old + length name.now + 20 }
@@ -16,7 +17,7 @@ fn push_field(text: &mut Text, name: &[u8], number: u64)
 }
 
 /// Adds the line of a cache, if there is one.
-fn push_cache(text: &mut Text, name: &[u8], stats: Option<CacheStats>)
+fn push_cache(text: &mut Text<CAPACITY>, name: &[u8], stats: Option<CacheStats>)
     requires room { length text.old + 300 ≤ CAPACITY }
     requires name { length name.now ≤ 4 }
     ensures value { text.new ≡ text.old ++ cache_line name.now stats }
@@ -38,7 +39,7 @@ fn push_cache(text: &mut Text, name: &[u8], stats: Option<CacheStats>)
 }
 
 /// Puts the report in place of what a text held.
-pub(crate) fn set_report(text: &mut Text, stats: &Stats)
+pub(crate) fn set_report(text: &mut Text<CAPACITY>, stats: &Stats)
     ensures { text.new ≡ report_of stats.now }
 {
     text.clear();

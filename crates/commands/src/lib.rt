@@ -6,5 +6,4 @@ mod csim_text;
 pub mod din;
 mod din_text;
 pub mod execute;
-mod simulation;
 mod text;

@@ -9,11 +9,12 @@ ghost use Rattle.sweep_core.specs.declared.space.Config.{Config};
 
 use crate::profiles::PairProfile;
 use crate::request::Request;
-use crate::row_text::RowText;
+use crate::row_text::set_row;
 use crate::space::Config;
 use cache_core::outcome::Counts;
 use profile_core::profile::Tally;
 use trace_core::io::{DeviceFault, Sink, write_all};
+use trace_core::text::Text;
 
 /// The first line of a sweep that begins at the first configuration.
 const HEADER: &[u8] = b"bsize,sets,assoc,size,hits,misses,evictions\n";
@@ -58,11 +59,11 @@ fn write_rows<K: Sink>(
         return Ok(());
     };
     let mut tally = first.profile.begin_tally();
-    let mut row = RowText::new();
+    let mut row = Text::new();
     for config in request.rows() {
         left = from_pair(left, &mut tally, &config);
         let counts = next_counts(left, &mut tally, &config);
-        row.set(&config, config.bytes(), counts);
+        set_row(&mut row, &config, config.bytes(), counts);
         write_all(sink, row.as_slice())?;
     }
     Ok(())

@@ -14,3 +14,4 @@ pub mod line;
 pub mod reader;
 mod scan;
 mod state;
+pub mod text;

@@ -2,8 +2,7 @@
 use Rattle.std.proofs.Common.{◌*◌, refl}
 use Rattle.trace_core.specs.Task.{entries_of}
 use Rattle.trace_core.proofs.Performing.{err_is, Performs-ok, Performs-trace, Performs-write}
-use Rattle.commands.specs.CsimText.{csim_task}
-use Rattle.commands.specs.Simulation.{lookups_of_pair}
+use Rattle.commands.specs.CsimText.{csim_task, lookups_of_pair}
 use Rattle.commands.proofs.CsimLemmas.{csim-finished, csim-part, csim-stopped, csim-unfinished, data_of, simulated_more, simulated_start}
 use Rattle.commands.proofs.csim.csim.Goals as goal
 
@@ -35,12 +34,14 @@ returns-in_err-write_line g c =
 
 pub returns-in_err-write_last : goal.returns-in_err-write_last
 returns-in_err-write_last g c =
+    let so_far = c.loop-simulation.invariant in
     Performs-write (err_is c.from_residual-in_err-write_last.ensures.1)
-    (csim-unfinished c.loop-simulation.invariant c.next.ensures.reached c.next.ensures.tells
-    c.in_ok-entry.was c.in_default.is c.set_summary.ensures c.in_err-write_last.ensures)
+    (csim-unfinished so_far c.next.ensures.reached c.next.ensures.tells c.in_ok-entry.was c.in_default.is
+    (c.counts.ensures c.args.geometry (data_of (entries_of so_far.read)) so_far.simulates) c.set_summary.ensures c.in_err-write_last.ensures)
 
 pub returns : goal.returns
 returns g c =
+    let so_far = c.loop-simulation.invariant in
     Performs-ok tt refl
-    (csim-finished c.loop-simulation.invariant c.next.ensures.reached c.next.ensures.tells
-    c.in_ok-entry.was c.in_default.is c.set_summary.ensures c.in_ok-write_last.ensures)
+    (csim-finished so_far c.next.ensures.reached c.next.ensures.tells c.in_ok-entry.was c.in_default.is
+    (c.counts.ensures c.args.geometry (data_of (entries_of so_far.read)) so_far.simulates) c.set_summary.ensures c.in_ok-write_last.ensures)

@@ -43,7 +43,7 @@ row : (g : given.Over) (c : After-as_slice g) (es : List Event)
     → Ready es c.from_pair-left.result.now c.from_pair-left.new.tally c.in-Some-config.config c.next.new.self
     → c.as_slice.result.now ≡ row_of c.in-Some-config.config (row_counts es c.in-Some-config.config)
 row g c es first =
-    c.as_slice.ensures ∙ c.set.ensures ∙ ap (row_of c.in-Some-config.config) (c.next_counts-counts.ensures es c.next.new.self first).0
+    c.as_slice.ensures ∙ c.set_row.ensures ∙ ap (row_of c.in-Some-config.config) (c.next_counts-counts.ensures es c.next.new.self first).0
 
 pub next_counts-counts-requires : goal.next_counts-counts-requires
 next_counts-counts-requires g c =

@@ -4,10 +4,9 @@ use Rattle.std.specs.Option.{option_to_list}
 use Rattle.trace_core.specs.declared.events.Kind.TheVariants.{DataOnly}
 use Rattle.trace_core.specs.Events.{events_of}
 use Rattle.cache_core.specs.Windows.{places_after}
-use Rattle.commands.specs.declared.simulation.Simulation.{Simulation}
-use Rattle.commands.specs.Simulation.{data_events}
-use Rattle.commands.proofs.Simulating.{Follows, follows_both, item_events, simulates_flush}
-use Rattle.commands.proofs.simulation.Simulation.step.Goals as goal
+use Rattle.commands.specs.CsimText.{data_events}
+use Rattle.commands.proofs.DataSteps.{Follows, follows_both, item_events}
+use Rattle.commands.proofs.csim.step.Goals as goal
 
 pub returns-in-Item-clause-stands : goal.returns-in-Item-clause-stands
 returns-in-Item-clause-stands c = λ g events.
@@ -17,13 +16,11 @@ returns-in-Item-clause-stands c = λ g events.
     let is : events_of DataOnly c.args.entry ≡ data_events (Some refs.0) ++ data_events refs.1 =
     ap (events_of DataOnly) c.in-Item.is ∙ item_events c.in-Item.item
     ∙ ap (λ p. data_events (Some p.0) ++ data_events p.1) (sym c.refs_of-second.ensures) in
-    subst (λ es. Follows g events c.args.self.now es c.access_data.new.self (one ++ two)) (sym is)
-    (follows_both g events c.args.self.now c.access_data-first.new.self c.access_data.new.self
+    subst (λ es. Follows g events c.args.simulation.now es c.access_data.new.simulation (one ++ two)) (sym is)
+    (follows_both g events c.args.simulation.now c.access_data-first.new.simulation c.access_data.new.simulation
     (data_events (Some refs.0)) (data_events refs.1) one two
     (c.access_data-first.ensures.stands g events) (c.access_data.ensures.stands g (events ++ data_events (Some refs.0))))
 
 pub returns-in-Flush-clause-stands : goal.returns-in-Flush-clause-stands
 unfolding places_after
-returns-in-Flush-clause-stands c = λ g events h.
-    let after : Simulation = record c.args.self.now { cache = c.flush.new.self } in
-    rw c.in-Flush.is (simulates_flush g events c.args.self.now after c.flush.result c.flush.ensures refl h, refl)
+returns-in-Flush-clause-stands c = λ g events h. rw c.in-Flush.is (c.flush.ensures.stands g events h, refl)

@@ -4,7 +4,7 @@ use Rattle.cache_core.specs.declared.outcome.WriteMode.TheVariants.{Back}
 use Rattle.cache_core.specs.LruLaws.{lru_machine}
 use Rattle.cache_core.specs.Windows.{counts, places_after}
 use Rattle.cache_core.proofs.RunLaw.{start_law}
-use Rattle.commands.proofs.simulation.Simulation.new.Goals as goal
+use Rattle.cache_core.proofs.simulation.Simulation.new.Goals as goal
 
 pub returns-clause-stands : goal.returns-clause-stands
 unfolding counts places_after
