@@ -4,6 +4,7 @@ use Rattle.std.specs.Prelude.{codes}
 use Rattle.std.specs.Fmt.{digits}
 use Rattle.trace_core.specs.declared.fault.TraceFault.TheVariants as fault
 use Rattle.trace_core.specs.declared.line.LineFault.TheVariants.{Address}
+use Rattle.trace_core.specs.declared.line.Format.{Format}
 use Rattle.trace_core.specs.declared.line.Format.TheVariants.{Din, Lackey}
 use Rattle.trace_core.specs.Reading.{reading}
 use Rattle.trace_core.specs.Task.{entries_in}
@@ -16,7 +17,7 @@ use Rattle.cache_core.specs.Plans.{PlannedCaches}
 use Rattle.cache_core.specs.Geometry.{geometry_value}
 use Rattle.cache_core.specs.Windows.{window, places_after, distinct, distinct_of_set, counts}
 use Rattle.commands.specs.CsimText.{csim_text, csim_lines, lines_after}
-use Rattle.commands.specs.DinText.{din_text}
+use Rattle.commands.specs.DinText.{din_text, din_task}
 
 -- the handout's example
 abbrev yi : List ℕ
@@ -98,3 +99,8 @@ oldest_block_leaves : din_text (unified (level 2 Fifo) None) 42 Din six
     ≡ codes "l1-u fetches=0 fetch-misses=0 reads=6 read-misses=5 writes=0 write-misses=0 evictions=3 copybacks=0\nmemory reads=5 writes=0\nbypassed=0\n"
 unfolding digits
 oldest_block_leaves = refl
+
+-- a report isn't written before the end of its trace, and at a fault nothing is
+writes_late : (plan : PlannedCaches) (seed : ℕ) (format : Format) (limit : ℕ) → (din_task plan seed format limit).writes_early ≡ false
+unfolding din_task
+writes_late plan seed format limit = refl

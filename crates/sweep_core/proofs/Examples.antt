@@ -15,7 +15,7 @@ use Rattle.sweep_core.specs.declared.space.Cause.{Cause}
 use Rattle.sweep_core.specs.declared.space.Cause.TheVariants.{NotPower, Limit, Reversed}
 use Rattle.sweep_core.specs.Space.{Ranges, ranges, space_of, is_power, config}
 use Rattle.sweep_core.specs.Table.{table, all_configs}
-use Rattle.sweep_core.specs.SweepText.{sweep_text, rows_text, configs_of, rows_of}
+use Rattle.sweep_core.specs.SweepText.{sweep_text, sweep_task, rows_text, configs_of, rows_of}
 use Rattle.sweep_core.specs.Work.{sweep_work, work, pairs, depth}
 use Rattle.sweep_core.specs.Pass.{made_for}
 
@@ -261,3 +261,8 @@ space-sizes = refl
 space-ok : space_of (16, 16) (1, 2) (1, 2) (16, 64) false ≡ Ok (ranges (16, 16) (1, 2) (1, 2) (16, 64) false)
 unfolding is_power
 space-ok = refl
+
+-- a sweep doesn't write before the end of its trace, and at a fault nothing
+writes_late : (r : Request) → (sweep_task r).writes_early ≡ false
+unfolding sweep_task
+writes_late r = refl
