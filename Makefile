@@ -1,4 +1,4 @@
-#   make                        proves and builds the program (12 minutes on four processors), and says where it is
+#   make                        proves and builds the program (8 minutes on four processors), and says where it is
 #   make demo                   sweeps a real trace within a minute, by the program as yet unproved where none is built
 #   make test                   proves everything and tests the program; the last line is 'N passed, M failed'
 #   make test-tools             builds the program and tests the tools and the package with it
