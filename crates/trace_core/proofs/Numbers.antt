@@ -8,7 +8,7 @@ use Rattle.std.specs.Str.Parse.{AllDigits, digits_value}
 use Rattle.std.proofs.Math.Nat.{pow-le-pow_right}
 use Rattle.std.proofs.lemmas.List.{length-take-le, take-append-drop}
 use Rattle.std.proofs.lemmas.Int.Digits.{digits_value-lt, digits_value_more, digits_more}
-use Rattle.trace_core.specs.Fields.{Writes, number_written}
+use Rattle.trace_core.specs.Fields.{WritesNumber, number_written}
 use Rattle.trace_core.specs.declared.digits.TheConstants.{NO_DIGIT}
 
 -- what the table has for a byte
@@ -57,7 +57,7 @@ no-digit c radix small above = by_case (known c)
 
 -- one digit more
 pub writes-more : (radix : ℕ) (text : List ℕ) (value at digit : ℕ) → at < length text → digit ≡ digit_value (get_or text at 0)
-    → digit_value (get_or text at 0) < radix → Writes radix text (value, at) → Writes radix text (value * radix + digit, at + 1)
+    → digit_value (get_or text at 0) < radix → WritesNumber radix text (value, at) → WritesNumber radix text (value * radix + digit, at + 1)
 writes-more radix text value at digit inside is below written = (
   omega (arith, is, ap (λ v. v * radix) written.0, digits_value_more radix text at inside),
   digits_more radix text at inside written.1 below,
@@ -65,7 +65,7 @@ writes-more radix text value at digit inside is below written = (
 )
 
 -- a number written before any digit
-pub writes-none : (radix : ℕ) (text : List ℕ) → Writes radix text (0, 0)
+pub writes-none : (radix : ℕ) (text : List ℕ) → WritesNumber radix text (0, 0)
 writes-none radix text = (refl, tt, omega arith)
 
 module _ (radix most : ℕ) (some : 0 < radix) where
@@ -101,7 +101,7 @@ module _ (radix most : ℕ) (some : 0 < radix) where
       rw (at_least, at_most, all_digits ds digits) refl
 
   -- a text is the digits in front, which write a number, and the rest
-  pub number-front : (text : List ℕ) (n value : ℕ) (rest : List ℕ) → Writes radix text (value, n) → 1 ≤ n → n ≤ most → rest ≡ drop n text
+  pub number-front : (text : List ℕ) (n value : ℕ) (rest : List ℕ) → WritesNumber radix text (value, n) → 1 ≤ n → n ≤ most → rest ≡ drop n text
       → (digits : List ℕ) × (text ≡ digits ++ rest) × (number_written radix most digits ≡ Some value)
   number-front text n value rest written low high is =
       let len = length-take-le n text (omega (arith, written.2)) in (

@@ -7,12 +7,12 @@ use Rattle.trace_core.proofs.digits.more_digits.Goals as goal
 abbrev byte : goal.Else-digit-radix → ℕ
 byte c = get_or c.args.text.now c.loop-at.at 0
 
-step : (c : goal.Else-digit-radix) → ((c.digit_value-digit.result ≡ digit_value (byte c)) × (digit_value (byte c) < c.args.radix))
-    × (c.loop-at.value * c.args.radix + c.digit_value-digit.result < 2 ^ 64)
+step : (c : goal.Else-digit-radix) → ((c.hexadecimal_digit-digit.result ≡ digit_value (byte c)) × (digit_value (byte c) < c.args.radix))
+    × (c.loop-at.value * c.args.radix + c.hexadecimal_digit-digit.result < 2 ^ 64)
 step c =
     let text = c.args.text.now in
     let at = c.loop-at.at in
-    let is = c.digit_value-digit.ensures in
+    let is = c.hexadecimal_digit-digit.ensures in
     let digit = digit-below (byte c) c.args.radix c.requires.known (omega (arith, is)) in
     let written = c.loop-at.invariant in
     let fits = number-fits c.args.radix c.args.end c.requires.some text at (omega arith) (omega arith) written.1 digit.1 in
@@ -31,4 +31,4 @@ loop-at-preserved c =
 
 pub returns-then-digit-radix-clause-stops : goal.returns-then-digit-radix-clause-stops
 returns-then-digit-radix-clause-stops c = λ short.
-    no-digit (get_or c.args.text.now c.loop-at.at 0) c.args.radix c.requires.known (omega (arith, c.digit_value-digit.ensures))
+    no-digit (get_or c.args.text.now c.loop-at.at 0) c.args.radix c.requires.known (omega (arith, c.hexadecimal_digit-digit.ensures))

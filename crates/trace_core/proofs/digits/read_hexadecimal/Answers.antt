@@ -1,7 +1,7 @@
 -- Four digits more keep the value within its bound.
 use Rattle.std.proofs.Common.{arith, ◌≡◌, ◌+◌, ◌*◌, ◌<◌, ◌^◌, length, subst}
 use Rattle.std.proofs.Math.Nat.{pow-le-pow_right}
-use Rattle.trace_core.specs.Fields.{Writes}
+use Rattle.trace_core.specs.Fields.{WritesNumber}
 use Rattle.trace_core.proofs.Numbers.{value-of_front}
 use Rattle.trace_core.proofs.digits.read_hexadecimal.Goals as goal
 
@@ -25,4 +25,4 @@ overflow_add-value c = omega (arith, small c)
 pub returns-clause-value : goal.returns-clause-value
 returns-clause-value c =
     let all : 4 * c.loop-group.group ≡ 16 = omega arith in
-    subst (λ n. Writes 16 c.args.text.now (c.loop-group.value, n)) all c.loop-group.invariant
+    subst (λ n. WritesNumber 16 c.args.text.now (c.loop-group.value, n)) all c.loop-group.invariant
