@@ -1,24 +1,17 @@
 -- A list y ∷ ys that gets a block x in front, which is not its front already: where x stood, how many comparisons find
 -- that, and the row that holds the list then.
-use Rattle.std.proofs.Common.{◌≡◌, ℕ, zero, suc, ◌+◌, ◌-◌, ◌<◌, ◌≤◌, ◌⊎◌, inl, inr, Bool, true, false, not, cond, eqb, ltb, min}
-use Rattle.std.proofs.Common.{List, [], ◌∷◌, ◌++◌, length, take, drop, get_or, set, refl, sym, ◌∙◌, ap, arith, add-one, one-add}
-use Rattle.std.proofs.Common.{length-take, length-append, length-drop, eq-eqb}
+use Rattle.std.proofs.Common.{◌≡◌, ℕ, zero, suc, ◌+◌, ◌-◌, ◌<◌, ◌≤◌, ◌⊎◌, inl, inr, Bool, true, false, not, cond, eqb, ltb}
+use Rattle.std.proofs.Common.{List, [], ◌∷◌, ◌++◌, length, take, drop, get_or, set, refl, sym, ◌∙◌, ap, arith, add-one}
+use Rattle.std.proofs.Common.{length-take, length-append, length-drop}
 use Rattle.std.specs.List.{remove}
 use Rattle.std.proofs.lemmas.Bool.Decides.{nat_tests}
-use Rattle.std.proofs.lemmas.Bool.{ltb-true, ne_eqb, false≢true}
+use Rattle.std.proofs.lemmas.Bool.{ltb-true, ne_eqb}
 use Rattle.std.proofs.lemmas.List.{take_all, take_at, length-take-le}
 use Rattle.cache_core.proofs.Lists.{list_any_is}
 use Rattle.profile_core.specs.declared.recency.Touch.TheVariants.{Behind, New}
 use Rattle.profile_core.specs.declared.recency.Shifted.TheVariants.{Found, Out}
-use Rattle.profile_core.specs.Moves.{place_of, is_in, is_front, move_to_front, touch_of, shifted_of}
-use Rattle.profile_core.proofs.Shifting.{place-le, is_found, is_absent, length-remove, remove_end}
-
--- a front that is another block
-pub other_front : (x y : ℕ) (ys : List ℕ) → is_front x (y ∷ ys) ≡ false → y ≡ x → ⊥
-other_front x y ys h e = absurd (false≢true (sym h ∙ eq-eqb y x e))
-
-pub place_behind : (x y : ℕ) (ys : List ℕ) → (y ≡ x → ⊥) → place_of x (y ∷ ys) ≡ suc (place_of x ys)
-place_behind x y ys ne = ap (λ b. cond (not b) (1 + place_of x ys) 0) (ne_eqb y x ne) ∙ one-add (place_of x ys)
+use Rattle.profile_core.specs.Moves.{place_of, is_in, is_front, is_second, move_to_front, touch_of, shifted_of}
+use Rattle.profile_core.proofs.Shifting.{other_front, place_behind, place-le, is_found, is_absent, length-remove, remove_end}
 
 -- what a pass tells of the place of x
 found_at : (b : Bool) (place p last : ℕ) → Found place ≡ cond b (Found p) (Out last) → (b ≡ true) × (place ≡ p)
@@ -59,9 +52,6 @@ module _ (x y : ℕ) (ys : List ℕ) (ne : y ≡ x → ⊥) where
       let at = shifted_last x y last ys is in
       let none : is_in x (y ∷ ys) ≡ false = is_absent x (y ∷ ys) (place_behind x y ys ne ∙ ap suc at.0) in
       sym (ap (λ b. cond b (Behind (place_of x (y ∷ ys) - 1)) (New (suc (length ys)))) none)
-
-  pub counted_behind : min (place_of x (y ∷ ys) + 1) (length (y ∷ ys)) ≡ 1 + min (place_of x ys + 1) (length ys)
-  counted_behind = omega (arith, place_behind x y ys ne)
 
   moved_behind : (n : ℕ) → take (n + 1) (move_to_front x (y ∷ ys)) ≡ x ∷ take n (y ∷ remove ys (place_of x ys))
   moved_behind n =
@@ -136,3 +126,49 @@ front_of_some x (suc len) f rest blank some = refl
 pub front_of_none : (x len f : ℕ) (rest : List ℕ) → len ≡ 0 → false ≡ is_front x (take len (f ∷ rest))
 front_of_none x zero f rest none = refl
 front_of_none x (suc len) f rest none = absurd (omega (arith, none))
+
+-- Whether x is the second of a row's list: by the first place behind the front, where the list has two blocks.
+pub second_of_some : (x len f : ℕ) (rest : List ℕ) → 1 < len → 0 < length rest → eqb (get_or rest 0 0) x ≡ is_second x (take len (f ∷ rest))
+second_of_some x zero f rest two some = absurd (omega (arith, two))
+second_of_some x (suc zero) f rest two some = absurd (omega (arith, two))
+second_of_some x (suc (suc len)) f [] two some = absurd (omega (arith, some))
+second_of_some x (suc (suc len)) f (y ∷ rest) two some = refl
+
+pub second_of_few : (x len f : ℕ) (rest : List ℕ) → len ≤ 1 → false ≡ is_second x (take len (f ∷ rest))
+second_of_few x zero f rest few = refl
+second_of_few x (suc zero) f rest few = refl
+second_of_few x (suc (suc len)) f rest few = absurd (omega (arith, few))
+
+-- The second block of a list in front: its place, and the list then.
+pub second_place : (x : ℕ) (xs : List ℕ) → is_second x xs ≡ true → 1 < length xs
+second_place x [] second = absurd (cc)
+second_place x (y ∷ []) second = absurd (cc)
+second_place x (y ∷ z ∷ zs) second = omega arith
+
+exchanged : (x y z : ℕ) (zs : List ℕ) → (y ≡ x → ⊥) → eqb z x ≡ true → move_to_front x (y ∷ z ∷ zs) ≡ x ∷ y ∷ zs
+exchanged x y z zs ne second =
+    let here : place_of x (z ∷ zs) ≡ 0 = ap (λ b. cond (not b) (1 + place_of x zs) 0) second in
+    ap (λ i. x ∷ remove (y ∷ z ∷ zs) i) (place_behind x y (z ∷ zs) ne ∙ ap suc here)
+
+exchanged_long : (x : ℕ) (xs : List ℕ) → is_front x xs ≡ false → is_second x xs ≡ true → length (move_to_front x xs) ≡ length xs
+exchanged_long x [] other second = absurd (cc)
+exchanged_long x (y ∷ []) other second = absurd (cc)
+exchanged_long x (y ∷ z ∷ zs) other second = ap length (exchanged x y z zs (other_front x y (z ∷ zs) other) second)
+
+exchanged_in : (x len f : ℕ) (rest : List ℕ) → 1 < len → 0 < length rest
+    → is_front x (take len (f ∷ rest)) ≡ false → is_second x (take len (f ∷ rest)) ≡ true
+    → take len (x ∷ set rest 0 f) ≡ move_to_front x (take len (f ∷ rest))
+exchanged_in x zero f rest two some other second = absurd (omega (arith, two))
+exchanged_in x (suc zero) f rest two some other second = absurd (omega (arith, two))
+exchanged_in x (suc (suc len)) f [] two some other second = absurd (omega (arith, some))
+exchanged_in x (suc (suc len)) f (y ∷ ys) two some other second =
+    sym (exchanged x f y (take len ys) (other_front x f (y ∷ take len ys) other) second)
+
+-- a row of some list that exchanges its first two blocks
+pub row_exchanged : (x len f n : ℕ) (rest list : List ℕ) → list ≡ take len (f ∷ rest) → length list ≡ len → len ≤ n + 1 → length rest ≡ n
+    → is_front x list ≡ false → is_second x list ≡ true → take len (x ∷ set rest 0 f) ≡ take (n + 1) (move_to_front x list)
+row_exchanged x len f n rest list is size short long other second =
+    let two : 1 < len = omega (arith, second_place x list second, size) in
+    exchanged_in x len f rest two (omega (arith, two, short, long)) (ap (is_front x) (sym is) ∙ other) (ap (is_second x) (sym is) ∙ second)
+    ∙ ap (move_to_front x) (sym is)
+    ∙ sym (take_all (n + 1) (move_to_front x list) (omega (arith, exchanged_long x list other second, size, short)))

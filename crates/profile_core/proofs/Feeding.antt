@@ -7,11 +7,11 @@ use Rattle.std.proofs.lemmas.List.{set-get_or, take_all}
 use Rattle.cache_core.proofs.Lists.{list_any_is}
 use Rattle.cache_core.specs.Geometry.{GeometryValue, set_of_block}
 use Rattle.profile_core.specs.declared.recency.Touch.TheVariants.{Behind, New}
-use Rattle.profile_core.specs.Moves.{place_of, is_in, is_front, move_to_front, touch_of}
+use Rattle.profile_core.specs.Moves.{place_of, is_in, is_front, is_second, move_to_front, touch_of}
 use Rattle.profile_core.specs.Slab.{Lists}
 use Rattle.profile_core.specs.State.{ProfileState, IsSound, list_of, raise, after_reference, weighed, compared_behind, distances_of}
-use Rattle.profile_core.proofs.Bringing.{absent_at, other_front, place_behind}
-use Rattle.profile_core.proofs.Shifting.{place-le}
+use Rattle.profile_core.proofs.Bringing.{absent_at}
+use Rattle.profile_core.proofs.Shifting.{other_front, place_behind, place-le}
 use Rattle.std.proofs.lemmas.List.Sums.{sum_by-cons}
 use Rattle.profile_core.proofs.Weighing.{sum-raised, weighed-raised, weighed-zeros, sum-zeros}
 use Rattle.std.specs.List.{remove}
@@ -60,6 +60,18 @@ found_behind x place (y ∷ ys) other touch =
     let lt : place_of x xs < length xs = ltb-true (place_of x xs) (length xs) (sym (list_any_is (λ z. eqb z x) xs) ∙ at.0) in
     let is : place_of x xs ≡ suc place = omega (arith, at.1, behind) in
     record { inside = at.0; place_is = is; within = omega (arith, is, lt) }
+
+pub found_second : (x : ℕ) (xs : List ℕ) → is_front x xs ≡ false → is_second x xs ≡ true → FoundBehind x 0 xs
+found_second x [] other second = absurd (cc)
+found_second x (y ∷ []) other second = absurd (cc)
+found_second x (y ∷ z ∷ zs) other second =
+    let ne = other_front x y (z ∷ zs) other in
+    let here : place_of x (z ∷ zs) ≡ 0 = ap (λ b. cond (not b) (1 + place_of x zs) 0) second in
+    record {
+      inside = ap (λ b. b || is_in x (z ∷ zs)) other ∙ ap (λ b. b || is_in x zs) second;
+      place_is = place_behind x y (z ∷ zs) ne ∙ ap suc here;
+      within = omega arith;
+    }
 
 pub record FoundNowhere (x len : ℕ) (xs : List ℕ) : Type 0 where
   pub outside : is_in x xs ≡ false

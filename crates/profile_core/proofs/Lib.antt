@@ -9,6 +9,7 @@ pub mod Writing
 pub mod Emptying
 pub mod Weighing
 pub mod Feeding
+pub mod Fed
 pub mod Runs
 pub mod Tallies
 mod Rows

@@ -1,13 +1,13 @@
 -- A list that is passed once while each block moves one place on: what the pass finds, and the list behind it.
 use Rattle.std.proofs.Common.{◌≡◌, ℕ, zero, suc, ◌+◌, ◌<◌, ◌≤◌, true, false, not, cond, eqb, List, [], ◌∷◌, ◌++◌, length, take, drop}
-use Rattle.std.proofs.Common.{get_or, set, refl, sym, ◌∙◌, ap, arith, add-one, append-nil, length-take, length-append, length-drop, eq-eqb}
+use Rattle.std.proofs.Common.{get_or, set, refl, sym, ◌∙◌, ap, arith, add-one, one-add, append-nil, length-take, length-append, length-drop, eq-eqb, below_more, min}
 use Rattle.std.specs.List.{remove}
-use Rattle.std.proofs.lemmas.Bool.{lt-ltb, le-ltb}
+use Rattle.std.proofs.lemmas.Bool.{lt-ltb, le-ltb, ne_eqb, eqb-true, false≢true}
 use Rattle.std.proofs.lemmas.List.{take_all, drop_all}
 use Rattle.std.proofs.lemmas.List.Sums.{position_or_len_is, prefix_len-le-length}
 use Rattle.cache_core.proofs.Lists.{list_any_is}
 use Rattle.profile_core.specs.declared.recency.Shifted.TheVariants.{Found, Out}
-use Rattle.profile_core.specs.Moves.{place_of, is_in, shifted_of}
+use Rattle.profile_core.specs.Moves.{place_of, is_in, is_front, shifted_of}
 
 -- the list as it stands when i blocks of xs were passed, y in front: the block at i, and one step
 pub passed_at : (y : ℕ) (xs : List ℕ) (i : ℕ) → i < length xs → get_or (take i (y ∷ xs) ++ drop i xs) i 0 ≡ get_or xs i 0
@@ -67,3 +67,75 @@ pub moved_out : (x y i : ℕ) (xs : List ℕ) → place_of x xs ≡ length xs �
 moved_out x y i xs at e =
     ap (λ ys. take i (y ∷ xs) ++ ys) (drop_all i xs (omega arith)) ∙ append-nil (take i (y ∷ xs)) ∙ ap (λ j. take j (y ∷ xs)) e
     ∙ ap (λ ys. take (length xs) (y ∷ ys)) (sym (ap (remove xs) at ∙ remove_end xs (length xs) (omega arith)))
+
+-- a front that is another block
+pub other_front : (x y : ℕ) (ys : List ℕ) → is_front x (y ∷ ys) ≡ false → y ≡ x → ⊥
+other_front x y ys h e = absurd (false≢true (sym h ∙ eq-eqb y x e))
+
+pub place_behind : (x y : ℕ) (ys : List ℕ) → (y ≡ x → ⊥) → place_of x (y ∷ ys) ≡ suc (place_of x ys)
+place_behind x y ys ne = ap (λ b. cond (not b) (1 + place_of x ys) 0) (ne_eqb y x ne) ∙ one-add (place_of x ys)
+
+pub counted_behind : (x y : ℕ) (ys : List ℕ) → (y ≡ x → ⊥) → min (place_of x (y ∷ ys) + 1) (length (y ∷ ys)) ≡ 1 + min (place_of x ys + 1) (length ys)
+counted_behind x y ys ne = omega (arith, place_behind x y ys ne)
+
+-- what is known once i blocks of xs were passed: none is x, and each went one place on, y first
+pub record IsPassed (x y i carried : ℕ) (xs now : List ℕ) : Type 0 where
+  pub within : i ≤ length xs
+  pub others : (k : ℕ) → k < i → eqb (get_or xs k 0) x ≡ false
+  pub carried_is : carried ≡ get_or (y ∷ xs) i 0
+  pub now_is : now ≡ take i (y ∷ xs) ++ drop i xs
+
+-- the front, which is known to be another
+pub passed_front : (x y front : ℕ) (xs now : List ℕ) → 0 < length xs → is_front x xs ≡ false → front ≡ get_or xs 0 0 → now ≡ set xs 0 y
+    → IsPassed x y 1 front xs now
+passed_front x y front [] now some other read put = absurd (omega (arith, some))
+passed_front x y front (z ∷ zs) now some other read put = record {
+  within = omega arith;
+  others = λ k lt. let first : k ≡ 0 = omega (arith, lt) in ap (λ j. eqb (get_or (z ∷ zs) j 0) x) first ∙ other;
+  carried_is = read;
+  now_is = put;
+}
+
+module _ {x y i carried : ℕ} {xs now : List ℕ} (p : IsPassed x y i carried xs now) where
+  pub passed_long : length now ≡ length xs
+  passed_long = ap length p.now_is ∙ omega (arith, length-append (take i (y ∷ xs)) (drop i xs), length-take i (y ∷ xs), length-drop i xs, p.within)
+
+  module _ (lt : i < length xs) where
+    at_is : get_or now i 0 ≡ get_or xs i 0
+    at_is = ap (λ l. get_or l i 0) p.now_is ∙ passed_at y xs i lt
+
+    stepped : {put : ℕ} → put ≡ carried → set now i put ≡ take (i + 1) (y ∷ xs) ++ drop (i + 1) xs
+    stepped put =
+        ap (set now i) put ∙ ap (λ l. set l i carried) p.now_is ∙ ap (set (take i (y ∷ xs) ++ drop i xs) i) p.carried_is ∙ passed_more y xs i lt
+
+    -- the next is another block
+    pub passed_next : {other put : ℕ} → put ≡ carried → other ≡ get_or now i 0 → eqb (get_or now i 0) x ≡ false
+        → IsPassed x y (i + 1) other xs (set now i put)
+    passed_next put is ne = record {
+      within = omega (arith, lt);
+      others = below_more _ _ p.others (ap (λ z. eqb z x) (sym at_is) ∙ ne);
+      carried_is = is ∙ at_is ∙ ap (λ j. get_or (y ∷ xs) j 0) (sym (add-one i));
+      now_is = stepped put;
+    }
+
+    -- the next is x
+    module _ (is : eqb (get_or now i 0) x ≡ true) where
+      pub found_here : place_of x xs ≡ i
+      found_here = place_found x i xs lt p.others (sym at_is ∙ eqb-true (get_or now i 0) x is)
+
+      pub found_shifted : {j : ℕ} → j ≡ i → Found j ≡ shifted_of x y xs
+      found_shifted same = ap (λ j. Found j) same ∙ shifted_found x y i xs found_here lt
+
+      pub found_moved : {put : ℕ} → put ≡ carried → set now i put ≡ take (length xs) (y ∷ remove xs (place_of x xs))
+      found_moved put = stepped put ∙ moved_found x y i xs found_here lt
+
+  -- all were passed
+  module _ (end : length xs ≤ i) where
+    pub nowhere : place_of x xs ≡ length xs
+    nowhere = place_end x xs (λ k lt. p.others k (omega (arith, end, lt)))
+
+    pub nowhere_shifted : Out carried ≡ shifted_of x y xs
+    nowhere_shifted = shifted_out x y carried xs nowhere (p.carried_is ∙ ap (λ j. get_or (y ∷ xs) j 0) (omega (arith, end, p.within)))
+
+    pub nowhere_moved : now ≡ take (length xs) (y ∷ remove xs (place_of x xs))
+    nowhere_moved = p.now_is ∙ moved_out x y i xs nowhere (omega (arith, end, p.within))

@@ -1,59 +1,32 @@
 -- A set's row is written anew: what stands in all lists then, and that the rows are still sound.
 use Rattle.std.proofs.Common.{◌≡◌, ℕ, zero, suc, ◌+◌, ◌-◌, ◌*◌, ◌<◌, ◌≤◌, ◌^◌, List, [], ◌∷◌, ◌++◌, length, take, drop, get_or, set}
 use Rattle.std.proofs.Common.{refl, sym, ◌∙◌, ap, subst, arith, ⊎_elim, add-one, length-take, length-append, length-drop, length-set}
-use Rattle.std.proofs.Common.{get_or-set_same, get_or-set_other, append_assoc, false, not, ◌&&◌, cond, eqb}
+use Rattle.std.proofs.Common.{get_or-set_same, get_or-set_other, append_assoc, true, false, not, ◌&&◌, cond, eqb}
 use Rattle.std.proofs.Math.Seq.{take-nil}
 use Rattle.std.proofs.lemmas.Bool.{cases_eq, ne_eqb}
-use Rattle.std.proofs.lemmas.List.{take-append-drop, length-take-le, get_or_read, set-get_or, set-append_left, set-append_right}
+use Rattle.std.proofs.lemmas.List.{take-append-drop, length-take-le, set-get_or, set-append_left, set-append_right}
 use borrow.Rule.Slice.PartMut.{put_mid}
 use Rattle.cache_core.specs.Touched.{Touched, Covers, after_count, joined}
 use Rattle.cache_core.proofs.TouchedSets.{covers_change}
-use Rattle.profile_core.specs.Moves.{place_of, move_to_front}
+use Rattle.profile_core.specs.Moves.{place_of, is_front, is_second, move_to_front}
 use Rattle.profile_core.specs.Slab.{lists_in, IsSlab, IsListed}
-use Rattle.profile_core.proofs.Bringing.{IsShifted, after_long, row_found, row_full, row_grown}
-use Rattle.profile_core.proofs.SlabLemmas.{Short, list_set, end_within, inside, list_of_row}
+use Rattle.profile_core.proofs.Bringing.{IsShifted, after_long, row_found, row_full, row_grown, row_exchanged, second_place}
+use Rattle.profile_core.specs.declared.recency.RecencyLists.TheInside.{Inside}
+use Rattle.profile_core.proofs.SlabLemmas.{Short, HasRow, list_set, within, ends, list_of_row, list_size}
 
 -- what is known where set k is touched: its list, whose length and front are read
 pub record IsTouched (n k held front : ℕ) (fronts slab lens : List ℕ) (lists : List (List ℕ)) : Type 0 where
-  pub sound : IsSlab n fronts slab lens
-  pub lists_are : lists_in n fronts slab lens ≡ lists
-  pub within : k < length lens
+  pub row : HasRow n k fronts slab lens lists
   pub held_is : held ≡ get_or lens k 0
   pub front_is : front ≡ get_or fronts k 0
-  pub list_is : get_or lists k [] ≡ take held (front ∷ take n (drop (k * n) slab))
 
-pub touched_at : (n k held front : ℕ) (fronts slab lens : List ℕ) (lists : List (List ℕ)) → IsSlab n fronts slab lens → lists_in n fronts slab lens ≡ lists
-    → k < length lists → held ≡ get_or lens k held → front ≡ get_or fronts k front → IsTouched n k held front fronts slab lens lists
-touched_at n k held front fronts slab lens lists s is lt held_read front_read =
-    let within : k < length lens = inside n k fronts slab lens lists s is lt in
-    let held_is : held ≡ get_or lens k 0 = get_or_read lens k held within held_read 0 in
-    let front_is : front ≡ get_or fronts k 0 = get_or_read fronts k front (omega (arith, s.fronts_len, within)) front_read 0 in
-    record {
-      sound = s;
-      lists_are = is;
-      within = within;
-      held_is = held_is;
-      front_is = front_is;
-      list_is =
-          list_of_row n k fronts slab lens lists s is lt ∙ ap (λ h. take h (get_or fronts k 0 ∷ take n (drop (k * n) slab))) (sym held_is)
-          ∙ ap (λ f. take held (f ∷ take n (drop (k * n) slab))) (sym front_is);
-    }
+abbrev pub TouchedIn : Inside → ℕ → ℕ → ℕ → List (List ℕ) → Type 0
+TouchedIn rows k held front lists = IsTouched rows.stride k held front rows.fronts.items rows.slab.items rows.lens.items lists
 
 -- a set whose list is empty
-pub touched_empty : (n k : ℕ) (fronts slab lens : List ℕ) (lists : List (List ℕ)) → IsSlab n fronts slab lens → lists_in n fronts slab lens ≡ lists
-    → k < length lists → get_or lists k [] ≡ [] → IsTouched n k 0 (get_or fronts k 0) fronts slab lens lists
-touched_empty n k fronts slab lens lists s is lt none =
-    let stretch : List ℕ = take n (drop (k * n) slab) in
-    let row : get_or lists k [] ≡ take (get_or lens k 0) (get_or fronts k 0 ∷ stretch) = list_of_row n k fronts slab lens lists s is lt in
-    let held_is : 0 ≡ get_or lens k 0 = omega (arith, ap length row, ap length none, length-take (get_or lens k 0) (get_or fronts k 0 ∷ stretch)) in
-    record {
-      sound = s;
-      lists_are = is;
-      within = inside n k fronts slab lens lists s is lt;
-      held_is = held_is;
-      front_is = refl;
-      list_is = row ∙ ap (λ h. take h (get_or fronts k 0 ∷ stretch)) (sym held_is);
-    }
+pub touched_empty : {n k : ℕ} {fronts slab lens : List ℕ} {lists : List (List ℕ)} → HasRow n k fronts slab lens lists → get_or lists k [] ≡ []
+    → IsTouched n k 0 (get_or fronts k 0) fronts slab lens lists
+touched_empty r none = record { row = r; held_is = omega (arith, list_size r, ap length none); front_is = refl }
 
 -- the row of set k with a list of `len` blocks whose front is x: the list of the set before with x brought to the front
 pub record IsWritten (n k len x : ℕ) (fronts slab lens stretch fronts' slab' lens' : List ℕ) (list : List ℕ) : Type 0 where
@@ -79,31 +52,32 @@ module _ {n k held front : ℕ} {fronts slab lens : List ℕ} {lists : List (Lis
   abbrev pub stretch : List ℕ
   stretch = take n (drop (k * n) slab)
 
-  pub ends : k * n + n ≤ length slab
-  ends = end_within n k fronts slab lens t.sound t.within
-
   pub held_short : held ≤ n + 1
-  held_short = omega (arith, t.held_is, t.sound.short k t.within)
+  held_short = omega (arith, t.held_is, t.row.sound.short k (within t.row))
 
   pub stretch_long : length stretch ≡ n
-  stretch_long = length-take-le n (drop (k * n) slab) (omega (arith, length-drop (k * n) slab, ends))
+  stretch_long = length-take-le n (drop (k * n) slab) (omega (arith, length-drop (k * n) slab, (ends t.row).0))
+
+  pub list_is : list ≡ take held (front ∷ stretch)
+  list_is =
+      list_of_row t.row ∙ ap (λ h. take h (get_or fronts k 0 ∷ stretch)) (sym t.held_is) ∙ ap (λ f. take held (f ∷ stretch)) (sym t.front_is)
 
   pub list_long : length list ≡ held
-  list_long = ap length t.list_is ∙ length-take-le held (front ∷ stretch) (omega (arith, held_short, stretch_long))
+  list_long = list_size t.row ∙ sym t.held_is
 
   pub list_none : held ≡ 0 → list ≡ []
-  list_none none = t.list_is ∙ ap (λ h. take h (front ∷ stretch)) none
+  list_none none = list_is ∙ ap (λ h. take h (front ∷ stretch)) none
 
   pub list_some : 0 < held → list ≡ front ∷ take (held - 1) stretch
-  list_some some = let one_more : held ≡ suc (held - 1) = omega (arith, some) in t.list_is ∙ ap (λ h. take h (front ∷ stretch)) one_more
+  list_some some = let one_more : held ≡ suc (held - 1) = omega (arith, some) in list_is ∙ ap (λ h. take h (front ∷ stretch)) one_more
 
   module _ {len x : ℕ} {new fronts' slab' lens' : List ℕ} (w : IsWritten n k len x fronts slab lens new fronts' slab' lens' list) where
     pub lists_after : lists_in n fronts' slab' lens' ≡ set lists k (take (n + 1) (move_to_front x list))
     lists_after =
         ap (λ fs. lists_in n fs slab' lens') w.fronts_are ∙ ap (λ ys. lists_in n (set fronts k x) ys lens') w.slab_is
         ∙ ap (lists_in n (set fronts k x) (take (k * n) slab ++ (new ++ drop n (drop (k * n) slab)))) w.lens_are
-        ∙ list_set n k (k * n) len x fronts slab lens new t.within t.sound.fronts_len t.sound.short (omega (arith, t.sound.room)) w.long w.short refl
-        ∙ ap (λ ls. set ls k (take len (x ∷ new))) t.lists_are ∙ ap (set lists k) w.list_is
+        ∙ list_set n k (k * n) len x fronts slab lens new (within t.row) t.row.sound.fronts_len t.row.sound.short (omega (arith, t.row.sound.room)) w.long w.short refl
+        ∙ ap (λ ls. set ls k (take len (x ∷ new))) t.row.lists_are ∙ ap (set lists k) w.list_is
 
     slab_long : length slab' ≡ length slab
     slab_long =
@@ -115,7 +89,7 @@ module _ {n k held front : ℕ} {fronts slab lens : List ℕ} {lists : List (Lis
           length-take (k * n) slab,
           length-drop n (drop (k * n) slab),
           length-drop (k * n) slab,
-          ends,
+          (ends t.row).0,
           w.long,
         )
 
@@ -123,7 +97,7 @@ module _ {n k held front : ℕ} {fronts slab lens : List ℕ} {lists : List (Lis
     lens_long = ap length w.lens_are ∙ length-set lens k len
 
     len_at : (i : ℕ) → i ≡ k → get_or lens' i 0 ≡ len
-    len_at i e = ap (λ ls. get_or ls i 0) w.lens_are ∙ ap (λ j. get_or (set lens k len) j 0) e ∙ get_or-set_same lens k len 0 t.within
+    len_at i e = ap (λ ls. get_or ls i 0) w.lens_are ∙ ap (λ j. get_or (set lens k len) j 0) e ∙ get_or-set_same lens k len 0 (within t.row)
 
     len_other : (i : ℕ) → (i ≡ k → ⊥) → get_or lens' i 0 ≡ get_or lens i 0
     len_other i ne = ap (λ ls. get_or ls i 0) w.lens_are ∙ get_or-set_other lens k i len 0 ne
@@ -135,21 +109,21 @@ module _ {n k held front : ℕ} {fronts slab lens : List ℕ} {lists : List (Lis
     short_after i lt =
         ⊎_elim
         (λ (e : i ≡ k). subst (λ (m : ℕ). m ≤ n + 1) (sym (len_at i e)) w.short)
-        (λ (ne : i ≡ k → ⊥). subst (λ (m : ℕ). m ≤ n + 1) (sym (len_other i ne)) (t.sound.short i (omega (arith, lens_long))))
+        (λ (ne : i ≡ k → ⊥). subst (λ (m : ℕ). m ≤ n + 1) (sym (len_other i ne)) (t.row.sound.short i (omega (arith, lens_long))))
         (cases_eq i k)
 
     blank_after : (i : ℕ) → get_or lens' i 0 ≡ 0 → get_or fronts' i 0 ≡ 0
     blank_after i none =
         ⊎_elim
         (λ (e : i ≡ k). absurd (omega (arith, len_at i e, none, w.some)))
-        (λ (ne : i ≡ k → ⊥). front_other i ne ∙ t.sound.blank i (sym (len_other i ne) ∙ none))
+        (λ (ne : i ≡ k → ⊥). front_other i ne ∙ t.row.sound.blank i (sym (len_other i ne) ∙ none))
         (cases_eq i k)
 
     pub sound_after : IsSlab n fronts' slab' lens'
     sound_after = record {
-      fronts_len = ap length w.fronts_are ∙ length-set fronts k x ∙ t.sound.fronts_len ∙ sym lens_long;
-      room = slab_long ∙ t.sound.room ∙ ap (λ m. m * n) (sym lens_long);
-      small = subst (λ (m : ℕ). m * (n + 1) ≤ 2 ^ 22) (sym lens_long) t.sound.small;
+      fronts_len = ap length w.fronts_are ∙ length-set fronts k x ∙ t.row.sound.fronts_len ∙ sym lens_long;
+      room = slab_long ∙ t.row.sound.room ∙ ap (λ m. m * n) (sym lens_long);
+      small = subst (λ (m : ℕ). m * (n + 1) ≤ 2 ^ 22) (sym lens_long) t.row.sound.small;
       short = short_after;
       blank = blank_after;
     }
@@ -167,6 +141,30 @@ module _ {n k held front : ℕ} {fronts slab lens : List ℕ} {lists : List (Lis
     list_is =
         sym (ap (λ ys. take (n + 1) (move_to_front x ys)) (list_none none) ∙ ap (λ j. take j (x ∷ [])) (add-one n) ∙ ap (λ ys. x ∷ ys) (take-nil n));
   }
+
+  -- a list exchanges its first two blocks
+  pub written_second : (x : ℕ) (fronts' slab' : List ℕ) → fronts' ≡ set fronts k x → slab' ≡ set slab (k * n) front
+      → is_front x list ≡ false → is_second x list ≡ true
+      → IsWritten n k held x fronts slab lens (set stretch 0 front) fronts' slab' lens list
+  written_second x fronts' slab' front_put slab_put other second =
+      let two : 1 < held = omega (arith, list_long, second_place x list second) in
+      let room : 0 < n = omega (arith, two, held_short) in
+      let long : length (set stretch 0 front) ≡ n = length-set stretch 0 front ∙ stretch_long in
+      let start_long : length (take (k * n) slab) ≡ k * n = length-take-le (k * n) slab (omega (arith, (ends t.row).0)) in
+      record {
+        fronts_are = front_put;
+        slab_is =
+            slab_put ∙ ap (λ ys. set ys (k * n) front)
+            (sym (ap (λ ys. take (k * n) slab ++ ys) (take-append-drop n (drop (k * n) slab)) ∙ take-append-drop (k * n) slab))
+            ∙ set-append_right (take (k * n) slab) (stretch ++ drop n (drop (k * n) slab)) (k * n) (k * n) front start_long (omega arith)
+            ∙ ap (λ j. take (k * n) slab ++ set (stretch ++ drop n (drop (k * n) slab)) j front) (omega arith)
+            ∙ ap (λ ys. take (k * n) slab ++ ys) (set-append_left stretch (drop n (drop (k * n) slab)) 0 front (omega (arith, stretch_long, room)));
+        lens_are = sym (ap (set lens k) t.held_is ∙ set-get_or lens k 0);
+        long = long;
+        some = omega (arith, two);
+        short = held_short;
+        list_is = row_exchanged x held front n stretch list list_is list_long held_short stretch_long other second;
+      }
 
   -- the first blocks of the stretch are passed: `now` is the slab as it is lent, and m their number as the code has it
   module _ {x m : ℕ} {now after : List ℕ} (some : 0 < held) (s : IsShifted x front (held - 1) stretch after) (same : m ≡ held - 1) (lent : now ≡ slab) where
@@ -200,7 +198,7 @@ module _ {n k held front : ℕ} {fronts slab lens : List ℕ} {lists : List (Lis
           length-take (k * n) slab,
           length-drop n (drop (k * n) slab),
           length-drop (k * n) slab,
-          ends,
+          (ends t.row).0,
           shifted_long,
         )
 
@@ -237,7 +235,7 @@ module _ {n k held front : ℕ} {fronts slab lens : List ℕ} {lists : List (Lis
           → IsWritten n k (held + 1) x fronts slab lens (set shifted (held - 1) last) fronts' (set put i last) (set lens k (held + 1)) list
       written_grown i last room at absent out =
           let behind : List ℕ = drop n (drop (k * n) slab) in
-          let start_long : length (take (k * n) slab) ≡ k * n = length-take-le (k * n) slab (omega (arith, ends)) in
+          let start_long : length (take (k * n) slab) ≡ k * n = length-take-le (k * n) slab (omega (arith, (ends t.row).0)) in
           let offset : i - k * n ≡ held - 1 = omega (arith, at) in
           let two_more : held + 1 ≡ suc (suc (held - 1)) = omega (arith, some) in
           record {

@@ -4,7 +4,7 @@ ghost use Rattle.trace_core.specs.declared.events.Event.{Event};
 ghost use Rattle.cache_core.specs.Geometry.{IsGeometry, geometry_value, block_of, set_of_block};
 ghost use Rattle.cache_core.specs.Windows.{places, counts, probes, held};
 ghost use Rattle.profile_core.specs.State.{empty, list_of, after_reference, after_flush, fed_of, held_of, counts_at, tally_at, weighed};
-ghost use Rattle.profile_core.specs.Moves.{is_front};
+ghost use Rattle.profile_core.specs.Moves.{is_front, is_second};
 ghost use Rattle.profile_core.specs.StandsFor.{StandsFor};
 
 use crate::recency::{RecencyLists, Touch};
@@ -16,14 +16,15 @@ use std::marker::Model;
 /// The recency lists of all sets (LRU stacks, Mattson 1970) and two histograms: references found behind the front of
 /// their list, by their stack distance less 1, which is the block's place behind the front; references not found, by
 /// the number of blocks in the list. Those found in front, which most are, are counted by their comparison alone: each
-/// made one, and how many the others made is told by the histograms.
+/// made one, and how many the others made is told by the histograms. What a reference in front needs stands first and
+/// side by side: with `probes` last, many profiles took a tenth more time.
 #[derive(Drop)]
 pub struct Profile {
     geometry: Geometry,
+    probes: u64,
     lists: RecencyLists,
     behind: Vec<u64>,
     misses_by_occupancy: Vec<u64>,
-    probes: u64,
 }
 
 impl Model for Profile {
@@ -114,12 +115,31 @@ impl Profile {
     }
 
     /// Feeds a reference to a block that is not the front of its set's list. It stands apart, so that the path of the
-    /// many references that find their block in front stays short.
+    /// many references that find their block in front stays short. A third of the others find theirs next.
     #[inline(never)]
     fn feed_behind(&mut self, set: usize, block: u64)
         requires few { fed_of self.old < 2 ^ 41 }
         requires of_set { set ≡ set_of_block self.old.geometry block }
         requires behind { is_front block (list_of self.old set) ≡ false }
+        ensures step { self.new ≡ after_reference self.old block }
+        ensures one_more { fed_of self.new ≡ fed_of self.old + 1 }
+    {
+        if self.lists.is_second(set, block) {
+            self.lists.bring_second(set, block);
+            self.probes += 2;
+            self.behind[0] += 1;
+        } else {
+            self.feed_further(set, block);
+        }
+    }
+
+    /// Feeds a reference to a block that is neither the front nor the second of its set's list.
+    #[inline(never)]
+    fn feed_further(&mut self, set: usize, block: u64)
+        requires few { fed_of self.old < 2 ^ 41 }
+        requires of_set { set ≡ set_of_block self.old.geometry block }
+        requires behind { is_front block (list_of self.old set) ≡ false }
+        requires further { is_second block (list_of self.old set) ≡ false }
         ensures step { self.new ≡ after_reference self.old block }
         ensures one_more { fed_of self.new ≡ fed_of self.old + 1 }
     {

@@ -4,7 +4,7 @@ ghost use Rattle.std.specs.Prelude.{◌≡◌, ◌+◌, ◌*◌, ◌^◌, ◌<�
 ghost use Rattle.std.specs.Prelude.{sum, sum_by, replicate, IfOk, slice_set, slice_index_or};
 ghost use Rattle.std.specs.List.{remove};
 ghost use Rattle.cache_core.specs.Touched.{Covers, ListsFilled};
-ghost use Rattle.profile_core.specs.Moves.{place_of, is_front, move_to_front, touch_of, shifted_of};
+ghost use Rattle.profile_core.specs.Moves.{place_of, is_front, is_second, move_to_front, touch_of, shifted_of};
 
 use cache_core::touched::TouchedSets;
 use std::alloc::{AllocError, Global};
@@ -108,14 +108,40 @@ impl RecencyLists {
         self.touched.note_growth(set, 0, 1);
     }
 
-    /// Brings a block that is not the front of a set's list there. It counts the comparisons with all entries, that
-    /// with the front too, which found it to be another block.
+    /// Whether a block is the second of a set's list.
+    #[inline(always)]
+    pub fn is_second(&self, set: usize, block: u64) -> bool
+        requires { set < length self.now.lists }
+        ensures { result ≡ is_second block (slice_index_or self.now.lists set []) }
+    {
+        self.lens[set] > 1 && self.slab[set * self.stride] == block
+    }
+
+    /// Brings the second block of a set's list to the front.
+    #[inline(always)]
+    pub fn bring_second(&mut self, set: usize, block: u64)
+        requires within { set < length self.old.lists }
+        requires behind { is_front block (slice_index_or self.old.lists set []) ≡ false }
+        requires second { is_second block (slice_index_or self.old.lists set []) ≡ true }
+        ensures short { length (slice_index_or self.old.lists set []) ≤ self.old.depth }
+        ensures moved { let list = slice_index_or self.old.lists set [] in
+            self.new ≡ record self.old {
+              lists = slice_set self.old.lists set (take self.old.depth (move_to_front block list));
+            } }
+    {
+        let second = mem::replace(&mut self.fronts[set], block);
+        self.slab[set * self.stride] = second;
+    }
+
+    /// Brings a block that is neither the front nor the second of a set's list to the front. It counts the comparisons
+    /// with all entries, those with the first two as well, which found them to be other blocks.
     #[inline(always)]
     pub fn bring(&mut self, set: usize, block: u64, probes: &mut u64) -> Touch
         requires within { set < length self.old.lists }
         requires few { probes.old < 2 ^ 63 }
         requires some { 0 < length (slice_index_or self.old.lists set []) }
         requires behind { is_front block (slice_index_or self.old.lists set []) ≡ false }
+        requires further { is_second block (slice_index_or self.old.lists set []) ≡ false }
         ensures found { result ≡ touch_of block (slice_index_or self.old.lists set []) }
         ensures short { length (slice_index_or self.old.lists set []) ≤ self.old.depth }
         ensures counted { let list = slice_index_or self.old.lists set [] in
@@ -130,7 +156,7 @@ impl RecencyLists {
         *probes += 1;
         let start = set * self.stride;
         let end = start + held - 1;
-        match shift_to(&mut self.slab[start..end], front, block, probes) {
+        match shift_past(&mut self.slab[start..end], front, block, probes) {
             Shifted::Found(place) => Touch::Behind(place),
             Shifted::Out(last) => {
                 if held <= self.stride {
@@ -192,25 +218,57 @@ fn total_len(lens: &[u32]) -> u64
     total
 }
 
-/// Puts `first` in front of a list. Each other block moves one place on, up to the place where `block` stood.
+/// Puts `first` in front of a list whose own front is known to be another block than `block`, a comparison that it
+/// counts too. Each other block moves one place on, up to the place where `block` stood.
 #[inline(always)]
-fn shift_to(list: &mut [u64], first: u64, block: u64, probes: &mut u64) -> Shifted
-    requires { probes.old + length list.old < 2 ^ 64 }
+fn shift_past(list: &mut [u64], first: u64, block: u64, probes: &mut u64) -> Shifted
+    requires few { probes.old + length list.old < 2 ^ 64 }
+    requires behind { is_front block list.old ≡ false }
     ensures shifted { result ≡ shifted_of block first list.old }
     ensures counted { probes.new ≡ probes.old + min (place_of block list.old + 1) (length list.old) }
     ensures moved { list.new ≡ take (length list.old) (first ∷ remove list.old (place_of block list.old)) }
 {
-    let mut carried = first;
-    let mut compared: usize = 0;
-    for entry in list.iter_mut() {
-        let other = mem::replace(entry, carried);
+    let Some(front) = list.first_mut() else {
+        return Shifted::Out(first);
+    };
+    let mut carried = mem::replace(front, first);
+    let mut compared: usize = 1;
+    // Two at a turn: lists of thousands of blocks take a fifth less time.
+    while compared + 1 < list.len() {
+        let found = pass(&mut list[compared], &mut carried, block);
         compared += 1;
-        if other == block {
+        if found {
             *probes += compared as u64;
             return Shifted::Found(compared - 1);
         }
-        carried = other;
+        let found = pass(&mut list[compared], &mut carried, block);
+        compared += 1;
+        if found {
+            *probes += compared as u64;
+            return Shifted::Found(compared - 1);
+        }
     }
+    if compared == list.len() {
+        *probes += compared as u64;
+        return Shifted::Out(carried);
+    }
+    let found = pass(&mut list[compared], &mut carried, block);
+    compared += 1;
     *probes += compared as u64;
-    Shifted::Out(carried)
+    if found {
+        Shifted::Found(compared - 1)
+    } else {
+        Shifted::Out(carried)
+    }
+}
+
+/// Puts the block that is carried in a place, and carries on the one that stood there: whether that is `block`.
+#[inline(always)]
+fn pass(entry: &mut u64, carried: &mut u64, block: u64) -> bool
+    ensures put { entry.new ≡ carried.old }
+    ensures carried { carried.new ≡ entry.old }
+    ensures found { result ≡ nat_eq entry.old block }
+{
+    mem::swap(entry, carried);
+    *carried == block
 }

@@ -1,37 +1,34 @@
 -- The first block of a set's list.
-use Rattle.std.proofs.Common.{◌≡◌, ◌+◌, ◌∙◌, take, get_or, set, sym, ap, subst, refl, arith}
+use Rattle.std.proofs.Common.{◌≡◌, ◌+◌, ◌∙◌, take, set, sym, ap, subst, refl, arith}
 use Rattle.profile_core.specs.Moves.{move_to_front}
 use Rattle.cache_core.specs.Touched.{Covers}
 use Rattle.cache_core.proofs.TouchedSets.{covers_change}
-use Rattle.profile_core.proofs.Writing.{IsTouched, IsBrought, touched_empty, written_first, brought}
+use Rattle.profile_core.proofs.SlabLemmas.{RowOf, within, among_fronts}
+use Rattle.profile_core.proofs.Writing.{IsBrought, touched_empty, written_first, brought}
 use Rattle.profile_core.proofs.recency.RecencyLists.begin.Goals as goal
 use Rattle.profile_core.proofs.recency.RecencyLists.begin.Goals.{After-self, After-note_growth}
 
-touched : (c : After-self) → IsTouched c.self.inside.stride c.args.set 0 (get_or c.self.inside.fronts.items c.args.set 0) c.self.inside.fronts.items
-    c.self.inside.slab.items c.self.inside.lens.items c.args.self.now.lists
-touched c =
-    touched_empty c.self.inside.stride c.args.set c.self.inside.fronts.items c.self.inside.slab.items c.self.inside.lens.items c.args.self.now.lists
-    c.self.invariant.sound (ap (λ v. v.lists) c.self.view_is) c.requires.within c.requires.empty
+row : (c : After-self) → RowOf c.self.inside c.args.set c.args.self.now.lists
+row c = record { sound = c.self.invariant.sound; lists_are = ap (λ v. v.lists) c.self.view_is; is_set = c.requires.within }
 
 pub index_mut-requires : goal.index_mut-requires
 index_mut-requires c =
-    let t = touched (goal.at.index_mut-requires c).After-self in
-    omega (arith, t.within, c.self.invariant.sound.fronts_len, c.self.inside.fronts.ok.0)
+    omega (arith, among_fronts (row (goal.at.index_mut-requires c).After-self), c.self.inside.fronts.ok.0)
 
 pub index_mut-requires-2 : goal.index_mut-requires-2
-index_mut-requires-2 c = omega (arith, (touched (goal.at.index_mut-requires-2 c).After-self).within, c.self.inside.lens.ok.0)
+index_mut-requires-2 c = omega (arith, within (row (goal.at.index_mut-requires-2 c).After-self), c.self.inside.lens.ok.0)
 
 pub note_growth-requires : goal.note_growth-requires
-note_growth-requires c = omega (arith, (touched (goal.at.note_growth-requires c).After-self).within, c.self.invariant.sound.small)
+note_growth-requires c = omega (arith, within (row (goal.at.note_growth-requires c).After-self), c.self.invariant.sound.small)
 
 brought_first : (c : After-note_growth) → IsBrought c.self.inside.stride c.args.set c.args.block (set c.self.inside.fronts.items c.args.set c.args.block)
     c.self.inside.slab.items (set c.self.inside.lens.items c.args.set 1) c.note_growth.new.self c.args.self.now.lists
 brought_first c =
     let lens = c.self.inside.lens.items in
-    let t =
-    touched_empty c.self.inside.stride c.args.set c.self.inside.fronts.items c.self.inside.slab.items lens c.args.self.now.lists
-    c.self.invariant.sound (ap (λ v. v.lists) c.self.view_is) c.requires.within c.requires.empty in
-    let covers = covers_change c.self.inside.touched lens c.args.set 0 1 t.within t.held_is c.self.invariant.covers in
+    let r : RowOf c.self.inside c.args.set c.args.self.now.lists =
+    record { sound = c.self.invariant.sound; lists_are = ap (λ v. v.lists) c.self.view_is; is_set = c.requires.within } in
+    let t = touched_empty r c.requires.empty in
+    let covers = covers_change c.self.inside.touched lens c.args.set 0 1 (within r) t.held_is c.self.invariant.covers in
     brought t (written_first t c.args.block _ refl refl) (subst (λ listed. Covers listed (set lens c.args.set 1)) (sym c.note_growth.ensures) covers)
 
 pub invariant_of-self : goal.invariant_of-self

@@ -1,67 +1,39 @@
 -- The front of a set's list, read from its row.
-use Rattle.std.proofs.Common.{◌≡◌, ◌≤◌, ◌<◌, ◌*◌, ◌⊎◌, inl, inr, Bool, true, false, ℕ, not, eqb, ◌∙◌, [], ◌∷◌, length, take, drop, get_or, sym, ap, arith}
-use Rattle.std.proofs.lemmas.List.{get_or_read}
+use Rattle.std.proofs.Common.{◌≡◌, ◌≤◌, ◌<◌, ◌⊎◌, inl, inr, Bool, true, false, ℕ, not, eqb, ◌∙◌, [], length, get_or, sym, ap, arith}
 use Rattle.profile_core.specs.Moves.{is_front}
-use Rattle.profile_core.specs.Slab.{lists_in}
 use Rattle.profile_core.proofs.Bringing.{front_of_some, front_of_none}
-use Rattle.profile_core.proofs.SlabLemmas.{inside, list_of_row, list_short}
+use Rattle.profile_core.proofs.SlabLemmas.{RowOf, within, among_fronts, list_of_row, list_short, len_read, front_read}
 use Rattle.profile_core.proofs.recency.RecencyLists.is_front.Goals as goal
 use Rattle.profile_core.proofs.recency.RecencyLists.is_front.Goals.{After-self}
 
-lists_are : (c : After-self) → lists_in c.self.inside.stride c.self.inside.fronts.items c.self.inside.slab.items c.self.inside.lens.items
-    ≡ c.args.self.now.lists
-lists_are c = ap (λ v. v.lists) c.self.view_is
-
-within : (c : After-self) → c.args.set < length c.self.inside.lens.items
-within c = inside c.self.inside.stride c.args.set c.self.inside.fronts.items c.self.inside.slab.items c.self.inside.lens.items
-    c.args.self.now.lists c.self.invariant.sound (lists_are c) c.requires.within
+row : (c : After-self) → RowOf c.self.inside c.args.set c.args.self.now.lists
+row c = record { sound = c.self.invariant.sound; lists_are = ap (λ v. v.lists) c.self.view_is; is_set = c.requires.within }
 
 short : (c : After-self) → length (get_or c.args.self.now.lists c.args.set []) ≤ c.args.self.now.depth
-short c =
-    omega (
-      arith,
-      ap (λ v. v.depth) c.self.view_is,
-      list_short c.self.inside.stride c.args.set c.self.inside.fronts.items c.self.inside.slab.items c.self.inside.lens.items
-          c.args.self.now.lists c.self.invariant.sound (lists_are c) c.requires.within,
-    )
+short c = omega (arith, ap (λ v. v.depth) c.self.view_is, list_short (row c))
 
 -- a block that is known to be above 0, or was found to be another
 not_0 : (block : ℕ) (past_first : Bool) → (past_first ≡ true → 0 < block) → (past_first ≡ true) ⊎ ((past_first ≡ false) × (block ≡ 0 → ⊥)) → block ≡ 0 → ⊥
 not_0 block past_first known (inl is) zero = absurd (omega (arith, known is, zero))
 not_0 block past_first known (inr other) zero = other.1 zero
 
--- the list, by the length and the front of its row
-list_is : (c : After-self) → get_or c.args.self.now.lists c.args.set [] ≡ take (get_or c.self.inside.lens.items c.args.set 0)
-    (get_or c.self.inside.fronts.items c.args.set 0 ∷ take c.self.inside.stride (drop (c.args.set * c.self.inside.stride) c.self.inside.slab.items))
-list_is c = list_of_row c.self.inside.stride c.args.set c.self.inside.fronts.items c.self.inside.slab.items c.self.inside.lens.items
-    c.args.self.now.lists c.self.invariant.sound (lists_are c) c.requires.within
-
-among_fronts : (c : After-self) → c.args.set < length c.self.inside.fronts.items
-among_fronts c = omega (arith, within c, c.self.invariant.sound.fronts_len)
-
-front_is : (c : After-self) (front : ℕ) → front ≡ get_or c.self.inside.fronts.items c.args.set front → front ≡ get_or c.self.inside.fronts.items c.args.set 0
-front_is c front read = get_or_read c.self.inside.fronts.items c.args.set front (among_fronts c) read 0
-
-length_is : (c : After-self) (len : ℕ) → len ≡ get_or c.self.inside.lens.items c.args.set len → len ≡ get_or c.self.inside.lens.items c.args.set 0
-length_is c len read = get_or_read c.self.inside.lens.items c.args.set len (within c) read 0
-
 -- what the front says of the list
 front_is_list : (c : After-self) (front : ℕ) → front ≡ get_or c.self.inside.fronts.items c.args.set front
     → (c.args.block ≡ 0 → ⊥) ⊎ (get_or c.self.inside.lens.items c.args.set 0 ≡ 0 → ⊥)
     → eqb front c.args.block ≡ is_front c.args.block (get_or c.args.self.now.lists c.args.set [])
 front_is_list c front read some =
-    ap (λ f. eqb f c.args.block) (front_is c front read)
+    ap (λ f. eqb f c.args.block) (front_read (row c) read)
     ∙ front_of_some c.args.block (get_or c.self.inside.lens.items c.args.set 0) (get_or c.self.inside.fronts.items c.args.set 0) _
-    (c.self.invariant.sound.blank c.args.set) some ∙ ap (is_front c.args.block) (sym (list_is c))
+    (c.self.invariant.sound.blank c.args.set) some ∙ ap (is_front c.args.block) (sym (list_of_row (row c)))
 
 pub index-requires : goal.index-requires
-index-requires c = omega (arith, among_fronts (goal.at.index-requires c).After-self, c.self.inside.fronts.ok.0)
+index-requires c = omega (arith, among_fronts (row (goal.at.index-requires c).After-self), c.self.inside.fronts.ok.0)
 
 pub index-requires-else-block-ne0 : goal.index-requires-else-block-ne0
-index-requires-else-block-ne0 c = omega (arith, within (goal.at.index-requires-else-block-ne0 c).After-self, c.self.inside.lens.ok.0)
+index-requires-else-block-ne0 c = omega (arith, within (row (goal.at.index-requires-else-block-ne0 c).After-self), c.self.inside.lens.ok.0)
 
 pub index-requires-then-index-ne0 : goal.index-requires-then-index-ne0
-index-requires-then-index-ne0 c = omega (arith, among_fronts (goal.at.index-requires-then-index-ne0 c).After-self, c.self.inside.fronts.ok.0)
+index-requires-then-index-ne0 c = omega (arith, among_fronts (row (goal.at.index-requires-then-index-ne0 c).After-self), c.self.inside.fronts.ok.0)
 
 pub returns-then-block-ne0-clause-front : goal.returns-then-block-ne0-clause-front
 returns-then-block-ne0-clause-front c =
@@ -74,7 +46,7 @@ returns-then-block-ne0-clause-short c = short (goal.at.returns-then-block-ne0-cl
 pub returns-then-index-ne0-clause-front : goal.returns-then-index-ne0-clause-front
 returns-then-index-ne0-clause-front c =
     let at = (goal.at.returns-then-index-ne0-clause-front c).After-self in
-    let len_is = length_is at c.index-else-block-ne0.result.now c.index-else-block-ne0.ensures in
+    let len_is = len_read (row at) c.index-else-block-ne0.ensures in
     front_is_list at c.index-then-index-ne0.result.now c.index-then-index-ne0.ensures (inr (λ none. c.if-index-ne0.true (len_is ∙ none)))
 
 pub returns-then-index-ne0-clause-short : goal.returns-then-index-ne0-clause-short
@@ -83,11 +55,11 @@ returns-then-index-ne0-clause-short c = short (goal.at.returns-then-index-ne0-cl
 pub returns-else-index-ne0-clause-front : goal.returns-else-index-ne0-clause-front
 returns-else-index-ne0-clause-front c =
     let at = (goal.at.returns-else-index-ne0-clause-front c).After-self in
-    let len_is = length_is at c.index-else-block-ne0.result.now c.index-else-block-ne0.ensures in
+    let len_is = len_read (row at) c.index-else-block-ne0.ensures in
     let none : c.index-else-block-ne0.result.now ≡ 0 = omega (arith, c.if-index-ne0.false) in
     ap (λ n. not (eqb n 0)) none
     ∙ front_of_none c.args.block (get_or c.self.inside.lens.items c.args.set 0) (get_or c.self.inside.fronts.items c.args.set 0) _ (sym len_is ∙ none)
-    ∙ ap (is_front c.args.block) (sym (list_is at))
+    ∙ ap (is_front c.args.block) (sym (list_of_row (row at)))
 
 pub returns-else-index-ne0-clause-short : goal.returns-else-index-ne0-clause-short
 returns-else-index-ne0-clause-short c = short (goal.at.returns-else-index-ne0-clause-short c).After-self
