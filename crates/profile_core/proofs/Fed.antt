@@ -57,10 +57,10 @@ module _ {g : GeometryValue} {was now : Lists} {behind missed : List ℕ} {probe
     pub behind_fits : place < length behind
     behind_fits = omega (arith, f.within, m.short, m.sound.depth, m.sound.behind_count)
 
-    module _ {n probes' : ℕ} (read : n ≡ get_or behind place n) (more : probes' ≡ probes + (place + 2)) where
-      pub behind_room : n < 2 ^ 41
-      behind_room = omega (arith, raised_fits behind place n behind_fits read, fed, sum-distances probes behind missed)
+    pub behind_room : {n : ℕ} → n ≡ get_or behind place n → n < 2 ^ 41
+    behind_room {n} read = omega (arith, raised_fits behind place n behind_fits read, fed, sum-distances probes behind missed)
 
+    module _ {n probes' : ℕ} (read : n ≡ get_or behind place n) (more : probes' ≡ probes + (place + 2)) where
       behind_numbers : IsFed behind missed (set behind place (n + 1)) missed probes probes' (place + 2)
       behind_numbers = fed_behind behind missed probes probes' place n m.sound.told behind_fits read more
 
@@ -88,10 +88,10 @@ module _ {g : GeometryValue} {was now : Lists} {behind missed : List ℕ} {probe
     pub nowhere_fits : len < length missed
     nowhere_fits = omega (arith, f.len_is, m.short, m.sound.depth, m.sound.occupancy_count)
 
-    module _ {n probes' : ℕ} (read : n ≡ get_or missed len n) (more : probes' ≡ probes + len) where
-      pub nowhere_room : n < 2 ^ 41
-      nowhere_room = omega (arith, raised_fits missed len n nowhere_fits read, fed)
+    pub nowhere_room : {n : ℕ} → n ≡ get_or missed len n → n < 2 ^ 41
+    nowhere_room {n} read = omega (arith, raised_fits missed len n nowhere_fits read, fed)
 
+    module _ {n probes' : ℕ} (read : n ≡ get_or missed len n) (more : probes' ≡ probes + len) where
       nowhere_numbers : IsFed behind missed behind (set missed len (n + 1)) probes probes' len
       nowhere_numbers = fed_nowhere behind missed probes probes' len n m.sound.told nowhere_fits read more
 

@@ -31,7 +31,7 @@ index_mut-requires c =
 pub overflow_add-index_mut : goal.overflow_add-index_mut
 overflow_add-index_mut c =
     let at = (goal.at.overflow_add-index_mut c).After-bring_second in
-    omega (arith, behind_room (moved at) (found at) c.index_mut.ensures.value refl)
+    omega (arith, behind_room (moved at) (found at) c.index_mut.ensures.value)
 
 pub invariant_of-self : goal.invariant_of-self
 invariant_of-self c =

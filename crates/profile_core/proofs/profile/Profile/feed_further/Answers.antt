@@ -55,13 +55,13 @@ pub overflow_add-index_mut : goal.overflow_add-index_mut
 overflow_add-index_mut c =
     let at = (goal.at.overflow_add-index_mut c).After-bring in
     let f = found at c.in-Behind.place c.in-Behind.ensures.found in
-    omega (arith, behind_room (moved at) f c.index_mut.ensures.value (counted at c.in-Behind.place f))
+    omega (arith, behind_room (moved at) f c.index_mut.ensures.value)
 
 pub overflow_add-index_mut-in-New : goal.overflow_add-index_mut-in-New
 overflow_add-index_mut-in-New c =
     let at = (goal.at.overflow_add-index_mut-in-New c).After-bring in
     let f = nowhere at c.in-New.held c.in-New.ensures.found in
-    omega (arith, nowhere_room (moved at) f c.index_mut-in-New.ensures.value (counted_all at c.in-New.held f))
+    omega (arith, nowhere_room (moved at) f c.index_mut-in-New.ensures.value)
 
 pub invariant_of-self : goal.invariant_of-self
 invariant_of-self c =
