@@ -115,7 +115,7 @@ impl Profile {
     }
 
     /// Feeds a reference to a block that is not the front of its set's list. It stands apart, so that the path of the
-    /// many references that find their block in front stays short. A third of the others find theirs next.
+    /// many references that find their block in front stays short. More than a third of the others find theirs next.
     #[inline(never)]
     fn feed_behind(&mut self, set: usize, block: u64)
         requires few { fed_of self.old < 2 ^ 41 }

@@ -84,7 +84,8 @@ fn a_sweep_of_any_number_of_lines(rt: HostRuntime) -> Result<(), Fail> {
 fn a_sweep_of_nine_thousand_lines(rt: HostRuntime) -> Result<(), Fail> {
     let both = request(2, (1, 2), (16, 64))?;
     let written =
-        b"bsize,sets,assoc,size,hits,misses,evictions\n16,1,1,16,3999,5001,5000\n16,1,2,32,4999,4001,3999\n16,2,1,32,5998,3002,3000\n16,2,2,64,5998,3002,2999\n";
+        b"bsize,sets,assoc,size,hits,misses,evictions\n16,1,1,16,3999,5001,5000\n16,1,2,32,4999,4001,3999\n\
+        16,2,1,32,5998,3002,3000\n16,2,2,64,5998,3002,2999\n";
     expect_table(&rt, rt.alloc(), &both, 1000, written)
 }
 
