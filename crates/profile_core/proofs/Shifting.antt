@@ -1,6 +1,7 @@
 -- A list that is passed once while each block moves one place on: what the pass finds, and the list behind it.
 use Rattle.std.proofs.Common.{◌≡◌, ℕ, zero, suc, ◌+◌, ◌<◌, ◌≤◌, true, false, not, cond, eqb, List, [], ◌∷◌, ◌++◌, length, take, drop}
-use Rattle.std.proofs.Common.{get_or, set, refl, sym, ◌∙◌, ap, arith, add-one, one-add, append-nil, length-take, length-append, length-drop, eq-eqb, below_more, min}
+use Rattle.std.proofs.Common.{get_or, set, refl, sym, ◌∙◌, ap, arith, add-one, one-add, append-nil, eq-eqb, below_more, min}
+use Rattle.std.proofs.Common.{length-take, length-append, length-drop}
 use Rattle.std.specs.List.{remove}
 use Rattle.std.proofs.lemmas.Bool.{lt-ltb, le-ltb, ne_eqb, eqb-true, false≢true}
 use Rattle.std.proofs.lemmas.List.{take_all, drop_all}

@@ -76,7 +76,8 @@ module _ {n k held front : ℕ} {fronts slab lens : List ℕ} {lists : List (Lis
     lists_after =
         ap (λ fs. lists_in n fs slab' lens') w.fronts_are ∙ ap (λ ys. lists_in n (set fronts k x) ys lens') w.slab_is
         ∙ ap (lists_in n (set fronts k x) (take (k * n) slab ++ (new ++ drop n (drop (k * n) slab)))) w.lens_are
-        ∙ list_set n k (k * n) len x fronts slab lens new (within t.row) t.row.sound.fronts_len t.row.sound.short (omega (arith, t.row.sound.room)) w.long w.short refl
+        ∙ list_set n k (k * n) len x fronts slab lens new (within t.row) t.row.sound.fronts_len t.row.sound.short
+        (omega (arith, t.row.sound.room)) w.long w.short refl
         ∙ ap (λ ls. set ls k (take len (x ∷ new))) t.row.lists_are ∙ ap (set lists k) w.list_is
 
     slab_long : length slab' ≡ length slab

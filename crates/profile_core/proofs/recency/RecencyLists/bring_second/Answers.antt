@@ -16,7 +16,8 @@ some_room c =
 
 exchanged : (c : After-replace-second) → IsBrought c.self.inside.stride c.args.set c.args.block
     (set c.self.inside.fronts.items c.args.set c.replace-second.new.dest)
-    (set c.self.inside.slab.items (c.args.set * c.self.inside.stride) c.replace-second.result) c.self.inside.lens.items c.self.inside.touched c.args.self.now.lists
+    (set c.self.inside.slab.items (c.args.set * c.self.inside.stride) c.replace-second.result) c.self.inside.lens.items
+    c.self.inside.touched c.args.self.now.lists
 exchanged c =
     let r : RowOf c.self.inside c.args.set c.args.self.now.lists =
     record { sound = c.self.invariant.sound; lists_are = ap (λ v. v.lists) c.self.view_is; is_set = c.requires.within } in
