@@ -34,9 +34,10 @@ def number_of_jobs(word):
 
 
 def find_cachesim():
-    """The path of the program: $CACHESIM, else that of this checkout, else the one on the path."""
+    """The path of the program: $CACHESIM, else that of this checkout, else that installed with this folder, else the one on the path."""
     named = os.environ.get("CACHESIM")
-    places = [os.path.join(HERE, "../crates/cachesim/out"), *os.environ.get("PATH", "").split(":")]
+    near = [os.path.join(HERE, folder) for folder in ("../crates/cachesim/out", "../../bin")]
+    places = [*near, *os.environ.get("PATH", "").split(":")]
     for path in [named] if named else [os.path.join(place, "cachesim") for place in places]:
         if os.path.isfile(path) and os.access(path, os.X_OK):
             return os.path.join(".", path)

@@ -14,7 +14,7 @@ class Installing(MakeTest):
         put_program(self.top)
         self.to = self.folder / "to install"
         self.to.mkdir()
-        self.path = {"PATH": self.path_without("rt", "lowdown")}
+        self.path = {"PATH": self.path_without("rt", "lowdown", "cachesim")}
 
     def few_tools(self):
         """Leaves few tools in the copy, so that a test is quick."""
@@ -122,6 +122,22 @@ class Installing(MakeTest):
             self.assertEqual(ran.returncode, 0, ran.stderr)
         # Python has left no files there
         self.assertEqual({path for path in self.below() if path.startswith("usr/lib/cachesim/")}, there)
+
+    def test_tools_find_the_program_beside_them(self):
+        """Installed below a folder that is not on the path."""
+        self.install()
+        lab = self.to / "usr/lib/cachesim/lab"
+        space = ("--bsize", "16", "--sets", "1-4", "--assoc", "1-2", "--size", "0-1k")
+        din, lackey = TOP / "examples/sort.din", TOP / "examples/blocks.lackey"
+        env = {"CACHESIM": "", **self.path}
+        pages = "--pow2 --bsize 16 --sets 1 --assoc 1-4 --size 0-1k --rows 3\n"
+        for words, text in (
+            (("bin/cachesim-sweep-parallel", 2, din, *space), self.run_words(PROGRAM, "sweep", *space, "-t", din).stdout.decode()),
+            (("bin/cachesim-pages", 1, "--pow2", "--bsize", 16, "--sets", 1, "--assoc", "1-4", "--size", "0-1k"), pages),
+            (("lib/cachesim/lab/grade", lab / "csim", lackey), "13 of 13 right\n"),
+        ):
+            ran = self.run_words(self.to / "usr" / words[0], *words[1:], env=env)
+            self.assertEqual((ran.returncode, ran.stdout.decode(), ran.stderr), (0, text, b""))
 
     def test_each_c_part_is_compiled(self):
         parts = set()

@@ -26,7 +26,7 @@ pub record CommandValue : Type 0 where
 abbrev pub command_value : Command → CommandValue
 command_value c = record { job = c.job; trace = option_map string_bytes c.trace }
 
--- what the entries of a subcommand say
+-- the job that the entries of a subcommand of this name give; none of another name
 abbrev pub job_named : Text → List Row → Option (Result Job Judgement)
 job_named name rows = if bytes_eq name (codes "csim") then Some (csim_of rows)
     else (if bytes_eq name (codes "din") then Some (din_of rows)

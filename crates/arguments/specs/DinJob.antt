@@ -68,7 +68,7 @@ abbrev pub is_given : CacheReading → Bool
 is_given r = is_some r.size || (is_some r.bsize || (is_some r.assoc || (is_some r.repl
     || (is_some r.walloc || is_some r.wback))))
 
--- the cache with its defaults
+-- the cache with its defaults; none without size and block size
 abbrev pub spec_with : Option ℕ → Option ℕ → CacheReading → Option CacheSpec
 spec_with (Some size) (Some bsize) r = Some (record {
   size = size;

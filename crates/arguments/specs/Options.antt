@@ -44,7 +44,7 @@ csim_rules = letter (codes "-s") 115
     ∷ record (new_rule (codes "-v")) { short = Some 118; action = Some SetTrue }
     ∷ []
 
--- the option of a cache that ends so, by the name that a fault has
+-- the name of a cache's option with this ending, as faults have it
 abbrev pub option_of : CacheName → Text → Text
 option_of cache ending = codes "-" ++ label_of cache ++ ending
 

@@ -20,7 +20,7 @@ abbrev pub and_then : {A B : Type 0} → Result A Judgement → (A → Result B 
 and_then (Ok x) next = next x
 and_then (Err e) next = Err e
 
--- a text that is there by its reader, and otherwise none
+-- what a reader makes of an option's text, or the fault that names the option; none where it was not given
 abbrev pub read_text : {A : Type 0} → Text → (Text → Option A) → Option Text → Result (Option A) Judgement
 read_text name reader None = Ok None
 read_text name reader (Some text) = ok_or (option_map Some (reader text)) (value name)

@@ -16,6 +16,7 @@ pub struct CacheOptions {
     pub wback: CommandOption,
 }
 
+// What help says of each of the six.
 const SIZE: &str = "Bytes of all its blocks, a power of two, as 16k";
 
 const BSIZE: &str = "Bytes in a block, a power of two";
@@ -28,7 +29,7 @@ const WALLOC: &str = "Whether a write that misses loads its block: a always, n n
 
 const WBACK: &str = "Writes: a go back when their block leaves, n go through at once [default: a]";
 
-/// An option of the cache of this name, which ends so.
+/// The option of this cache with this ending.
 macro_rules! cache_option {
     ($cache:literal, $ending:literal, $value:literal, $help:expr) => {
         CommandOption {

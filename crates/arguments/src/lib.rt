@@ -1,4 +1,4 @@
-//! The arguments of the command line: what they are spelled as, the options that they have, and the job that they ask for.
+//! The arguments of the command line: how they are spelled, which options there are, and the job that they ask for.
 #![tactic(auto)]
 
 mod cache_options;

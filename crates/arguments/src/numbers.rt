@@ -17,7 +17,7 @@ pub fn read_number(text: &str) -> Option<u64>
     }
 }
 
-/// Whether each byte is a decimal digit, as in no text at all.
+/// Whether each byte is a decimal digit, which is true of the empty text.
 fn has_only_digits(text: &str) -> bool
     ensures { result ≡ list_all is_ascii_digit text.now }
 {

@@ -38,6 +38,7 @@ pub struct CommandOption {
 use Presence::{Flag, Optional, Required};
 use Spelling::{Long, Short};
 
+/// The options of `csim`, in the order of its help.
 static CSIM_OPTIONS: [CommandOption; 5] = [
     CommandOption {
         name: "-s",
@@ -71,6 +72,7 @@ static CSIM_OPTIONS: [CommandOption; 5] = [
     },
 ];
 
+/// The options of `din` that are no cache's.
 static DIN_OPTIONS: [CommandOption; 3] = [
     CommandOption {
         name: "-informat",
@@ -92,6 +94,7 @@ static DIN_OPTIONS: [CommandOption; 3] = [
     },
 ];
 
+/// The options of `sweep`, in the order of its help.
 static SWEEP_OPTIONS: [CommandOption; 10] = [
     CommandOption {
         name: "--bsize",

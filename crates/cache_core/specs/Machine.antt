@@ -1,4 +1,4 @@
--- The stamp machine: a cache as a map with stamps. It holds blocks, each with a key and a dirty mark; the key says which
+-- The stamp machine: a cache as a map. It holds blocks, each with a stamp (its key) and a dirty mark; the key says which
 -- block of a full set leaves. (LRU by stamps: Mattson, Gecsei, Slutz and Traiger 1970.)
 use Rattle.std.specs.Prelude.{ℕ, ◌+◌, ◌%◌, Bool, true, false, ◌||◌, ◌&&◌, not, List, [], ◌∷◌, ◌++◌, Option, Some, None}
 use Rattle.std.specs.Prelude.{if◌then◌else◌, ◌==◌, nat_lt, length, filter, map, find, fold, count_by, is_some}
@@ -78,19 +78,19 @@ victim Lru ways word lines = least lines
 victim Fifo ways word lines = least lines
 victim Random ways word lines = find (λ line. line.key == word % ways) lines
 
--- whether a full set draws a word
+-- whether a policy draws a word for a block that is placed in a full set
 abbrev pub draws : Repl → Bool
 draws Lru = false
 draws Fifo = false
 draws Random = true
 
--- a line that is touched, at this clock
+-- the lines after a touch of this one: LRU puts it in front with this clock as its key, the others leave it in its place
 abbrev pub touch : Repl → ℕ → Line → List Line → List Line
 touch Lru clock line lines = record line { key = clock } ∷ without line.block lines
 touch Fifo clock line lines = exchange line.block line lines
 touch Random clock line lines = exchange line.block line lines
 
--- a new block at this clock, where so many blocks are in its set and this line leaves
+-- the lines with a new block placed at this clock in a set that held so many blocks, from which this line leaves, if any
 abbrev pub with_block : Repl → ℕ → ℕ → Slot → Option Line → List Line → List Line
 with_block Random clock count new None lines = lines ++ record { block = new.block; key = count; dirty = new.dirty } ∷ []
 with_block Random clock count new (Some gone) lines =
@@ -106,7 +106,7 @@ with_block Fifo clock count new (Some gone) lines =
 abbrev pub is_full : Machine → MachineState → ℕ → Bool
 is_full m st set = not (nat_lt (length (lines_of_set m.design.geometry set st.lines)) m.design.geometry.e)
 
--- a block that is placed, where this line of its set leaves, if any
+-- the state after a reference whose block is placed, where this line of its set leaves, if any
 abbrev pub placing : Machine → Ref → ℕ → Option Line → MachineState → MachineState
 placing m ref block leaving st =
     let set = set_of_block m.design.geometry block in

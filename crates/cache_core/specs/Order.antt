@@ -135,7 +135,7 @@ is_dirty (Some slot) = slot.dirty
 abbrev pub one_if : Bool → ℕ
 one_if b = if b then 1 else 0
 
--- each dirty slot, and each dirty one that left, comes of a write
+-- after an access at most one more slot is dirty, the one that left counted too, and that only after a write
 abbrev pub DirtiesByWrites : List (List Slot) → Ref → Outcome → List (List Slot) → Type 0
 DirtiesByWrites old ref outcome new =
     dirty_slots new + one_if (is_dirty outcome.evicted) ≤ dirty_slots old + one_if (is_write ref.access)

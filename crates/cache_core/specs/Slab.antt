@@ -12,7 +12,7 @@ abbrev pub sets_of : ℕ → List Slot → List ℕ → List (List Slot)
 sets_of ways slots [] = []
 sets_of ways slots (n ∷ filled) = take n slots ∷ sets_of ways (drop ways slots) filled
 
--- each slot's address is an address
+-- the address of each slot's block is below 2^64
 abbrev pub Addressable : ℕ → List Slot → Type 0
 Addressable b slots = All (λ slot. slot.block * 2 ^ b < 2 ^ 64) slots
 

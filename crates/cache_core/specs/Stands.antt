@@ -45,7 +45,7 @@ abbrev pub Distinct : List Line → Type 0
 Distinct [] = Unit {0}
 Distinct (l ∷ ls) = Absent l.block ls × Distinct ls
 
--- what a set keeps
+-- what the lines of a set keep: each block has one at most, and they are in the policy's order
 pub record IsGood (policy : Repl) (clock : ℕ) (ls : List Line) : Type 0 where
   pub distinct : Distinct ls
   pub order : InOrder policy clock ls

@@ -91,8 +91,8 @@ pub record Steps (old : SystemValue) (ref : Ref) (new : SystemValue) : Type 0 wh
   pub bypassed : new.bypassed ≡ old.bypassed + one_if (is_none down)
   pub steps : new.steps ≡ old.steps + 1
 
--- What a system keeps: a first-level cache counts at most one access a step, the second level at most
--- two, and at most four references reach memory a step, beside what is flushed.
+-- What a system keeps: in each step a first-level cache counts at most one access and the second level at most two; what
+-- reached memory is at most four for each step, and all copybacks.
 pub record IsSystem (v : SystemValue) : Type 0 where
   pub steps : v.steps ≤ MAX_STEPS
   pub i : CacheWithin v.steps v.i

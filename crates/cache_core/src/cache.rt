@@ -1,11 +1,11 @@
 //! One cache, under any policy.
-ghost use Rattle.std.specs.Prelude.{◌≡◌, ◌≤◌, ◌<◌, ◌+◌, ◌*◌, ◌^◌, ℕ, length, take, Some, IsSome};
-ghost use Rattle.std.specs.Prelude.{IfOk, All, Option, Bool, IfSome, option_to_list, count_by};
+ghost use Rattle.std.specs.Prelude.{◌≡◌, ◌≤◌, ◌<◌, ◌+◌, ◌*◌, ◌^◌, ℕ, length, take, Some};
+ghost use Rattle.std.specs.Prelude.{IfOk, All, Option, IfSome, option_to_list, count_by};
 ghost use Rattle.std.specs.Prelude.{replicate};
-ghost use Rattle.cache_core.specs.Geometry.{block_of, address_of};
+ghost use Rattle.cache_core.specs.Geometry.{address_of};
 ghost use Rattle.cache_core.specs.Outcomes.{outcome_of, on_hit, on_placing, on_passing, dirties};
 ghost use Rattle.cache_core.specs.Outcomes.{allocates, writes_through, fill_access};
-ghost use Rattle.cache_core.specs.Order.{Touches, TakesIn, Visits, words_after, position_of};
+ghost use Rattle.cache_core.specs.Order.{Touches, Visits, position_of};
 ghost use Rattle.cache_core.specs.Order.{marked, Accesses, Flushes, dirty_slots, DirtiesByWrites};
 ghost use Rattle.cache_core.specs.Slab.{Addressable, IsCacheSlab, slab_contents, sets_of};
 ghost use Rattle.cache_core.specs.Touched.{Covers, ListsFilled, no_sets};
@@ -19,7 +19,7 @@ use std::marker::Model;
 use std::mem;
 use trace_core::events::{Access, Ref};
 
-/// The place of a block.
+/// The place of a block among the slots, if it is there.
 #[inline(always)]
 fn find_block(slots: &[Slot], block: u64) -> Option<usize>
     ensures { result ≡ position_of block slots.now }
@@ -66,6 +66,7 @@ fn block_load(geometry: Geometry, reference: Ref, block: u64) -> Ref
     Ref { access, addr }
 }
 
+/// The outcome of a hit.
 #[inline(always)]
 fn hit_outcome(write: WriteMode, reference: Ref) -> Outcome
     ensures { result ≡ outcome_of (on_hit write reference) }
@@ -78,6 +79,7 @@ fn hit_outcome(write: WriteMode, reference: Ref) -> Outcome
     }
 }
 
+/// The outcome of a miss that places its block, where this slot left, if any.
 #[inline(always)]
 fn placing_outcome(design: Design, reference: Ref, block: u64, evicted: Option<Slot>) -> Outcome
     requires block { block * 2 ^ design.geometry.b < 2 ^ 64 }
@@ -102,6 +104,7 @@ fn placing_outcome(design: Design, reference: Ref, block: u64, evicted: Option<S
     }
 }
 
+/// The outcome of a miss that places nothing: the reference goes down as it came.
 #[inline(always)]
 fn passing_outcome(reference: Ref) -> Outcome
     ensures { result ≡ outcome_of (on_passing reference) }
@@ -129,7 +132,7 @@ fn use_slot<P: Replacement>(policy: &mut P, slots: &mut [Slot], at: usize, dirty
     policy.touch(slots, at);
 }
 
-/// One access, in the room of its set. Returns how many places are filled then, too.
+/// One access, in the room of its set. Also returns how many of its slots are filled then.
 #[inline(always)]
 fn visit<P: Replacement>(
     design: Design,
@@ -213,6 +216,7 @@ fn count_dirty(slots: &[Slot], filled: &[u32], ways: usize) -> u64
     dirty
 }
 
+/// How many of these slots are dirty.
 fn count_dirty_slots(slots: &[Slot]) -> u64
     ensures value { result ≡ count_by (λ slot. slot.dirty) slots.now }
     ensures bound { result ≤ length slots.now }
@@ -278,8 +282,8 @@ fn no_slots(alloc: Global, sets: usize) -> Result<Vec<u32>, AllocError>
 }
 
 /// A cache under a policy. A set's slots are in the policy's order in one array, each set in a
-/// segment of its own. `touched` lists the sets with filled slots, so that a flush goes to these
-/// alone.
+/// segment of its own. `touched` lists the sets with filled slots, while they are few, so that a
+/// flush goes to these alone.
 #[derive(Drop)]
 pub struct Cache<P> {
     design: Design,
@@ -310,7 +314,8 @@ impl<P> Model for Cache<P> {
 impl<P: Replacement> Cache<P> {
     ghost use Rattle.cache_core.specs.Slab.{contents_of, empty_sets};
 
-    /// An empty cache. It takes all its lines, and that alone can fail.
+    /// An empty cache. It takes all its memory here, 16 bytes for each line and 4 and a quarter for
+    /// each set, and that alone can fail.
     pub fn new(
         alloc: Global,
         geometry: Geometry,

@@ -38,7 +38,7 @@ impl Geometry {
     ghost use Rattle.cache_core.specs.Geometry.{IsGeometry, geometry_of, size_of, block_of, set_of};
     ghost use Rattle.cache_core.specs.Geometry.{set_of_block, address_of};
 
-    /// None unless `s` and `b` are at most `MAX_BITS`, `e` is 1 to `MAX_WAYS` and `e * 2^s` at most
+    /// `None` unless `s` and `b` are at most `MAX_BITS`, `e` is 1 to `MAX_WAYS` and `e * 2^s` at most
     /// `MAX_CACHE_LINES`.
     pub fn new(s: u64, e: u64, b: u64) -> Option<Geometry>
         ensures { result ≡ geometry_of s e b }

@@ -51,7 +51,7 @@ pub fn run_stands()
     ensures { RunLaw }
 {}
 
-/// Each set of the machine is in its policy's order.
+/// Each set of the machine has one line at most for a block, and is in its policy's order.
 pub fn sets_in_order()
     ensures { OrderLaw }
 {}

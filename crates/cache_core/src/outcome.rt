@@ -2,29 +2,31 @@
 use crate::geometry::Geometry;
 use trace_core::events::Ref;
 
-/// A filled line: the number (not the address) of its block, and whether it is dirty: in a
-/// write-back cache, written since its block was placed or by the write that placed it.
+/// What a line of a cache holds: the number (not the address) of its block, and whether it is
+/// dirty: in a write-back cache, written since its block was placed or by the write that placed it.
+/// What a free line's slot says does not count.
 #[derive(Clone, Copy, Debug, PartialEq, Eq)]
 pub struct Slot {
     pub block: u64,
     pub dirty: bool,
 }
 
-/// Whether a write stays in the cache until its block leaves, or goes down at once.
+/// Write-back, where a write stays in the cache until its block leaves, or write-through, where it
+/// goes down at once.
 #[derive(Clone, Copy, Debug, PartialEq, Eq)]
 pub enum WriteMode {
     Back,
     Through,
 }
 
-/// Whether a write that misses places its block.
+/// Write-allocate or not: whether a write that misses places its block.
 #[derive(Clone, Copy, Debug, PartialEq, Eq)]
 pub enum AllocMode {
     Always,
     Never,
 }
 
-/// A replacement rule by name.
+/// A replacement policy by name: least recently used, first in first out, or random.
 #[derive(Clone, Copy, Debug, PartialEq, Eq)]
 pub enum Repl {
     Lru,

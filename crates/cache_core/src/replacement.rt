@@ -30,8 +30,8 @@ pub trait Replacement: Drop {
         ensures words { words self.new ≡ words self.old }
         ensures rule { rule self.new ≡ rule self.old };
 
-    /// Puts a slot into a set whose first places are filled. Returns where it is in the part that
-    /// is filled then, and the slot that left, which is one exactly if the set was full.
+    /// Puts a slot into a set whose first `filled` places are filled. Returns where it is in the part
+    /// that is filled then, and the slot that left, which is one exactly if the set was full.
     fn place(&mut self, set: &mut [Slot], filled: usize, new: Slot) -> (usize, Option<Slot>)
         requires filled { filled ≤ length set.old }
         requires room { 1 ≤ length set.old }

@@ -72,7 +72,7 @@ impl Simulation {
         self.counts
     }
 
-    /// Makes one reference, counts how it went, and answers that. No count may be above 2^63.
+    /// Makes one reference, counts how it went, and returns that. No count may be above 2^63.
     #[inline(always)]
     pub fn access(&mut self, reference: Ref) -> Lookup
         requires { AreFew (2 ^ 63) self.old }

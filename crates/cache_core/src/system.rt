@@ -55,6 +55,7 @@ impl Memory {
 }
 
 /// A reference comes down to the second level, or to memory.
+#[inline(never)]
 fn descend(second: &mut Option<SystemCache>, memory: &mut Memory, reference: Ref)
     requires cache { CacheWithin (2 ^ 62) second.old }
     requires memory { memory.old.reads + memory.old.writes < 2 ^ 62 }
@@ -73,6 +74,7 @@ fn descend(second: &mut Option<SystemCache>, memory: &mut Memory, reference: Ref
 }
 
 /// One reference at a first-level cache, if it is there: what it sends down for it.
+#[inline(never)]
 fn access_first(cache: &mut Option<SystemCache>, reference: Ref) -> Option<[Option<Ref>; 2]>
     requires { CacheWithin (2 ^ 62) cache.old }
     ensures value { AccessesFirst cache.old reference result cache.new }
@@ -113,7 +115,7 @@ fn descend_all(second: &mut Option<SystemCache>, memory: &mut Memory, down: [Opt
     descend_if(second, memory, next);
 }
 
-/// A reference at the first level. None if no cache takes it.
+/// A reference at the first level. `None` if no cache takes it.
 fn first_level(
     i: &mut Option<SystemCache>,
     d: &mut Option<SystemCache>,

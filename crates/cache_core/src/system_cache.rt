@@ -93,6 +93,7 @@ impl SystemCache {
     }
 
     /// One reference enters.
+    #[inline(always)]
     pub(crate) fn access(&mut self, reference: Ref) -> Outcome
         requires { CountsWithin (2 ^ 62) self.old }
         ensures value { Enters self.old reference result self.new }

@@ -1,4 +1,5 @@
-//! The sets that got a block since the last flush, so that a flush goes to them alone.
+//! The sets that got a block since the last flush, while they are few, so that a flush goes to them
+//! alone.
 ghost use Rattle.std.specs.Prelude.{◌≡◌, ◌<◌, ◌/◌, ◌^◌, [], length, Some, IfOk, option_map};
 ghost use Rattle.std.specs.Prelude.{replicate};
 ghost use Rattle.cache_core.specs.Touched.{after_count, joined, no_sets, Covers, ListsFilled};

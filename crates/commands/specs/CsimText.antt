@@ -37,13 +37,13 @@ letter_of Load = Some 76
 letter_of Store = Some 83
 letter_of Modify = Some 77
 
--- the line of an item that has this letter, and whose references went so
+-- the line of an item that has this letter, and whose references had these lookups
 abbrev pub item_line : Option ℕ → Item → List Lookup → List ℕ
 item_line None item lookups = []
 item_line (Some letter) item lookups =
     letter ∷ codes " " ++ hexadecimal item.addr ++ codes "," ++ decimal item.size ++ flat_map lookup_text lookups ++ codes "\n"
 
--- The line of an entry whose references went so. A flush has none; lackey traces have no flush.
+-- The line of an entry whose references had these lookups. A flush has none; lackey traces have no flush.
 abbrev pub line_of : Entry → List Lookup → List ℕ
 line_of (entry.Item item) lookups = item_line (letter_of item.op) item lookups
 line_of entry.Flush lookups = []

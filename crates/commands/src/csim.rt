@@ -22,7 +22,7 @@ use trace_core::reader::{Lines, MAX_LINES};
 use trace_core::text::Text;
 
 /// Runs a lackey trace through an LRU cache of this geometry, in which a store that misses places its block. With `verbose` the line
-/// of each data item is written as soon as the item was stepped, and the summary after the last one; then the sink is flushed, once.
+/// of each data item is written as soon as its references were made, and the summary after the last one; then the sink is flushed, once.
 /// All memory is taken before the first read. `max_lines` is the most lines that the trace may have.
 ///
 /// Errors: `Memory`, with nothing read or written; `Trace` where the trace has a fault or the source failed, with the lines before it
@@ -52,7 +52,7 @@ pub fn csim<S: Source, K: Sink>(
     Ok(())
 }
 
-/// Makes the data references of an entry, and answers how they went. A flush empties the cache.
+/// Makes the data references of an entry, and returns how they went. A flush empties the cache.
 #[inline(always)]
 fn step(simulation: &mut Simulation, entry: Entry) -> (Option<Lookup>, Option<Lookup>)
     requires { AreFew (2 ^ 62) simulation.old }

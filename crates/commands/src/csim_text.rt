@@ -1,7 +1,6 @@
 //! The lines that `csim` writes.
-ghost use Rattle.std.specs.Prelude.{◌≡◌, ◌+◌, ◌≤◌, [], ◌++◌, length, flat_map, OnOk, OnErr, if◌then◌else◌};
+ghost use Rattle.std.specs.Prelude.{◌≡◌, ◌+◌, ◌≤◌, [], ◌++◌, length, flat_map, if◌then◌else◌};
 ghost use Rattle.std.specs.Option.{option_to_list};
-ghost use Rattle.std.specs.Io.KnownBytes.{Appends};
 ghost use Rattle.trace_core.specs.Device.{Writes};
 ghost use Rattle.commands.specs.CsimText.{letter_of, lookup_text, item_line, line_of, lookups_of_pair, summary};
 

@@ -63,7 +63,7 @@ fn step_through<S: Source>(
     Ok(())
 }
 
-/// Steps a new system through a trace, and answers what it counted.
+/// Steps a new system through a trace, and returns what it counted.
 fn stats_after<S: Source>(
     mut system: System,
     lines: &mut Lines,

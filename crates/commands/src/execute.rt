@@ -13,9 +13,9 @@ use trace_core::fault::RunFault;
 use trace_core::io::{Sink, Source};
 use trace_core::reader::MAX_LINES;
 
-/// Does a job: what it answers, reads and writes is what the command of that name does.
+/// Does a job: it returns, reads and writes what the command of that name does.
 ///
-/// Errors: those of `csim`, `din` and `sweep`. The comparisons that `sweep` answers are dropped.
+/// Errors: those of `csim`, `din` and `sweep`. The comparisons that `sweep` returns are dropped.
 pub fn execute<S: Source, K: Sink>(
     alloc: Global,
     job: &Job,

@@ -33,7 +33,7 @@ fn hexadecimal_digit(value: u8) -> u8
     }
 }
 
-/// Writes the digits of a number, without leading zeros, at the end of a buffer, and answers where they start.
+/// Writes the digits of a number, without leading zeros, at the end of a buffer, and returns where they start.
 fn write_hexadecimal(number: u64, digits: &mut [u8; 16]) -> usize
     ensures within { result ≤ 16 }
     ensures value { drop result digits.new ≡ hexadecimal number }

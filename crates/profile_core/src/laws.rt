@@ -1,7 +1,7 @@
 //! Laws over the definitions: each is the contract of a function with no code, so that the gate proves it. Proofs above
 //! may cite the lemma behind it.
 
-ghost use Rattle.std.specs.Prelude.{◌≡◌, ◌≤◌, ◌*◌, List, ◌++◌, ◌∷◌, [], length, fold};
+ghost use Rattle.std.specs.Prelude.{◌≤◌, ◌*◌, List, ◌++◌, ◌∷◌, [], length, fold};
 ghost use Rattle.trace_core.specs.declared.events.Ref.{Ref};
 ghost use Rattle.trace_core.specs.declared.events.Event.{Event};
 ghost use Rattle.trace_core.specs.declared.events.Event.TheVariants as event;
@@ -24,7 +24,7 @@ pub fn stands_after()
     ensures { (g : GeometryValue) (es : List Event) → IsGeometry g → StandsFor es (fold after_event (empty g) es) }
 {}
 
-/// At most `g.e` comparisons are made for each reference.
+/// A list of events makes at most `g.e` times as many comparisons as it has references.
 pub fn probes_bounded()
     ensures { (g : GeometryValue) (es : List Event) → probes g es ≤ length (places g es) * g.e }
 {}

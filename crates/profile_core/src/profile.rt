@@ -1,5 +1,5 @@
 //! A profile: one pass over references that counts for every associativity up to a depth.
-ghost use Rattle.std.specs.Prelude.{◌≡◌, ◌+◌, ◌-◌, ◌*◌, ◌%◌, ◌^◌, ◌<◌, ◌≤◌, List, [], IfOk, true, false, length, take, drop, sum, slice_index};
+ghost use Rattle.std.specs.Prelude.{◌≡◌, ◌+◌, ◌-◌, ◌*◌, ◌^◌, ◌<◌, ◌≤◌, List, [], IfOk, true, false, length, take, drop, sum, slice_index};
 ghost use Rattle.trace_core.specs.declared.events.Event.{Event};
 ghost use Rattle.cache_core.specs.Geometry.{IsGeometry, geometry_value, block_of, set_of_block};
 ghost use Rattle.cache_core.specs.Windows.{places, counts, probes, held};
@@ -15,8 +15,8 @@ use std::marker::Model;
 
 /// The recency lists of all sets (LRU stacks, Mattson 1970) and two histograms: references found behind the front of
 /// their list, by their stack distance less 1, which is the block's place behind the front; references not found, by
-/// the number of blocks in the list. Those found in front, which most are, are counted by their comparison alone: each
-/// made one, and how many the others made is told by the histograms. What a reference in front needs stands first and
+/// the number of blocks in the list. Those found in front, which most are, have no counter: each made one comparison,
+/// so they are all comparisons less those that the histograms tell. What a reference in front needs stands first and
 /// side by side: with `probes` last, many profiles took a tenth more time.
 #[derive(Drop)]
 pub struct Profile {
@@ -43,8 +43,8 @@ impl Model for Profile {
     ghost invariant = { λ p. IsSound p.geometry p.lists p.behind.items p.misses_by_occupancy.items p.probes };
 }
 
-/// A walk over a profile's histograms towards larger associativities: of `fed` references so many hit at `ways` lines a
-/// set, and so many missed while their set had a free line.
+/// A walk over a profile's histograms towards larger associativities: `hits` of the `fed` references hit in a cache of
+/// `ways` lines a set, and `free_misses` missed while their set had a free line.
 #[derive(Clone, Copy, Debug)]
 pub struct Tally {
     ways: usize,
@@ -95,8 +95,8 @@ impl Profile {
         self.feed_known(addr, false);
     }
 
-    /// The same, where a caller may say that the address is past the first block, however large the blocks are. So one
-    /// test serves all the profiles that an address is fed to.
+    /// The same, where a caller may say by `past_first` that the address is 2^20 or more, and so not in block 0 at any
+    /// block size. So one test serves all the profiles that an address is fed to.
     #[inline(always)]
     pub fn feed_known(&mut self, addr: u64, past_first: bool)
         requires few { fed_of self.old < 2 ^ 41 }
@@ -114,8 +114,9 @@ impl Profile {
         }
     }
 
-    /// Feeds a reference to a block that is not the front of its set's list. It stands apart, so that the path of the
-    /// many references that find their block in front stays short. More than a third of the others find theirs next.
+    /// Feeds a reference to a block that is not the front of its set's list, or not in it at all. It stands apart, so
+    /// that the path of the many references that find their block in front stays short. More than a third of the others
+    /// find theirs second.
     #[inline(never)]
     fn feed_behind(&mut self, set: usize, block: u64)
         requires few { fed_of self.old < 2 ^ 41 }
@@ -133,7 +134,7 @@ impl Profile {
         }
     }
 
-    /// Feeds a reference to a block that is neither the front nor the second of its set's list.
+    /// Feeds a reference to a block that is neither the front nor the second of its set's list, or not in it at all.
     #[inline(never)]
     fn feed_further(&mut self, set: usize, block: u64)
         requires few { fed_of self.old < 2 ^ 41 }
@@ -152,7 +153,7 @@ impl Profile {
         }
     }
 
-    /// Feeds a reference to a set whose list is empty, which makes no comparison.
+    /// Feeds a reference to a set whose list is empty: there is no entry to compare with.
     #[inline(never)]
     fn feed_first(&mut self, set: usize, block: u64)
         requires few { fed_of self.old < 2 ^ 41 }
@@ -165,14 +166,14 @@ impl Profile {
         self.misses_by_occupancy[0] += 1;
     }
 
-    /// Empties the lists, as a flush of the caches does. The numbers stay.
+    /// Empties the lists, as a flush of the caches does. The counts stay.
     pub fn flush(&mut self)
         ensures { self.new ≡ after_flush self.old }
     {
         self.lists.clear();
     }
 
-    /// How many references were fed. It adds up both histograms, `2 * depth + 1` numbers: not for each reference.
+    /// How many references were fed. It goes over both histograms twice, `4 * depth` numbers: not for each reference.
     pub fn fed(&self) -> u64
         ensures value { result ≡ fed_of self.now }
         ensures trace { (es : List Event) → StandsFor es self.now
@@ -188,7 +189,7 @@ impl Profile {
         self.probes - weighed(&self.behind, 2) - weighed(&self.misses_by_occupancy, 0)
     }
 
-    /// How many references found their block at a place from one associativity up to another.
+    /// How many references hit at a stack distance in `from..to`.
     fn hits_between(&self, from: usize, to: usize) -> u64
         requires rising { from ≤ to }
         requires some { 1 ≤ to }
@@ -222,8 +223,8 @@ impl Profile {
         self.lists.held()
     }
 
-    /// The counts of an LRU cache of `e` lines a set, over all references fed. It adds up both histograms:
-    /// a caller that wants many associativities of one profile asks for rising ones by `counts_next`.
+    /// The counts of an LRU cache of `e` lines a set, over all references fed. It goes over both histograms up to four
+    /// times: a caller that wants many associativities of one profile asks for rising ones by `counts_next`.
     pub fn counts(&self, e: u64) -> Counts
         requires some { 1 ≤ e }
         requires within { e ≤ self.now.geometry.e }
@@ -235,7 +236,7 @@ impl Profile {
         self.counts_next(&mut tally, e)
     }
 
-    /// Begins to count for rising associativities. It adds up both histograms, `2 * depth + 1` numbers.
+    /// Begins to count for rising associativities. It goes over both histograms twice, as `fed` does.
     pub fn begin_tally(&self) -> Tally
         ensures { result ≡ tally_at self.now 0 }
     {
@@ -249,7 +250,8 @@ impl Profile {
 
     /// The same counts as `counts`, by a tally that this profile began, at an associativity not below the tally's,
     /// which becomes `e`. Nothing is fed between the two. It adds up only the numbers between the two associativities,
-    /// so all rows of a profile together cost `2 * depth` additions, whichever of them are asked for.
+    /// and the first call both histograms once more: all calls for one tally together cost `4 * depth` additions at
+    /// most, beside those of `begin_tally`.
     pub fn counts_next(&self, tally: &mut Tally, e: u64) -> Counts
         requires some { 1 ≤ e }
         requires within { e ≤ self.now.geometry.e }

@@ -1,4 +1,4 @@
-//! A recency list for each set, the most recent block first: the front ones side by side, and the others in one slab.
+//! A recency list for each set, the most recent block first: all fronts in one array, the other blocks in one slab.
 
 ghost use Rattle.std.specs.Prelude.{◌≡◌, ◌+◌, ◌*◌, ◌^◌, ◌<◌, ◌≤◌, [], ◌∷◌, true, false, nat_eq, min, length, take};
 ghost use Rattle.std.specs.Prelude.{sum, sum_by, replicate, IfOk, slice_set, slice_index_or};
@@ -11,15 +11,16 @@ use std::alloc::{AllocError, Global};
 use std::marker::Model;
 use std::mem;
 
-/// Where a reference finds its block, if that is not the front of its set's list: at a place behind the front, or
-/// nowhere in a list of a length.
+/// Where a reference finds its block, if that is not the front of its set's list: at a place behind the front (0 is the
+/// second of the list), or nowhere in a list of so many blocks.
 #[derive(Debug, Clone, Copy)]
 pub enum Touch {
     Behind(usize),
     New(usize),
 }
 
-/// How far a list is shifted: up to the place of a block, or to the end, where the last block falls out.
+/// How far a list is shifted: up to the place of a block, or to the end, where the last block falls out (its caller
+/// keeps it if the list may still grow).
 #[derive(Debug, Clone, Copy)]
 enum Shifted {
     Found(usize),
@@ -27,8 +28,8 @@ enum Shifted {
 }
 
 /// The lists of all sets. A list of `len` blocks is the first `len` places of its row: its front, and then a stretch of
-/// `stride` places of the slab. The front of an empty list is 0. `touched` lists the sets that have a block, so that a
-/// flush goes to these alone.
+/// `stride` places of the slab. The front of an empty list is 0. `touched` lists the sets that have a block, while they
+/// are few, so that a flush goes to these alone.
 #[derive(Drop)]
 pub struct RecencyLists {
     stride: usize,
@@ -69,8 +70,8 @@ impl RecencyLists {
         })
     }
 
-    /// Whether a block is the front of a set's list. Only block 0 has to look at the length. A caller that knows the
-    /// block to be past the first says so, and spares the test.
+    /// Whether a block is the front of a set's list. Only block 0 has to look at the length. A caller that knows that
+    /// the block is not block 0 says so by `past_first`, and spares the test.
     #[inline(always)]
     pub fn is_front(&self, set: usize, block: u64, past_first: bool) -> bool
         requires within { set < length self.now.lists }
@@ -133,8 +134,8 @@ impl RecencyLists {
         self.slab[set * self.stride] = second;
     }
 
-    /// Brings a block that is neither the front nor the second of a set's list to the front. It counts the comparisons
-    /// with all entries, those with the first two as well, which found them to be other blocks.
+    /// Brings a block that is neither the front nor the second of a set's list to the front, wherever it is. It counts
+    /// all comparisons of the reference, those with the front and the second as well.
     #[inline(always)]
     pub fn bring(&mut self, set: usize, block: u64, probes: &mut u64) -> Touch
         requires within { set < length self.old.lists }
@@ -218,8 +219,8 @@ fn total_len(lens: &[u32]) -> u64
     total
 }
 
-/// Puts `first` in front of a list whose own front is known to be another block than `block`, a comparison that it
-/// counts too. Each other block moves one place on, up to the place where `block` stood.
+/// Puts `first` in front of a list and moves each other block one place on, up to the place where `block` stood. The
+/// list's own front, if it has one, is known to be another block; that comparison is counted too.
 #[inline(always)]
 fn shift_past(list: &mut [u64], first: u64, block: u64, probes: &mut u64) -> Shifted
     requires few { probes.old + length list.old < 2 ^ 64 }
@@ -262,7 +263,7 @@ fn shift_past(list: &mut [u64], first: u64, block: u64, probes: &mut u64) -> Shi
     }
 }
 
-/// Puts the block that is carried in a place, and carries on the one that stood there: whether that is `block`.
+/// Puts the carried block in a place and carries on the one that stood there. Whether that one is `block`.
 #[inline(always)]
 fn pass(entry: &mut u64, carried: &mut u64, block: u64) -> bool
     ensures put { entry.new ≡ carried.old }

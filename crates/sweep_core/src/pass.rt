@@ -12,7 +12,7 @@ use trace_core::fault::TraceFault;
 use trace_core::io::Source;
 use trace_core::reader::Lines;
 
-/// Feeds a reference to an address to each profile. No address from the greatest block size on is in the first block.
+/// Feeds a reference to an address to each profile. No address from the greatest block size on is in block 0.
 #[inline(always)]
 fn feed_reference(profiles: &mut [PairProfile], addr: u64)
     requires { All (λ x. fed_of x.profile < 2 ^ 41) profiles.old }
@@ -27,7 +27,7 @@ fn feed_reference(profiles: &mut [PairProfile], addr: u64)
     }
 }
 
-/// The same for an address that may be in the first block, which few are.
+/// The same for an address that may be in block 0, which few are.
 #[inline(never)]
 fn feed_low(profiles: &mut [PairProfile], addr: u64)
     requires { All (λ x. fed_of x.profile < 2 ^ 41) profiles.old }
@@ -38,7 +38,7 @@ fn feed_low(profiles: &mut [PairProfile], addr: u64)
     feed_each(profiles, addr, false);
 }
 
-/// The same, where the caller may say that the address is past the first block.
+/// The same, where the caller may say that the address is not in block 0.
 #[inline(always)]
 fn feed_each(profiles: &mut [PairProfile], addr: u64, past_first: bool)
     requires few { All (λ x. fed_of x.profile < 2 ^ 41) profiles.old }

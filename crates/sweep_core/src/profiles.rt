@@ -1,5 +1,5 @@
 //! The profiles of a sweep: one for each pair of block size and set count that has a row.
-ghost use Rattle.std.specs.Prelude.{◌≡◌, ◌∷◌, ◌<◌, ◌^◌, ◌*◌, [], true, ℕ, Option, IfOk, length, sum_by};
+ghost use Rattle.std.specs.Prelude.{◌≡◌, ◌<◌, ◌^◌, ◌*◌, [], true, Option, IfOk, length, sum_by};
 ghost use Rattle.cache_core.specs.Geometry.{IsGeometry};
 ghost use Rattle.sweep_core.specs.Space.{is_valid};
 ghost use Rattle.sweep_core.specs.Table.{table, is_after};

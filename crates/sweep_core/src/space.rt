@@ -180,14 +180,14 @@ fn judge(which: Which, cause: Option<Cause>) -> Result<(), SpaceFault>
     }
 }
 
-/// Why a range is refused that may have any ends: it is reversed.
+/// Why a range is refused, if it is, whose ends may be any numbers: it is reversed.
 fn order_cause(range: (u64, u64)) -> Option<Cause>
     ensures { result ≡ order_cause range }
 {
     (range.1 < range.0).then_some(Cause::Reversed)
 }
 
-/// Why a range is refused whose ends are 1 to `most`.
+/// Why a range is refused, if it is, whose ends have to be 1 to `most`.
 fn limit_cause(most: u64, range: (u64, u64)) -> Option<Cause>
     ensures { result ≡ limit_cause most range }
 {
@@ -198,7 +198,7 @@ fn limit_cause(most: u64, range: (u64, u64)) -> Option<Cause>
     }
 }
 
-/// Why a range is refused whose ends are powers of two up to `most`.
+/// Why a range is refused, if it is, whose ends have to be powers of two up to `most`.
 fn power_cause(most: u64, range: (u64, u64)) -> Option<Cause>
     ensures { result ≡ power_cause most range }
 {

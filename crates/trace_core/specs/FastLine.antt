@@ -14,7 +14,8 @@ pub record BeginsLine (format : Format) (text rest : List ℕ) (item : Item) : T
   pub no_line_feed : HoldsNoFeed front
   pub means : (end : List ℕ) → ends_field end ≡ true → meaning format (front ++ end) ≡ Ok (Some (entry.Item item))
 
--- A text begins with some bytes. A line that begins with them has this label as its first field, and its others come after them.
+-- A text begins with some bytes. A line that begins with them has this label as its first field, and its others come after them,
+-- unless the label is a blank or a CR; and the bytes have no LF unless the label is one.
 pub record BeginsLabel (text rest : List ℕ) (label : ℕ) : Type 0 where
   pub front : List ℕ
   pub splits : text ≡ front ++ rest

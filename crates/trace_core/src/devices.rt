@@ -7,7 +7,7 @@ use crate::io::{DeviceFault, Sink, Source};
 use std::marker::Model;
 
 /// The calls of a device: how many were made, which one fails (0: none), and how many failed. Both
-/// counts stay at `u64::MAX`.
+/// counts stay at `u64::MAX` once they reach it.
 #[derive(Drop)]
 struct Calls {
     made: u64,
@@ -16,6 +16,7 @@ struct Calls {
 }
 
 impl Calls {
+    /// Of a device that was not called yet.
     fn new(fails_at: u64) -> Calls
         ensures made { result.made ≡ 0 }
         ensures fails_at { result.fails_at ≡ fails_at }

@@ -47,8 +47,8 @@ fn hexadecimal_digit(c: u8) -> u32
     DIGITS[c as usize]
 }
 
-/// Reads on from the digits in front, which write a number already, as far as digits go, but not
-/// past an end up to which any digits write a number below 2^64.
+/// Reads on from `front`, the number and the count of the digits already read, as far as digits go,
+/// but not past `end`; so many digits always write a number below 2^64.
 #[inline(always)]
 fn more_digits(radix: u8, text: &[u8], end: usize, front: (u64, usize)) -> (u64, usize)
     requires some { 0 < radix }
@@ -72,7 +72,7 @@ fn more_digits(radix: u8, text: &[u8], end: usize, front: (u64, usize)) -> (u64,
 }
 
 /// What the digits in front write, and how many they are; at most `most` are read. Where the text
-/// has so many bytes, the loop has a constant bound, and no step of it tests for the text's end.
+/// has `most` bytes, the loop has a constant bound, and no step of it tests for the text's end.
 #[inline(always)]
 fn read_digits(radix: u8, most: usize, text: &[u8]) -> (u64, usize)
     requires some { 0 < radix }
@@ -89,8 +89,8 @@ fn read_digits(radix: u8, most: usize, text: &[u8]) -> (u64, usize)
     more_digits(radix, text, most, (0, 0))
 }
 
-/// What four bytes write, from some place of a text on, or at least `NO_DIGIT` where one of them is
-/// no hexadecimal digit.
+/// What four bytes write, from some place of a text on, or at least `NO_DIGIT`, which is 16^4, where
+/// one of them is no hexadecimal digit.
 #[inline(always)]
 fn four_digits(text: &[u8], at: usize) -> u32
     requires { at + 4 ≤ length text.now }
@@ -105,7 +105,7 @@ fn four_digits(text: &[u8], at: usize) -> u32
 }
 
 /// What the hexadecimal digits in front write, and how many they are; at most 16 are read. Four at
-/// a time leave fewer branches to foretell: a trial in plain Rust read lines a seventh faster.
+/// a time leave fewer branches to predict: a trial in plain Rust read lines a seventh faster.
 #[inline(always)]
 fn read_hexadecimal(text: &[u8]) -> (u64, usize)
     ensures value { WritesNumber 16 text.now result }

@@ -1,4 +1,5 @@
-//! Lines in the form that most have, read in one pass from their front.
+//! Lines in the form that most have, read in one pass from their front. `None` says nothing of a line:
+//! `line::read_line` then judges it.
 ghost use Rattle.std.specs.Prelude.{◌≡◌, ℕ, ◌≤◌, List, ◌++◌, true, Ok, Some, IfSome, take};
 ghost use Rattle.std.specs.List.{list_all};
 ghost use Rattle.memchr.specs.Find.{IsFirstByte, is_byte};
@@ -85,7 +86,7 @@ fn read_item(format: Format, label: u8, rest: &[u8]) -> Option<(Item, &[u8])>
     }
 }
 
-/// An address comes after the label.
+/// The item of a din line: an address follows the label.
 #[inline(always)]
 fn read_din_item(label: u8, rest: &[u8]) -> Option<(Item, &[u8])>
     ensures { IfSome result (λ found. (text : List ℕ) → BeginsLabel text rest.now label →
@@ -96,7 +97,7 @@ fn read_din_item(label: u8, rest: &[u8]) -> Option<(Item, &[u8])>
     Some((Item { op, addr, size: 0 }, rest))
 }
 
-/// An address, a comma and a size come after the label.
+/// The item of a lackey line: an address, a comma and a size follow the label.
 #[inline(always)]
 fn read_lackey_item(label: u8, rest: &[u8]) -> Option<(Item, &[u8])>
     ensures { IfSome result (λ found. (text : List ℕ) → BeginsLabel text rest.now label →

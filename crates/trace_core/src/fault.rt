@@ -20,7 +20,7 @@ pub enum TraceFault {
     /// A byte came after this many lines, the most that there may be.
     #[error("more than {limit} lines")]
     TooManyLines { limit: u64 },
-    /// This line is whole, and stands for nothing.
+    /// This line is whole, and a field of it is bad.
     #[error("line {line}: {fault}")]
     Line { line: u64, fault: LineFault },
 }

@@ -27,7 +27,7 @@ pub trait Sink {
     /// called so far.
     ghost view: { Self → SinkView };
 
-    /// Takes bytes from the front of `from`, and returns how many.
+    /// Takes bytes from the front of `from`, at least one of a nonempty slice, and returns how many.
     fn write(&mut self, from: &[u8]) -> Result<usize, DeviceFault>
         ensures bound { IfOk result (λ n. n ≤ length from.now) }
         ensures some { IfOk result (λ n. 0 < length from.now → 0 < n) }
@@ -72,7 +72,8 @@ impl<R: Read + Drop> Source for FromRead<R> {
         ensures gives { let view = ⟦<FromRead<R> as Source>⟧.view in
             Gives (view self.old) (view self.new) result into.new }
 
-        // What it returns was read of the reader, and nothing was at a fault, also after one.
+        // The bytes that it returns came from the reader, and a failed call took none, also after a
+        // failure.
         ensures passed { ReadConsumes (R.remaining self.old.reader)
             (R.remaining self.new.reader) result into.new }
     {
@@ -123,7 +124,8 @@ impl<W: Write + Drop> Sink for ToWrite<W> {
         ensures takes { let view = ⟦<ToWrite<W> as Sink>⟧.view in
             Takes (view self.old) (view self.new) result from.now }
 
-        // What it returns was written to the writer, and nothing was at a fault, also after one.
+        // The bytes that it says it took went to the writer, and a failed call passed on none, also
+        // after a failure.
         ensures passed { WriteAppends (W.contents self.old.writer)
             (W.contents self.new.writer) result from.now }
     {

@@ -47,6 +47,7 @@ pub fn read_line(format: Format, line: &[u8]) -> Result<Option<Entry>, LineFault
     }
 }
 
+/// What a din line stands for, given without the blanks and CRs at its end.
 fn read_din(line: &[u8]) -> Result<Option<Entry>, LineFault>
     ensures { result ≡ din_meaning (fields line.now) }
 {
@@ -77,6 +78,7 @@ fn din_entry(label: u8, addr: u64) -> Option<Entry>
     }
 }
 
+/// The address in the first field, behind a `0x` if there is one.
 fn read_din_address(rest: &[u8]) -> Option<u64>
     ensures { result ≡ din_address (fields rest.now) }
 {
@@ -95,6 +97,8 @@ pub(crate) fn without_0x(text: &[u8]) -> &[u8]
     }
 }
 
+/// What a lackey line stands for that is no message of Valgrind's, given without the blanks and CRs at
+/// its end.
 fn read_lackey(line: &[u8]) -> Result<Option<Entry>, LineFault>
     ensures { result ≡ lackey_meaning (fields line.now) }
 {
@@ -124,6 +128,7 @@ pub(crate) fn lackey_op(label: u8) -> Option<Op>
     }
 }
 
+/// The item of a lackey line, whose address, comma and size are in the first field.
 fn read_lackey_access(op: Op, rest: &[u8]) -> Result<Option<Entry>, LineFault>
     ensures { result ≡ lackey_access op (fields rest.now) }
 {
@@ -175,6 +180,7 @@ fn split_field(bytes: &[u8]) -> Option<(&[u8], &[u8])>
     Some(text.split_at(field_len(text)))
 }
 
+/// Whether a byte is a space or a tab.
 #[inline]
 fn is_blank(c: u8) -> bool
     ensures { result ≡ is_blank c }
@@ -182,6 +188,7 @@ fn is_blank(c: u8) -> bool
     c == b' ' || c == b'\t'
 }
 
+/// Whether a byte is a space, a tab or a CR.
 #[inline]
 fn is_trailing(c: u8) -> bool
     ensures { result ≡ is_trailing c }

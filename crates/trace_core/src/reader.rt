@@ -34,8 +34,7 @@ impl Lines {
     ghost use Rattle.trace_core.specs.Reader.{device_failed, stopped_answer};
 
     /// A reader of lines in a format, of which there may be at most `max_lines`. It takes one
-    /// buffer of a fixed size, the same for every limit, and fails only where there is no memory
-    /// for it.
+    /// buffer of 64 KiB, whatever the limit, and fails only where there is no memory for it.
     pub fn new(alloc: Global, format: Format, max_lines: u64) -> Result<Lines, AllocError>
         requires some { 1 ≤ max_lines }
         requires most { max_lines ≤ MAX_LINES }
@@ -59,7 +58,7 @@ impl Lines {
     /// was delivered. What was delivered is judged before a failure that comes after it.
     #[inline(always)]
     pub fn next<S: Source>(&mut self, source: &mut S) -> Result<Option<(u64, Entry)>, TraceFault>
-        // What was read of a source is read on.
+        // A reader that gave the entries `xs` of a source has then given these and what it returns.
         ensures reached { (format : Format) (limit : ℕ) (start : SourceView)
             (xs : List (ℕ × Entry)) → Reached format limit start (S.view source.old) xs self.old →
             Reached format limit start (S.view source.new)
