@@ -105,7 +105,7 @@ fn four_digits(text: &[u8], at: usize) -> u32
 }
 
 /// What the hexadecimal digits in front write, and how many they are; at most 16 are read. Four at
-/// a time leave fewer branches to predict: a trial in plain Rust read lines a seventh faster.
+/// a time leave fewer branches to predict; `docs/speed.md` says what that gains.
 #[inline(always)]
 fn read_hexadecimal(text: &[u8]) -> (u64, usize)
     ensures value { WritesNumber 16 text.now result }
