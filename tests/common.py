@@ -1,4 +1,4 @@
-"""What the scripts of this folder share: their words, runs of the program, and the sum of what passed."""
+"""What the scripts of this folder share: their arguments, runs of the program, and the sum of what passed."""
 
 import argparse
 import contextlib
@@ -11,28 +11,45 @@ import tempfile
 
 TOP = pathlib.Path(__file__).resolve().parent.parent
 PROGRAM = TOP / "crates/cachesim/out/cachesim"
+UNPROVED = PROGRAM.with_name("cachesim.unproved")  # make demo leaves it
 RT = os.environ.get("RT", "rt")
 
 
-class Words(argparse.ArgumentParser):
-    """The words of a script, whose help is its own text: the second paragraph shows the call."""
+class Arguments(argparse.ArgumentParser):
+    """The arguments of a script, whose help is its own text: the second paragraph shows the call. A fault of them is one line."""
 
     def __init__(self, text):
-        super().__init__(usage=text.split("\n\n")[1].strip())
+        super().__init__()
         self.text = text
 
     def format_help(self):
         return self.text
 
-    def of_program(self):
-        """The words with --program, which gets the path of a program that can be run."""
-        self.add_argument("--program", type=pathlib.Path, default=PROGRAM)
+    def error(self, message):
+        self.exit(2, f"{self.prog}: {message}; '{self.prog} --help' explains the arguments\n")
+
+    def of_program(self, may_be_unproved=False):
+        """The arguments with --program, which gets the path of a program that can be run: without it the proved one, or, where it may
+        be unproved, that of make demo, if it is newer."""
+        self.add_argument("--program", type=pathlib.Path)
         asked = self.parse_args()
-        if not asked.program.is_file() or not os.access(asked.program, os.X_OK):
-            print(f"no program {asked.program}: make builds it\n0 passed, 1 failed")
+        path = asked.program or PROGRAM
+        if not asked.program and may_be_unproved and is_newer(UNPROVED, PROGRAM):
+            path = UNPROVED
+            print(f"with the unproved program of make demo, {path.relative_to(TOP)}: make proves it", flush=True)
+        if not is_program(path):
+            print(f"no program {path}: make builds it" + ", make demo an unproved one" * may_be_unproved + "\n0 passed, 1 failed")
             sys.exit(1)
-        asked.program = str(asked.program.resolve())
+        asked.program = str(path.resolve())
         return asked
+
+
+def is_program(path):
+    return path.is_file() and os.access(path, os.X_OK)
+
+
+def is_newer(path, other):
+    return is_program(path) and (not is_program(other) or path.stat().st_mtime > other.stat().st_mtime)
 
 
 class Sum:
@@ -61,13 +78,13 @@ class Sum:
         return 1 if self.failed else 0
 
 
-def run(program, words, **given):
+def run(program, arguments, **given):
     """What a run writes to standard output and to standard error, and its status, or none if it takes too long."""
     stdin = {} if "input" in given else {"stdin": subprocess.DEVNULL}
     streams = {"stdout": subprocess.PIPE, "stderr": subprocess.PIPE}
     given = {**streams, **stdin, "timeout": 120, **given}
     try:
-        ran = subprocess.run([program, *words], **given)
+        ran = subprocess.run([program, *arguments], **given)
     except subprocess.TimeoutExpired:
         return b"", b"not done after %d seconds" % given["timeout"], None
     return ran.stdout or b"", ran.stderr, ran.returncode
@@ -86,6 +103,5 @@ def preloads():
     """Gives the variables that put preload.c into a program, given those that it reads."""
     with tempfile.TemporaryDirectory(prefix="cachesim-preload-") as folder:
         library = pathlib.Path(folder, "preload.so")
-        words = ["cc", "-O2", "-shared", "-fPIC", "-o", library, TOP / "tests/preload.c"]
-        subprocess.run(words, check=True)
+        subprocess.run(["cc", "-O2", "-shared", "-fPIC", "-o", library, TOP / "tests/preload.c"], check=True)
         yield lambda **given: {"LD_PRELOAD": str(library), **{key: f"{it}" for key, it in given.items()}}

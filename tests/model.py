@@ -185,6 +185,9 @@ def random_words(seed):
         state = (state * multiplier + increment) & mask
 
 
+STATISTICS = ("fetch", "read", "write", "fetch miss", "read miss", "write miss", "evictions", "copybacks")
+
+
 @dataclass
 class Machine:
     """A cache as a map from each held block to its key and whether it is dirty.
@@ -200,7 +203,7 @@ class Machine:
     words: object
     clock: int = 0
     held: dict = field(default_factory=dict)
-    stats: dict = field(default_factory=lambda: dict.fromkeys(("fetch", "read", "write", "fetch miss", "read miss", "write miss", "evictions", "copybacks"), 0))
+    stats: dict = field(default_factory=lambda: dict.fromkeys(STATISTICS, 0))
 
     def step(self, ref):
         """Takes a reference, and answers what goes down."""
@@ -368,7 +371,8 @@ OPTIONS = {
     "din": [Option(f"-{cache}{word}", reader) for cache in CACHES for word, reader in OF_A_CACHE.items()]
     + [Option("-informat", one_of("dl")), Option("--seed", number), FILE],
     "sweep": [Option(f"--{name}", range_of, True) for name in ("bsize", "sets", "assoc", "size")]
-    + [Option("--kind", one_of("udi")), Option("--format", one_of("dl")), Option("--after", triple), Option("--rows", number), Option("--pow2", None), FILE],
+    + [Option("--kind", one_of("udi")), Option("--format", one_of("dl")), Option("--after", triple)]
+    + [Option("--rows", number), Option("--pow2", None), FILE],
 }
 
 
@@ -475,10 +479,11 @@ def din_job(values, texts):
     for name, cache in caches.items():
         ways, size = cache["assoc"], cache["size"]
         exponents = [(s, b) for s in range(21) for b in range(21) if cache["bsize"] == 2**b]
-        shapes = [(s, b) for s, b in exponents if size == ways * 2 ** (b + s) and is_geometry(s, ways, b)]
-        if not shapes:
+        found = [(s, b) for s, b in exponents if size == ways * 2 ** (b + s) and is_geometry(s, ways, b)]
+        if not found:
             raise Fault(f"{name}: bad geometry", 2)
-        machines[name] = {"s": shapes[0][0], "b": shapes[0][1], "ways": cache["assoc"], "repl": cache["repl"], "walloc": cache["walloc"], "wback": cache["wback"]}
+        own = {option: cache[option] for option in ("repl", "walloc", "wback")}
+        machines[name] = {"s": found[0][0], "b": found[0][1], "ways": ways, **own}
     if "l2-u" in caches and any(caches["l2-u"]["bsize"] < cache["bsize"] for cache in caches.values()):
         raise Fault("l2-u: block size smaller than in the first level", 2)
     return {"caches": machines, "format": values.get("-informat", "d"), "seed": values.get("--seed", 42)}
@@ -494,7 +499,8 @@ def sweep_job(values, texts):
         if low > high:
             raise Fault(f"{name}: reversed range", 2)
     job = {name: values[f"--{name}"] for name in ("bsize", "sets", "assoc", "size")}
-    job.update(kind=values.get("--kind", "u"), format=values.get("--format", "d"), after=values.get("--after"), rows=values.get("--rows"), pow2="--pow2" in texts)
+    job.update(kind=values.get("--kind", "u"), format=values.get("--format", "d"))
+    job.update(after=values.get("--after"), rows=values.get("--rows"), pow2="--pow2" in texts)
     return job
 
 

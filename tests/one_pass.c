@@ -39,7 +39,8 @@ static range range_of(const char *text) {
 
 static int is_valid(uint64_t bsize, uint64_t sets, uint64_t assoc) {
     uint64_t size = bsize * sets * assoc;
-    return assocs.lowest <= assoc && assoc <= assocs.greatest && assoc * sets <= MOST_LINES && sizes.lowest <= size && size <= sizes.greatest;
+    return assocs.lowest <= assoc && assoc <= assocs.greatest && assoc * sets <= MOST_LINES
+        && sizes.lowest <= size && size <= sizes.greatest;
 }
 
 static void *zeros(uint64_t count, size_t size) {
@@ -89,7 +90,8 @@ static inline uint64_t address_in(const unsigned char *line) {
 static void read_trace(const char *name) {
     static unsigned char buffer[BUFFER];
     memset(digit_of, -1, sizeof digit_of);
-    for (int d = 0; d < 16; d++) digit_of[(unsigned char)"0123456789abcdef"[d]] = digit_of[(unsigned char)"0123456789ABCDEF"[d]] = (int8_t)d;
+    const char *lower = "0123456789abcdef", *upper = "0123456789ABCDEF";
+    for (int d = 0; d < 16; d++) digit_of[(unsigned char)lower[d]] = digit_of[(unsigned char)upper[d]] = (int8_t)d;
     int file = open(name, O_RDONLY);
     if (file < 0) { perror(name); exit(1); }
     size_t held = 0;

@@ -1,4 +1,5 @@
-# What the bash tools of this folder share. A tool sets `here` to this folder and reads this file:
+# What the bash tools share: their name, faults and help, sizes, the program, traces and C parts. tool.py has the same for those in
+# Python. A tool sets `here` to this folder and reads this file:
 #
 #     here=$(dirname "$(readlink -f "${BASH_SOURCE[0]}")")
 #     . "$here/lib.bash"
@@ -7,8 +8,22 @@
 
 name=${0##*/}
 
-# explain: the comment at the head of the script, which is its help
-explain() { sed -n '2,/^[^#]/ { /^#/ { s/^# \{0,1\}//; p } }' "$0"; }
+# explain: the comment at the head of the script, which is its help. In the place of a line '{NAME}' stands what the function
+# help_NAME writes
+explain() {
+    local line
+    while IFS= read -r line; do
+        if [[ $line = '{'*'}' ]]; then "help_${line:1:-1}"; else printf '%s\n' "$line"; fi
+    done < <(sed -n '2,/^[^#]/ { /^#/ { s/^# \{0,1\}//; p } }' "$0")
+}
+
+# look_for_help ARGUMENT..: explains the tool and ends where one of these asks for it
+look_for_help() {
+    local argument
+    for argument; do
+        case $argument in -h | --help) explain && exit ;; esac
+    done
+}
 
 # fail TEXT..: one line on standard error, and status 1 (or $failure, where a tool sets it)
 fail() {
@@ -22,6 +37,15 @@ misused() {
     exit "${failure:-2}"
 }
 
+# size_of TEXT: sets `bytes` to the number of bytes that a scaled number as 512, 32k or 1m says, or answers 1
+size_of() {
+    local unit
+    [[ $1 =~ ^([0-9]{1,9})([kKmMgG]?)$ ]] || return 1
+    case ${BASH_REMATCH[2]} in [kK]) unit=10 ;; [mM]) unit=20 ;; [gG]) unit=30 ;; *) unit=0 ;; esac
+    # shellcheck disable=SC2034  # for the tool
+    bytes=$((10#${BASH_REMATCH[1]} << unit))
+}
+
 # needs COMMAND PACKAGE: ends where a command is missing, naming Debian's package
 needs() { command -v -- "$1" > /dev/null || fail "$1 is missing: apt-get install $2"; }
 
@@ -30,7 +54,8 @@ needs() { command -v -- "$1" > /dev/null || fail "$1 is missing: apt-get install
 find_cachesim() {
     cachesim=${CACHESIM:-$here/../crates/cachesim/out/cachesim}
     [ -n "${CACHESIM:-}" ] || [ -x "$cachesim" ] || cachesim=$here/../../bin/cachesim
-    [ -n "${CACHESIM:-}" ] || [ -x "$cachesim" ] || cachesim=$(command -v cachesim) || fail "no program cachesim: build it by 'make', or set CACHESIM to its path"
+    [ -n "${CACHESIM:-}" ] || [ -x "$cachesim" ] || cachesim=$(command -v cachesim) ||
+        fail "no program cachesim: build it by 'make', or set CACHESIM to its path"
     [ -x "$cachesim" ] || fail "$cachesim is no program that can be run"
     export CACHESIM=$cachesim
 }

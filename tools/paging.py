@@ -5,24 +5,7 @@ import os
 import signal
 import sys
 
-HERE = os.path.dirname(os.path.realpath(__file__))
-NAME = os.path.basename(sys.argv[0])
-
-
-def fail(text, status=1):
-    """Ends the tool with one line on standard error."""
-    print(f"{NAME}: {text}", file=sys.stderr)
-    sys.exit(status)
-
-
-def misused(text):
-    fail(f"{text}; '{NAME} --help' explains the arguments", 2)
-
-
-def look_for_help(words):
-    if "-h" in words or "--help" in words:
-        print(sys.modules["__main__"].__doc__.strip())
-        sys.exit()
+from tool import fail, misused
 
 
 def number_of_jobs(word):
@@ -33,24 +16,11 @@ def number_of_jobs(word):
     return int(word)
 
 
-def find_cachesim():
-    """The path of the program: $CACHESIM, else that of this checkout, else that installed with this folder, else the one on the path."""
-    named = os.environ.get("CACHESIM")
-    near = [os.path.join(HERE, folder) for folder in ("../crates/cachesim/out", "../../bin")]
-    places = [*near, *os.environ.get("PATH", "").split(":")]
-    for path in [named] if named else [os.path.join(place, "cachesim") for place in places]:
-        if os.path.isfile(path) and os.access(path, os.X_OK):
-            return os.path.join(".", path)
-    if named:
-        fail(f"{named} is no program that can be run")
-    fail("no program cachesim: build it by 'make', or set CACHESIM to its path")
-
-
-def start(words, stdin=0, stdout=1, stderr=2, **given):
+def start(command, stdin=0, stdout=1, stderr=2, **given):
     """Starts a command with these descriptors as its first three, and answers the number of its process."""
     signal.signal(signal.SIGCHLD, signal.SIG_DFL)  # where it is ignored, the end of a process can't be waited for
     ends = [(os.POSIX_SPAWN_DUP2, end, number) for number, end in enumerate((stdin, stdout, stderr))]
-    return os.posix_spawnp(words[0], words, os.environ, file_actions=ends, **given)
+    return os.posix_spawnp(command[0], command, os.environ, file_actions=ends, **given)
 
 
 class Pair:
@@ -118,31 +88,31 @@ def cut(pairs, most):
 
 
 def split(options):
-    """The words that are the same for each page, and the value of --after. The program has found the options good."""
-    words, after, left = [], None, list(options)
+    """The arguments that are the same for each page, and the value of --after. The program has found the options good."""
+    arguments, after, left = [], None, list(options)
     while left:
         name, equals, value = left.pop(0).partition("=")
         if name == "--":
             continue
         if name == "--pow2":
-            words.append(name)
+            arguments.append(name)
             continue
         value = value if equals else left.pop(0)
         if name == "--after":
             after = value
         elif name != "--rows":
-            words += [name, value]
-    return words, after
+            arguments += [name, value]
+    return arguments, after
 
 
 def pages_of(program, most, options):
-    """For each page of a table, the words of a sweep that write it."""
+    """For each page of a table, the arguments of a sweep that write it."""
     if any(word.startswith("-t") for word in options):
         misused("leave out -t: each page reads the same trace")
     pairs = pairs_of(program, options)
-    words, after = split(options)
+    arguments, after = split(options)
     pages = []
     for page in cut(pairs, most) if pairs else [[]]:
-        pages.append([*words, *(["--after", after] if after else []), "--rows", str(sum(pair.rows for pair in page))])
+        pages.append([*arguments, *(["--after", after] if after else []), "--rows", str(sum(pair.rows for pair in page))])
         after = page[-1].last if page else None
     return pages

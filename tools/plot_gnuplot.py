@@ -6,7 +6,7 @@ import sys
 from typing import NamedTuple
 
 import plot_pictures as pictures
-from table import fail
+from tool import NAME, fail
 
 MARKS = (7, 5, 9, 11, 13, 6, 4)
 
@@ -237,7 +237,7 @@ def drawn_by(script):
     if ran.returncode or not ran.stdout:
         fail(f"gnuplot failed: {told}")
     if told:
-        print(f"{sys.argv[0].rpartition('/')[2]}: gnuplot: {told}", file=sys.stderr)
+        print(f"{NAME}: gnuplot: {told}", file=sys.stderr)
     return ran.stdout
 
 

@@ -5,7 +5,7 @@ import json
 import math
 
 import plot_pictures as pictures
-from table import fail
+from tool import fail
 
 SYMBOLS = ("circle", "square", "triangle-up", "triangle-down", "diamond", "circle-open", "square-open")
 MOST_CHOICES = 64

@@ -3,7 +3,8 @@
 import math
 from typing import NamedTuple
 
-from table import pareto, size_text
+from table import pareto
+from tool import size_text
 
 NAMES = ("size", "block", "pareto")
 MOST_LINES = 7

@@ -1,12 +1,11 @@
 """The table that `cachesim sweep` writes, for the tools of this folder that read one."""
 
-import argparse
-import os
 import sys
 from typing import NamedTuple
 
+from tool import fail
+
 HEADER = "bsize,sets,assoc,size,hits,misses,evictions"
-UNITS = {"": 0, "k": 10, "m": 20, "g": 30}
 
 
 class Row(NamedTuple):
@@ -83,38 +82,3 @@ def pareto(rows):
         if not front or row.misses < front[-1].misses:
             front.append(row)
     return front
-
-
-def write_lines(lines):
-    """Writes lines to standard output. Ends the tool where that fails: with a message, unless the reader of a pipe has gone."""
-    try:
-        sys.stdout.write("".join(f"{line}\n" for line in lines))
-        sys.stdout.flush()
-    except OSError as fault:
-        os.dup2(os.open(os.devnull, os.O_WRONLY), sys.stdout.fileno())  # what is still held must not fail again at the end
-        if isinstance(fault, BrokenPipeError):
-            sys.exit(141)
-        fail(f"standard output: {fault.strerror}")
-
-
-def fail(text, status=1):
-    """Ends the tool with one line on standard error."""
-    tool = sys.argv[0].rpartition("/")[2]
-    print(f"{tool}: {text}", file=sys.stderr)
-    sys.exit(status)
-
-
-def size_of(text):
-    """The number of bytes that a scaled number as 512, 32k or 1m says: for an argument of a tool."""
-    digits, unit = (text[:-1], text[-1].lower()) if text[-1:].lower() in ("k", "m", "g") else (text, "")
-    if not (digits.isascii() and digits.isdigit()):
-        raise argparse.ArgumentTypeError(f"{text!r} is no size such as 512, 32k or 1m")
-    return int(digits) << UNITS[unit]
-
-
-def size_text(size):
-    """A number of bytes in short, as 32k."""
-    for unit in ("g", "m", "k"):
-        if size and size % (1 << UNITS[unit]) == 0:
-            return f"{size >> UNITS[unit]}{unit}"
-    return str(size)

@@ -100,7 +100,9 @@ class Lru:
 
 def is_there(package):
     shown_by = PACKAGES[package]
-    return os.path.exists(shown_by) if shown_by.startswith("/") else shutil.which(shown_by, path=os.environ["PATH"] + ":/usr/sbin") is not None
+    if shown_by.startswith("/"):
+        return os.path.exists(shown_by)
+    return shutil.which(shown_by, path=os.environ["PATH"] + ":/usr/sbin") is not None
 
 
 def needs(*packages):
@@ -140,27 +142,27 @@ class ToolTest(unittest.TestCase):
         path = f"{PROGRAM.parent}:{os.environ['PATH']}"
         return {"cwd": self.folder, "env": {**os.environ, "CACHESIM": str(PROGRAM), "PATH": path, **more}}
 
-    def run_words(self, *words, stdin=b"", env=None, seconds=120):
+    def run_command(self, *arguments, stdin=b"", env=None, seconds=120):
         """Runs a command with the program on its path. What it wrote comes as bytes."""
-        words, given = [str(word) for word in words], self.in_folder(**(env or {}))
-        return subprocess.run(words, input=stdin, capture_output=True, timeout=seconds, **given)
+        arguments, given = [str(word) for word in arguments], self.in_folder(**(env or {}))
+        return subprocess.run(arguments, input=stdin, capture_output=True, timeout=seconds, **given)
 
-    def run_tool(self, tool, *words, **given):
+    def run_tool(self, tool, *arguments, **given):
         """Runs a tool of tools/."""
-        return self.run_words(TOOLS / tool, *words, **given)
+        return self.run_command(TOOLS / tool, *arguments, **given)
 
-    def on_full_device(self, tool, *words, told="write failed"):
+    def on_full_device(self, tool, *arguments, told="write failed"):
         """Runs a tool whose output has no room, which it must tell."""
         given = {"stderr": subprocess.PIPE, "timeout": 120, **self.in_folder()}
         with open("/dev/full", "wb") as full:
-            ran = subprocess.run([TOOLS / tool, *words], stdout=full, **given)
+            ran = subprocess.run([TOOLS / tool, *arguments], stdout=full, **given)
         self.assertEqual((ran.stderr.decode(), ran.returncode), (f"{tool}: standard output: {told}\n", 1))
 
-    def to_a_reader_that_goes(self, tool, *words, reads=10):
+    def to_a_reader_that_goes(self, tool, *arguments, reads=10):
         """Runs a tool whose reader goes away behind so many bytes: it ends without a word."""
         given = {"stderr": subprocess.PIPE, **self.in_folder()}
         reader, writer = os.pipe()
-        running = subprocess.Popen([TOOLS / tool, *words], stdout=writer, **given)
+        running = subprocess.Popen([TOOLS / tool, *arguments], stdout=writer, **given)
         os.close(writer)
         os.read(reader, reads)
         os.close(reader)
@@ -168,14 +170,20 @@ class ToolTest(unittest.TestCase):
 
     def packed(self, trace):
         """Puts a trace into the folder, packed by xz and by zstd."""
-        (self.folder / "t.xz").write_bytes(self.run_words("xz", "-c", trace).stdout)
-        (self.folder / "t.zst").write_bytes(self.run_words("zstd", "-qc", trace).stdout)
+        (self.folder / "t.xz").write_bytes(self.run_command("xz", "-c", trace).stdout)
+        (self.folder / "t.zst").write_bytes(self.run_command("zstd", "-qc", trace).stdout)
         return "t.xz", "t.zst"
 
     def good(self, ran):
         """What a run wrote to standard output, as text; it must have ended well and without a message."""
         self.assertEqual((ran.stderr.decode(errors="replace"), ran.returncode), ("", 0))
         return ran.stdout.decode()
+
+    def same(self, got, expected):
+        """Compares long lists, and shows the first difference alone: to find all of them could take minutes."""
+        if got != expected:
+            at = next((at for at, (one, other) in enumerate(zip(got, expected)) if one != other), min(len(got), len(expected)))
+            self.fail(f"{len(got)} lines for {len(expected)}; from {at + 1} on {got[at:at + 3]}, wanted {expected[at:at + 3]}")
 
     def refused(self, ran, status, *texts):
         """A run that must end with this status, one message that has these texts, and no output."""
@@ -184,6 +192,6 @@ class ToolTest(unittest.TestCase):
         for text in texts:
             self.assertIn(text, message)
 
-    def sweep(self, *words, stdin=b""):
+    def sweep(self, *arguments, stdin=b""):
         """The table of a sweep by the program itself."""
-        return self.good(self.run_words(PROGRAM, "sweep", *words, stdin=stdin))
+        return self.good(self.run_command(PROGRAM, "sweep", *arguments, stdin=stdin))

@@ -20,9 +20,9 @@ class Best(base.ToolTest):
         super().setUp()
         (self.folder / "table.csv").write_text(TABLE)
 
-    def best(self, *words, stdin=b""):
+    def best(self, *arguments, stdin=b""):
         """The triples of the rows that are chosen, as texts."""
-        text = self.good(self.run_tool("best", *words, stdin=stdin))
+        text = self.good(self.run_tool("best", *arguments, stdin=stdin))
         self.assertEqual(text.split("\n")[0], table.HEADER + ",percent")
         return [",".join(line.split(",")[:3]) for line in text.split("\n")[1:-1]]
 
@@ -67,8 +67,8 @@ class Best(base.ToolTest):
 
     def test_real_tables(self):
         space = ("--bsize", "16-128", "--sets", "1-64", "--assoc", "1-8", "--size", "64-8k")
-        for name, words in (("sort.din", ()), ("transpose.lackey", ("--format", "l", "--kind", "d"))):
-            text = self.sweep(*space, *words, "-t", base.EXAMPLES / name)
+        for name, arguments in (("sort.din", ()), ("transpose.lackey", ("--format", "l", "--kind", "d"))):
+            text = self.sweep(*space, *arguments, "-t", base.EXAMPLES / name)
             points = {(int(row["size"]), int(row["misses"])) for row in csv.DictReader(text.splitlines())}
             # by the definition: no other point is as small and as good
             front = [point for point in points if not any(s <= point[0] and m <= point[1] for s, m in points - {point})]
@@ -93,11 +93,11 @@ class Best(base.ToolTest):
         self.assertEqual(self.best("./-a table.csv", "--front"), self.best("--front", "--", "-a table.csv"))
         link = self.folder / "cachesim-best"
         link.symlink_to(base.TOOLS / "best")
-        self.assertEqual(self.good(self.run_words(link, "./-a table.csv")).count("\n"), 3)
-        self.refused(self.run_words(link, "none.csv"), 1, "cachesim-best: none.csv: No such file or directory\n")
+        self.assertEqual(self.good(self.run_command(link, "./-a table.csv")).count("\n"), 3)
+        self.refused(self.run_command(link, "none.csv"), 1, "cachesim-best: none.csv: No such file or directory\n")
 
     def test_what_is_refused(self):
-        for stdin, words, status, fault in (
+        for stdin, arguments, status, fault in (
             (b"", ["-"], 1, "best: standard input: a table without a row\n"),
             (b"\xff\xfe\n", ["-"], 1, "best: standard input: line 1: no row of a sweep's table\n"),
             (b"16,1,1,16,2,1,0\n16,1,2,32,2,2,0\n", ["-"], 1, "best: -: rows of several traces: they count different numbers"),
@@ -111,7 +111,7 @@ class Best(base.ToolTest):
             (b"", ["table.csv", "--up-to", "1x"], 2, "'1x' is no size"),
         ):
             given = {"PYTHONIOENCODING": "utf-8:strict"}
-            self.refused(self.run_tool("best", *words, stdin=stdin, env=given), status, fault)
+            self.refused(self.run_tool("best", *arguments, stdin=stdin, env=given), status, fault)
 
     def test_writing(self):
         self.on_full_device("best", "table.csv", told="No space left on device")

@@ -43,10 +43,10 @@ class ByPage(base.ToolTest):
 
     def test_two_caches(self):
         trace = base.EXAMPLES / "sort.din"
-        words = ["--fetches", "16,8,1", "--data", "16,8,2"]
-        rows = self.good(self.run_tool("by-page", trace, *words)).split("\n")[1:-1]
-        fetches = self.good(self.run_tool("by-page", trace, *words[:2])).split("\n")[1:-1]
-        data = self.good(self.run_tool("by-page", trace, *words[2:])).split("\n")[1:-1]
+        arguments = ["--fetches", "16,8,1", "--data", "16,8,2"]
+        rows = self.good(self.run_tool("by-page", trace, *arguments)).split("\n")[1:-1]
+        fetches = self.good(self.run_tool("by-page", trace, *arguments[:2])).split("\n")[1:-1]
+        data = self.good(self.run_tool("by-page", trace, *arguments[2:])).split("\n")[1:-1]
         # code and data are in different pages, so but for the share the rows are the same
         self.assertEqual(*(sorted(row.rpartition(",")[0] for row in some) for some in (rows, fetches + data)))
 
@@ -63,12 +63,12 @@ class ByPage(base.ToolTest):
         expected = self.good(self.run_tool("by-page", "-", "--data", "16,1,2", stdin=SORT))
         (self.folder / "-a trace").write_bytes(SORT)
         self.assertEqual(self.good(self.run_tool("by-page", "--data", "16,1,2", "./-a trace")), expected)
-        self.run_words("gzip", "./-a trace")
+        self.run_command("gzip", "./-a trace")
         self.assertEqual(self.good(self.run_tool("by-page", "--data", "16,1,2", "--", "-a trace.gz")), expected)
 
     def test_faults(self):
         cache = ["--data", "16,1,1"]
-        for text, words, status, fault in (
+        for text, arguments, status, fault in (
             (b"0 10\n0 20\n7 1\n", ["-", *cache], 1, "cachesim: line 3: bad label\n"),
             (b"0 10\n4 0\n", ["-", *cache], 1, "by-page: line 2: a flush, which can not be followed\n"),
             (b"", ["none", *cache], 1, "by-page: none: no file that can be read"),
@@ -80,7 +80,7 @@ class ByPage(base.ToolTest):
             (b"", ["-", *cache, "--page", "x"], 2, "by-page: 'x' is no page size such as 4k"),
             (b"", ["-", *cache, "--page", "9999999999g"], 2, "by-page: '9999999999g' is no page size such as 4k"),
         ):
-            self.refused(self.run_tool("by-page", *words, stdin=text), status, fault)
+            self.refused(self.run_tool("by-page", *arguments, stdin=text), status, fault)
 
     def test_full_device(self):
         self.on_full_device("by-page", base.EXAMPLES / "sort.din", "--data", "16,1,1")

@@ -54,8 +54,8 @@ class Submitting(ToolTest):
         (self.note / name).write_text(text)
         (self.note / name).chmod(0o755)
 
-    def submit(self, *words, **env):
-        return self.run_words(CLUSTER / "submit", *words, env={"PATH": f"{self.note}:{PROGRAM.parent}:{os.environ['PATH']}", **env})
+    def submit(self, *arguments, **env):
+        return self.run_command(CLUSTER / "submit", *arguments, env={"PATH": f"{self.note}:{PROGRAM.parent}:{os.environ['PATH']}", **env})
 
     def options(self, number):
         return (self.note / f"job-{number}").read_text().split("\n")
@@ -92,11 +92,19 @@ class Submitting(ToolTest):
         (self.folder / "pages").write_text("a\nb\nc\n")
         for number in (1, 3):
             (self.folder / f"part-{number}").write_text(f"{number}\n")
-        self.assertEqual(self.run_words("bash", CLUSTER / "join.sbatch").returncode, 1)
+        self.assertEqual(self.run_command("bash", CLUSTER / "join.sbatch").returncode, 1)
         self.assertFalse((self.folder / "table.csv").exists())
         (self.folder / "part-2").write_text("2\n")
-        self.assertEqual(self.run_words("bash", CLUSTER / "join.sbatch").returncode, 0)
+        self.assertEqual(self.run_command("bash", CLUSTER / "join.sbatch").returncode, 0)
         self.assertEqual((self.folder / "table.csv").read_text(), "1\n2\n3\n")
+
+    def test_more_than_nine_parts(self):
+        """They are joined by their numbers, and not as their names are sorted."""
+        (self.folder / "pages").write_text("a page\n" * 11)
+        for number in range(1, 12):
+            (self.folder / f"part-{number}").write_text(f"{number}\n")
+        self.assertEqual(self.run_command("bash", CLUSTER / "join.sbatch").returncode, 0)
+        self.assertEqual((self.folder / "table.csv").read_text().split(), [str(number) for number in range(1, 12)])
 
     def test_refused(self):
         (self.folder / "there").mkdir()
@@ -124,14 +132,15 @@ class Submitting(ToolTest):
         (self.note / "sbatch").unlink()
         for name in ("bash", "dirname", "readlink"):
             (self.note / name).symlink_to(f"/usr/bin/{name}")
-        self.refused(self.submit("run", 2, TRACE, *THREE, PATH=str(self.note)), 1, "submit: sbatch is missing: apt-get install slurm-client\n")
+        ran = self.submit("run", 2, TRACE, *THREE, PATH=str(self.note))
+        self.refused(ran, 1, "submit: sbatch is missing: apt-get install slurm-client\n")
 
-    def test_one_node_words(self):
-        self.refused(self.run_words(CLUSTER / "one-node", "halt", "x"), 2, "one-node: halt is neither start nor stop")
-        self.refused(self.run_words(CLUSTER / "one-node", "start"), 2, "one-node: ", "a folder")
-        self.refused(self.run_words(CLUSTER / "one-node", "start", "a b"), 1, "one-node: ", "a b: Slurm takes letters")
-        self.refused(self.run_words(CLUSTER / "one-node", "stop", "none"), 1, "one-node: ", "none is no folder")
-        self.refused(self.run_words(CLUSTER / "one-node", "stop", "."), 1, "one-node: ", "nothing was started there")
+    def test_one_node_arguments(self):
+        self.refused(self.run_command(CLUSTER / "one-node", "halt", "x"), 2, "one-node: halt is neither start nor stop")
+        self.refused(self.run_command(CLUSTER / "one-node", "start"), 2, "one-node: ", "a folder")
+        self.refused(self.run_command(CLUSTER / "one-node", "start", "a b"), 1, "one-node: ", "a b: Slurm takes letters")
+        self.refused(self.run_command(CLUSTER / "one-node", "stop", "none"), 1, "one-node: ", "none is no folder")
+        self.refused(self.run_command(CLUSTER / "one-node", "stop", "."), 1, "one-node: ", "nothing was started there")
 
 
 def daemons(place):
@@ -166,13 +175,13 @@ class OneNode(ToolTest):
         if left:
             raise AssertionError(f"still there: {left}")
 
-    def submit(self, *words):
-        return self.good(self.run_words(CLUSTER / "submit", *words, env={"SLURM_CONF": str(self.place / "slurm/slurm.conf")}))
+    def submit(self, *arguments):
+        return self.good(self.run_command(CLUSTER / "submit", *arguments, env={"SLURM_CONF": str(self.place / "slurm/slurm.conf")}))
 
     def wait(self):
         """Waits until no job is left."""
         for _ in range(400):
-            if not self.good(self.run_words("squeue", "-h", env={"SLURM_CONF": str(self.place / "slurm/slurm.conf")})):
+            if not self.good(self.run_command("squeue", "-h", env={"SLURM_CONF": str(self.place / "slurm/slurm.conf")})):
                 return
             time.sleep(0.2)
         self.fail("jobs are left: " + (self.place / "slurm/slurmctld.log").read_text())
@@ -193,20 +202,20 @@ class OneNode(ToolTest):
 
     def test_daemons(self):
         self.assertEqual(daemons(self.place), ["munged", "slurmctld", "slurmd"])
-        ran = self.run_words(CLUSTER / "one-node", "start", self.place / "slurm")
+        ran = self.run_command(CLUSTER / "one-node", "start", self.place / "slurm")
         self.refused(ran, 1, "one-node: ", "it runs already")
 
     def test_jobs_are_ended_by_a_stop(self):
         """A second Slurm beside the first, on ports of its own; it is ended while a job runs."""
         other = self.place / "other"
-        self.good(self.run_words(CLUSTER / "one-node", "start", other))
+        self.good(self.run_command(CLUSTER / "one-node", "start", other))
         environment = {"SLURM_CONF": str(other / "slurm.conf")}
-        self.good(self.run_words("sbatch", "--parsable", "--wrap", "sleep 1000", env=environment))
+        self.good(self.run_command("sbatch", "--parsable", "--wrap", "sleep 1000", env=environment))
         for _ in range(100):
             if "slurmstepd" in daemons(other):
                 break
             time.sleep(0.1)
         self.assertIn("slurmstepd", daemons(other))
-        self.good(self.run_words(CLUSTER / "one-node", "stop", other))
+        self.good(self.run_command(CLUSTER / "one-node", "stop", other))
         self.assertEqual(daemons(other), [])
-        self.assertEqual(self.good(self.run_words(CLUSTER / "one-node", "stop", other)), "")
+        self.assertEqual(self.good(self.run_command(CLUSTER / "one-node", "stop", other)), "")

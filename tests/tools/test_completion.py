@@ -66,7 +66,7 @@ class Generated(ToolTest):
         quoted = " ".join(f"'{word}'" for word in words)
         called = f"COMP_WORDS=({quoted}) COMP_CWORD={len(words) - 1}; _cachesim\necho \"${{COMPREPLY[@]}}\""
         script = f"{written('bash')}\n{called}"
-        return set(self.good(self.run_words("bash", "-c", script)).split())
+        return set(self.good(self.run_command("bash", "-c", script)).split())
 
     def test_commands(self):
         self.assertEqual(self.offered("cachesim", ""), {"sweep", "csim", "din", "-h", "--help"})
@@ -166,7 +166,7 @@ class Shells(ToolTest):
         (self.folder / "c.fish").write_text(written("fish"))
         more = {"": "sweep|csim|din", "csim -": "|".join(OPTIONS["csim"]), "sweep --kind=": "--kind=u|--kind=d|--kind=i"}
         for typed, wanted in {**self.LINES, **more}.items():
-            ran = self.run_words("fish", "-N", "-c", f"source c.fish; cd traces; complete -C 'cachesim {typed}'", env=self.env)
+            ran = self.run_command("fish", "-N", "-c", f"source c.fish; cd traces; complete -C 'cachesim {typed}'", env=self.env)
             found = {line.partition("\t")[0].replace("\\ ", " ").rstrip("/") for line in self.good(ran).splitlines()}
             given = typed.split()[:-1] if not typed.endswith(" ") else typed.split()
             self.assertEqual(found, set(wanted.split("|")) - set(given), typed)

@@ -19,14 +19,14 @@ class Installing(MakeTest):
     def few_tools(self):
         """Leaves few tools in the copy, so that a test is quick."""
         for path in (self.top / "tools").iterdir():
-            if path.is_file() and path.name not in ("best", "lib.bash", "table.py"):
+            if path.is_file() and path.name not in ("best", "lib.bash", "table.py", "tool.py"):
                 path.unlink()
 
     def below(self):
         return sorted(str(path.relative_to(self.to)) for path in self.to.rglob("*"))
 
-    def install(self, *words):
-        ran = self.make("install", f"DESTDIR={self.to}", "PREFIX=/usr", *words, env=self.path)
+    def install(self, *arguments):
+        ran = self.make("install", f"DESTDIR={self.to}", "PREFIX=/usr", *arguments, env=self.path)
         self.assertEqual(ran.returncode, 0, ran.stderr)
         return ran
 
@@ -93,9 +93,9 @@ class Installing(MakeTest):
         (self.to / "usr/bin/other").touch()
         (self.folder / "failing").mkdir()
         env = {"PATH": f"{self.folder}/failing:{self.path['PATH']}", "TMPDIR": str(self.folder / "failing")}
-        for command, words, end in (("rmdir", "--*", "exit 1"), ("rmdir", "--*", "kill -TERM $PPID"), ("cp", "-P", "exit 1")):
+        for command, arguments, end in (("rmdir", "--*", "exit 1"), ("rmdir", "--*", "kill -TERM $PPID"), ("cp", "-P", "exit 1")):
             failing = self.folder / "failing" / command
-            failing.write_text(f'#!/bin/bash\n[[ $1 != {words} ]] && exec {shutil.which(command)} "$@"\n{end}\n')
+            failing.write_text(f'#!/bin/bash\n[[ $1 != {arguments} ]] && exec {shutil.which(command)} "$@"\n{end}\n')
             failing.chmod(0o755)
             ran = self.make("install", f"DESTDIR={self.to}", "PREFIX=/usr", env=env)
             self.assertEqual(ran.returncode, 2)
@@ -118,7 +118,7 @@ class Installing(MakeTest):
             self.assertTrue(link.resolve().is_file(), link)
         for link in (self.to / "usr/bin").glob("cachesim-*"):
             env = {"PATH": f"{link.parent}:{os.environ['PATH']}", "PYTHONDONTWRITEBYTECODE": ""}
-            ran = self.run_words(link, "--help", env=env)
+            ran = self.run_command(link, "--help", env=env)
             self.assertEqual(ran.returncode, 0, ran.stderr)
         # Python has left no files there
         self.assertEqual({path for path in self.below() if path.startswith("usr/lib/cachesim/")}, there)
@@ -131,12 +131,12 @@ class Installing(MakeTest):
         din, lackey = TOP / "examples/sort.din", TOP / "examples/blocks.lackey"
         env = {"CACHESIM": "", **self.path}
         pages = "--pow2 --bsize 16 --sets 1 --assoc 1-4 --size 0-1k --rows 3\n"
-        for words, text in (
-            (("bin/cachesim-sweep-parallel", 2, din, *space), self.run_words(PROGRAM, "sweep", *space, "-t", din).stdout.decode()),
+        for arguments, text in (
+            (("bin/cachesim-sweep-parallel", 2, din, *space), self.run_command(PROGRAM, "sweep", *space, "-t", din).stdout.decode()),
             (("bin/cachesim-pages", 1, "--pow2", "--bsize", 16, "--sets", 1, "--assoc", "1-4", "--size", "0-1k"), pages),
-            (("lib/cachesim/lab/grade", lab / "csim", lackey), "13 of 13 right\n"),
+            (("lib/cachesim/lab/grade", lab / "lab-csim", lackey), "13 of 13 right\n"),
         ):
-            ran = self.run_words(self.to / "usr" / words[0], *words[1:], env=env)
+            ran = self.run_command(self.to / "usr" / arguments[0], *arguments[1:], env=env)
             self.assertEqual((ran.returncode, ran.stdout.decode(), ran.stderr), (0, text, b""))
 
     def test_each_c_part_is_compiled(self):

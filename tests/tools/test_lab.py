@@ -51,12 +51,12 @@ class LabTest(ToolTest):
         self.private = self.folder / "private"
         self.private.mkdir()
 
-    def leaves_nothing(self, *words, stdin=b""):
+    def leaves_nothing(self, *arguments, stdin=b""):
         """Runs a tool, and interrupts it as the keyboard does once it has begun to write. Its files are removed."""
         given = {"env": {**os.environ, "TMPDIR": str(self.private)}, "cwd": self.folder, "start_new_session": True}
         pipes = {"stdin": subprocess.PIPE, "stdout": subprocess.PIPE, "stderr": subprocess.DEVNULL}
         for number in (signal.SIGINT, signal.SIGTERM):
-            tool = subprocess.Popen(words, **given, **pipes)
+            tool = subprocess.Popen(arguments, **given, **pipes)
             try:
                 tool.stdin.write(stdin)
                 tool.stdin.flush()
@@ -70,11 +70,11 @@ class LabTest(ToolTest):
                 tool.communicate()
             self.assertEqual(list(self.private.iterdir()), [])
 
-    def without_a_reader(self, *words):
+    def without_a_reader(self, *arguments):
         """The message and the status of a tool whose output goes to a pipe that nobody reads."""
         reader, writer = os.pipe()
         os.close(reader)
-        ran = subprocess.run(words, stdout=writer, stderr=subprocess.PIPE, cwd=self.folder, text=True, timeout=60)
+        ran = subprocess.run(arguments, stdout=writer, stderr=subprocess.PIPE, cwd=self.folder, text=True, timeout=60)
         os.close(writer)
         return ran.stderr, ran.returncode
 
@@ -82,8 +82,8 @@ class LabTest(ToolTest):
 class Csim(LabTest):
     """cachesim in the place of the lab's csim."""
 
-    def csim(self, *words, **given):
-        return self.run_tool("lab/csim", *words, **given)
+    def csim(self, *arguments, **given):
+        return self.run_tool("lab/lab-csim", *arguments, **given)
 
     def results(self):
         path = self.folder / ".csim_results"
@@ -96,10 +96,10 @@ class Csim(LabTest):
         self.assertEqual(self.results(), "4 5 2\n")
 
     def test_a_link_under_the_name_of_the_reference(self):
-        (self.folder / "csim-ref").symlink_to(LAB / "csim")
-        words = ["./csim-ref", "-vs4", "-E1", "-b4", "-t", YI]
-        self.assertEqual(self.good(self.run_words(*words)), YI_TEXT)
-        self.refused(self.run_words(*words, env={"CACHESIM": "absent"}), 1, "csim-ref: absent is no program")
+        (self.folder / "csim-ref").symlink_to(LAB / "lab-csim")
+        arguments = ["./csim-ref", "-vs4", "-E1", "-b4", "-t", YI]
+        self.assertEqual(self.good(self.run_command(*arguments)), YI_TEXT)
+        self.refused(self.run_command(*arguments, env={"CACHESIM": "absent"}), 1, "csim-ref: absent is no program")
 
     def test_traces_with_odd_names(self):
         for name, text in (("./-a b", b""), ("/dev/stdin", YI.read_bytes())):
@@ -107,7 +107,7 @@ class Csim(LabTest):
             self.assertEqual(self.good(self.csim("-v", "-s", 4, "-E", 1, "-b", 4, "-t", name, stdin=text)), YI_TEXT)
 
     def test_a_fault_keeps_its_message_and_status_and_leaves_no_results(self):
-        for words, text, wrote, status, message in (
+        for arguments, text, wrote, status, message in (
             ("-v -s 4 -E 1 -b 4 -t trace", " L 10,1\n X 22,1\n", "L 10,1 miss \n", 1, "line 2: bad label"),
             ("-s 4 -E 1 -b 4 -t trace", "I  10\n", "", 1, "line 1: bad size"),
             ("-s 21 -E 1 -b 4 -t trace", "", "", 2, "bad geometry"),
@@ -115,38 +115,38 @@ class Csim(LabTest):
         ):
             (self.folder / ".csim_results").write_text("1 2 3\n")
             (self.folder / "trace").write_text(text)
-            ran = self.csim(*words.split())
+            ran = self.csim(*arguments.split())
             self.assertEqual((ran.stdout.decode(), ran.returncode, self.results()), (wrote, status, None))
             self.assertTrue(ran.stderr.decode().startswith(f"cachesim: {message}"), ran.stderr)
 
     def test_help(self):
         for word in ("-h", "--help", "-hv", "-vh"):
-            self.assertTrue(self.good(self.csim("-s", 4, word)).startswith("csim [-v] -s N -E N -b N -t FILE "))
-        for words in (["-s", "-h"], ["--hits"], ["-s4", "-E1", "-b4", "-t", YI, "--", "-h"]):
-            self.refused(self.csim(*words), 2, "cachesim: ")
+            self.assertTrue(self.good(self.csim("-s", 4, word)).startswith("lab-csim [-v] -s N -E N -b N -t FILE "))
+        for arguments in (["-s", "-h"], ["--hits"], ["-s4", "-E1", "-b4", "-t", YI, "--", "-h"]):
+            self.refused(self.csim(*arguments), 2, "cachesim: ")
         self.assertIsNone(self.results())
 
     def test_outputs_that_fail(self):
-        message = "csim: the output can't be written\n"
-        ran = self.run_words("bash", "-c", f"'{LAB}/csim' -s 4 -E 1 -b 4 -t '{YI}' > /dev/full")
+        message = "lab-csim: the output can't be written\n"
+        ran = self.run_command("bash", "-c", f"'{LAB}/lab-csim' -s 4 -E 1 -b 4 -t '{YI}' > /dev/full")
         self.assertEqual((ran.stderr.decode(), ran.returncode, self.results()), (message, 1, None))
-        self.assertEqual(self.without_a_reader(LAB / "csim", "-s4", "-E1", "-b4", "-t", YI), (message, 1))
+        self.assertEqual(self.without_a_reader(LAB / "lab-csim", "-s4", "-E1", "-b4", "-t", YI), (message, 1))
         self.assertIsNone(self.results())
         (self.folder / ".csim_results").mkdir()
-        self.refused(self.csim("-s", 4, "-E", 1, "-b", 4, "-t", YI), 1, "csim: the old .csim_results can't be removed\n")
+        self.refused(self.csim("-s", 4, "-E", 1, "-b", 4, "-t", YI), 1, "lab-csim: the old .csim_results can't be removed\n")
 
     def test_private_files_are_removed(self):
         self.good(self.csim("-s", 4, "-E", 1, "-b", 4, "-t", YI, env={"TMPDIR": str(self.private)}))
         self.assertEqual(list(self.private.iterdir()), [])
-        self.leaves_nothing(LAB / "csim", "-vs4", "-E1", "-b4", "-t", "/dev/stdin", stdin=b" L 10,1\n" * 20000)
+        self.leaves_nothing(LAB / "lab-csim", "-vs4", "-E1", "-b4", "-t", "/dev/stdin", stdin=b" L 10,1\n" * 20000)
 
 
 def mistakes():
-    """The cases in mistakes.cases: names of mistakes, words, and what is to be written."""
+    """The cases in mistakes.cases: names of mistakes, arguments, and what is to be written."""
     for case in (STUDENTS / "mistakes.cases").read_text().split("\n== ")[1:]:
         lines = case.splitlines()
-        words = next(line[2:] for line in lines if line.startswith("$ "))
-        yield lines[0].split(), words.split(), "".join(f"{line[2:]}\n" for line in lines if line.startswith("> "))
+        arguments = next(line[2:] for line in lines if line.startswith("$ "))
+        yield lines[0].split(), arguments.split(), "".join(f"{line[2:]}\n" for line in lines if line.startswith("> "))
 
 
 class Grade(LabTest):
@@ -170,8 +170,8 @@ class Grade(LabTest):
             subprocess.run(["cc", *flags, "-o", program, STUDENTS / "student.c"], check=True)
         return program
 
-    def grade(self, *words, env=None):
-        return self.run_tool("lab/grade", *words, env={"TMPDIR": str(self.private), **(env or {})}, seconds=40)
+    def grade(self, *arguments, env=None):
+        return self.run_tool("lab/grade", *arguments, env={"TMPDIR": str(self.private), **(env or {})}, seconds=40)
 
     def says(self, ran, text, status):
         """A run that must end with this status, and with this output alone. It must leave nothing but that."""
@@ -193,10 +193,10 @@ class Grade(LabTest):
     def test_mistakes(self):
         cases = list(mistakes())
         self.assertEqual(len(cases), 16)
-        for names, words, said in cases:
+        for names, arguments, said in cases:
             with self.subTest(names):
                 program = self.student(*names)
-                self.says(self.grade(*(program if word == "CSIM" else word for word in words[1:])), said, 1)
+                self.says(self.grade(*(program if word == "CSIM" else word for word in arguments[1:])), said, 1)
                 self.assertTrue(comes(lambda: not is_running(program)))
 
     def test_what_plays_no_part(self):
@@ -228,8 +228,8 @@ class Grade(LabTest):
         (self.folder / "bad.trace").write_text(" L 10,1\n X 10,1\n")
         (self.folder / "text").write_text("no program\n")
         (self.folder / "text").chmod(0o755)
-        right, option = self.student(), "grade: error: argument"
-        for words, message in (
+        right, option = self.student(), "grade: argument"
+        for arguments, message in (
             (["absent", "yi.trace"], "grade: absent: no such file\n"),
             (["private", "yi.trace"], "grade: private: no such file\n"),
             (["yi.trace", "yi.trace"], f"grade: {self.folder}/yi.trace: Permission denied\n"),
@@ -237,16 +237,16 @@ class Grade(LabTest):
             ([right, "yi.trace", "absent"], "grade: absent: no such file\n"),
             ([right, "yi.trace", "bad.trace"], "grade: -s 1 -E 1 -b 1 -t bad.trace: line 2: bad label\n"),
             (["--geometry", "21,1,1", right, "yi.trace"], "grade: -s 21 -E 1 -b 1 -t yi.trace: bad geometry\n"),
-            (["--geometry", "4,1", right, "yi.trace"], f"{option} --geometry: invalid geometry value: '4,1'\n"),
-            (["--seconds", "0", right, "yi.trace"], f"{option} --seconds: invalid seconds value: '0'\n"),
+            (["--geometry", "4,1", right, "yi.trace"], f"{option} --geometry: invalid geometry value: '4,1'; "),
+            (["--seconds", "0", right, "yi.trace"], f"{option} --seconds: invalid seconds value: '0'; "),
             (["--verbose-lines", "some", right, "yi.trace"], f"{option} --verbose-lines: invalid choice"),
-            ([right], "grade: error: the following arguments are required: TRACE\n"),
+            ([right], "grade: the following arguments are required: TRACE; 'grade --help' explains the arguments\n"),
         ):
-            self.refused(self.grade(*words), 2, message)
-        self.refused(self.grade(right, "yi.trace", env={"CACHESIM": "/absent"}), 2, "grade: /absent: No such file or directory\n")
+            self.refused(self.grade(*arguments), 2, message)
+        self.refused(self.grade(right, "yi.trace", env={"CACHESIM": "/absent"}), 2, "grade: /absent is no program that can be run\n")
 
     def test_outputs_that_fail(self):
-        ran = self.run_words("bash", "-c", f"'{LAB}/grade' '{self.student()}' yi.trace > /dev/full")
+        ran = self.run_command("bash", "-c", f"'{LAB}/grade' '{self.student()}' yi.trace > /dev/full")
         self.assertEqual((ran.stderr.decode(), ran.returncode), ("grade: standard output: No space left on device\n", 2))
         self.assertEqual(self.without_a_reader(LAB / "grade", self.student(), "yi.trace"), ("", 141))
 
@@ -270,9 +270,10 @@ class Grade(LabTest):
     def test_where_cachesim_is(self):
         """On the path, where the tools stand alone."""
         shutil.copytree(LAB, self.folder / "lib/lab")
-        words = [self.folder / "lib/lab/grade", self.student(), "yi.trace"]
-        self.says(self.run_words(*words, env={"CACHESIM": ""}), "13 of 13 right\n", 0)
-        self.refused(self.run_words(*words, env={"CACHESIM": "", "PATH": "/nowhere"}), 2, "grade: no program cachesim")
+        shutil.copy(TOOLS / "tool.py", self.folder / "lib")
+        arguments = [self.folder / "lib/lab/grade", self.student(), "yi.trace"]
+        self.says(self.run_command(*arguments, env={"CACHESIM": ""}), "13 of 13 right\n", 0)
+        self.refused(self.run_command(*arguments, env={"CACHESIM": "", "PATH": "/nowhere"}), 2, "grade: no program cachesim")
 
     @needs("bubblewrap")
     def test_confined(self):
@@ -283,27 +284,27 @@ class Grade(LabTest):
         naughty.chmod(0o755)
         places = "--ro-bind / / --dev /dev --proc /proc --tmpfs /var/tmp --setenv TMPDIR /var/tmp"
         confined = ["bwrap", *places.split(), "--unshare-all", "--die-with-parent"]
-        self.says(self.run_words(*confined, LAB / "grade", naughty, "yi.trace"), "13 of 13 right\n", 0)
+        self.says(self.run_command(*confined, LAB / "grade", naughty, "yi.trace"), "13 of 13 right\n", 0)
         self.assertIn(places, (LAB / "README.md").read_text())
 
 
 class Trace(LabTest):
     """A trace of a program, in the lab's form."""
 
-    def trace(self, *words, **given):
-        return self.run_tool("lab/trace", *words, **given)
+    def trace(self, *arguments, **given):
+        return self.run_tool("lab/lab-trace", *arguments, **given)
 
     @needs("valgrind")
     def test_a_program_and_its_child(self):
         """Ten stores of the program are there, and none of its child; so are the program's words, its input and its status."""
         subprocess.run(["cc", "-O1", "-o", self.folder / "-a program", STUDENTS / "stores.c"], check=True)
         ran = self.trace("--", "./-a program", stdin=b"input\n")
-        address, *words = ran.stderr.decode().split()
-        self.assertEqual((words, ran.returncode), (["input", "L", "77,1"], 7))
+        address, *arguments = ran.stderr.decode().split()
+        self.assertEqual((arguments, ran.returncode), (["input", "L", "77,1"], 7))
         lines = ran.stdout.decode().splitlines()
         self.assertEqual([line for line in lines if not LAB_LINE.fullmatch(line) or line == " L 77,1"], [])
         self.assertEqual(len([line for line in lines if line == f" S {int(address, 16):08x},8"]), 10)
-        self.good(self.run_words(PROGRAM, "csim", "-s", 4, "-E", 1, "-b", 4, "-t", "/dev/stdin", stdin=ran.stdout))
+        self.good(self.run_command(PROGRAM, "csim", "-s", 4, "-E", 1, "-b", 4, "-t", "/dev/stdin", stdin=ran.stdout))
 
     @needs("valgrind")
     def test_statuses(self):
@@ -315,10 +316,10 @@ class Trace(LabTest):
 
     @needs("valgrind")
     def test_outputs_that_fail(self):
-        message = "trace: the trace can't be written\n"
-        ran = self.run_words("bash", "-c", f"'{LAB}/trace' true > /dev/full")
+        message = "lab-trace: the trace can't be written\n"
+        ran = self.run_command("bash", "-c", f"'{LAB}/lab-trace' true > /dev/full")
         self.assertEqual((ran.stderr.decode(), ran.returncode), (message, 125))
-        self.assertEqual(self.without_a_reader(LAB / "trace", "true"), (message, 125))
+        self.assertEqual(self.without_a_reader(LAB / "lab-trace", "true"), (message, 125))
 
     def test_a_failure_of_valgrind(self):
         """With a valgrind that writes what the real one does where it meets an instruction that it doesn't know."""
@@ -327,18 +328,18 @@ class Trace(LabTest):
         (self.folder / "valgrind").chmod(0o755)
         ran = self.trace("true", env={"PATH": f"{self.folder}:{os.environ['PATH']}", "TMPDIR": str(self.private)})
         self.assertEqual((ran.stdout, ran.returncode), (b"I  0400d7d4,8\n", 125))
-        said = "\nhost stacktrace:\n==1== at 0\ntrace: Valgrind itself failed; the trace ends there\n"
+        said = "\nhost stacktrace:\n==1== at 0\nlab-trace: Valgrind itself failed; the trace ends there\n"
         self.assertEqual(ran.stderr.decode(), said)
         self.assertEqual(list(self.private.iterdir()), [])
 
     @needs("valgrind")
     def test_an_interrupt(self):
-        self.leaves_nothing(LAB / "trace", "sh", "-c", "while :; do :; done")
+        self.leaves_nothing(LAB / "lab-trace", "sh", "-c", "while :; do :; done")
 
-    def test_wrong_words_and_a_missing_valgrind(self):
-        self.refused(self.trace(), 125, "trace: no program; 'trace --help' explains the arguments\n")
-        self.refused(self.trace("--all", "ls"), 125, "trace: unknown option --all; ")
-        self.assertTrue(self.good(self.trace("--help")).startswith("trace PROGRAM ARGS.. "))
+    def test_wrong_arguments_and_a_missing_valgrind(self):
+        self.refused(self.trace(), 125, "lab-trace: no program; 'lab-trace --help' explains the arguments\n")
+        self.refused(self.trace("--all", "ls"), 125, "lab-trace: unknown option --all; ")
+        self.assertTrue(self.good(self.trace("--help")).startswith("lab-trace PROGRAM ARGS.. "))
         (self.private / "readlink").symlink_to(shutil.which("readlink"))
-        message = "trace: valgrind is missing: apt-get install valgrind\n"
+        message = "lab-trace: valgrind is missing: apt-get install valgrind\n"
         self.refused(self.trace("ls", env={"PATH": str(self.private)}), 125, message)

@@ -1,48 +1,54 @@
-"""What the ledger names is there: a dropped clause leaves a crate proved, and no run can miss it."""
+"""What the ledger names is there, and says what it said: tests/ledger, and that it sees what it should."""
 
 import re
-import unittest
+import shutil
 
-import base
+from base import TOP, ToolTest
 
-CRATES = base.TOP / "crates"
-NAMED = re.compile(r"`(?:(?:\w+::)*(\w+))?\.(\w+)`|`(\w+)::(\w+)::(\w+)`")
-FUNCTION = re.compile(r"\bfn (\w+)")
-RECORD = re.compile(r"^(?:pub )?record (\w+)")
-CLAUSE = re.compile(r"^\s+(?:ensures|pub) (\w+) (?:\{|:)")
+READ, TASK, LAWS = "trace_core/src/io.rt", "trace_core/specs/Task.antt", "sweep_core/src/laws.rt"
+FLUSHED = "  pub flushes : sink'.flushes ≡ one_more sink.flushes\n"
 
 
-def clauses(files, head):
-    """The names of functions or records, each with one of its clauses."""
-    for path in files:
-        name = None
-        for line in path.read_text().split("\n"):
-            if found := head.search(line):
-                name = found[1]
-            elif name and (found := CLAUSE.match(line)):
-                yield name, found[1]
+class TheLedger(ToolTest):
+    def test_as_it_stands(self):
+        ran = self.run_command(TOP / "tests/ledger")
+        self.assertEqual(ran.returncode, 0, ran.stdout.decode()[-2000:])
 
+    def copy(self):
+        """A copy of the contracts and the ledger."""
+        ignored = shutil.ignore_patterns("out", "proofs", "must-fail")
+        shutil.copytree(TOP / "crates", self.folder / "crates", ignore=ignored, dirs_exist_ok=True)
+        for name in ("tests/ledger", "tests/common.py", "docs/proofs.md"):
+            (self.folder / name).parent.mkdir(exist_ok=True)
+            shutil.copy(TOP / name, self.folder / name)
+        self.assertEqual(self.run_command(self.folder / "tests/ledger", "--write").returncode, 0)
 
-class TheLedger(unittest.TestCase):
-    def test_clauses(self):
-        """`function.clause` is a clause of a function or a part of a record, and `.clause` one of some such."""
-        there = set(clauses(CRATES.glob("*/src/**/*.rt"), FUNCTION)) | set(clauses(CRATES.glob("*/specs/*.antt"), RECORD))
-        names = {clause for _, clause in there}
-        text = (base.TOP / "docs/proofs.md").read_text().split("## Mutants")[0].split("## Promises")[1]
-        for found in NAMED.finditer(text):
-            if found[3]:
-                continue
-            with self.subTest(found[0]):
-                self.assertTrue((found[1], found[2]) in there if found[1] else found[2] in names, "there is no such clause")
+    def fails_after(self, file, old, new, text):
+        """One change, which must be seen and told so."""
+        path = self.folder / "crates" / file
+        before = path.read_text()
+        changed = re.sub(old, new, before, count=1, flags=re.S)
+        self.assertNotEqual(changed, before)
+        path.write_text(changed)
+        ran = self.run_command(self.folder / "tests/ledger")
+        self.assertEqual(ran.returncode, 1)
+        self.assertRegex(ran.stdout.decode(), text)
+        path.write_text(before)
 
-    def test_laws(self):
-        """`crate::laws::law` is a function of that crate's laws."""
-        text = (base.TOP / "docs/proofs.md").read_text()
-        for _, _, crate, module, law in NAMED.findall(text):
-            if module == "laws":
-                with self.subTest(law):
-                    self.assertIn(f"fn {law}(", (CRATES / crate / "src/laws.rt").read_text())
+    def test_changes_of_contracts(self):
+        self.copy()
+        passed = r"ensures passed \{ ReadConsumes"
+        self.fails_after(READ, passed, "ensures moved { ReadConsumes", "FAILED FromRead::read.passed: there is no")
+        self.fails_after(TASK, re.escape(FLUSHED), FLUSHED.replace("≡", "≤"), r"FAILED trace_core::Finished.flushes: new or changed")
+        self.fails_after(LAWS, r"pub fn pages\(\)\n    ensures \{", r"\g<0> 1 ≡ 2 →", "FAILED sweep_core::laws::pages: new or changed")
+        self.fails_after(LAWS, r"pub fn pages\(\)\n", r"\g<0>    requires { 1 ≡ 2 }\n", r"sweep_core::laws::pages \(requires\)")
+        self.fails_after(LAWS, r"pub fn pages\(\)", "pub fn pages_of()", "FAILED sweep_core::laws::pages: there is no such law")
+        self.fails_after("cache_core/specs/Windows.antt", r"nat_lt \(", "nat_le (", r"FAILED cache_core.Windows \w+: new or changed")
 
-
-if __name__ == "__main__":
-    unittest.main()
+    def test_a_change_is_acknowledged(self):
+        self.copy()
+        path = self.folder / "crates" / TASK
+        path.write_text(path.read_text().replace(FLUSHED, FLUSHED.replace("≡", "≤")).replace("-- it finished", "-- it came to its end"))
+        ran = self.run_command(self.folder / "tests/ledger", "--write")
+        self.assertEqual((ran.returncode, self.run_command(self.folder / "tests/ledger").returncode), (0, 0))
+        self.assertIn("trace_core::Finished.flushes: sink'.flushes ≤", (self.folder / "tests/clauses").read_text())

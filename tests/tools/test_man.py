@@ -18,8 +18,8 @@ class Page(ToolTest):
     def shown(self):
         """The name and what it does, as whatis finds them, and the lines of the page."""
         (self.folder / "cachesim.1").write_text(self.good(self.run_tool("package/man-page", PROGRAM)))
-        named = self.good(self.run_words("lexgrog", "cachesim.1"))
-        page = self.good(self.run_words("man", "--warnings", "-l", "cachesim.1", env=SHOWN))
+        named = self.good(self.run_command("lexgrog", "cachesim.1"))
+        page = self.good(self.run_command("man", "--warnings", "-l", "cachesim.1", env=SHOWN))
         return named, re.sub(".\b", "", page).splitlines()
 
     @needs("lowdown", "man-db")
@@ -28,6 +28,9 @@ class Page(ToolTest):
         self.assertIn('"cachesim - simulates processor caches over a trace of memory references"', named)
         for heading in "NAME|SYNOPSIS|DESCRIPTION|TRACES|SWEEP|CSIM|DIN|FAULTS|EXIT STATUS|LIMITS|SEE ALSO".split("|"):
             self.assertIn(heading, lines)
+        synopsis = "\n".join(lines[lines.index("SYNOPSIS"):lines.index("DESCRIPTION")])
+        for command in ("sweep", "csim", "din"):
+            self.assertIn(f"       cachesim {command} [OPTIONS]", synopsis)
         self.assertIn("       cachesim csim [OPTIONS] -s N -E N -b N -t FILE", lines)
         self.assertIn("cachesim-best(1)", "\n".join(lines))
         self.assertRegex((self.folder / "cachesim.1").read_text(), r"\ncachesim \\- simulates ")
@@ -52,8 +55,8 @@ class Page(ToolTest):
     def test_lowdown_is_missing(self):
         for name in ("python3", "bash", "grep", "sed", "readlink", "dirname"):
             (self.folder / name).symlink_to(shutil.which(name))
-        words = [TOOLS / "package/man-page", PROGRAM]
-        ran = subprocess.run(words, env={"PATH": str(self.folder)}, capture_output=True, check=False, timeout=60)
+        arguments = [TOOLS / "package/man-page", PROGRAM]
+        ran = subprocess.run(arguments, env={"PATH": str(self.folder)}, capture_output=True, check=False, timeout=60)
         self.refused(ran, 1, "man-page: lowdown is missing: apt-get install lowdown\n")
 
     @needs("lowdown")
@@ -61,7 +64,7 @@ class Page(ToolTest):
         top = self.folder / "copy"
         copy_repository(top)
         (top / "docs/manual.md").write_text("# The manual\n\nIt begins otherwise.\n")
-        self.refused(self.run_words(top / "tools/package/man-page", PROGRAM), 1, "man-page: docs/manual.md doesn't begin with")
+        self.refused(self.run_command(top / "tools/package/man-page", PROGRAM), 1, "man-page: docs/manual.md doesn't begin with")
 
 
 class ToolPages(ToolTest):
@@ -118,5 +121,5 @@ class ToolPages(ToolTest):
         for tool in tools:
             with self.subTest(tool.name):
                 (self.folder / "page.1").write_text(self.page(tool))
-                self.assertIn(f'"cachesim-{tool.name} - ', self.good(self.run_words("lexgrog", "page.1")))
-                self.good(self.run_words("man", "--warnings", "-l", "page.1", env=SHOWN))
+                self.assertIn(f'"cachesim-{tool.name} - ', self.good(self.run_command("lexgrog", "page.1")))
+                self.good(self.run_command("man", "--warnings", "-l", "page.1", env=SHOWN))

@@ -53,14 +53,14 @@ class Mutants(ToolTest):
         (self.folder / "rt").write_text(RT)
         (self.folder / "rt").chmod(0o755)
         (self.folder / "whole").write_text(PROVED)
-        self.run_words("git", "init", "-q", self.top)
-        self.run_words("git", "-C", self.top, "add", "crates", "crates.txt")
+        self.run_command("git", "init", "-q", self.top)
+        self.run_command("git", "-C", self.top, "add", "crates", "crates.txt")
 
-    def tried(self, said, *words):
+    def tried(self, said, *arguments):
         """The last two lines, and the status, where the prover says this of the mutant."""
         (self.folder / "mutant").write_text(said)
         stand_in = {"RT": str(self.folder / "rt"), "STAND_IN": str(self.folder)}
-        ran = self.run_words(self.top / "tests/try-mutants", "--jobs", "1", *words, env=stand_in)
+        ran = self.run_command(self.top / "tests/try-mutants", "--jobs", "1", *arguments, env=stand_in)
         self.assertEqual(ran.stderr, b"")
         return ran.stdout.decode().splitlines()[-2:], ran.returncode
 
@@ -85,6 +85,27 @@ class Mutants(ToolTest):
         self.mutant.write_text(EDIT.replace("number / 2", "number / 4"))
         self.refused(IN_CODE + REFUSED, "an 'old:' text is in src/lib.rt 0 times, and not once")
 
+    def test_a_goal_that_is_no_promise(self):
+        """It fails untried."""
+        goals = ("index-old-requires", "overflow_sub-result", "nonzero_div-self-inside", "push-requires-clause-room", "ilog2-requires")
+        for goal in goals:
+            self.mutant.write_text(f"goal: Half::of {goal}\n{EDIT}")
+            lines, status = self.tried(IN_CODE + REFUSED)
+            told = f"its goal is no promise: Half::of {goal}. Name the clause that it breaks, or change what it changes"
+            self.assertEqual(lines, [f"FAILED low a_third: {told}", "0 passed, 1 failed"])
+            self.assertEqual((status, (self.folder / "calls").exists()), (1, False))
+            lines, status = self.tried("", "--list")
+            self.assertEqual((lines[-1][-len(told) - 1:], status), (told + ")", 1))
+        bound = IN_CODE.replace("returns-in-Some-clause-value", "index-old-requires")
+        self.mutant.write_text(EDIT)
+        self.tried(bound + IN_CODE + REFUSED, "--write-goals")
+        self.assertEqual(self.mutant.read_text(), f"goal: Half::of value\n{EDIT}")
+
+    def test_a_goal_with_a_stored_proof(self):
+        self.mutant.write_text(f"goal: Half::of invariant_of-self\n{EDIT}")
+        lines, _ = self.tried(IN_ANSWER + REFUSED)
+        self.assertRegex(lines[0], r"^ok low a_third \(\d+ s\) at Half::of invariant_of-self, by its stored proof alone$")
+
     def test_a_crate_that_is_not_proved(self):
         (self.folder / "whole").write_text(IN_CODE + REFUSED)
         lines, status = self.tried(IN_CODE + REFUSED)
@@ -107,8 +128,8 @@ class Mutants(ToolTest):
             "low a_third: Half::of: a third. Refused at: Half::of value",
             "low no_half (gate): Half::of: no half. Refused at: no goal named",
         ])
-        for words, count in (([], 2), (["low"], 2), (["no_half"], 1)):
-            lines, _ = self.tried(IN_CODE + REFUSED, *words)
+        for arguments, count in (([], 2), (["low"], 2), (["no_half"], 1)):
+            lines, _ = self.tried(IN_CODE + REFUSED, *arguments)
             self.assertEqual(lines[1], f"{count} passed, 0 failed")
         lines, status = self.tried("", "nosuch")
         self.assertEqual((lines[0], status), ("FAILED nosuch: there is no such mutant or crate", 1))

@@ -28,8 +28,8 @@ def simulated(text, format, unified=None, fetches=None, data=None):
 class Outcomes(base.ToolTest):
     def judge(self, text, format="d", **caches):
         (self.folder / "trace").write_bytes(text)
-        words = [word for name, cache in caches.items() for word in (f"--{name}", cache)]
-        answer = self.good(self.run_tool("outcomes", "trace", *words, "--format", format))
+        arguments = [word for name, cache in caches.items() for word in (f"--{name}", cache)]
+        answer = self.good(self.run_tool("outcomes", "trace", *arguments, "--format", format))
         self.assertEqual(answer, simulated(text, format, **caches), caches)
         return answer
 
@@ -71,8 +71,8 @@ class Outcomes(base.ToolTest):
             self.judge(text.encode(), fetches="8,2,5", data="32,16,1")
 
     def test_empty(self):
-        for words in (["--unified", "16,1,1"], ["--fetches", "16,1,1"]):
-            self.assertEqual(self.good(self.run_tool("outcomes", "-", *words)), "")
+        for arguments in (["--unified", "16,1,1"], ["--fetches", "16,1,1"]):
+            self.assertEqual(self.good(self.run_tool("outcomes", "-", *arguments)), "")
         self.judge(b"", fetches="16,1,1", data="16,1,1")
         self.judge(b"==1== a message\n", "l", fetches="16,1,1", data="16,1,1")
 
@@ -90,8 +90,8 @@ class Outcomes(base.ToolTest):
             good = b"0 40\n" if format == "d" else b" L 40,1\n"
             for line in lines:
                 text = good + line + b"\n" + good
-                words = "--bsize 16 --sets 1 --assoc 1 --size 16 --format".split()
-                by_sweep = self.run_words(base.PROGRAM, "sweep", *words, format, stdin=text)
+                arguments = "--bsize 16 --sets 1 --assoc 1 --size 16 --format".split()
+                by_sweep = self.run_command(base.PROGRAM, "sweep", *arguments, format, stdin=text)
                 ran = self.run_tool("outcomes", "-", "--unified", "16,1,1", "--format", format, stdin=text)
                 self.assertEqual((ran.returncode, ran.stderr), (by_sweep.returncode, by_sweep.stderr), line)
                 if ran.returncode == 0:
@@ -99,8 +99,8 @@ class Outcomes(base.ToolTest):
 
     def test_flush(self):
         (self.folder / "t").write_bytes(b"0 10\n4 0\n0 10\n")
-        for words in (["--unified", "16,1,1"], ["--fetches", "16,1,1", "--data", "16,1,1"]):
-            ran = self.run_tool("outcomes", "t", *words)
+        for arguments in (["--unified", "16,1,1"], ["--fetches", "16,1,1", "--data", "16,1,1"]):
+            ran = self.run_tool("outcomes", "t", *arguments)
             self.assertEqual((ran.returncode, ran.stderr), (1, b"outcomes: line 2: a flush, which can not be followed\n"))
 
     def test_names(self):
@@ -109,10 +109,10 @@ class Outcomes(base.ToolTest):
             (self.folder / name).write_bytes(SORT)
             self.assertEqual(self.good(self.run_tool("outcomes", "--data=16,4,2", "--", name)), expected)
         self.assertEqual(self.good(self.run_tool("outcomes", "./-trace.din", "--data", "016,4,02")), expected)
-        self.run_words("gzip", "a trace.din")
+        self.run_command("gzip", "a trace.din")
         self.assertEqual(self.good(self.run_tool("outcomes", "a trace.din.gz", "--data", "16,4,2")), expected)
-        words = ["--fetches", "16,4,2", "--data", "16,4,2"]
-        self.assertEqual(*(self.good(self.run_tool("outcomes", name, *words)) for name in ("./-trace.din", "a trace.din.gz")))
+        arguments = ["--fetches", "16,4,2", "--data", "16,4,2"]
+        self.assertEqual(*(self.good(self.run_tool("outcomes", name, *arguments)) for name in ("./-trace.din", "a trace.din.gz")))
 
     @base.needs("xz-utils", "zstd")
     def test_packed(self):
@@ -122,11 +122,11 @@ class Outcomes(base.ToolTest):
             self.assertEqual(self.good(self.run_tool("outcomes", name, "--data", "16,4,2")), expected)
 
     def test_faults(self):
-        whole = self.run_words("gzip", "-c", base.EXAMPLES / "sort.din").stdout
+        whole = self.run_command("gzip", "-c", base.EXAMPLES / "sort.din").stdout
         (self.folder / "cut.gz").write_bytes(whole[: len(whole) // 2])
         (self.folder / "bad").write_bytes(b"0 10\n2 20\n0 1z\n2 30\n")
         one, two = ["--unified", "16,1,1"], ["--fetches", "16,1,1", "--data", "16,1,1"]
-        for words, status, fault in (
+        for arguments, status, fault in (
             (["bad", *one], 1, b"cachesim: line 3: bad address\n"),
             (["bad", *two], 1, b"cachesim: line 3: bad address\n"),
             (["cut.gz", *two], 1, b"unexpected end of file"),
@@ -137,23 +137,23 @@ class Outcomes(base.ToolTest):
             (one, 2, b"outcomes: one trace is needed"),
             (["bad", "bad", *one], 2, b"outcomes: one trace is needed"),
             (["bad", *one, "--format", "x"], 2, b"outcomes: --format is d (din) or l (lackey)"),
-            (["bad", *one, "--size"], 2, b"outcomes: unrecognized option '--size'\n"),
-            (["bad", "--unified"], 2, b"outcomes: option '--unified' requires an argument\n"),
+            (["bad", *one, "--size"], 2, b"outcomes: unrecognized option '--size'; 'outcomes --help' explains the arguments\n"),
+            (["bad", "--unified"], 2, b"outcomes: option '--unified' requires an argument; "),
             (["bad", "--unified", "16,1"], 2, b"outcomes: '16,1' is no cache such as 64,128,4"),
             (["bad", "--unified", "24,1,1"], 2, b"outcomes: '24,1,1' is no cache: the block size is no power of two"),
             (["bad", "--unified", "16,0,1"], 2, b"outcomes: '16,0,1' is no cache: the number of sets is no power of two"),
             (["bad", "--data", "16,1,0"], 2, b"cachesim: bad geometry\n"),
             (["bad", "--data", "2097152,1,1"], 2, b"cachesim: bad geometry\n"),
         ):
-            ran = self.run_tool("outcomes", *words)
-            self.assertEqual(ran.returncode, status, (words, ran.stderr))
+            ran = self.run_tool("outcomes", *arguments)
+            self.assertEqual(ran.returncode, status, (arguments, ran.stderr))
             self.assertIn(fault, ran.stderr)
             self.assertEqual(len(ran.stderr.splitlines()), 1, ran.stderr)
 
     def test_a_simulator_that_is_wrong(self):
         (self.folder / "trace").write_bytes(SORT)
         other, unknown = "the trace is not the same at each reading", "the simulator writes what csim doesn't"
-        for change, words, fault in (
+        for change, arguments, fault in (
             ("100d", ["--fetches", "16,1,1", "--data", "16,1,1"], other),
             ("100p", ["--fetches", "16,1,1", "--data", "16,1,1"], other),
             ("100s/,/;/", ["--data", "16,1,1"], unknown),
@@ -163,7 +163,7 @@ class Outcomes(base.ToolTest):
             program = self.folder / "wrong"
             program.write_text(f"#!/bin/bash\nset -o pipefail\n'{base.PROGRAM}' \"$@\" | sed '{change}'\n")
             program.chmod(0o755)
-            ran = self.run_tool("outcomes", "trace", *words, env={"CACHESIM": str(program)})
+            ran = self.run_tool("outcomes", "trace", *arguments, env={"CACHESIM": str(program)})
             self.assertEqual((ran.returncode, ran.stderr.decode()), (1, f"outcomes: {fault}\n"), change)
 
     def test_compiling(self):
@@ -174,27 +174,27 @@ class Outcomes(base.ToolTest):
             shutil.copy(base.TOOLS / file, copy)
         for command in "cat dirname getopt mkdir mktemp readlink rm".split():
             (commands / command).symlink_to(shutil.which(command))
-        words = [copy / "outcomes", "-", "--data", "16,1,1"]
-        ran = self.run_words(*words, env={"PATH": str(commands)})
+        arguments = [copy / "outcomes", "-", "--data", "16,1,1"]
+        ran = self.run_command(*arguments, env={"PATH": str(commands)})
         self.refused(ran, 1, "outcomes: cc is missing: apt-get install gcc\n")
-        self.assertEqual(self.good(self.run_words(copy / "outcomes", "--build")), "")
+        self.assertEqual(self.good(self.run_command(copy / "outcomes", "--build")), "")
         self.assertEqual([path.name for path in (copy / "out").iterdir()], ["outcomes"])
         # what is installed has no C file, and needs no compiler
         (copy / "outcomes.c").unlink()
         (commands / "grep").symlink_to(shutil.which("grep"))
-        self.assertEqual(self.good(self.run_words(*words, stdin=b"0 10\n", env={"PATH": str(commands)})), "0 10 miss\n")
+        self.assertEqual(self.good(self.run_command(*arguments, stdin=b"0 10\n", env={"PATH": str(commands)})), "0 10 miss\n")
 
         # a part that ends before it has opened the pipes of two caches stops those who write to them
         (self.folder / "trace").write_bytes(SORT)
         (copy / "out/outcomes").write_text("#!/bin/sh\n[ $2 != lines ] || exit 125\nsed 's/\\([0-9]*\\) .*/L 0,\\1/'\n")
-        ran = self.run_words(copy / "outcomes", "trace", "--fetches", "16,1,1", "--data", "16,1,1", seconds=20)
+        ran = self.run_command(copy / "outcomes", "trace", "--fetches", "16,1,1", "--data", "16,1,1", seconds=20)
         self.refused(ran, 125)
 
     def test_writing(self):
         (self.folder / "long").write_bytes(SORT * 100)
-        for words in (["--unified", "16,1,1"], ["--fetches", "16,1,1", "--data", "16,1,1"]):
-            self.on_full_device("outcomes", "long", *words)
-            self.to_a_reader_that_goes("outcomes", "long", *words)
+        for arguments in (["--unified", "16,1,1"], ["--fetches", "16,1,1", "--data", "16,1,1"]):
+            self.on_full_device("outcomes", "long", *arguments)
+            self.to_a_reader_that_goes("outcomes", "long", *arguments)
 
     def test_help(self):
         self.assertIn("--unified CACHE", self.good(self.run_tool("outcomes", "--help")))

@@ -10,7 +10,7 @@ class OverTime(base.ToolTest):
     def judge(self, text, each, format="d", **caches):
         """Compares with simulations of caches, of which those that are named take their references."""
         (self.folder / "trace").write_bytes(text)
-        words = [word for name, cache in caches.items() for word in (f"--{name}", cache)]
+        arguments = [word for name, cache in caches.items() for word in (f"--{name}", cache)]
         made = {name: base.Lru(*map(int, cache.split(","))) for name, cache in caches.items()}
         went = []
         for event in base.references(text, format):
@@ -22,7 +22,7 @@ class OverTime(base.ToolTest):
             last = min(first + each, len(went))
             misses = sum(outcome != "hit" for outcome in went[first:last])
             rows.append(f"{first + 1},{last},{misses},{100 * misses / (last - first):.3f}\n")
-        answer = self.good(self.run_tool("over-time", "trace", "--each", each, "--format", format, *words))
+        answer = self.good(self.run_tool("over-time", "trace", "--each", each, "--format", format, *arguments))
         self.assertEqual(answer, HEADER + "".join(rows))
 
     def test_din(self):
@@ -52,11 +52,11 @@ class OverTime(base.ToolTest):
         expected = self.good(self.run_tool("over-time", "-", "--data", "16,1,2", "--each", "50", stdin=SORT))
         (self.folder / "-a trace").write_bytes(SORT)
         self.assertEqual(self.good(self.run_tool("over-time", "--data", "16,1,2", "--each", "50", "./-a trace")), expected)
-        self.run_words("gzip", "./-a trace")
+        self.run_command("gzip", "./-a trace")
         self.assertEqual(self.good(self.run_tool("over-time", "--data", "16,1,2", "--each", "50", "--", "-a trace.gz")), expected)
 
     def test_faults(self):
-        for text, words, status, fault in (
+        for text, arguments, status, fault in (
             (b"0 10\n0 20\n7 1\n", ["-", "--data", "16,1,1", "--each", "1"], 1, "cachesim: line 3: bad label\n"),
             (b"0 10\n4 0\n", ["-", "--data", "16,1,1", "--each", "1"], 1, "over-time: line 2: a flush, which can not be"),
             (b"", ["-", "--data", "16,1,1"], 2, "over-time: --each must be a number of references above 0"),
@@ -65,7 +65,7 @@ class OverTime(base.ToolTest):
             (b"", ["-", "--each", "1"], 2, "over-time: a cache is needed"),
             (b"", ["none", "--data", "16,1,1", "--each", "1"], 1, "over-time: none: no file that can be read"),
         ):
-            self.refused(self.run_tool("over-time", *words, stdin=text), status, fault)
+            self.refused(self.run_tool("over-time", *arguments, stdin=text), status, fault)
 
     def test_full_device(self):
         self.on_full_device("over-time", base.EXAMPLES / "sort.din", "--data", "16,1,1", "--each", "9")

@@ -16,17 +16,17 @@ PACKAGE = TOOLS / "package"
 SPACE = ["--bsize", "16-32", "--sets", "1-8", "--assoc", "1-2", "--size", "64-256"]
 
 
-def run(*words, **given):
+def run(*arguments, **given):
     """Runs a command; what it writes is text."""
     given = {"timeout": 120, "check": False, "text": True, "capture_output": True, "stdin": subprocess.DEVNULL, **given}
-    return subprocess.run([str(word) for word in words], **given)
+    return subprocess.run([str(word) for word in arguments], **given)
 
 
 class Version(ToolTest):
     def test_the_program_and_the_changes_name_the_same(self):
-        version = self.good(self.run_words(PACKAGE / "version")).strip()
+        version = self.good(self.run_command(PACKAGE / "version")).strip()
         self.assertRegex(version, r"^\d+\.\d+\.\d+$")
-        helped = self.good(self.run_words(PROGRAM, "--help")).splitlines()
+        helped = self.good(self.run_command(PROGRAM, "--help")).splitlines()
         self.assertEqual([line for line in helped if re.fullmatch(r"cachesim [\d.]+", line)], [f"cachesim {version}"])
 
     def test_the_top_entry_counts(self):
@@ -40,11 +40,11 @@ class Version(ToolTest):
             ("## 10.0.0 (2027-12-01)\n", "10.0.0\n", "2027-12-01\n"),
         ):
             changes.write_text(text)
-            self.assertEqual(self.good(self.run_words(top / "tools/package/version")), version)
-            self.assertEqual(self.good(self.run_words(top / "tools/package/version", "--date")), date)
+            self.assertEqual(self.good(self.run_command(top / "tools/package/version")), version)
+            self.assertEqual(self.good(self.run_command(top / "tools/package/version", "--date")), date)
         for text in ("# Changes\n", "## Unreleased\n\n## 1.0.0 (2026-11-23)\n", "## 1.0 (2026-11-23)\n", "## 1.0.0\n"):
             changes.write_text(text)
-            self.refused(self.run_words(top / "tools/package/version"), 1, "version: ", "CHANGELOG.md")
+            self.refused(self.run_command(top / "tools/package/version"), 1, "version: ", "CHANGELOG.md")
 
     def test_copyright_names_each_library_of_the_kit(self):
         ours = {line.split()[0].rstrip(":") for line in (TOP / "crates.txt").read_text().splitlines() if ":" in line}
@@ -116,7 +116,9 @@ class Package(unittest.TestCase):
             modes[name.partition(" -> ")[0]] = mode
         self.assertEqual(modes["./usr/bin/cachesim"], "-rwxr-xr-x")
         self.assertEqual(modes["./usr/lib/cachesim/lib.bash"], "-rw-r--r--")
-        for name in "copyright CHANGELOG.md examples/sort.din docs/manual.md".split():
+        documents = [f"docs/{path.name}" for path in (TOP / "docs").glob("*.md")]
+        self.assertIn("docs/cookbook.md", documents)
+        for name in ("copyright", "CHANGELOG.md", "README.md", "tools/README.md", "examples/sort.din", *documents):
             self.assertEqual(modes[f"./usr/share/doc/cachesim/{name}"], "-rw-r--r--")
         for name in "bash-completion/completions/cachesim zsh/vendor-completions/_cachesim".split():
             self.assertEqual(modes[f"./usr/share/{name}"], "-rw-r--r--")
@@ -142,14 +144,14 @@ class Package(unittest.TestCase):
         ran = run("lintian", "--fail-on", "error,warning", *root, self.package)
         self.assertEqual((ran.returncode, ran.stdout), (0, ""), ran.stderr)
 
-    def dpkg(self, root, *words):
+    def dpkg(self, root, *arguments):
         """Runs dpkg on a system of its own below `root`."""
         (root / "var/lib/dpkg/updates").mkdir(parents=True, exist_ok=True)
         (root / "var/lib/dpkg/info").mkdir(exist_ok=True)
         (root / "var/lib/dpkg/status").touch()
         as_root = [] if os.geteuid() == 0 else ["unshare", "--map-root-user"]
         env = {**os.environ, "PATH": f"{os.environ['PATH']}:/usr/sbin:/sbin"}
-        ran = run(*as_root, "dpkg", f"--root={root}", "--force-depends", "--path-include=/usr/share/*", *words, env=env)
+        ran = run(*as_root, "dpkg", f"--root={root}", "--force-depends", "--path-include=/usr/share/*", *arguments, env=env)
         self.assertEqual(ran.returncode, 0, ran.stdout + ran.stderr)
 
     def test_installed_run_and_removed(self):

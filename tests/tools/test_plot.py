@@ -45,11 +45,11 @@ class PlotTest(base.ToolTest):
     def write(self, name, text):
         (self.folder / name).write_text(text)
 
-    def plot(self, *words, **given):
-        return self.run_tool("plot", *words, **given)
+    def plot(self, *arguments, **given):
+        return self.run_tool("plot", *arguments, **given)
 
-    def script(self, *words, **given):
-        return self.good(self.plot("--script", *words, **given))
+    def script(self, *arguments, **given):
+        return self.good(self.plot("--script", *arguments, **given))
 
     def stand_in(self, text):
         """A path with a gnuplot of our own, a script."""
@@ -165,9 +165,9 @@ class Script(PlotTest):
 
     def test_as_it_is_installed(self):
         (self.folder / "cachesim-plot").symlink_to(base.TOOLS / "plot")
-        ran = self.run_words("./cachesim-plot", "--script", "eight.csv", "-")
+        ran = self.run_command("./cachesim-plot", "--script", "eight.csv", "-")
         self.assertEqual(self.good(ran), self.script("eight.csv", "-"))
-        ran = self.run_words("./cachesim-plot", "--script", "none.csv", "-")
+        ran = self.run_command("./cachesim-plot", "--script", "none.csv", "-")
         self.refused(ran, 1, "cachesim-plot: none.csv: No such file or directory\n")
 
 
@@ -192,7 +192,7 @@ class Refused(PlotTest):
         self.write("bin.png", "")
         (self.folder / "folder.png").mkdir()
         path = self.no_gnuplot()
-        for words, fault in (
+        for arguments, fault in (
             (["none.csv", "a.png"], "none.csv: No such file or directory"),
             (["eight.csv", "none/a.png"], "none/a.png: there is no folder"),
             (["eight.csv", "bin.png/a.png"], "bin.png/a.png: there is no folder"),
@@ -200,12 +200,14 @@ class Refused(PlotTest):
             (["--bsize", "64", "eight.csv", "a.png"], "eight.csv: no cache has the block size 64; there are 16, 32"),
             (["--ways", "4", "eight.csv", "a.png"], "eight.csv: no cache has the associativity 4; there are 1, 2"),
         ):
-            self.refused(self.plot(*words, env=path), 1, f"plot: {fault}")
+            self.refused(self.plot(*arguments, env=path), 1, f"plot: {fault}")
 
-    def test_wrong_words(self):
-        for words in ([], ["eight.csv"], ["eight.csv", "a.pdf"], ["eight.csv", "a"], ["--only", "x", "eight.csv", "-"],
-                      ["--bsize", "x", "eight.csv", "-"], ["--script", "eight.csv", "a.html"], ["--bs", "16", "eight.csv", "-"]):
-            ran = self.plot(*words)
+    def test_wrong_arguments(self):
+        for arguments in (
+            [], ["eight.csv"], ["eight.csv", "a.pdf"], ["eight.csv", "a"], ["--only", "x", "eight.csv", "-"],
+            ["--bsize", "x", "eight.csv", "-"], ["--script", "eight.csv", "a.html"], ["--bs", "16", "eight.csv", "-"],
+        ):
+            ran = self.plot(*arguments)
             self.refused(ran, 2, "plot: ", "'plot --help' explains the arguments\n")
             self.assertEqual(ran.stderr.count(b"\n"), 1)
 
@@ -226,7 +228,7 @@ class Refused(PlotTest):
         self.refused(self.plot("eight.csv", "a.png", env=path), 1, "plot: gnuplot failed: line 0: no such terminal\n")
         self.write("bin/gnuplot", "#!/bin/sh\ncat > /dev/null; head -c 100000 /dev/zero\n")
         limited = ["bash", "-c", 'ulimit -f 50; exec "$@"', "-", base.TOOLS / "plot", "eight.csv", "a.png"]
-        self.refused(self.run_words(*limited, env=path), 1, "plot: a.png: File too large\n")
+        self.refused(self.run_command(*limited, env=path), 1, "plot: a.png: File too large\n")
         self.refused(self.plot("eight.csv", "/proc/a.png", env=path), 1, "plot: /proc/a.png: ")
         self.assertEqual((self.names(), (self.folder / "a.png").read_text()), (["a.png", "bin", "eight.csv"], "as before"))
 
@@ -236,14 +238,14 @@ class Refused(PlotTest):
         self.assertEqual((self.folder / "a.png").read_text(), "picture\n")
 
     def test_full_device(self):
-        ran = self.run_words("bash", "-c", f'"{base.TOOLS}/plot" --script eight.csv - > /dev/full')
+        ran = self.run_command("bash", "-c", f'"{base.TOOLS}/plot" --script eight.csv - > /dev/full')
         self.refused(ran, 1, "plot: standard output: No space left on device\n")
 
     def test_interrupt(self):
         path = self.stand_in("exec sleep 60")
         for number in (signal.SIGINT, signal.SIGTERM):
-            words = [base.TOOLS / "plot", "eight.csv", "a.png"]
-            with subprocess.Popen(words, cwd=self.folder, env={**os.environ, **path}, stderr=subprocess.PIPE) as ran:
+            arguments = [base.TOOLS / "plot", "eight.csv", "a.png"]
+            with subprocess.Popen(arguments, cwd=self.folder, env={**os.environ, **path}, stderr=subprocess.PIPE) as ran:
                 time.sleep(1)
                 ran.send_signal(number)
                 self.assertEqual((ran.communicate(timeout=20)[1], ran.returncode), (b"", 128 + number))

@@ -49,9 +49,9 @@ def svg_of(data):
 
 @needs("gnuplot-nox")
 class Drawn(PlotTest):
-    def drawn(self, *words):
-        self.assertEqual(self.good(self.plot(*words)), "")
-        return (self.folder / words[-1]).read_bytes()
+    def drawn(self, *arguments):
+        self.assertEqual(self.good(self.plot(*arguments)), "")
+        return (self.folder / arguments[-1]).read_bytes()
 
     def test_png(self):
         width, height, different = png_of(self.drawn("--title", "Eight", "eight.csv", "an out.png"))
@@ -81,7 +81,7 @@ class Drawn(PlotTest):
         self.assertEqual(len(marks["rgb(187,187,187)"]), len(ALL) + 1)
 
     def test_the_script_is_what_is_run(self):
-        ran = self.run_words("gnuplot", "-d", stdin=self.script("eight.csv", "a.svg").encode())
+        ran = self.run_command("gnuplot", "-d", stdin=self.script("eight.csv", "a.svg").encode())
         self.assertEqual(self.good(ran), self.drawn("eight.csv", "a.svg").decode())
 
     def test_text(self):
@@ -100,8 +100,8 @@ class Drawn(PlotTest):
         ours, theirs = pty.openpty()
         fcntl.ioctl(theirs, termios.TIOCSWINSZ, struct.pack("HHHH", 30, 100, 0, 0))
         env = {name: value for name, value in os.environ.items() if name not in ("COLUMNS", "LINES")}
-        words = [base.TOOLS / "plot", "--only", "size", "eight.csv", "-"]
-        self.assertEqual(subprocess.run(words, cwd=self.folder, env=env, stdout=theirs).returncode, 0)
+        arguments = [base.TOOLS / "plot", "--only", "size", "eight.csv", "-"]
+        self.assertEqual(subprocess.run(arguments, cwd=self.folder, env=env, stdout=theirs).returncode, 0)
         os.close(theirs)
         lines = os.read(ours, 1 << 16).decode().splitlines()
         os.close(ours)
@@ -133,7 +133,7 @@ class Drawn(PlotTest):
         shutil.copytree(stored, self.folder / "docs/pictures")
         (self.folder / "docs/pictures/sort.png").unlink()
         command = re.search("^    tools/(plot .*)$", (stored / "README.md").read_text(), re.MULTILINE)[1]
-        self.good(self.run_words("bash", "-c", f"{base.TOOLS}/{command}"))
+        self.good(self.run_command("bash", "-c", f"{base.TOOLS}/{command}"))
         was, made = (png_of((folder / "docs/pictures/sort.png").read_bytes()) for folder in (base.TOP, self.folder))
         self.assertEqual(made[:2], was[:2])
         self.assertEqual(len(table.open_table(stored / "sort.csv")), 633)
@@ -164,8 +164,8 @@ class Sources(html.parser.HTMLParser):
 
 @needs("python3-plotly")
 class Page(PlotTest):
-    def page(self, *words):
-        self.assertEqual(self.good(self.plot(*words, "a page.html")), "")
+    def page(self, *arguments):
+        self.assertEqual(self.good(self.plot(*arguments, "a page.html")), "")
         return (self.folder / "a page.html").read_text()
 
     def test_it_has_all_and_fetches_nothing(self):
@@ -204,8 +204,8 @@ class Page(PlotTest):
         </script></body>"""
         self.write("watched.html", page.replace("<head>", watch, 1).replace("</body>", choose))
         address = (self.folder / "watched.html").as_uri() + "#bsize=16"
-        ran = self.run_words("chromium", "--headless", "--no-sandbox", "--disable-gpu", f"--user-data-dir={self.folder}/profile",
-                             "--virtual-time-budget=20000", "--dump-dom", address)
+        options = ("--headless", "--no-sandbox", "--disable-gpu", "--virtual-time-budget=20000", "--dump-dom")
+        ran = self.run_command("chromium", *options, f"--user-data-dir={self.folder}/profile", address)
         shown = re.sub("<script.*?</script>", "", ran.stdout.decode(), flags=re.DOTALL)
         self.assertEqual(ran.returncode, 0)
         for text in ("Miss ratio by cache size: blocks of 16 bytes", "Miss ratio by block size: 1 way", TITLES[2], "Eight</h1>"):

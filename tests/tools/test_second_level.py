@@ -25,8 +25,8 @@ class SecondLevel(base.ToolTest):
     def down(self, text, format, through, caches):
         """What goes down by the tool."""
         (self.folder / "trace").write_bytes(text)
-        words = [word for name, cache in caches.items() for word in (f"--{name}", cache)]
-        return self.good(self.run_tool("second-level", "trace", *words, "--format", format, *["--write-through"] * through))
+        arguments = [word for name, cache in caches.items() for word in (f"--{name}", cache)]
+        return self.good(self.run_tool("second-level", "trace", *arguments, "--format", format, *["--write-through"] * through))
 
     def judge(self, text, format="d", through=False, **caches):
         """Compares with what goes down from the machines of the model."""
@@ -68,13 +68,13 @@ class SecondLevel(base.ToolTest):
         bsize, sets, ways = numbers(second)
         space = ["--bsize", bsize, "--sets", sets, "--assoc", ways, "--size", bsize * sets * ways]
         row = self.sweep(*space, stdin=stream.encode()).split("\n")[1].split(",")
-        words = ["-informat", format]
+        arguments = ["-informat", format]
         for name, cache in [*first.items(), ("l2", second)]:
             level = {"unified": "l1-u", "fetches": "l1-i", "data": "l1-d", "l2": "l2-u"}[name]
             bsize, sets, ways = numbers(cache)
-            words += [f"-{level}size", bsize * sets * ways, f"-{level}bsize", bsize, f"-{level}assoc", ways]
-            words += [f"-{level}wback", "n"] if through and name != "l2" else []
-        report = self.good(self.run_words(base.PROGRAM, "din", *words, "-t", "trace"))
+            arguments += [f"-{level}size", bsize * sets * ways, f"-{level}bsize", bsize, f"-{level}assoc", ways]
+            arguments += [f"-{level}wback", "n"] if through and name != "l2" else []
+        report = self.good(self.run_command(base.PROGRAM, "din", *arguments, "-t", "trace"))
         counted = dict(re.findall(r"(\S+)=(\d+)", report.split("l2-u")[1].split("\n")[0]))
         references = sum(int(counted[word]) for word in ("fetches", "reads", "writes"))
         misses = sum(int(counted[word]) for word in ("fetch-misses", "read-misses", "write-misses"))
@@ -91,7 +91,7 @@ class SecondLevel(base.ToolTest):
     @base.needs("valgrind")
     def test_a_program(self):
         """The first 150,000 lines of a program's trace."""
-        self.run_words("valgrind", "--tool=lackey", "--trace-mem=yes", "--log-file=whole", "true")
+        self.run_command("valgrind", "--tool=lackey", "--trace-mem=yes", "--log-file=whole", "true")
         text = b"".join((self.folder / "whole").read_bytes().splitlines(keepends=True)[:150000])
         for through in (False, True):
             for second in ("64,64,4", "64,128,8"):
@@ -112,7 +112,7 @@ class SecondLevel(base.ToolTest):
             self.assertTrue(ran.stdout.endswith(LAST), wrong)
 
     def test_no_table_of_a_part(self):
-        whole = self.run_words("gzip", "-c", base.EXAMPLES / "sort.din").stdout
+        whole = self.run_command("gzip", "-c", base.EXAMPLES / "sort.din").stdout
         (self.folder / "cut.gz").write_bytes(whole[: len(whole) // 2])
         (self.folder / "bad").write_bytes(SORT + b"0 10 \n7 10\n0 0")
         (self.folder / "flush").write_bytes(SORT + b"4 10\n0 0")
@@ -122,13 +122,13 @@ class SecondLevel(base.ToolTest):
             ("flush", b"second-level: line 5847: a flush, which can not be followed\n"),
             ("cut.gz", b"unexpected end of file\n"),
         ):
-            for words in (["--unified", "16,4,2"], ["--fetches", "16,4,2", "--data", "16,2,2"]):
-                ran = self.run_tool("second-level", trace, *words)
+            for arguments in (["--unified", "16,4,2"], ["--fetches", "16,4,2", "--data", "16,2,2"]):
+                ran = self.run_tool("second-level", trace, *arguments)
                 self.assertEqual((ran.returncode, len(ran.stderr.splitlines()) <= 2), (1, True), ran.stderr)
                 self.assertTrue(ran.stderr.endswith(fault), ran.stderr)
                 self.assertTrue(ran.stdout.endswith(LAST))
                 self.assertGreater(ran.stdout.count(b"\n"), 100)
-                self.refused(self.run_words(base.PROGRAM, "sweep", *space, stdin=ran.stdout), 1, "bad label")
+                self.refused(self.run_command(base.PROGRAM, "sweep", *space, stdin=ran.stdout), 1, "bad label")
 
     def test_nothing(self):
         for text in (b"", b"3 1\n\n", b"2 10\n"):
@@ -138,22 +138,22 @@ class SecondLevel(base.ToolTest):
         expected = self.good(self.run_tool("second-level", "-", "--data", "16,4,2", stdin=SORT))
         (self.folder / "-a trace").write_bytes(SORT)
         self.assertEqual(self.good(self.run_tool("second-level", "--data=16,4,2", "--", "-a trace")), expected)
-        self.run_words("gzip", "./-a trace")
+        self.run_command("gzip", "./-a trace")
         self.assertEqual(self.good(self.run_tool("second-level", "./-a trace.gz", "--data", "16,4,2")), expected)
 
-    def test_words(self):
-        for words, fault in (
+    def test_arguments(self):
+        for arguments, fault in (
             (["-"], "second-level: a cache is needed"),
             (["-", "--data", "16,1,1", "--write-back"], "second-level: unrecognized option '--write-back'"),
             (["-", "--data", "16,1,1", "--write-through=yes"], "second-level: option '--write-through' doesn't allow an arg"),
             (["--data", "16,1,1"], "second-level: one trace is needed"),
             (["-", "--data", "16,1,1", "--unified", "16,1,1"], "second-level: --unified leaves nothing"),
         ):
-            self.refused(self.run_tool("second-level", *words), 2, fault)
+            self.refused(self.run_tool("second-level", *arguments), 2, fault)
         self.assertIn("--write-through", self.good(self.run_tool("second-level", "--help")))
 
     def test_writing(self):
         (self.folder / "long").write_bytes(SORT * 100)
-        for words in (["--unified", "16,1,1"], ["--fetches", "16,1,1", "--data", "16,1,1"]):
-            self.on_full_device("second-level", "long", *words)
-            self.to_a_reader_that_goes("second-level", "long", *words)
+        for arguments in (["--unified", "16,1,1"], ["--fetches", "16,1,1", "--data", "16,1,1"]):
+            self.on_full_device("second-level", "long", *arguments)
+            self.to_a_reader_that_goes("second-level", "long", *arguments)

@@ -8,7 +8,9 @@ import unittest
 import base
 
 # they pass on the status of the program that they trace
-WRONG_ARGUMENTS = {"trace": 125, "lab/trace": 125}
+WRONG_ARGUMENTS = {"trace": 125, "lab/lab-trace": 125}
+# the program judges all of its arguments
+FAULTS_OF_THE_PROGRAM = {"lab/lab-csim": r"cachesim: (.*\n)+"}
 
 
 def scripts():
@@ -39,18 +41,31 @@ class Tools(base.ToolTest):
         for tool in tools():
             with self.subTest(tool):
                 for option in ("--help", "-h"):
-                    text = self.good(self.run_words(tool, option))
+                    text = self.good(self.run_command(tool, option))
                     self.assertIn(os.path.basename(tool), text)
                 self.assertRegex(text, r"(?i)exit status", "the help names the exit statuses")
 
     def test_wrong_arguments(self):
         for tool in tools():
             with self.subTest(tool):
-                ran = self.run_words(tool, "--no-such-option")
-                self.assertEqual(ran.returncode, WRONG_ARGUMENTS.get(os.path.relpath(tool, base.TOOLS), 2))
-                self.assertIn(os.path.basename(tool), ran.stderr.decode())
+                ran = self.run_command(tool, "--no-such-option")
+                name, path = os.path.basename(tool), os.path.relpath(tool, base.TOOLS)
+                self.assertEqual(ran.returncode, WRONG_ARGUMENTS.get(path, 2))
+                fault = FAULTS_OF_THE_PROGRAM.get(path, rf"{name}: .*; '{name} --help' explains the arguments\n")
+                self.assertRegex(ran.stderr.decode(), rf"\A{fault}\Z")
                 # what writes a trace ends it in a line that no simulator takes
-                self.assertRegex(ran.stdout.decode(), rf"\A({os.path.basename(tool)}: .*\n)?\Z")
+                self.assertRegex(ran.stdout.decode(), rf"\A({name}: .*\n)?\Z")
+
+    def test_each_tool_is_in_the_readme(self):
+        """In tools/README.md, or where its folder has a README in that."""
+        text = (base.TOOLS / "README.md").read_text()
+        for tool in map(pathlib.Path, tools()):
+            with self.subTest(tool.name):
+                own = tool.parent / "README.md"
+                if own.exists():
+                    self.assertIn(f"| `{tool.name}", own.read_text())
+                if tool.parent != base.TOOLS:
+                    self.assertIn(f"| `{tool.parent.name}/`", text)
 
     def test_small_files(self):
         for folder, most in ((base.TOOLS, 420), (base.TOP / "tests/tools", 420)):
@@ -66,14 +81,42 @@ class Scripts(base.ToolTest):
         for path in map(pathlib.Path, scripts()):
             if path.parent == base.TOP / "tests" and os.access(path, os.X_OK) and not path.suffix:
                 with self.subTest(path.name):
-                    text = self.good(self.run_words(path, "--help"))
+                    text = self.good(self.run_command(path, "--help"))
                     self.assertGreaterEqual(text.count(f"\n    tests/{path.name}"), 1)
                     self.assertRegex(text, r"[Ff]or\s+example")
 
 
+class Widths(unittest.TestCase):
+    """The longest lines: in characters, of code, contracts and comments, by their place."""
+
+    NARROW = ("trace_core", "cache_core", "sweep_core", "profile_core")
+
+    def width(self, path):
+        """The most characters of a line in a file; none for data."""
+        if path.suffix == ".rt":
+            return 100 if path.relative_to(base.TOP / "crates").parts[0] in self.NARROW else 140
+        is_script = path.suffix in (".py", ".bash", ".c", ".h", ".md") or first_line(path).startswith(b"#!")
+        return 160 if path.suffix == ".antt" else 140 if is_script else None
+
+    def longer(self, paths):
+        """The lines that are too long, but for rows of tables, which can't be broken."""
+        for path in paths:
+            if most := self.width(path):
+                for number, line in enumerate(path.read_text().split("\n"), 1):
+                    if len(line) > most and not (path.suffix == ".md" and " | " in line):
+                        yield f"{path.relative_to(base.TOP)}:{number}: {len(line)} characters, and at most {most}"
+
+    def test_crates(self):
+        paths = sorted((base.TOP / "crates").glob("*/[!o]*/**/*"))
+        self.assertEqual(list(self.longer(path for path in paths if path.suffix in (".rt", ".antt"))), [])
+
+    def test_others(self):
+        self.assertEqual(list(self.longer(path for path in map(pathlib.Path, scripts()) if ".edit" != path.suffix)), [])
+
+
 class Linters(unittest.TestCase):
-    def clean(self, *words):
-        ran = subprocess.run(words, capture_output=True, text=True, cwd=base.TOP)
+    def clean(self, *arguments):
+        ran = subprocess.run(arguments, capture_output=True, text=True, cwd=base.TOP)
         self.assertEqual((ran.stdout + ran.stderr, ran.returncode), ("", 0))
 
     @base.needs("shellcheck")
@@ -86,7 +129,7 @@ class Linters(unittest.TestCase):
     def test_python(self):
         paths = written_in(b"python") + [path for path in scripts() if path.endswith(".py")]
         self.assertGreater(len(paths), 20)
-        self.clean("flake8", "--isolated", "--max-line-length", "170", "--extend-ignore", "E203", *sorted(set(paths)))
+        self.clean("flake8", "--isolated", "--max-line-length", "140", "--extend-ignore", "E203", *sorted(set(paths)))
 
     @base.needs("gcc")
     def test_c(self):

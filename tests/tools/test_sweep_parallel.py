@@ -18,7 +18,8 @@ SPACE = "--bsize 16-128 --sets 1-4096 --assoc 1-16 --size 1k-1m".split()
 SMALL = "--bsize 16-32 --sets 1-64 --assoc 1-4 --size 1k-4k".split()
 # of the nine configurations only these have 64 bytes to 1k: 16,2,2, then 16,4,1 and 16,4,2
 THREE = "--bsize 16 --sets 1-4 --assoc 1-2 --size 64-1k".split()
-SPACES = (SPACE, SMALL, THREE, "--bsize 4-64 --sets 1-256 --assoc 1-64 --size 0-1g".split(), "--bsize 64 --sets 1 --assoc 1-300 --size 0-1m".split())
+DEEP = "--bsize 4-64 --sets 1-256 --assoc 1-64 --size 0-1g".split()
+SPACES = (SPACE, SMALL, THREE, DEEP, "--bsize 64 --sets 1 --assoc 1-300 --size 0-1m".split())
 LACKEY, DIN = EXAMPLES / "transpose.lackey", EXAMPLES / "sort.din"
 BAD = "0 10\n0 20\n2 1g\n0 30\n"
 FAULT = b"cachesim: line 3: bad address\n"
@@ -60,27 +61,29 @@ class ParallelTest(ToolTest):
     def program(self, body):
         """A program in place of cachesim that does what the body says for a page, and else is cachesim. In the body "$after" is the
         triple behind which the page begins."""
-        script = f'#!/bin/bash\n[[ $* == *"-t /dev/null"* ]] || {{ after=$* after=${{after#*--after }} after=${{after%% *}}\n{body}\n}}\nexec {PROGRAM} "$@"\n'
+        after = "after=$* after=${after#*--after } after=${after%% *}"
+        script = f'#!/bin/bash\n[[ $* == *"-t /dev/null"* ]] || {{ {after}\n{body}\n}}\nexec {PROGRAM} "$@"\n'
         path = self.write("the program", script)
         path.chmod(0o755)
         return {"CACHESIM": str(path)}
 
 
 class Pages(ParallelTest):
-    def pages(self, *words):
-        return self.good(self.run_tool("pages", *words)).splitlines()
+    def pages(self, *arguments):
+        return self.good(self.run_tool("pages", *arguments)).splitlines()
 
     def test_a_small_table(self):
-        words = " ".join(THREE)
-        self.assertEqual(self.pages(1, *THREE), [f"{words} --rows 3"])
+        arguments = " ".join(THREE)
+        self.assertEqual(self.pages(1, *THREE), [f"{arguments} --rows 3"])
         for most in (2, 3, 99):
-            self.assertEqual(self.pages(most, *THREE), [f"{words} --rows 1", f"{words} --after 16,2,2 --rows 2"])
+            self.assertEqual(self.pages(most, *THREE), [f"{arguments} --rows 1", f"{arguments} --after 16,2,2 --rows 2"])
 
     def test_parts_of_a_table(self):
-        words = " ".join(THREE)
-        self.assertEqual(self.pages(2, *THREE, "--rows", 2), [f"{words} --rows 1", f"{words} --after 16,2,2 --rows 1"])
-        self.assertEqual(self.pages(2, *THREE, "--after", "16,2,2"), [f"{words} --after 16,2,2 --rows 2"])
-        self.assertEqual(self.pages(2, "--rows=07", "--pow2", *THREE, "--after=16,4,1", "--"), [f"--pow2 {words} --after 16,4,1 --rows 1"])
+        arguments = " ".join(THREE)
+        self.assertEqual(self.pages(2, *THREE, "--rows", 2), [f"{arguments} --rows 1", f"{arguments} --after 16,2,2 --rows 1"])
+        self.assertEqual(self.pages(2, *THREE, "--after", "16,2,2"), [f"{arguments} --after 16,2,2 --rows 2"])
+        last = self.pages(2, "--rows=07", "--pow2", *THREE, "--after=16,4,1", "--")
+        self.assertEqual(last, [f"--pow2 {arguments} --after 16,4,1 --rows 1"])
         for nothing in (("--rows", 0), ("--after", "32,0,0")):
             self.assertEqual([line.split()[-2:] for line in self.pages(4, *THREE, *nothing)], [["--rows", "0"]])
         self.assertEqual(self.pages(4, *THREE[:-1], "5-6"), [f"{' '.join(THREE[:-1])} 5-6 --rows 0"])
@@ -105,6 +108,12 @@ class Pages(ParallelTest):
             self.assertLessEqual(len(pages), most)
             self.assertAlmostEqual(dearest, dearest_page(list(costs.values()), most))
         self.assertEqual(len(self.pages("auto", *SPACE)), min(49, len(os.sched_getaffinity(0))))
+        # the processors that it may use, and not all that are there
+        one = ("taskset", "-c", min(os.sched_getaffinity(0)))
+        self.assertEqual(self.good(self.run_command(*one, TOOLS / "pages", "auto", *SPACE)).count("\n"), 1)
+        noted = self.program('echo "$after" >> pages')
+        self.good(self.run_command(*one, TOOLS / "sweep-parallel", "auto", DIN, *SPACE, env=noted))
+        self.assertEqual((self.folder / "pages").read_text().count("\n"), 1)
 
     def test_refused(self):
         self.refused(self.run_tool("pages", 4, "--bsize", "24", *SPACE[2:]), 2, "cachesim: bsize: not a power of two")
@@ -120,22 +129,22 @@ class Pages(ParallelTest):
         """As the help shows it."""
         shown = self.good(self.run_tool("pages", "--help"))
         script = f'pages() {{ "{TOOLS}/pages" "$@"; }}; set -e; HOME=$PWD; pages 4 ' + shown.split("\n    pages 4 ")[1]
-        self.good(self.run_words("bash", "-c", script.replace("trace.din", shlex.quote(str(DIN)))))
+        self.good(self.run_command("bash", "-c", script.replace("trace.din", shlex.quote(str(DIN)))))
         self.assertEqual((self.folder / "table.csv").read_text(), self.sweep(*SPACE, "-t", DIN))
 
 
 class SameBytes(ParallelTest):
-    def same(self, most, trace, *words, single=None, **given):
-        wanted = self.sweep("-t", single or trace, *words)
-        self.assertEqual(self.good(self.run_tool("sweep-parallel", most, trace, *words, **given)), wanted)
+    def same(self, most, trace, *arguments, single=None, **given):
+        wanted = self.sweep("-t", single or trace, *arguments)
+        self.assertEqual(self.good(self.run_tool("sweep-parallel", most, trace, *arguments, **given)), wanted)
         return wanted
 
     def test_by_hand(self):
         nine = TOP / "tests/cases/inputs/nine-references.din"
         table = HEADER + "16,1,1,16,3,6,5\n16,1,2,32,4,5,3\n16,2,1,32,4,5,3\n16,2,2,64,4,5,2\n"
         for most in (1, 2, 4):
-            words = (most, nine, *"--bsize 16 --sets 1-2 --assoc 1-2 --size 16-64".split())
-            self.assertEqual(self.good(self.run_tool("sweep-parallel", *words)), table)
+            arguments = (most, nine, *"--bsize 16 --sets 1-2 --assoc 1-2 --size 16-64".split())
+            self.assertEqual(self.good(self.run_tool("sweep-parallel", *arguments)), table)
 
     def test_spaces(self):
         for space, most in itertools.product(SPACES, (1, 2, 4)):
@@ -144,7 +153,8 @@ class SameBytes(ParallelTest):
             self.same(most, DIN, *SMALL)
 
     def test_options(self):
-        for options in ("--kind d", "--kind=i", "--pow2", "--rows 0", "--rows 7", "--after 16,16,4", "--after=9,9,9 --rows=5", "--after 99,1,1 --pow2", "--"):
+        parts = ("--rows 0", "--rows 7", "--after 16,16,4", "--after=9,9,9 --rows=5", "--after 99,1,1 --pow2")
+        for options in ("--kind d", "--kind=i", "--pow2", *parts, "--"):
             for trace in ("-", DIN):
                 self.same(3, trace, *SMALL, *options.split(), single=DIN, stdin=DIN.read_bytes())
         for kind in "udi":
@@ -166,9 +176,9 @@ class SameBytes(ParallelTest):
         """By a link from elsewhere, with the program on the path."""
         link = self.folder / "cachesim-sweep-parallel"
         link.symlink_to(TOOLS / "sweep-parallel")
-        ran = self.run_words(link, 3, DIN, *SMALL, env={"CACHESIM": ""})
+        ran = self.run_command(link, 3, DIN, *SMALL, env={"CACHESIM": ""})
         self.assertEqual(self.good(ran), self.sweep(*SMALL, "-t", DIN))
-        self.refused(self.run_words(link, 3, DIN, *SMALL, env={"CACHESIM": "./none"}), 1, "cachesim-sweep-parallel: ./none is no program")
+        self.refused(self.run_command(link, 3, DIN, *SMALL, env={"CACHESIM": "./none"}), 1, "cachesim-sweep-parallel: ./none is no program")
 
     def test_read_once(self):
         """Standard input from where it stands, a pipe with a name, and one from bash."""
@@ -177,10 +187,11 @@ class SameBytes(ParallelTest):
         self.same(4, "-", *options, single=LACKEY, stdin=text)
         wanted = self.sweep(*options, "-t", self.write("rest", text[text.index(b"\n") + 1:]))
         run = f'"{TOOLS}/sweep-parallel" 4 - {" ".join(options)}'
-        self.assertEqual(self.good(self.run_words("bash", "-c", f'{{ read -r line; {run}; }} < "$1"', "-", LACKEY)), wanted)
+        self.assertEqual(self.good(self.run_command("bash", "-c", f'{{ read -r line; {run}; }} < "$1"', "-", LACKEY)), wanted)
         os.mkfifo(self.folder / "pipe")
-        script = f'cat -- "$1" > pipe & {run.replace(" - ", " pipe ")}; {run.replace(" - ", " <(cat -- $1) ")}; {run.replace(" - ", " /dev/stdin ")} < "$1"'
-        self.assertEqual(self.good(self.run_words("bash", "-c", script, "-", LACKEY)), 3 * self.sweep(*options, "-t", LACKEY))
+        of_pipe, of_process, of_file = (run.replace(" - ", f" {trace} ") for trace in ("pipe", "<(cat -- $1)", "/dev/stdin"))
+        script = f'cat -- "$1" > pipe & {of_pipe}; {of_process}; {of_file} < "$1"'
+        self.assertEqual(self.good(self.run_command("bash", "-c", script, "-", LACKEY)), 3 * self.sweep(*options, "-t", LACKEY))
 
     @needs("xz-utils", "zstd")
     def test_compressed(self):
@@ -195,9 +206,9 @@ class SameBytes(ParallelTest):
         for trace, shown in (("-", rb"\rsweep-parallel: 0 MB of the trace read"), ("slow", rb"\rsweep-parallel: \d+ % of the trace read")):
             self.write("slow", DIN.read_bytes())
             master, terminal = pty.openpty()
-            words = [TOOLS / "sweep-parallel", "2", trace, *SMALL]
+            arguments = [TOOLS / "sweep-parallel", "2", trace, *SMALL]
             env = {**os.environ, **self.program('[[ $* != *" slow"* ]] || sleep 2')}
-            ran = subprocess.Popen(words, stdin=subprocess.PIPE, stdout=subprocess.PIPE, stderr=terminal, cwd=self.folder, env=env)
+            ran = subprocess.Popen(arguments, stdin=subprocess.PIPE, stdout=subprocess.PIPE, stderr=terminal, cwd=self.folder, env=env)
             os.close(terminal)
             time.sleep(1.5)
             self.assertEqual(ran.communicate(DIN.read_bytes())[0].decode(), self.sweep(*SMALL, "-t", DIN))
@@ -211,10 +222,11 @@ class SameBytes(ParallelTest):
 
 class Faults(ParallelTest):
     def failed(self, ran, status, message):
-        self.assertEqual((ran.returncode, ran.stdout, ran.stderr.decode()), (status, b"", message.decode() if isinstance(message, bytes) else message))
+        message = message.decode() if isinstance(message, bytes) else message
+        self.assertEqual((ran.returncode, ran.stdout, ran.stderr.decode()), (status, b"", message))
 
-    def tool(self, *words, **given):
-        return self.run_tool("sweep-parallel", *words, seconds=30, **given)
+    def tool(self, *arguments, **given):
+        return self.run_tool("sweep-parallel", *arguments, seconds=30, **given)
 
     def test_bad_line(self):
         self.write("bad", BAD)
@@ -228,18 +240,19 @@ class Faults(ParallelTest):
 
     def test_bad_line_of_an_endless_trace(self):
         """The fault of a live trace ends the run, and so its writer."""
-        script = f'{{ printf "0 10\\n2 1g\\n"; while echo 0 20; do :; done 2> writer; echo ended >> writer; }} | "{TOOLS}/sweep-parallel" 4 - {" ".join(SPACE)}'
-        self.failed(self.run_words("bash", "-c", script, seconds=30), 1, b"cachesim: line 2: bad address\n")
+        writer = 'printf "0 10\\n2 1g\\n"; while echo 0 20; do :; done 2> writer; echo ended >> writer'
+        script = f'{{ {writer}; }} | "{TOOLS}/sweep-parallel" 4 - {" ".join(SPACE)}'
+        self.failed(self.run_command("bash", "-c", script, seconds=30), 1, b"cachesim: line 2: bad address\n")
 
     def test_no_trace(self):
         for repeated in range(10):
             self.failed(self.tool(4, "none", *SPACE), 1, "cachesim: cannot open none\n")
             self.failed(self.tool(4, ".", *SPACE), 1, "cachesim: line 1: read failed\n")
         self.refused(self.tool(4, "none.gz", *SPACE), 1, "sweep-parallel: none.gz can't be read: gzip: ", "No such file")
-        ran = self.run_words("bash", "-c", f'"{TOOLS}/sweep-parallel" 4 - {" ".join(SPACE)} <&-')
+        ran = self.run_command("bash", "-c", f'"{TOOLS}/sweep-parallel" 4 - {" ".join(SPACE)} <&-')
         self.failed(ran, 1, "sweep-parallel: standard input can't be read: Bad file descriptor\n")
 
-    def test_words(self):
+    def test_arguments(self):
         self.refused(self.tool(4, "none", "--bsize", "24", *SPACE[2:]), 2, "cachesim: bsize: not a power of two\n")
         self.refused(self.tool(4, "-", *SPACE[2:]), 2, "cachesim: error: ")
         self.refused(self.tool(4, DIN, *SPACE, "-t", DIN), 2, "sweep-parallel: ", "leave out -t")
@@ -249,7 +262,8 @@ class Faults(ParallelTest):
     def test_cut_short(self):
         """A compressed trace that ends too early, also behind a whole line: no page may take what was read for the whole."""
         pressed = gzip.compress(LACKEY.read_bytes())
-        for repeated, text in itertools.product(range(5), (pressed[:-4], pressed[:-8], pressed[:3000], pressed[:-8] + b"8 bytes!", b"", b"0 10\n")):
+        bad = (pressed[:-4], pressed[:-8], pressed[:3000], pressed[:-8] + b"8 bytes!", b"", b"0 10\n")
+        for repeated, text in itertools.product(range(5), bad):
             self.write("cut.gz", text)
             self.refused(self.tool(2, "cut.gz", *SMALL, "--format", "l"), 1, "sweep-parallel: cut.gz can't be read: gzip: ")
 
@@ -266,7 +280,8 @@ class Faults(ParallelTest):
     def test_a_page_fails(self):
         """The others, which would run on, are ended, also where nothing comes from a live trace."""
         killed = "sweep-parallel: page 2 of 2 ended with signal 9\n"
-        for body, status, message in (("kill -KILL $$", 1, killed), ("echo x: no >&2; exit 1", 1, "x: no\n"), ("echo 2 >&2; exit 2", 2, "2\n")):
+        ends = (("kill -KILL $$", 1, killed), ("echo x: no >&2; exit 1", 1, "x: no\n"), ("echo 2 >&2; exit 2", 2, "2\n"))
+        for body, status, message in ends:
             for trace in (DIN, "-"):
                 read, write = os.pipe()
                 env = {**os.environ, **self.program(f"[ $after != 16,2,2 ] && exec sleep 60 || {{ {body}; }}")}
@@ -280,19 +295,20 @@ class Faults(ParallelTest):
     def test_no_output(self):
         for place in ("> /dev/full", ">&-", "| true"):
             script = f'set -o pipefail; "{TOOLS}/sweep-parallel" 2 "$1" {" ".join(SMALL)} {place}'
-            self.failed(self.run_words("bash", "-c", script, "-", DIN), 1, "sweep-parallel: write failed\n")
+            self.failed(self.run_command("bash", "-c", script, "-", DIN), 1, "sweep-parallel: write failed\n")
 
     def test_interrupted(self):
         """No process and no file is left, whatever stage the run is at."""
         self.write("long.gz", gzip.compress(LACKEY.read_bytes() * 20))
         rooms = self.folder / "room"
         rooms.mkdir()
-        stages = [(sent, trace, seconds) for sent in (signal.SIGINT, signal.SIGTERM, signal.SIGHUP) for trace in ("-", DIN, "long.gz") for seconds in (0.03, 0.5)]
+        signals = (signal.SIGINT, signal.SIGTERM, signal.SIGHUP)
+        stages = list(itertools.product(signals, ("-", DIN, "long.gz"), (0.03, 0.5)))
         for sent, trace, seconds in stages:
             env = {**os.environ, **self.program("exec sleep 60"), "TMPDIR": str(rooms)}
-            words = [TOOLS / "sweep-parallel", "2", trace, *SMALL]
+            arguments = [TOOLS / "sweep-parallel", "2", trace, *SMALL]
             given = {"stdin": subprocess.PIPE, "stdout": subprocess.PIPE, "stderr": subprocess.PIPE}
-            ran = subprocess.Popen(words, cwd=self.folder, env=env, start_new_session=True, **given)
+            ran = subprocess.Popen(arguments, cwd=self.folder, env=env, start_new_session=True, **given)
             time.sleep(seconds)
             (os.killpg if sent == signal.SIGINT else os.kill)(ran.pid, sent)
             try:

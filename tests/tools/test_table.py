@@ -1,6 +1,5 @@
 """Reading a sweep's table."""
 
-import argparse
 import unittest
 
 import table
@@ -56,17 +55,3 @@ class Pareto(unittest.TestCase):
 
     def test_one_row(self):
         self.assertEqual(table.pareto([table.Row(16, 1, 2, 32, 4, 5, 3)]), [table.Row(16, 1, 2, 32, 4, 5, 3)])
-
-
-class Sizes(unittest.TestCase):
-    def test_sizes(self):
-        for text, size in (("0", 0), ("512", 512), ("32k", 32768), ("1M", 1 << 20), ("3g", 3 << 30)):
-            self.assertEqual(table.size_of(text), size)
-
-    def test_what_is_no_size(self):
-        for text in ("", "k", "1kk", "-1", "1.5k", "٣"):
-            with self.assertRaises(argparse.ArgumentTypeError):
-                table.size_of(text)
-
-    def test_texts(self):
-        self.assertEqual([table.size_text(size) for size in (0, 100, 1024, 1536, 1 << 20, 3 << 30)], ["0", "100", "1k", "1536", "1m", "3g"])

@@ -46,9 +46,9 @@ def random_trace(lines, flushes=False):
 
 
 class ThreeC(base.ToolTest):
-    def judge(self, text, words, trace, format="d", kind="u", stdin=b""):
+    def judge(self, text, arguments, trace, format="d", kind="u", stdin=b""):
         """Compares each row with simulations of a cache, of a fully associative one, and with a count of first references."""
-        answer = self.good(self.run_tool("three-c", trace, *words, stdin=stdin))
+        answer = self.good(self.run_tool("three-c", trace, *arguments, stdin=stdin))
         events = base.references(text, format, kind)
         rows = [{name: int(value) for name, value in row.items()} for row in csv.DictReader(answer.splitlines())]
         for row in rows:
@@ -68,103 +68,114 @@ class ThreeC(base.ToolTest):
             ("sort.din", "d", "i"),
         ):
             trace = base.EXAMPLES / name
-            words = ["--format", format, f"--kind={kind}"] if format == "l" else [f"--format={format}", "--kind", kind]
-            rows = self.judge(trace.read_bytes(), [*space, *words], trace, format, kind)
+            arguments = ["--format", format, f"--kind={kind}"] if format == "l" else [f"--format={format}", "--kind", kind]
+            rows = self.judge(trace.read_bytes(), [*space, *arguments], trace, format, kind)
             self.assertEqual({row["bsize"] for row in rows}, {16, 32, 64})
             self.assertTrue(any(row["conflict"] > 0 for row in rows))
 
     def test_less_than_nothing(self):
         # three blocks in turn: one set of two lines always misses, and of two sets with a line each one holds its only block
-        words = "--bsize 1 --sets 1-2 --assoc 1-2 --size 2".split()
-        answer = self.good(self.run_tool("three-c", "-", *words, stdin=b"0 0\n0 1\n0 2\n" * 4))
+        arguments = "--bsize 1 --sets 1-2 --assoc 1-2 --size 2".split()
+        answer = self.good(self.run_tool("three-c", "-", *arguments, stdin=b"0 0\n0 1\n0 2\n" * 4))
         self.assertEqual(answer, HEADER + "1,1,2,2,0,12,10,3,9,0\n1,2,1,2,3,9,7,3,9,-3\n")
 
     def test_random_traces(self):
-        words = ["--bsize", "8-64", "--sets", "1-32", "--assoc", "1-4", "--size", "512-2k", "--pow2"]
+        arguments = ["--bsize", "8-64", "--sets", "1-32", "--assoc", "1-4", "--size", "512-2k", "--pow2"]
         for flushes in (False, True):
             text = random_trace(4000, flushes)
-            rows = self.judge(text, words, "-", stdin=text)
+            rows = self.judge(text, arguments, "-", stdin=text)
             self.assertTrue(any(row["capacity"] > 0 and row["conflict"] > 0 for row in rows))
 
+    def test_it_asks_for_no_more_rows_than_it_needs(self):
+        """Of powers of two alone, where the table has no others: each row of a fully associative cache is dear."""
+        program = self.folder / "cachesim"
+        program.write_text(f"#!/bin/bash\nset -o pipefail\n'{base.PROGRAM}' \"$@\" | tee '{self.folder}/rows'$$\n")
+        program.chmod(0o755)
+        arguments = ["--bsize", "8", "--sets", "1-32", "--assoc", "1-4", "--size", "512-2k", "--pow2"]
+        table = self.good(self.run_tool("three-c", base.EXAMPLES / "sort.din", *arguments, env={"CACHESIM": str(program)}))
+        asked = sum(path.read_text().count("\n") - 1 for path in self.folder.glob("rows*"))
+        # the three rows of an empty trace, and of this one; fully associative caches of two sizes; and one for first references
+        self.assertEqual((table.count("\n") - 1, asked), (3, 3 + 3 + 2 + 1))
+
     def test_a_flush_begins_anew(self):
-        words = "--bsize 1 --sets 2 --assoc 1 --size 2".split()
-        answer = self.good(self.run_tool("three-c", "-", *words, stdin=b"0 0\n0 1\n4 0\n0 0\n0 0\n"))
+        arguments = "--bsize 1 --sets 2 --assoc 1 --size 2".split()
+        answer = self.good(self.run_tool("three-c", "-", *arguments, stdin=b"0 0\n0 1\n4 0\n0 0\n0 0\n"))
         self.assertEqual(answer, HEADER + "1,2,1,2,1,3,0,3,0,0\n")
 
     def test_more_lines_than_a_set_has(self):
-        words = "--bsize 1 --sets 128k --assoc 1 --size 128k".split()
+        arguments = "--bsize 1 --sets 128k --assoc 1 --size 128k".split()
         # 131,072 lines hold the three blocks; two of them share a set, so one of the four misses is conflict
-        answer = self.good(self.run_tool("three-c", "-", *words, stdin=b"0 0\n0 20000\n0 1\n0 0\n"))
+        answer = self.good(self.run_tool("three-c", "-", *arguments, stdin=b"0 0\n0 20000\n0 1\n0 0\n"))
         self.assertEqual(answer, HEADER + "1,131072,1,131072,0,4,2,3,0,1\n")
         # as many blocks as lines, and one more
         text = "".join(f"0 {block:x}\n" for block in range(131072)).encode()
-        answer = self.good(self.run_tool("three-c", "-", *words, stdin=text))
+        answer = self.good(self.run_tool("three-c", "-", *arguments, stdin=text))
         self.assertEqual(answer, HEADER + "1,131072,1,131072,0,131072,0,131072,0,0\n")
-        answer = self.good(self.run_tool("three-c", "-", *words, stdin=text + b"0 20000\n"))
+        answer = self.good(self.run_tool("three-c", "-", *arguments, stdin=text + b"0 20000\n"))
         self.assertEqual(answer, HEADER + "1,131072,1,131072,0,131073,1,131073,,\n")
 
     def test_too_many_blocks(self):
         # 16,385 blocks that are alike in their lowest 8 bits
         text = "".join(f"0 {block * 256:x}\n" for block in range(16385)).encode()
-        words = "--bsize 1-2 --sets 1 --assoc 1 --size 1-2".split()
-        self.refused(self.run_tool("three-c", "-", *words, stdin=text), 1, "three-c: -: too many different blocks of 1 bytes")
-        answer = self.good(self.run_tool("three-c", "-", *words, stdin=text.partition(b"\n")[2]))
+        arguments = "--bsize 1-2 --sets 1 --assoc 1 --size 1-2".split()
+        self.refused(self.run_tool("three-c", "-", *arguments, stdin=text), 1, "three-c: -: too many different blocks of 1 bytes")
+        answer = self.good(self.run_tool("three-c", "-", *arguments, stdin=text.partition(b"\n")[2]))
         self.assertEqual(answer, HEADER + "1,1,1,1,0,16384,16383,16384,0,0\n2,1,1,2,0,16384,16383,16384,0,0\n")
 
     def test_empty(self):
-        words = "--bsize 16 --sets 1 --assoc 1 --size".split()
-        self.assertEqual(self.good(self.run_tool("three-c", "-", *words, "16")), HEADER + "16,1,1,16,0,0,0,0,0,0\n")
-        self.assertEqual(self.good(self.run_tool("three-c", "-", *words, "1")), HEADER)
+        arguments = "--bsize 16 --sets 1 --assoc 1 --size".split()
+        self.assertEqual(self.good(self.run_tool("three-c", "-", *arguments, "16")), HEADER + "16,1,1,16,0,0,0,0,0,0\n")
+        self.assertEqual(self.good(self.run_tool("three-c", "-", *arguments, "1")), HEADER)
 
     def test_pages(self):
-        words = "--bsize 16-32 --sets 1-4 --assoc 1-2 --size 16-1k".split()
+        arguments = "--bsize 16-32 --sets 1-4 --assoc 1-2 --size 16-1k".split()
         trace = base.EXAMPLES / "sort.din"
-        whole = self.good(self.run_tool("three-c", trace, *words))
-        first = self.good(self.run_tool("three-c", trace, *words, "--rows", "5"))
+        whole = self.good(self.run_tool("three-c", trace, *arguments))
+        first = self.good(self.run_tool("three-c", trace, *arguments, "--rows", "5"))
         last_row = ",".join(first.split("\n")[5].split(",")[:3])
-        self.assertEqual(first + self.good(self.run_tool("three-c", trace, *words, "--after", last_row)), whole)
+        self.assertEqual(first + self.good(self.run_tool("three-c", trace, *arguments, "--after", last_row)), whole)
 
     def test_names(self):
-        words = "--bsize 16 --sets 1-4 --assoc 1-2 --size 64".split()
+        arguments = "--bsize 16 --sets 1-4 --assoc 1-2 --size 64".split()
         text = (base.EXAMPLES / "sort.din").read_bytes()
-        expected = self.good(self.run_tool("three-c", "-", *words, stdin=text))
+        expected = self.good(self.run_tool("three-c", "-", *arguments, stdin=text))
         for name in ("a trace.din", "-trace.din", "./-trace.din"):
             (self.folder / name).write_bytes(text)
-            self.assertEqual(self.good(self.run_tool("three-c", name, *words)), expected)
-        self.run_words("gzip", "a trace.din")
-        self.assertEqual(self.good(self.run_tool("three-c", "a trace.din.gz", *words)), expected)
+            self.assertEqual(self.good(self.run_tool("three-c", name, *arguments)), expected)
+        self.run_command("gzip", "a trace.din")
+        self.assertEqual(self.good(self.run_tool("three-c", "a trace.din.gz", *arguments)), expected)
 
     @base.needs("xz-utils", "zstd")
     def test_packed(self):
-        words = "--bsize 16 --sets 1-4 --assoc 1-2 --size 64".split()
+        arguments = "--bsize 16 --sets 1-4 --assoc 1-2 --size 64".split()
         trace = base.EXAMPLES / "sort.din"
-        expected = self.good(self.run_tool("three-c", trace, *words))
+        expected = self.good(self.run_tool("three-c", trace, *arguments))
         for name in self.packed(trace):
-            self.assertEqual(self.good(self.run_tool("three-c", name, *words)), expected)
+            self.assertEqual(self.good(self.run_tool("three-c", name, *arguments)), expected)
 
     def test_faults(self):
-        words = "--bsize 16 --sets 1-4 --assoc 1-2 --size 64".split()
+        arguments = "--bsize 16 --sets 1-4 --assoc 1-2 --size 64".split()
         (self.folder / "cut.gz").write_bytes(b"\x1f\x8b\x08\x00")
         for stdin, given, status, fault in (
-            (b"0 10\n7 10\n", ["-", *words], 1, "cachesim: line 2: bad label\n"),
-            (b"", ["none", *words], 1, "three-c: none: no file that can be read\n"),
-            (b"", [".", *words], 1, "three-c: .: no file that can be read\n"),
-            (b"", ["cut.gz", *words], 1, "gzip: "),
+            (b"0 10\n7 10\n", ["-", *arguments], 1, "cachesim: line 2: bad label\n"),
+            (b"", ["none", *arguments], 1, "three-c: none: no file that can be read\n"),
+            (b"", [".", *arguments], 1, "three-c: .: no file that can be read\n"),
+            (b"", ["cut.gz", *arguments], 1, "gzip: "),
             (b"", ["-"], 2, "three-c: a trace and the options of a sweep are needed"),
-            (b"", ["-", *words, "-t", "x"], 2, "three-c: the trace is the first word"),
-            (b"", ["-", *words, "--sets", "1"], 2, "error: "),
-            (b"", ["-", "--bsize", "3", *words[2:]], 2, "cachesim: bsize: not a power of two\n"),
+            (b"", ["-", *arguments, "-t", "x"], 2, "three-c: the trace is the first argument"),
+            (b"", ["-", *arguments, "--sets", "1"], 2, "error: "),
+            (b"", ["-", "--bsize", "3", *arguments[2:]], 2, "cachesim: bsize: not a power of two\n"),
         ):
             self.refused(self.run_tool("three-c", *given, stdin=stdin), status, fault)
         missing = {"CACHESIM": str(self.folder / "none")}
-        self.refused(self.run_tool("three-c", "-", *words, env=missing), 1, "none is no program that can be run")
+        self.refused(self.run_tool("three-c", "-", *arguments, env=missing), 1, "none is no program that can be run")
 
     def test_missing_package(self):
-        words = "--bsize 16 --sets 1-4 --assoc 1-2 --size 64".split()
+        arguments = "--bsize 16 --sets 1-4 --assoc 1-2 --size 64".split()
         for command in "awk cat dirname grep head mkfifo mktemp readlink rm tee".split():
             (self.folder / command).symlink_to(shutil.which(command))
         (self.folder / "t.zst").write_bytes(b"")
-        ran = self.run_tool("three-c", "t.zst", *words, env={"PATH": str(self.folder)})
+        ran = self.run_tool("three-c", "t.zst", *arguments, env={"PATH": str(self.folder)})
         self.refused(ran, 1, "three-c: zstd is missing: apt-get install zstd\n")
 
     def test_a_reader_that_fails(self):
@@ -172,17 +183,17 @@ class ThreeC(base.ToolTest):
         fake = self.folder / "tee"
         fake.write_text("#!/bin/sh\necho 'tee: failed' >&2; exit 1\n")
         fake.chmod(0o755)
-        words = "--bsize 16 --sets 1-4 --assoc 1-2 --size 64".split()
+        arguments = "--bsize 16 --sets 1-4 --assoc 1-2 --size 64".split()
         env = {"PATH": f"{self.folder}:/usr/bin:/bin"}
-        self.refused(self.run_tool("three-c", base.EXAMPLES / "sort.din", *words, env=env, seconds=20), 1, "tee: failed\n")
+        self.refused(self.run_tool("three-c", base.EXAMPLES / "sort.din", *arguments, env=env, seconds=20), 1, "tee: failed\n")
 
     def test_full_device(self):
-        words = "--bsize 16 --sets 1-4 --assoc 1-2 --size 64".split()
-        self.on_full_device("three-c", base.EXAMPLES / "sort.din", *words)
+        arguments = "--bsize 16 --sets 1-4 --assoc 1-2 --size 64".split()
+        self.on_full_device("three-c", base.EXAMPLES / "sort.din", *arguments)
 
     def test_interrupt(self):
-        words = "--bsize 16 --sets 1-4 --assoc 1-2 --size 64".split()
-        command = ["env", f"TMPDIR={self.folder}", base.TOOLS / "three-c", "-", *words]
+        arguments = "--bsize 16 --sets 1-4 --assoc 1-2 --size 64".split()
+        command = ["env", f"TMPDIR={self.folder}", base.TOOLS / "three-c", "-", *arguments]
         running = subprocess.Popen(command, stdin=subprocess.PIPE, stdout=subprocess.PIPE, stderr=subprocess.PIPE)
         while running.poll() is None and not list(self.folder.glob("*/swept.pipe")):
             time.sleep(0.001)

@@ -13,7 +13,7 @@ from itertools import chain, takewhile
 from base import EXAMPLES, PROGRAM, TOOLS, ToolTest, needs
 
 SAMPLES = EXAMPLES / "formats"
-SPACE = ("--bsize", "16-64", "--sets", "1-16", "--assoc", "1-4", "--size", "64-4k")
+SPACE = "--bsize 16-64 --sets 1-16 --assoc 1-4 --size 64-4k".split()
 
 # The accesses of examples/formats/copy.s, instruction by instruction, from its listing
 COPY = (
@@ -234,8 +234,8 @@ def mutated(chance, line):
 
 
 class ToDin(ToolTest):
-    def din(self, form, *words, **given):
-        return self.good(self.run_tool("to-din", form, *words, **given)).splitlines()
+    def din(self, form, *arguments, **given):
+        return self.good(self.run_tool("to-din", form, *arguments, **given)).splitlines()
 
     def faulty(self, ran, *texts):
         """A run that ends with one message, in which its output ends too."""
@@ -259,7 +259,7 @@ class Formats(ToDin):
             expected = [access for _, accesses in cases for access in accesses.strip().split(",") if access]
             for end in ("\n", "\r\n", " \t\r\n\n \n"):
                 text = end.join(line for line, _ in cases)
-                self.assertEqual(self.din(form, stdin=text.encode()), expected, form)
+                self.assertEqual(self.din(form, stdin=text.encode()), expected)
 
     def test_bad_lines(self):
         for form, cases in BAD.items():
@@ -278,7 +278,7 @@ class Formats(ToDin):
             places = [chance.choice((0, chance.getrandbits(chance.choice((8, 40, 64))))) for _ in range(6)]
             records.append(struct.pack("<QBB6s6Q", ip, chance.randrange(2), chance.randrange(2), chance.randbytes(6), *places))
             expected += [f"2 {ip:x}"] + [f"0 {at:x}" for at in places[2:] if at] + [f"1 {at:x}" for at in places[:2] if at]
-        self.assertEqual(self.din("champsim", stdin=b"".join(records)), expected)
+        self.same(self.din("champsim", stdin=b"".join(records)), expected)
         whole, third = b"".join(records[:2]), records[2]
         for cut in (1, 63):
             self.faulty(self.run_tool("to-din", "champsim", stdin=whole + third[:cut]), f"record 3: cut short: {cut} of 64 bytes")
@@ -293,9 +293,9 @@ class Formats(ToDin):
                 self.assertEqual(self.sweep(*SPACE, "--kind", kind, stdin=din), table)
 
     def test_its_lines_are_those_of_the_example(self):
-        din = (EXAMPLES / "sort.din").read_text()
-        lackey = "".join(f"{(' L', ' S', 'I ')[int(line[0])]} {line[2:]:>08},4\n" for line in din.splitlines())
-        self.assertEqual(self.good(self.run_tool("to-din", "lackey", stdin=lackey.encode())), din)
+        din = (EXAMPLES / "sort.din").read_text().splitlines()
+        lackey = "".join(f"{(' L', ' S', 'I ')[int(line[0])]} {line[2:]:>08},4\n" for line in din)
+        self.same(self.din("lackey", stdin=lackey.encode()), din)
 
 
 class Streams(ToDin):
@@ -306,34 +306,34 @@ class Streams(ToDin):
             lines = chance.choices(list(told), k=(3 << 20) * len(told) // sum(map(len, told)))
             expected = list(chain.from_iterable(told[line] for line in lines))
             (self.folder / "trace").write_bytes("\n".join(lines).encode())
-            self.assertEqual(self.din(form, "trace"), expected)
-            self.assertEqual(self.din(form, stdin="\r\n".join(lines).encode()), expected)
+            self.same(self.din(form, "trace"), expected)
+            self.same(self.din(form, stdin="\r\n".join(lines).encode()), expected)
 
     def test_changed_lines(self):
         """What random changes make of good lines, by a converter with the compiler's guards, where it has them."""
         guarded = self.folder / "guarded"
         flags = ("-std=c11", "-Wall", "-Wextra", "-Werror", "-O1", "-o", guarded, TOOLS / "to-din.c")
-        if self.run_words("cc", "-fsanitize=address,undefined", "-fno-sanitize-recover=all", *flags).returncode:
-            self.good(self.run_words("cc", *flags))
+        if self.run_command("cc", "-fsanitize=address,undefined", "-fno-sanitize-recover=all", *flags).returncode:
+            self.good(self.run_command("cc", *flags))
         chance = random.Random(3)
         for form in GOOD:
             pool = lines_of(form)
             for _ in range(25):
                 lines = pool[:1] + [mutated(chance, chance.choice(pool)) for _ in range(6)]
                 told = list(takewhile(lambda accesses: accesses is not None, (slow(form, line) for line in lines)))
-                ran = self.run_words(guarded, form, stdin="\n".join(lines).encode("latin-1"))
+                ran = self.run_command(guarded, form, stdin="\n".join(lines).encode("latin-1"))
                 wrote, expected = ran.stdout.decode().splitlines(), list(chain.from_iterable(told))
                 self.assertEqual((ran.returncode, wrote[:len(expected)]), (len(told) < len(lines), expected), (lines, ran.stderr))
                 if ran.returncode:
                     self.assertIn(f": line {len(told) + 1}: not a line of".encode(), ran.stderr)
                 else:
                     self.assertEqual(wrote, expected, lines)
-            ran = self.run_words(guarded, form, stdin=chance.randbytes(999))
+            ran = self.run_command(guarded, form, stdin=chance.randbytes(999))
             self.assertEqual((ran.returncode, ran.stderr.count(b"\n")), (1, 1), ran.stderr)
-        full = self.run_words(guarded, "addresses", stdin=b"ffffffffffffffff\n" * 9999)
-        self.assertEqual(self.good(full), "0 ffffffffffffffff\n" * 9999)
+        full = self.run_command(guarded, "addresses", stdin=b"ffffffffffffffff\n" * 9999)
+        self.same(self.good(full).splitlines(), ["0 ffffffffffffffff"] * 9999)
         for size in range(0, 1000, 37):
-            ran = self.run_words(guarded, "champsim", stdin=(SAMPLES / "champsim.bin").read_bytes()[:size])
+            ran = self.run_command(guarded, "champsim", stdin=(SAMPLES / "champsim.bin").read_bytes()[:size])
             self.assertEqual(ran.returncode, size % 64 > 0, ran.stderr)
 
     def test_long_lines(self):
@@ -360,7 +360,7 @@ class Streams(ToDin):
     def test_packed(self):
         for packer, ending in (("xz", ".xz"), ("zstd", ".zst")):
             name = f"-a trace{ending}"
-            packed = self.run_words(packer, "-c", SAMPLES / "champsim.bin").stdout
+            packed = self.run_command(packer, "-c", SAMPLES / "champsim.bin").stdout
             (self.folder / name).write_bytes(packed)
             self.assertEqual(self.din("champsim", name), COPY)
             (self.folder / name).write_bytes(packed[:-9])
@@ -372,25 +372,25 @@ class Faults(ToDin):
     def test_a_pipe_without_pipefail_gives_no_table(self):
         cut = gzip.compress((SAMPLES / "pin.txt").read_bytes() * 999)[:-99]
         (self.folder / "cut.gz").write_bytes(cut)
-        for words, stdin in (("pin", b"0x401000: R 0x10\n0x401000"), ("pin cut.gz", b""), ("pin missing", b""), ("pin .", b"")):
-            ran = self.run_words("bash", "-c", f"{TOOLS}/to-din {words} | {PROGRAM} sweep {' '.join(SPACE)}", stdin=stdin)
+        for arguments, stdin in (("pin", b"0x401000: R 0x10\n0x401000"), ("pin cut.gz", b""), ("pin missing", b""), ("pin .", b"")):
+            ran = self.run_command("bash", "-c", f"{TOOLS}/to-din {arguments} | {PROGRAM} sweep {' '.join(SPACE)}", stdin=stdin)
             self.refused(ran, 1, "to-din: ", "cachesim: line ", ": bad label")
 
     def test_a_place_that_takes_no_more(self):
         (self.folder / "trace").write_bytes(b"0x401000: R 0x10\n" * 99999)
-        for words, fault in (("> /dev/full", "No space left on device"), (">&-", "Bad file descriptor")):
-            ran = self.run_words("bash", "-c", f"{TOOLS}/to-din pin trace {words}")
+        for arguments, fault in (("> /dev/full", "No space left on device"), (">&-", "Bad file descriptor")):
+            ran = self.run_command("bash", "-c", f"{TOOLS}/to-din pin trace {arguments}")
             self.refused(ran, 1, f"to-din: write failed: {fault}")
         for before, status, message in ("", 141, ""), ("trap '' PIPE;", 1, "to-din: write failed: Broken pipe\n"):
-            ran = self.run_words("bash", "-c", f"{before} {TOOLS}/to-din pin trace | head -n 1; echo ${{PIPESTATUS[0]}}")
+            ran = self.run_command("bash", "-c", f"{before} {TOOLS}/to-din pin trace | head -n 1; echo ${{PIPESTATUS[0]}}")
             self.assertEqual((ran.stdout.decode(), ran.stderr.decode()), (f"0 10\n{status}\n", message))
 
     def test_arguments(self):
         self.refused(self.run_tool("to-din"), 2, "--help")
         self.refused(self.run_tool("to-din", "pin", "a", "b"), 2, "--help")
         self.refused(self.run_tool("to-din", "dinero"), 2, "to-din: dinero is no format; 'to-din --help' explains")
-        self.faulty(self.run_tool("to-din", "pin", "missing"), "missing can't be read")
-        self.faulty(self.run_tool("to-din", "pin", "missing.gz"), "missing.gz can't be read")
+        for name in ("missing", "missing.gz"):
+            self.faulty(self.run_tool("to-din", "pin", name), f"{name} can't be read")
         self.faulty(self.run_tool("to-din", "pin", "."), "line 1: read failed: Is a directory")
         told = re.findall(r"^  ([a-z0-9]+) {2,}", self.good(self.run_tool("to-din", "--help")), re.M)
         self.assertEqual(sorted(told), re.findall(r'^    \{"(\w+)"', (TOOLS / "to-din.c").read_text(), re.M))
@@ -403,11 +403,11 @@ class Faults(ToDin):
         path.mkdir()
         for name in ("dirname", "readlink"):
             (path / name).symlink_to(shutil.which(name))
-        ran = self.run_words(self.folder / "to-din", "pin", env={"PATH": str(path)})
+        ran = self.run_command(self.folder / "to-din", "pin", env={"PATH": str(path)})
         self.refused(ran, 1, "to-din: cc is missing: apt-get install gcc")
-        self.assertEqual(self.good(self.run_words(self.folder / "to-din", "pin", SAMPLES / "pin.txt")).splitlines(), COPY_DATA)
+        self.assertEqual(self.good(self.run_command(self.folder / "to-din", "pin", SAMPLES / "pin.txt")).splitlines(), COPY_DATA)
         (self.folder / "trace.xz").touch()
-        ran = self.run_words(self.folder / "to-din", "pin", "trace.xz", env={"PATH": str(path)})
+        ran = self.run_command(self.folder / "to-din", "pin", "trace.xz", env={"PATH": str(path)})
         self.refused(ran, 1, "to-din: xz is missing: apt-get install xz-utils")
 
     def test_an_interrupt(self):

@@ -15,7 +15,7 @@ QEMU = f"qemu-{platform.machine()}"
 
 
 class StandIn(TraceTest):
-    """With tests/tools/traced/fake_qemu.c for QEMU: what the plugin is called for is told by the words behind the program."""
+    """With tests/tools/traced/fake_qemu.c for QEMU: what the plugin is called for is told by the arguments behind the program."""
 
     def setUp(self):
         super().setUp()
@@ -27,8 +27,8 @@ class StandIn(TraceTest):
         path = f"{self.folder}/bin:{PROGRAM.parent}:{os.environ['PATH']}"
         self.told = {"PATH": path, "FAKE_VERSION": "7.2.22", "FAKE_HELP": "-plugin ..", "PROGRAM": str(self.program)}
 
-    def run_words(self, *words, env=None, **given):
-        return super().run_words(*words, env={**self.told, **(env or {})}, **given)
+    def run_command(self, *arguments, env=None, **given):
+        return super().run_command(*arguments, env={**self.told, **(env or {})}, **given)
 
     def begin(self, *steps):
         return super().begin(self.program, *steps, env={**os.environ, **self.told})
@@ -99,7 +99,7 @@ class StandIn(TraceTest):
                 self.assertEqual((self.folder / name).read_text(), text)
 
     def test_no_descriptor_is_left_to_the_program(self):
-        natively = self.run_words("sh", "-c", "ls /proc/self/fd").stdout
+        natively = self.run_command("sh", "-c", "ls /proc/self/fd").stdout
         ran = self.steps("2:1", "exec:ls /proc/self/fd", options=("-o", "trace", "--program-output", "out"))
         self.assertEqual(ran.returncode, 0)
         self.assertEqual((self.folder / "out").read_bytes(), natively)
@@ -123,8 +123,8 @@ class StandIn(TraceTest):
             self.no_process_is_left()
 
     def test_a_full_device(self):
-        for words in ('-o /dev/full "$PROGRAM" loop', '"$PROGRAM" many:10 > /dev/full', '-o /dev/full "$PROGRAM" many:10 kill'):
-            ran = self.in_shell("trace " + words)
+        for arguments in ('-o /dev/full "$PROGRAM" loop', '"$PROGRAM" many:10 > /dev/full', '-o /dev/full "$PROGRAM" many:10 kill'):
+            ran = self.in_shell("trace " + arguments)
             self.assertEqual(ran.stdout, b"125\n")
             self.assertRegex(ran.stderr.decode(), "^trace: (/dev/full|standard output): No space left on device\n$")
             self.no_process_is_left()
@@ -137,8 +137,8 @@ class StandIn(TraceTest):
             self.assertEqual((self.folder / "trace.din").read_text().count("\n"), 9000)
 
     def test_a_signal_while_the_last_lines_wait_for_a_reader(self):
-        words = [TOOLS / "trace", self.program, "many:30000"]
-        with subprocess.Popen(words, stdout=subprocess.PIPE, bufsize=0, env={**os.environ, **self.told}) as started:
+        arguments = [TOOLS / "trace", self.program, "many:30000"]
+        with subprocess.Popen(arguments, stdout=subprocess.PIPE, bufsize=0, env={**os.environ, **self.told}) as started:
             started.stdout.read(1)
             self.wait_until(lambda: self.processes() == [started.pid], "the program doesn't end")
             started.terminate()
@@ -185,7 +185,7 @@ class StandIn(TraceTest):
         tools.mkdir()
         for name in ("trace", "lib.bash", "trace-run.c", "trace-plugin.c", "trace-memory.h"):
             shutil.copy(TOOLS / name, tools)
-        self.assertEqual(self.good(self.run_words(tools / "trace", self.program, "2:1")), "2 1\n")
+        self.assertEqual(self.good(self.run_command(tools / "trace", self.program, "2:1")), "2 1\n")
 
     def test_what_is_missing(self):
         bin_ = self.folder / "few"
@@ -199,7 +199,7 @@ class StandIn(TraceTest):
         self.assertEqual(self.good(self.steps("2:1", env={"PATH": str(bin_)})), "2 1\n")
         for name in ("trace", "lib.bash", "trace-run.c", "trace-plugin.c", "trace-memory.h"):
             shutil.copy(TOOLS / name, self.folder)
-        ran = self.run_words(self.folder / "trace", self.program, env={"PATH": str(bin_)})
+        ran = self.run_command(self.folder / "trace", self.program, env={"PATH": str(bin_)})
         self.fault(ran, 125, "cc is missing: apt-get install gcc")
 
     def test_programs_that_cannot_run(self):
@@ -226,13 +226,13 @@ class StandIn(TraceTest):
 
     def test_options(self):
         self.assertIn("trace [OPTIONS] PROGRAM", self.good(self.run_tool("trace", "--help")))
-        for words, text in (
+        for arguments, text in (
             ((), "a program is wanted"), (("-o",), "-o"), (("--nosuch", "1"), "--nosuch is no option"),
             (("--kind", "x", "true"), "--kind"), (("--output", "", "true"), "--output"),
             (("--skip", "-1", "true"), "--skip"), (("--count", "1k", "true"), "--count"), (("--count=", "true"), "--count"),
             (("--with", "pin", "true"), "--with"), (("--with", "lackey", "--libraries", "/", "true"), "for QEMU"),
         ):
-            ran = self.run_tool("trace", *words)
+            ran = self.run_tool("trace", *arguments)
             self.assertEqual(ran.returncode, 125)
             self.assertIn(text, ran.stderr.decode())
         self.refused(self.steps("2:1", options=("-o", "nosuch/file")), 125, "nosuch/file can't be written")

@@ -46,8 +46,8 @@ class Both:
             (): [(i, j) for i in range(32) for j in range(32)],
             ("blocks",): [(r + i, c + j) for r in range(0, 32, 8) for c in range(0, 32, 8) for i in range(8) for j in range(8)],
         }
-        for words, pairs in order.items():
-            lines, _ = self.traced_to_file("--kind", "d", program, *words)
+        for arguments, pairs in order.items():
+            lines, _ = self.traced_to_file("--kind", "d", program, *arguments)
             expected = [access for i, j in pairs for access in (("0", "a", 4 * (32 * i + j)), ("1", "b", 4 * (32 * j + i)))]
             self.assertEqual(self.own_data(lines, program, "a", "b"), expected)
 
@@ -151,7 +151,7 @@ class Both:
             script = self.folder / "bin" / called.removeprefix("bin/")
             script.write_text(f'{first}\necho "$0" "$#" "$@"; false; exit 4\n')
             script.chmod(0o755)
-            natively = self.run_words("bash", "-c", '"$0" "$@"', called, "a b", "-c", env={"PATH": path})
+            natively = self.run_command("bash", "-c", '"$0" "$@"', called, "a b", "-c", env={"PATH": path})
             lines, out = self.traced_to_file("--", called, "a b", "-c", status=natively.returncode, env={"PATH": path})
             self.assertEqual(out, natively.stdout.decode())
             self.assertGreater(len(lines), 10000)
@@ -201,25 +201,25 @@ class ByLackey(Both, TraceTest):
         for way, status in (("exit 1", 125), ("kill -9 $$", 125)):
             converter.write_text(f"#!/bin/sh\nhead -n 1 > /dev/null\necho 2 401000\n{way}\n")
             converter.chmod(0o755)
-            ran = self.run_words(self.folder / "trace", "--with", "lackey", "--program-output", "own", traced("ends"), "spin")
+            ran = self.run_command(self.folder / "trace", "--with", "lackey", "--program-output", "own", traced("ends"), "spin")
             self.fault(ran, status, "the tracer's lines can't be converted")
             self.assertTrue(ran.stdout.startswith(b"2 401000\n"))
 
 
 @needs("qemu-user", "valgrind")
 class SameTrace(TraceTest):
-    def between_marks(self, tracer, program, *words):
+    def between_marks(self, tracer, program, *arguments):
         self.with_ = tracer
-        lines, _ = self.traced_to_file(program, *words)
+        lines, _ = self.traced_to_file(program, *arguments)
         mark = ("1", symbols_of(program)["mark"][0])
         first = lines.index(mark)
         return lines[first + 1:lines.index(mark, first + 1)]
 
     def test_a_transposed_matrix(self):
         program = program_of(EXAMPLES / "transpose.c", "-static")
-        for words in ((), ("blocks",)):
-            lines = self.between_marks("qemu", program, *words)
-            self.assertEqual(lines, self.between_marks("lackey", program, *words))
+        for arguments in ((), ("blocks",)):
+            lines = self.between_marks("qemu", program, *arguments)
+            self.assertEqual(lines, self.between_marks("lackey", program, *arguments))
             self.assertGreater(len(lines), 8000)
 
     def test_a_sort(self):

@@ -37,8 +37,8 @@ def counts(events, first, cache):
 class Warm(base.ToolTest):
     def judge(self, text, lines, format="d", kind="u"):
         (self.folder / "trace").write_bytes(text)
-        words = [*SPACE, "--format", format, "--kind", kind]
-        answer = self.good(self.run_tool("warm", lines, "trace", *words))
+        arguments = [*SPACE, "--format", format, "--kind", kind]
+        answer = self.good(self.run_tool("warm", lines, "trace", *arguments))
         rows = list(csv.DictReader(answer.splitlines()))
         self.assertEqual(answer.split("\n")[0], table.HEADER)
         self.assertGreater(len(rows), 5)
@@ -93,7 +93,7 @@ class Warm(base.ToolTest):
         for name in ("a trace.din", "-trace.din"):
             (self.folder / name).write_bytes(text)
             self.assertEqual(self.good(self.run_tool("warm", 700, name, *SPACE)), expected)
-        self.run_words("gzip", "a trace.din")
+        self.run_command("gzip", "a trace.din")
         self.assertEqual(self.good(self.run_tool("warm", 700, "a trace.din.gz", *SPACE)), expected)
 
     @base.needs("xz-utils", "zstd")
@@ -104,9 +104,9 @@ class Warm(base.ToolTest):
             self.assertEqual(self.good(self.run_tool("warm", 700, name, *SPACE)), expected)
 
     def test_faults(self):
-        whole = self.run_words("gzip", "-c", base.EXAMPLES / "sort.din").stdout
+        whole = self.run_command("gzip", "-c", base.EXAMPLES / "sort.din").stdout
         (self.folder / "cut.gz").write_bytes(whole[: len(whole) // 2])
-        for stdin, words, status, fault in (
+        for stdin, arguments, status, fault in (
             (b"0 10\n7 10\n0 10\n", ["1", "-", *SPACE], 1, "cachesim: line 2: bad label\n"),
             (b"0 10\n7 10\n0 10\n", ["2", "-", *SPACE], 1, "cachesim: line 2: bad label\n"),
             (b"", ["1", "none", *SPACE], 1, "warm: none: no file that can be read\n"),
@@ -114,10 +114,10 @@ class Warm(base.ToolTest):
             (b"", ["x", "-", *SPACE], 2, "warm: 'x' is no number of lines"),
             (b"", ["-1", "-", *SPACE], 2, "warm: '-1' is no number of lines"),
             (b"", ["1", "-"], 2, "warm: a number of lines, a trace and the options of a sweep are needed"),
-            (b"", ["1", "-", *SPACE, "-tx"], 2, "warm: the trace is the second word"),
+            (b"", ["1", "-", *SPACE, "-tx"], 2, "warm: the trace is the second argument"),
             (b"", ["1", "-", *SPACE[:-2]], 2, "error: "),
         ):
-            self.refused(self.run_tool("warm", *words, stdin=stdin), status, fault)
+            self.refused(self.run_tool("warm", *arguments, stdin=stdin), status, fault)
 
     def test_one_message(self):
         ran = self.run_tool("warm", "2", "-", *SPACE, stdin=b"0 10\n7 10\n0 10\n")

@@ -28,8 +28,8 @@ def built():
 def program_of(source, *flags, compiler="cc"):
     """A program without position independence, so that the addresses of its own data are those of nm."""
     target = built() / f"{source.stem} {compiler}{''.join(flags)}"
-    words = [compiler, "-O1", "-Wall", "-Wextra", "-Werror", "-no-pie", "-pthread", *flags, "-o", target, source]
-    subprocess.run(words, check=True)
+    arguments = [compiler, "-O1", "-Wall", "-Wextra", "-Werror", "-no-pie", "-pthread", *flags, "-o", target, source]
+    subprocess.run(arguments, check=True)
     return target
 
 
@@ -51,8 +51,8 @@ def within(place, address):
 class TraceTest(ToolTest):
     with_ = "qemu"
 
-    def trace(self, *words, **given):
-        return self.run_tool("trace", "--with", self.with_, *words, **given)
+    def trace(self, *arguments, **given):
+        return self.run_tool("trace", "--with", self.with_, *arguments, **given)
 
     def lines(self, text):
         """The label and the address of each line of a trace; every line must be whole and good."""
@@ -61,9 +61,9 @@ class TraceTest(ToolTest):
                 self.fail(f"line {number}: {line!r}")
         return [(line[0], int(line[2:], 16)) for line in text.splitlines()]
 
-    def traced_to_file(self, *words, status=0, message="", **given):
+    def traced_to_file(self, *arguments, status=0, message="", **given):
         """The lines of a trace in a file; how the run ended must be as it is told."""
-        ran = self.trace("-o", "trace.din", *words, **given)
+        ran = self.trace("-o", "trace.din", *arguments, **given)
         self.assertEqual((ran.returncode, ran.stderr.decode()), (status, message))
         return self.lines((self.folder / "trace.din").read_text()), ran.stdout.decode()
 
@@ -83,14 +83,14 @@ class TraceTest(ToolTest):
 
     def in_shell(self, line, **given):
         """Runs a line of bash in which `trace` is the tool with its tracer. Its last line has the statuses of the pipe."""
-        words = f"trace() {{ {TOOLS}/trace --with {self.with_} \"$@\"; }}; {line}; echo \"${{PIPESTATUS[@]}}\""
-        return self.run_words("bash", "-c", words, **given)
+        arguments = f"trace() {{ {TOOLS}/trace --with {self.with_} \"$@\"; }}; {line}; echo \"${{PIPESTATUS[@]}}\""
+        return self.run_command("bash", "-c", arguments, **given)
 
-    def begin(self, program, *words, **given):
+    def begin(self, program, *arguments, **given):
         """Starts a trace to a file, and waits until the program writes a line."""
-        words = [TOOLS / "trace", "--with", self.with_, "--kind", "d", "-o", self.folder / "trace.din", program, *words]
+        arguments = [TOOLS / "trace", "--with", self.with_, "--kind", "d", "-o", self.folder / "trace.din", program, *arguments]
         given = {"stdout": subprocess.PIPE, "start_new_session": True, **given}
-        started = subprocess.Popen([str(word) for word in words], cwd=self.folder, **given)
+        started = subprocess.Popen([str(word) for word in arguments], cwd=self.folder, **given)
         self.addCleanup(started.wait)
         self.addCleanup(started.kill)
         if started.stdout:
@@ -106,7 +106,7 @@ class TraceTest(ToolTest):
         self.fail(what)
 
     def processes(self):
-        """Those whose words name a file of this test's folder."""
+        """Those whose arguments name a file of this test's folder."""
         return [
             int(entry.name)
             for entry in pathlib.Path("/proc").iterdir()

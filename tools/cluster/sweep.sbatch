@@ -11,6 +11,6 @@ trace=$1 cachesim=$2 here=$3
 . "$here/lib.bash"
 
 part=part-$SLURM_ARRAY_TASK_ID
-read -ra words < <(sed -n "${SLURM_ARRAY_TASK_ID}p" pages)
-unpacked "$trace" | "$cachesim" sweep "${words[@]}" > "$part.tmp"
+read -ra arguments < <(sed -n "${SLURM_ARRAY_TASK_ID}p" pages)
+unpacked "$trace" | "$cachesim" sweep "${arguments[@]}" > "$part.tmp"
 mv -- "$part.tmp" "$part"           # a part that is there is whole

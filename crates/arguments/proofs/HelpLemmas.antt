@@ -170,7 +170,7 @@ module _ (s : Shape) (no_help_command : s.disable_help_subcommand ≡ true) wher
       agree_if (is_some w.stopped) _ _ none
       (agree_or _ _ (agree_if w.is_trailing _ _ none (agree_other (subcommand_met names w.waiting word) word w.held)) (agree_step w.position met.0 met.1))
 
-  agree_walk : (names : Names) (w : Walk) (words : List Text) → Agree (walk_fault s names w words)
+  agree_walk : (names : Names) (w : Walk) (arguments : List Text) → Agree (walk_fault s names w arguments)
   unfolding walk_fault
   agree_walk names w [] = none
   agree_walk names w (word ∷ rest) = agree_or _ _ (agree_turn names w word) (agree_walk names (walked s.rules names w word) rest)
@@ -184,11 +184,11 @@ module _ (s : Shape) (no_help_command : s.disable_help_subcommand ≡ true) wher
       (agree_or _ _ (agree_request (action_of a)) (agree_values a.ignore_case (parser_of_value a.parser) a.defaults)))
       (agree_defaults (with_default rows a) rest)
 
-  agree_level : (names : Names) (h : Held) (words : List Text) (entered_one : Bool) (below : Kinds)
-      → Agree below → Agree (level_fault s names h words entered_one below)
-  agree_level names h words entered_one below agrees =
-      let end = (walk s.rules names h words).held in
-      agree_or _ _ (agree_walk names (walk_from h) words)
+  agree_level : (names : Names) (h : Held) (arguments : List Text) (entered_one : Bool) (below : Kinds)
+      → Agree below → Agree (level_fault s names h arguments entered_one below)
+  agree_level names h arguments entered_one below agrees =
+      let end = (walk s.rules names h arguments).held in
+      agree_or _ _ (agree_walk names (walk_from h) arguments)
       (agree_or _ _ agrees (agree_or _ _ (agree_settle s.rules s.args_override_self end)
       (agree_or _ _ (agree_defaults (settled s.rules end).rows s.rules) (agree_check _ _ _))))
 
@@ -197,20 +197,20 @@ abbrev AreHelpless : List Shape → Type 0
 AreHelpless [] = ⊤
 AreHelpless (s ∷ rest) = (s.disable_help_subcommand ≡ true) × AreHelpless rest
 
-agree_found : (p : Shape → Bool) (subs : List Shape) (words : List Text) → AreHelpless subs
-    → Agree (option_map_or (λ s. level_fault s [] nothing_held words false []) (find p subs) [])
-agree_found p [] words h = none
-agree_found p (s ∷ rest) words h =
-    elim (p s) as (λ b. Agree (option_map_or (λ t. level_fault t [] nothing_held words false []) (cond b (Some s) (find p rest)) []))
-    [ true ↦ agree_level s h.0 [] nothing_held words false [] none | false ↦ agree_found p rest words h.1 ]
+agree_found : (p : Shape → Bool) (subs : List Shape) (arguments : List Text) → AreHelpless subs
+    → Agree (option_map_or (λ s. level_fault s [] nothing_held arguments false []) (find p subs) [])
+agree_found p [] arguments h = none
+agree_found p (s ∷ rest) arguments h =
+    elim (p s) as (λ b. Agree (option_map_or (λ t. level_fault t [] nothing_held arguments false []) (cond b (Some s) (find p rest)) []))
+    [ true ↦ agree_level s h.0 [] nothing_held arguments false [] none | false ↦ agree_found p rest arguments h.1 ]
 
 agree_entered : (stop : Option (Text × List Text)) → Agree (entered_fault (built cachesim_app) stop)
 agree_entered stop = agree_option _ stop [] (λ p. agree_found (λ s. answers_to p.0 (label_of s)) (built cachesim_app).subs p.1 (refl, (refl, (refl, tt)))) none
 
-faults_agree : (words : List Text) → Agree (fault_of cachesim_app words)
-faults_agree words =
+faults_agree : (arguments : List Text) → Agree (fault_of cachesim_app arguments)
+faults_agree arguments =
     let a : App = built cachesim_app in
-    let given : List Text = argument_words cachesim_app words in
+    let given : List Text = argument_words cachesim_app arguments in
     let stop : Option (Text × List Text) = (walk a.top.rules (names_of a) nothing_held given).stopped in
     agree_level a.top refl (names_of a) nothing_held given (is_some (entered a stop)) (entered_fault a stop) (agree_entered stop)
 
@@ -234,12 +234,12 @@ among_exactly (x ∷ xs) k agrees among = says (x ∷ xs) (is_help x) k (refl, a
     first false all = sym (none_says xs all)
 
 -- a fault of clap's is told as want of memory, or it says whether help was asked for
-pub help_told : (e : WordsFault) (k : ErrorKind) (words : List Text) → (k ≡ kind.OutOfMemory → usage_of e ≡ None)
-    → IfSome (usage_of e) (λ help. help ≡ is_help k) → (k ≡ kind.OutOfMemory) ⊎ IsAmong k (fault_of cachesim_app words)
-    → IfSome (usage_of e) (λ help. help ≡ list_any is_help (fault_of cachesim_app words))
-help_told e k words memory help (inl m) = rw (memory m) tt
-help_told e k words memory help (inr among) =
-    IfSome_then (usage_of e) help (λ h told. told ∙ among_exactly (fault_of cachesim_app words) k (faults_agree words) among)
+pub help_told : (e : WordsFault) (k : ErrorKind) (arguments : List Text) → (k ≡ kind.OutOfMemory → usage_of e ≡ None)
+    → IfSome (usage_of e) (λ help. help ≡ is_help k) → (k ≡ kind.OutOfMemory) ⊎ IsAmong k (fault_of cachesim_app arguments)
+    → IfSome (usage_of e) (λ help. help ≡ list_any is_help (fault_of cachesim_app arguments))
+help_told e k arguments memory help (inl m) = rw (memory m) tt
+help_told e k arguments memory help (inr among) =
+    IfSome_then (usage_of e) help (λ h told. told ∙ among_exactly (fault_of cachesim_app arguments) k (faults_agree arguments) among)
 
 nonempty : (k : ErrorKind) (ks : Kinds) → IsAmong k ks → ks ≢ []
 nonempty k [] among = absurd among

@@ -17,7 +17,7 @@ use Rattle.sweep_core.specs.declared.space.Cause.TheVariants.{NotPower, Limit, R
 use Rattle.trace_core.specs.declared.events.Kind.TheVariants.{All, DataOnly}
 use Rattle.trace_core.specs.declared.line.Format.TheVariants.{Din as Din-format, Lackey}
 use Rattle.arguments.specs.CommandLine.{command_of}
-use Rattle.arguments.specs.Faults.{bad_shape, incomplete, plan, space, value}
+use Rattle.arguments.specs.Faults.{bad_geometry, incomplete, plan, space, value}
 use Rattle.arguments.specs.Numbers.{number_of, range_of, scaled_of, triple_of}
 use Rattle.arguments.specs.Options.{cachesim_app}
 use Rattle.arguments.specs.Respell.{respelled}
@@ -167,7 +167,7 @@ a_verbose_csim : command_of (csim_arguments (codes "20") (codes "2") (codes "0")
 unfolding clap_on_literals
 a_verbose_csim = refl
 
-too_many_lines : command_of (csim_arguments (codes "20") (codes "5") (codes "0") []) ≡ Some (Err bad_shape)
+too_many_lines : command_of (csim_arguments (codes "20") (codes "5") (codes "0") []) ≡ Some (Err bad_geometry)
 unfolding clap_on_literals
 too_many_lines = refl
 
@@ -183,7 +183,7 @@ a_din : command_of (din_arguments (unified (codes "1k") (codes "16") [])) ≡ So
   job = Din (record {
     i = None;
     d = None;
-    u = Some (record { design = record { geometry = record { s = 6; e = 1; b = 4 }; write = Back; allocate = Always }; repl = Lru });
+    u = Some (record { design = record { geometry = record { s = 6; e = 1; b = 4 }; write = Back; allocate = Always }; policy = Lru });
     second = None;
   }) 42 Din-format (2 ^ 40);
   trace = None;
@@ -198,10 +198,10 @@ two_levels : command_of (din_arguments (codes "-l1-isize" ∷ codes "32" ∷ cod
     ∷ codes "-informat" ∷ codes "l" ∷ codes "--seed" ∷ codes "7" ∷ codes "-t" ∷ codes "f" ∷ []))
     ≡ Some (Ok (record {
       job = Din (record {
-        i = Some (record { design = record { geometry = record { s = 0; e = 2; b = 4 }; write = Back; allocate = Always }; repl = Fifo });
-        d = Some (record { design = record { geometry = record { s = 1; e = 1; b = 3 }; write = Through; allocate = Never }; repl = Lru });
+        i = Some (record { design = record { geometry = record { s = 0; e = 2; b = 4 }; write = Back; allocate = Always }; policy = Fifo });
+        d = Some (record { design = record { geometry = record { s = 1; e = 1; b = 3 }; write = Through; allocate = Never }; policy = Lru });
         u = None;
-        second = Some (record { design = record { geometry = record { s = 2; e = 1; b = 4 }; write = Back; allocate = Always }; repl = Random });
+        second = Some (record { design = record { geometry = record { s = 2; e = 1; b = 4 }; write = Back; allocate = Always }; policy = Random });
       }) 7 Lackey (2 ^ 40);
       trace = Some (codes "f");
     }))

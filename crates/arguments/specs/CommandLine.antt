@@ -7,8 +7,8 @@ use Rattle.clap.specs.declared.error.kind.ErrorKind.{ErrorKind}
 use Rattle.clap.specs.declared.error.kind.ErrorKind.TheVariants as kind
 use Rattle.arguments.specs.CsimJob.{csim_of}
 use Rattle.arguments.specs.DinJob.{din_of}
-use Rattle.arguments.specs.Faults.{Judgement, judgement_of}
-use Rattle.arguments.specs.Options.{cachesim_app}
+use Rattle.arguments.specs.Faults.{JobFault, job_fault_of}
+use Rattle.arguments.specs.Options.{cachesim_app, file_option}
 use Rattle.arguments.specs.Readings.{and_then}
 use Rattle.arguments.specs.Respell.{respelled}
 use Rattle.arguments.specs.SweepJob.{sweep_of}
@@ -27,27 +27,27 @@ abbrev pub command_value : Command → CommandValue
 command_value c = record { job = c.job; trace = option_map string_bytes c.trace }
 
 -- the job that the entries of a subcommand of this name give; none of another name
-abbrev pub job_named : Text → List Row → Option (Result Job Judgement)
+abbrev pub job_named : Text → List Row → Option (Result Job JobFault)
 job_named name rows = if bytes_eq name (codes "csim") then Some (csim_of rows)
     else (if bytes_eq name (codes "din") then Some (din_of rows)
     else (if bytes_eq name (codes "sweep") then Some (sweep_of rows) else None))
 
 -- what was read, with the file of `-t`
-abbrev pub with_trace : List Row → Result Job Judgement → Result CommandValue Judgement
-with_trace rows read = and_then read (λ j. Ok (record { job = j; trace = first_of (codes "-t") rows }))
+abbrev pub with_trace : List Row → Result Job JobFault → Result CommandValue JobFault
+with_trace rows read = and_then read (λ j. Ok (record { job = j; trace = first_of file_option.id rows }))
 
 -- a subcommand of this name with these entries, read; none of another name
-abbrev pub chosen_command : Text × List Row → Option (Result CommandValue Judgement)
+abbrev pub chosen_command : Text × List Row → Option (Result CommandValue JobFault)
 chosen_command s = option_map (with_trace s.1) (job_named s.0 s.1)
 
 -- the subcommand and the entries that clap gives for the respelled arguments, read
-abbrev pub command_of : List Text → Option (Result CommandValue Judgement)
+abbrev pub command_of : List Text → Option (Result CommandValue JobFault)
 command_of arguments = option_and_then chosen_command (subcommand_of cachesim_app (respelled arguments))
 
 -- what `parse` answers, but for want of memory and what clap refuses
-abbrev pub answer_of : Result Command WordsFault → Option (Result CommandValue Judgement)
+abbrev pub answer_of : Result Command WordsFault → Option (Result CommandValue JobFault)
 answer_of (Ok c) = Some (Ok (command_value c))
-answer_of (Err e) = option_map Err (judgement_of e)
+answer_of (Err e) = option_map Err (job_fault_of e)
 
 -- where clap refused the arguments, whether it says that help was asked for
 abbrev pub usage_of : WordsFault → Option Bool

@@ -16,10 +16,10 @@ use Rattle.cache_core.specs.declared.outcome.Repl.{Repl}
 use Rattle.cache_core.specs.declared.outcome.Repl.TheVariants.{Lru, Fifo, Random}
 use Rattle.cache_core.specs.declared.outcome.WriteMode.{WriteMode}
 use Rattle.cache_core.specs.declared.outcome.WriteMode.TheVariants.{Back, Through}
-use Rattle.arguments.specs.Faults.{Judgement, incomplete, plan}
-use Rattle.arguments.specs.Job.{line_limit}
+use Rattle.arguments.specs.Faults.{JobFault, incomplete, plan}
+use Rattle.trace_core.specs.declared.limits.TheConstants.{MAX_LINES}
 use Rattle.arguments.specs.Numbers.{number_of, scaled_of}
-use Rattle.arguments.specs.Options.{option_of}
+use Rattle.arguments.specs.Options.{assoc_option_of, bsize_option_of, informat_option, repl_option_of, seed_option, size_option_of, walloc_option_of, wback_option_of}
 use Rattle.arguments.specs.Readings.{and_then, format_named, optional_value, value_or}
 use Rattle.arguments.specs.declared.din_job.CacheReading.{CacheReading}
 use Rattle.arguments.specs.declared.job.Job.{Job}
@@ -46,14 +46,14 @@ wback_named text = if bytes_eq text (codes "a") then Some Back
     else (if bytes_eq text (codes "n") then Some Through else None)
 
 -- the six options of a cache, in the table's order
-abbrev pub reading_of : CacheName → List Row → Result CacheReading Judgement
+abbrev pub reading_of : CacheName → List Row → Result CacheReading JobFault
 reading_of cache rows =
-    and_then (optional_value (option_of cache (codes "size")) power_of rows) (λ size.
-    and_then (optional_value (option_of cache (codes "bsize")) power_of rows) (λ bsize.
-    and_then (optional_value (option_of cache (codes "assoc")) number_of rows) (λ assoc.
-    and_then (optional_value (option_of cache (codes "repl")) repl_named rows) (λ repl.
-    and_then (optional_value (option_of cache (codes "walloc")) walloc_named rows) (λ walloc.
-    and_then (optional_value (option_of cache (codes "wback")) wback_named rows) (λ wback.
+    and_then (optional_value (size_option_of cache).id power_of rows) (λ size.
+    and_then (optional_value (bsize_option_of cache).id power_of rows) (λ bsize.
+    and_then (optional_value (assoc_option_of cache).id number_of rows) (λ assoc.
+    and_then (optional_value (repl_option_of cache).id repl_named rows) (λ repl.
+    and_then (optional_value (walloc_option_of cache).id walloc_named rows) (λ walloc.
+    and_then (optional_value (wback_option_of cache).id wback_named rows) (λ wback.
     Ok (record {
       size = size;
       bsize = bsize;
@@ -81,13 +81,13 @@ spec_with (Some size) (Some bsize) r = Some (record {
 spec_with _ _ r = None
 
 -- a cache is there exactly if one of its options was given, and then needs size and bsize
-abbrev pub cache_of : CacheName → CacheReading → Result (Option CacheSpec) Judgement
+abbrev pub cache_of : CacheName → CacheReading → Result (Option CacheSpec) JobFault
 cache_of cache r = if is_given r
     then and_then (ok_or (spec_with r.size r.bsize r) (incomplete cache)) (λ spec. Ok (Some spec))
     else Ok None
 
 -- The plan of what was given of the four caches, or the first fault: caches that lack size or bsize, then the plan's.
-abbrev pub plan_given : CacheReading → CacheReading → CacheReading → CacheReading → Result PlannedCaches Judgement
+abbrev pub plan_given : CacheReading → CacheReading → CacheReading → CacheReading → Result PlannedCaches JobFault
 plan_given i d u second =
     and_then (cache_of L1I i) (λ i.
     and_then (cache_of L1D d) (λ d.
@@ -97,12 +97,12 @@ plan_given i d u second =
 
 -- The job of these entries, or the first fault: bad values in the table's order, then the caches' and the plan's. The letters of the
 -- format and the default seed are this project's.
-abbrev pub din_of : List Row → Result Job Judgement
+abbrev pub din_of : List Row → Result Job JobFault
 din_of rows =
     and_then (reading_of L1I rows) (λ i.
     and_then (reading_of L1D rows) (λ d.
     and_then (reading_of L1U rows) (λ u.
     and_then (reading_of L2U rows) (λ second.
-    and_then (value_or DinFormat (codes "-informat") format_named rows) (λ format.
-    and_then (value_or 42 (codes "--seed") number_of rows) (λ seed.
-    and_then (plan_given i d u second) (λ p. Ok (Din p seed format line_limit))))))))
+    and_then (value_or DinFormat informat_option.id format_named rows) (λ format.
+    and_then (value_or 42 seed_option.id number_of rows) (λ seed.
+    and_then (plan_given i d u second) (λ p. Ok (Din p seed format MAX_LINES))))))))

@@ -8,27 +8,27 @@ use Rattle.arguments.specs.declared.faults.WordsFault.{WordsFault}
 use Rattle.arguments.specs.declared.faults.WordsFault.TheVariants as fault
 
 -- why arguments that clap takes give no job
-pub data Judgement : Type 0 where
-  value : Text → Judgement
-  incomplete : CacheName → Judgement
-  bad_shape : Judgement
-  plan : PlanFault → Judgement
-  space : SpaceFault → Judgement
+pub data JobFault : Type 0 where
+  value : Text → JobFault
+  incomplete : CacheName → JobFault
+  bad_geometry : JobFault
+  plan : PlanFault → JobFault
+  space : SpaceFault → JobFault
 
--- the judgement that a fault tells, if it tells one
-abbrev pub judgement_of : WordsFault → Option Judgement
-judgement_of fault.Memory = None
-judgement_of (fault.Usage text help) = None
-judgement_of (fault.Value option) = Some (value option.now)
-judgement_of (fault.Incomplete cache) = Some (incomplete cache)
-judgement_of fault.BadShape = Some bad_shape
-judgement_of (fault.Plan p) = Some (plan p)
-judgement_of (fault.Space s) = Some (space s)
+-- which of them a fault is, if it is one
+abbrev pub job_fault_of : WordsFault → Option JobFault
+job_fault_of fault.Memory = None
+job_fault_of (fault.Usage text help) = None
+job_fault_of (fault.Value option) = Some (value option.now)
+job_fault_of (fault.Incomplete cache) = Some (incomplete cache)
+job_fault_of fault.BadShape = Some bad_geometry
+job_fault_of (fault.Plan p) = Some (plan p)
+job_fault_of (fault.Space s) = Some (space s)
 
--- what an answer tells: a value or a judgement, and nothing where it is want of memory or clap's
-abbrev pub answer_in : {A : Type 0} → Result A WordsFault → Option (Result A Judgement)
+-- what an answer says: a value or such a fault, and nothing where it is want of memory or clap's
+abbrev pub answer_in : {A : Type 0} → Result A WordsFault → Option (Result A JobFault)
 answer_in (Ok x) = Some (Ok x)
-answer_in (Err e) = option_map Err (judgement_of e)
+answer_in (Err e) = option_map Err (job_fault_of e)
 
 -- the status of the program: 0 where help was asked for, 1 for want of memory, and else 2
 abbrev pub status_of : WordsFault → ℕ

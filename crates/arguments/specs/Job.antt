@@ -1,11 +1,7 @@
 -- The work that a command line asks for.
-use Rattle.std.specs.Prelude.{ℕ, ◌^◌}
+use Rattle.std.specs.Prelude.{ℕ}
 use Rattle.arguments.specs.declared.job.Job.{Job}
 use Rattle.arguments.specs.declared.job.Job.TheVariants.{Csim, Din, Sweep}
-
--- the most lines that a trace may have, `MAX_LINES` of the reader
-abbrev pub line_limit : ℕ
-line_limit = 2 ^ 40
 
 -- the most lines that a job takes
 abbrev pub max_lines_of : Job → ℕ

@@ -1,7 +1,8 @@
 -- The commands and their options, as clap sees them.
-use Rattle.std.specs.Prelude.{◌≡◌, ℕ, true, false, List, [], ◌∷◌, ◌++◌, map, Some, codes}
-use Rattle.clap.specs.Words.{App, Rule, Shape, Text, app_of, new_rule, with_subcommand}
+use Rattle.std.specs.Prelude.{◌≡◌, ℕ, Bool, true, false, List, [], ◌∷◌, ◌++◌, map, Some, codes}
+use Rattle.clap.specs.Words.{App, Rule, Shape, Text, app_of, new_rule, rule_of}
 use Rattle.clap.specs.Simple.{new_shape}
+use Rattle.clap.specs.declared.builder.arg.Arg.{Arg}
 use Rattle.clap.specs.declared.builder.command.Command.{Command}
 use Rattle.clap.specs.declared.builder.command.Command.TheViews.{out-Command}
 use Rattle.clap.specs.declared.builder.action.ArgAction.TheVariants.{Set, SetTrue}
@@ -15,72 +16,122 @@ use Rattle.arguments.specs.declared.options.Spelling.TheVariants.{Long, Short}
 use Rattle.arguments.specs.declared.options.Presence.{Presence}
 use Rattle.arguments.specs.declared.options.Presence.TheVariants.{Required, Optional, Flag}
 
--- an option with a value, which may be left out: its name in a fault, and its spelling behind two dashes
-abbrev pub optional : Text → Text → Rule
-optional name long = record (new_rule name) { long = Some long; action = Some Set; value_names = 1 }
+-- an option of one letter, with this name
+abbrev pub by_letter : Text → ℕ → Rule
+by_letter name letter = record (new_rule name) { short = Some letter }
 
--- the same of an option that has to be given
-abbrev pub required : Text → Text → Rule
-required name long = record (optional name long) { required = true }
+-- an option with this long name, to which a fault adds these dashes
+abbrev pub by_name : Text → Text → Rule
+by_name dashes long = record (new_rule (dashes ++ long)) { long = Some long }
 
--- an option without a value
-abbrev pub flag : Text → Text → Rule
-flag name long = record (new_rule name) { long = Some long; action = Some SetTrue }
+-- the option with a value, which may be left out
+abbrev pub optional : Rule → Rule
+optional r = record r { action = Some Set; value_names = 1 }
 
--- the option `-t FILE`
-abbrev pub file : Rule
-file = record (new_rule (codes "-t")) { short = Some 116; action = Some Set; value_names = 1 }
+-- the option with a value, which has to be given
+abbrev pub required : Rule → Rule
+required r = record (optional r) { required = true }
 
--- a required option of one letter
-abbrev pub letter : Text → ℕ → Rule
-letter name c = record (new_rule name) { short = Some c; action = Some Set; value_names = 1; required = true }
+-- the option without a value
+abbrev pub flag : Rule → Rule
+flag r = record r { action = Some SetTrue }
 
--- the options of the CS:APP cache lab's csim
+-- ---- the options of `csim`, which are those of the CS:APP cache lab's
+
+abbrev pub set_bits_option : Rule
+set_bits_option = required (by_letter (codes "-s") 115)
+
+abbrev pub lines_option : Rule
+lines_option = required (by_letter (codes "-E") 69)
+
+abbrev pub block_bits_option : Rule
+block_bits_option = required (by_letter (codes "-b") 98)
+
+abbrev pub lackey_file_option : Rule
+lackey_file_option = required (by_letter (codes "-t") 116)
+
+abbrev pub verbose_option : Rule
+verbose_option = flag (by_letter (codes "-v") 118)
+
 abbrev pub csim_rules : List Rule
-csim_rules = letter (codes "-s") 115
-    ∷ letter (codes "-E") 69
-    ∷ letter (codes "-b") 98
-    ∷ letter (codes "-t") 116
-    ∷ record (new_rule (codes "-v")) { short = Some 118; action = Some SetTrue }
-    ∷ []
+csim_rules = set_bits_option ∷ lines_option ∷ block_bits_option ∷ lackey_file_option ∷ verbose_option ∷ []
 
--- the name of a cache's option with this ending, as faults have it
-abbrev pub option_of : CacheName → Text → Text
-option_of cache ending = codes "-" ++ label_of cache ++ ending
+-- ---- the options of `din`: those of the caches and -informat are Dinero IV's
 
--- the rule of that option, whose spelling stands behind two dashes
-abbrev pub cache_rule : CacheName → Text → Rule
-cache_rule cache ending = optional (option_of cache ending) (label_of cache ++ ending)
+abbrev pub informat_option : Rule
+informat_option = optional (by_name (codes "-") (codes "informat"))
 
--- the six options of a cache, which are Dinero IV's
+abbrev pub seed_option : Rule
+seed_option = optional (by_name (codes "--") (codes "seed"))
+
+abbrev pub file_option : Rule
+file_option = optional (by_letter (codes "-t") 116)
+
+-- the option of a cache with this ending
+abbrev pub cache_option : CacheName → Text → Rule
+cache_option cache ending = optional (by_name (codes "-") (label_of cache ++ ending))
+
+abbrev pub size_option_of : CacheName → Rule
+size_option_of cache = cache_option cache (codes "size")
+
+abbrev pub bsize_option_of : CacheName → Rule
+bsize_option_of cache = cache_option cache (codes "bsize")
+
+abbrev pub assoc_option_of : CacheName → Rule
+assoc_option_of cache = cache_option cache (codes "assoc")
+
+abbrev pub repl_option_of : CacheName → Rule
+repl_option_of cache = cache_option cache (codes "repl")
+
+abbrev pub walloc_option_of : CacheName → Rule
+walloc_option_of cache = cache_option cache (codes "walloc")
+
+abbrev pub wback_option_of : CacheName → Rule
+wback_option_of cache = cache_option cache (codes "wback")
+
+-- the six options of a cache
 abbrev pub cache_rules : CacheName → List Rule
-cache_rules cache = cache_rule cache (codes "size")
-    ∷ cache_rule cache (codes "bsize")
-    ∷ cache_rule cache (codes "assoc")
-    ∷ cache_rule cache (codes "repl")
-    ∷ cache_rule cache (codes "walloc")
-    ∷ cache_rule cache (codes "wback")
-    ∷ []
+cache_rules cache = size_option_of cache ∷ bsize_option_of cache ∷ assoc_option_of cache
+    ∷ repl_option_of cache ∷ walloc_option_of cache ∷ wback_option_of cache ∷ []
 
--- the options of `din`: those of the caches and -informat are Dinero IV's
 abbrev pub din_rules : List Rule
-din_rules = (optional (codes "-informat") (codes "informat")
-    ∷ optional (codes "--seed") (codes "seed")
-    ∷ file ∷ [])
+din_rules = (informat_option ∷ seed_option ∷ file_option ∷ [])
     ++ cache_rules L1I ++ cache_rules L1D ++ cache_rules L1U ++ cache_rules L2U
 
--- the options of `sweep`, which are this project's
+-- ---- the options of `sweep`, which are this project's
+
+abbrev pub bsize_option : Rule
+bsize_option = required (by_name (codes "--") (codes "bsize"))
+
+abbrev pub sets_option : Rule
+sets_option = required (by_name (codes "--") (codes "sets"))
+
+abbrev pub assoc_option : Rule
+assoc_option = required (by_name (codes "--") (codes "assoc"))
+
+abbrev pub size_option : Rule
+size_option = required (by_name (codes "--") (codes "size"))
+
+abbrev pub kind_option : Rule
+kind_option = optional (by_name (codes "--") (codes "kind"))
+
+abbrev pub format_option : Rule
+format_option = optional (by_name (codes "--") (codes "format"))
+
+abbrev pub after_option : Rule
+after_option = optional (by_name (codes "--") (codes "after"))
+
+abbrev pub rows_option : Rule
+rows_option = optional (by_name (codes "--") (codes "rows"))
+
+abbrev pub pow2_option : Rule
+pow2_option = flag (by_name (codes "--") (codes "pow2"))
+
 abbrev pub sweep_rules : List Rule
-sweep_rules = required (codes "--bsize") (codes "bsize")
-    ∷ required (codes "--sets") (codes "sets")
-    ∷ required (codes "--assoc") (codes "assoc")
-    ∷ required (codes "--size") (codes "size")
-    ∷ optional (codes "--kind") (codes "kind")
-    ∷ optional (codes "--format") (codes "format")
-    ∷ optional (codes "--after") (codes "after")
-    ∷ optional (codes "--rows") (codes "rows")
-    ∷ flag (codes "--pow2") (codes "pow2")
-    ∷ file ∷ []
+sweep_rules = bsize_option ∷ sets_option ∷ assoc_option ∷ size_option ∷ kind_option ∷ format_option
+    ∷ after_option ∷ rows_option ∷ pow2_option ∷ file_option ∷ []
+
+-- ---- the commands
 
 -- a command with these options and no subcommand
 abbrev pub leaf : Text → List Rule → Shape
@@ -100,19 +151,7 @@ cachesim_app = record {
   subs = leaf (codes "csim") csim_rules ∷ leaf (codes "din") din_rules ∷ leaf (codes "sweep") sweep_rules ∷ [];
 }
 
--- the command c is built as such a leaf
-pub record IsLeaf (name : Text) (rules : List Rule) (c : Command) : Type 0 where
-  pub app : app_of c ≡ record { top = leaf name rules; subs = [] }
-  pub local : (out-Command c).has_globals ≡ false
-
--- `new` is the command `old` with such a leaf as one subcommand more
-pub record AddsLeaf (name : Text) (rules : List Rule) (old new : Command) : Type 0 where
-  pub app : app_of new ≡ with_subcommand (app_of old) (leaf name rules)
-  pub local : (out-Command new).has_globals ≡ (out-Command old).has_globals
-
--- the command with these options after its own
-abbrev pub with_rules : App → List Rule → App
-with_rules a rules = record a { top = record a.top { rules = a.top.rules ++ rules } }
+-- ---- what the code has of them
 
 -- the rule of an option that is written so
 abbrev pub with_spelling : Spelling → Rule → Rule
@@ -121,21 +160,37 @@ with_spelling (Short letter) r = record r { short = Some letter }
 
 -- the rule of an option that has to be given, may be given, or is a flag
 abbrev pub with_presence : Presence → Rule → Rule
-with_presence (Required value) r = record r { action = Some Set; value_names = 1; required = true }
-with_presence (Optional value) r = record r { action = Some Set; value_names = 1 }
-with_presence Flag r = record r { action = Some SetTrue }
+with_presence (Required value) r = required r
+with_presence (Optional value) r = optional r
+with_presence Flag r = flag r
 
--- an entry of the tables, as clap sees it
+-- an option of the tables, as clap sees it
 abbrev pub rule_of_option : CommandOption → Rule
 rule_of_option o = with_presence o.presence (with_spelling o.spelling (new_rule o.name.now))
 
+-- the rule of an argument, and whether it is global
+abbrev pub rule_and_global : Arg → Rule × Bool
+rule_and_global a = (rule_of a, a.global)
+
+-- a rule of an argument that is not global
+abbrev pub own_rule : Rule → Rule × Bool
+own_rule r = (r, false)
+
+-- what clap sees of a command, and whether an argument of it is global
+abbrev pub app_and_global : Command → App × Bool
+app_and_global c = (app_of c, (out-Command c).has_globals)
+
+-- a command without subcommands and without a global argument
+abbrev pub own_leaf : Shape → App × Bool
+own_leaf s = (record { top = s; subs = [] }, false)
+
 -- the six entries of a cache are its options, by name and by rule
 pub record IsOptionsOf (cache : CacheName) (o : CacheOptions) : Type 0 where
-  pub size : o.size.name.now ≡ option_of cache (codes "size")
-  pub bsize : o.bsize.name.now ≡ option_of cache (codes "bsize")
-  pub assoc : o.assoc.name.now ≡ option_of cache (codes "assoc")
-  pub repl : o.repl.name.now ≡ option_of cache (codes "repl")
-  pub walloc : o.walloc.name.now ≡ option_of cache (codes "walloc")
-  pub wback : o.wback.name.now ≡ option_of cache (codes "wback")
+  pub size : o.size.name.now ≡ (size_option_of cache).id
+  pub bsize : o.bsize.name.now ≡ (bsize_option_of cache).id
+  pub assoc : o.assoc.name.now ≡ (assoc_option_of cache).id
+  pub repl : o.repl.name.now ≡ (repl_option_of cache).id
+  pub walloc : o.walloc.name.now ≡ (walloc_option_of cache).id
+  pub wback : o.wback.name.now ≡ (wback_option_of cache).id
   pub rules : map rule_of_option
       (o.size ∷ o.bsize ∷ o.assoc ∷ o.repl ∷ o.walloc ∷ o.wback ∷ []) ≡ cache_rules cache

@@ -9,32 +9,32 @@ use Rattle.trace_core.specs.declared.line.Format.{Format}
 use Rattle.trace_core.specs.declared.line.Format.TheVariants.{Din, Lackey}
 use Rattle.trace_core.specs.declared.events.Kind.{Kind}
 use Rattle.trace_core.specs.declared.events.Kind.TheVariants.{All, DataOnly, FetchOnly}
-use Rattle.arguments.specs.Faults.{Judgement, value}
+use Rattle.arguments.specs.Faults.{JobFault, value}
 
 -- the entries that clap gives for the arguments of a subcommand
 abbrev pub rows_given : ArgMatches → List Row
 rows_given m = rows_of (found_of m)
 
--- one reading after another: the first judgement counts
-abbrev pub and_then : {A B : Type 0} → Result A Judgement → (A → Result B Judgement) → Result B Judgement
+-- one reading after another: the first fault counts
+abbrev pub and_then : {A B : Type 0} → Result A JobFault → (A → Result B JobFault) → Result B JobFault
 and_then (Ok x) next = next x
 and_then (Err e) next = Err e
 
 -- what a reader makes of an option's text, or the fault that names the option; none where it was not given
-abbrev pub read_text : {A : Type 0} → Text → (Text → Option A) → Option Text → Result (Option A) Judgement
+abbrev pub read_text : {A : Type 0} → Text → (Text → Option A) → Option Text → Result (Option A) JobFault
 read_text name reader None = Ok None
 read_text name reader (Some text) = ok_or (option_map Some (reader text)) (value name)
 
 -- the value of an option that may be left out
-abbrev pub optional_value : {A : Type 0} → Text → (Text → Option A) → List Row → Result (Option A) Judgement
+abbrev pub optional_value : {A : Type 0} → Text → (Text → Option A) → List Row → Result (Option A) JobFault
 optional_value name reader rows = read_text name reader (first_of name rows)
 
 -- the same, with the value where it is left out
-abbrev pub value_or : {A : Type 0} → A → Text → (Text → Option A) → List Row → Result A Judgement
+abbrev pub value_or : {A : Type 0} → A → Text → (Text → Option A) → List Row → Result A JobFault
 value_or default name reader rows = and_then (optional_value name reader rows) (λ v. Ok (unwrap_or v default))
 
 -- the value of an option that has to be there
-abbrev pub required_value : {A : Type 0} → Text → (Text → Option A) → List Row → Result A Judgement
+abbrev pub required_value : {A : Type 0} → Text → (Text → Option A) → List Row → Result A JobFault
 required_value name reader rows = ok_or (option_and_then reader (first_of name rows)) (value name)
 
 -- the flag was given: clap then keeps the text "true"

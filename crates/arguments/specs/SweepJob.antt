@@ -1,40 +1,41 @@
 -- What the arguments after `sweep` say.
-use Rattle.std.specs.Prelude.{ℕ, List, Result, Ok, codes}
+use Rattle.std.specs.Prelude.{ℕ, List, Result, Ok}
 use Rattle.std.specs.Result.{result_map_both}
 use Rattle.clap.specs.Words.{Row}
 use Rattle.sweep_core.specs.Space.{space_of}
 use Rattle.trace_core.specs.declared.events.Kind.TheVariants.{All}
 use Rattle.trace_core.specs.declared.line.Format.TheVariants.{Din}
-use Rattle.arguments.specs.Faults.{Judgement, space}
-use Rattle.arguments.specs.Job.{line_limit}
+use Rattle.arguments.specs.Faults.{JobFault, space}
+use Rattle.trace_core.specs.declared.limits.TheConstants.{MAX_LINES}
 use Rattle.arguments.specs.Numbers.{number_of, range_of, triple_of}
+use Rattle.arguments.specs.Options.{after_option, assoc_option, bsize_option, format_option, kind_option, pow2_option, rows_option, sets_option, size_option}
 use Rattle.arguments.specs.Readings.{and_then, format_named, is_flagged, kind_named, optional_value, required_value, value_or}
 use Rattle.arguments.specs.declared.job.Job.{Job}
 use Rattle.arguments.specs.declared.job.Job.TheVariants.{Sweep}
 
 -- the ranges of block sizes, set counts, associativities and sizes
-abbrev pub ranges_of : List Row → Result ((ℕ × ℕ) × (ℕ × ℕ) × (ℕ × ℕ) × (ℕ × ℕ)) Judgement
+abbrev pub ranges_of : List Row → Result ((ℕ × ℕ) × (ℕ × ℕ) × (ℕ × ℕ) × (ℕ × ℕ)) JobFault
 ranges_of rows =
-    and_then (required_value (codes "--bsize") range_of rows) (λ bsize.
-    and_then (required_value (codes "--sets") range_of rows) (λ sets.
-    and_then (required_value (codes "--assoc") range_of rows) (λ assoc.
-    and_then (required_value (codes "--size") range_of rows) (λ size.
+    and_then (required_value bsize_option.id range_of rows) (λ bsize.
+    and_then (required_value sets_option.id range_of rows) (λ sets.
+    and_then (required_value assoc_option.id range_of rows) (λ assoc.
+    and_then (required_value size_option.id range_of rows) (λ size.
     Ok (bsize, sets, assoc, size)))))
 
 -- The job of these entries, or the first fault: bad values in the table's order, then the space's. The options are this project's.
-abbrev pub sweep_of : List Row → Result Job Judgement
+abbrev pub sweep_of : List Row → Result Job JobFault
 sweep_of rows =
     and_then (ranges_of rows) (λ ranges.
-    and_then (value_or All (codes "--kind") kind_named rows) (λ kind.
-    and_then (value_or Din (codes "--format") format_named rows) (λ format.
-    and_then (optional_value (codes "--after") triple_of rows) (λ after.
-    and_then (optional_value (codes "--rows") number_of rows) (λ count.
-    and_then (result_map_both (λ s. s) space (space_of ranges.0 ranges.1 ranges.2 ranges.3 (is_flagged (codes "--pow2") rows)))
+    and_then (value_or All kind_option.id kind_named rows) (λ kind.
+    and_then (value_or Din format_option.id format_named rows) (λ format.
+    and_then (optional_value after_option.id triple_of rows) (λ after.
+    and_then (optional_value rows_option.id number_of rows) (λ count.
+    and_then (result_map_both (λ s. s) space (space_of ranges.0 ranges.1 ranges.2 ranges.3 (is_flagged pow2_option.id rows)))
     (λ s. Ok (Sweep (record {
       space = s;
       kind = kind;
       format = format;
       after = after;
       rows = count;
-      max_lines = line_limit;
+      max_lines = MAX_LINES;
     }))))))))

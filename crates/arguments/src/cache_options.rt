@@ -17,17 +17,17 @@ pub struct CacheOptions {
 }
 
 // What help says of each of the six.
-const SIZE: &str = "Bytes of all its blocks, a power of two, as 16k";
+const SIZE: &str = "Total size in bytes, a power of two, such as 16k";
 
-const BSIZE: &str = "Bytes in a block, a power of two";
+const BSIZE: &str = "Block size in bytes, a power of two";
 
-const ASSOC: &str = "Lines in a set, a power of two [default: 1]";
+const ASSOC: &str = "Lines per set, a power of two [default: 1]";
 
-const REPL: &str = "What leaves a full set: l LRU, f FIFO, r random [default: l]";
+const REPL: &str = "Replacement policy: l LRU, f FIFO, r random [default: l]";
 
-const WALLOC: &str = "Whether a write that misses loads its block: a always, n never [default: a]";
+const WALLOC: &str = "Write-allocate: a always, n never [default: a]";
 
-const WBACK: &str = "Writes: a go back when their block leaves, n go through at once [default: a]";
+const WBACK: &str = "Write policy: a write-back, n write-through [default: a]";
 
 /// The option of this cache with this ending.
 macro_rules! cache_option {

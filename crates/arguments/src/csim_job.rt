@@ -7,6 +7,7 @@ ghost use Rattle.arguments.specs.Readings.{rows_given};
 
 use crate::faults::WordsFault;
 use crate::job::Job;
+use crate::options::{BLOCK_BITS, LINES, SET_BITS, VERBOSE};
 use crate::readings::{is_flagged, number_at};
 use cache_core::geometry::Geometry;
 use clap::ArgMatches;
@@ -17,10 +18,10 @@ pub fn csim_job(matches: &ArgMatches<'_>) -> Result<Job, WordsFault>
     ensures job { answer_in result ≡ Some (csim_of (rows_given matches.now)) }
     ensures limit { IfOk result (λ job. max_lines_of job ≡ MAX_LINES) }
 {
-    let s = number_at(matches, "-s")?;
-    let e = number_at(matches, "-E")?;
-    let b = number_at(matches, "-b")?;
-    let verbose = is_flagged(matches, "-v");
+    let s = number_at(matches, SET_BITS.name)?;
+    let e = number_at(matches, LINES.name)?;
+    let b = number_at(matches, BLOCK_BITS.name)?;
+    let verbose = is_flagged(matches, VERBOSE.name);
     match Geometry::new(s, e, b) {
         Some(geometry) => Ok(Job::Csim {
             geometry,

@@ -9,6 +9,7 @@ use crate::cache_options::cache_options;
 use crate::faults::WordsFault;
 use crate::job::Job;
 use crate::numbers::read_scaled;
+use crate::options::{INFORMAT, SEED};
 use crate::readings::{format_at, optional_number_at, text_at};
 use cache_core::outcome::{AllocMode, Repl, WriteMode};
 use cache_core::plan::{CacheName, CacheSpec, FirstLevel, Plan};
@@ -36,8 +37,8 @@ pub fn din_job(matches: &ArgMatches<'_>) -> Result<Job, WordsFault>
     let d = read_cache(matches, CacheName::L1D)?;
     let u = read_cache(matches, CacheName::L1U)?;
     let second = read_cache(matches, CacheName::L2U)?;
-    let format = format_at(matches, "-informat")?;
-    let seed = optional_number_at(matches, "--seed")?.unwrap_or(42);
+    let format = format_at(matches, INFORMAT.name)?;
+    let seed = optional_number_at(matches, SEED.name)?.unwrap_or(42);
     let plan = plan_given(i, d, u, second)?;
     Ok(Job::Din {
         plan,

@@ -1,37 +1,53 @@
 //! What `--help` says beside the list of the options.
+//!
+//! The limits of a cache are those of `cache_core::geometry`, which no text here can cite: 1m, 64k and 4m are `MAX_BITS`, `MAX_WAYS` and
+//! `MAX_CACHE_LINES`.
+
+/// A text round how Valgrind writes a trace, with the exit statuses behind it: all four texts of help have both.
+macro_rules! help_text {
+    ($before:literal, $behind:literal, $end:literal) => {
+        concat!(
+            $before,
+            "  valgrind --tool=lackey --trace-mem=yes --log-file=trace.txt PROGRAM\n",
+            $behind,
+            "\nExit status: 0 done or help, 1 the trace, the output or the memory failed, 2 wrong arguments.",
+            $end
+        )
+    };
+}
 
 /// What the program does.
 pub const ABOUT: &str = "Simulates processor caches over a trace of memory references";
 
 /// What stands behind the list of the commands.
-pub const PROGRAM: &str = "\
+pub const PROGRAM: &str = help_text!(
+    "\
 'cachesim COMMAND --help' explains a command and its options.
 
 How to get a trace: Valgrind writes that of any program in the lackey format.
-  valgrind --tool=lackey --trace-mem=yes --log-file=trace.txt PROGRAM
-  cachesim sweep --format l --bsize 64 --sets 64 --assoc 1-8 --size 0-1m -t trace.txt
-
-Exit status: 0 done or help, 1 the trace, the output or the memory failed, 2 wrong words.
-
-cachesim 1.0.0";
+",
+    "  cachesim sweep --format l --bsize 64 --sets 64 --assoc 1-8 --size 0-1m -t trace.txt\n",
+    "\n\ncachesim 1.0.0"
+);
 
 /// What `sweep` does.
 pub const SWEEP_ABOUT: &str =
     "Counts hits, misses and evictions of every LRU cache in a range, in one pass over a trace";
 
 /// What stands behind the options of `sweep`.
-pub const SWEEP: &str = "\
-A RANGE is one number or LOWEST-GREATEST, as 16-64. Its numbers are decimal, with k, m or g
-behind them for 2^10, 2^20 or 2^30 times as much, as 32k. A cache has at most 4m lines.
+pub const SWEEP: &str = help_text!(
+    "\
+A RANGE is one number or LOWEST-GREATEST, such as 16-64. Its numbers are decimal; k, m or g at the
+end, as in 32k, multiplies by 2^10, 2^20 or 2^30. A cache has at most 4m lines.
 
 The table is CSV: a header, and a row for each cache, by rising bsize, then sets, then assoc.
-  bsize      bytes in a block
-  sets       sets in the cache
-  assoc      lines in a set
-  size       bytes of all its blocks: bsize * sets * assoc
-  hits       references whose block was there
-  misses     references whose block was not, which is then loaded
-  evictions  misses for which the least recently used block of a full set had to leave
+  bsize      block size in bytes
+  sets       number of sets
+  assoc      lines per set
+  size       total size in bytes: bsize * sets * assoc
+  hits       references that found their block
+  misses     references that did not, and loaded it
+  evictions  misses that evicted the least recently used block of a full set
 
 Every cache with blocks of 64 bytes that holds 4 to 64 KiB in sets of 1 to 8 lines:
   cachesim sweep --bsize 64 --sets 1-1k --assoc 1-8 --size 4k-64k < trace.din
@@ -40,53 +56,57 @@ A table in pages: 100 rows, and 100 more after the last of them, say 64,16,4.
   cachesim sweep .. --rows 100 -t trace.din
   cachesim sweep .. --rows 100 --after 64,16,4 -t trace.din
 
-The trace has one reference a line. Din: 0 data read, 1 data write or 2 instruction fetch, and
-the address in hexadecimal, as '0 7ffe10'; 3 is skipped, and 4 empties the caches. Lackey, as
+The trace has one reference per line. Din: 0 data read, 1 data write or 2 instruction fetch, and
+the address in hexadecimal, such as '0 7ffe10'; 3 is skipped, and 4 empties the caches. Lackey, as
 Valgrind writes it: ' L 7ffe10,8'.
-  valgrind --tool=lackey --trace-mem=yes --log-file=trace.txt PROGRAM
-  cachesim sweep .. --format l -t trace.txt
-
-Exit status: 0 done, 1 the trace, the output or the memory failed, 2 wrong words.";
+",
+    "  cachesim sweep .. --format l -t trace.txt\n",
+    ""
+);
 
 /// What `csim` does.
 pub const CSIM_ABOUT: &str = "Runs the data references of a lackey trace through one LRU cache";
 
 /// What stands behind the options of `csim`.
-pub const CSIM: &str = "\
+pub const CSIM: &str = help_text!(
+    "\
 It writes one line, 'hits:H misses:M evictions:E'. With -v a line for each load, store and modify
-comes before it: its letter (L load, S store, M modify), address and size, and how it went: hit,
-miss or miss eviction. A modify is a read and a write, and says how each went. Fetches have none.
+comes before it: its letter (L load, S store, M modify), address and size, and its outcome: hit,
+miss or miss eviction. A modify is a read and a write, and has two. Fetches have no line.
 A cache has at most 4m lines in all: 2^s * E.
 
 A trace of a program, and a cache of 64 sets of 8 lines of 64 bytes:
-  valgrind --tool=lackey --trace-mem=yes --log-file=trace.txt PROGRAM
-  cachesim csim -s 6 -E 8 -b 6 -t trace.txt
-
-Exit status: 0 done, 1 the trace, the output or the memory failed, 2 wrong words.";
+",
+    "  cachesim csim -s 6 -E 8 -b 6 -t trace.txt\n",
+    ""
+);
 
 /// What `din` does.
 pub const DIN_ABOUT: &str =
     "Runs a trace through one or two levels of caches, with the options of Dinero IV";
 
 /// What stands behind the options of `din`.
-pub const DIN: &str = "\
+pub const DIN: &str = help_text!(
+    "\
 The options of a cache and -informat may be written with one dash, as Dinero IV has them, or with
-two. A cache is there if one of its options is, and then needs its size and bsize. The first level
-is a unified cache, or an instruction cache, a data cache or both. BYTES is a decimal number, with
-k, m or g behind it for 2^10, 2^20 or 2^30 times as much. N is a decimal number. A block has at
-most 1m bytes, and a cache at most 1m sets, 64k lines in a set and 4m lines in all. The blocks of
+two. A cache exists if one of its options is given; its size and bsize must then be given. The
+first level is a unified cache, or an instruction cache, a data cache or both. BYTES is a decimal
+number; k, m or g at the end multiplies by 2^10, 2^20 or 2^30. N is a decimal number. A block has
+at most 1m bytes, and a cache at most 1m sets, 64k lines per set and 4m lines in all. The blocks of
 the second level are no smaller than those of the first.
 
 The report has a line for each cache: its fetches, reads and writes, the misses of each, the
-blocks that left (evictions), and the dirty blocks among those that left or were flushed
-(copybacks). Then what came to memory, and the references that no first-level cache takes.
+evicted blocks (evictions), and the dirty blocks that were evicted or flushed (copybacks). Then
+what came to memory, and the references that no first-level cache takes.
 
 A split first level of 32 KiB each above a second level of 1 MiB:
   cachesim din -l1-isize 32k -l1-ibsize 64 -l1-iassoc 8 -l1-dsize 32k -l1-dbsize 64 -l1-dassoc 8 \\
       -l2-usize 1m -l2-ubsize 64 -l2-uassoc 16 -informat l -t trace.txt
 
-A din trace has one reference a line: 0 data read, 1 data write or 2 instruction fetch, and the
-address in hexadecimal, as '0 7ffe10'; 3 is skipped, and 4 flushes the caches. Valgrind writes a
-lackey trace: valgrind --tool=lackey --trace-mem=yes --log-file=trace.txt PROGRAM
-
-Exit status: 0 done, 1 the trace, the output or the memory failed, 2 wrong words.";
+A din trace has one reference per line: 0 data read, 1 data write or 2 instruction fetch, and the
+address in hexadecimal, such as '0 7ffe10'; 3 is skipped, and 4 flushes the caches. Valgrind writes
+a lackey trace:
+",
+    "",
+    ""
+);

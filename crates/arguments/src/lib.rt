@@ -1,6 +1,7 @@
 //! The arguments of the command line: how they are spelled, which options there are, and the job that they ask for.
 #![tactic(auto)]
 
+mod app;
 mod cache_options;
 mod csim_job;
 mod din_job;

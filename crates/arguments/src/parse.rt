@@ -3,17 +3,18 @@ ghost use Rattle.std.specs.Prelude.{codes, [], ◌≡◌, ◌≢◌, IfOk, IfSom
 ghost use Rattle.std.specs.List.{list_any};
 ghost use Rattle.clap.specs.Words.{fault_of, first_of, kind_of, subcommand_rows_of, takes};
 ghost use Rattle.arguments.specs.CommandLine.{answer_of, command_of, is_help, job_named, chosen_command, refusal_of, usage_of};
-ghost use Rattle.arguments.specs.Faults.{judgement_of, answer_in};
+ghost use Rattle.arguments.specs.Faults.{job_fault_of, answer_in};
 ghost use Rattle.arguments.specs.Job.{max_lines_of};
 ghost use Rattle.arguments.specs.Options.{cachesim_app};
 ghost use Rattle.arguments.specs.Readings.{rows_given};
 ghost use Rattle.arguments.specs.Respell.{respelled};
 
+use crate::app::cachesim_command;
 use crate::csim_job::csim_job;
 use crate::din_job::din_job;
 use crate::faults::WordsFault;
 use crate::job::Job;
-use crate::options::cachesim_command;
+use crate::options::FILE;
 use crate::readings::text_at;
 use crate::respell::respell;
 use crate::sweep_job::sweep_job;
@@ -33,23 +34,23 @@ pub struct Command {
 ///
 /// Errors, the first that applies: `Usage` for what `clap` refuses or for help; `Value` for the first bad value, in the order of the manual's
 /// tables; `Incomplete`; then `BadShape`, `Plan` or `Space`. `Memory` wherever memory is refused.
-pub fn parse(alloc: Global, words: &[String]) -> Result<Command, WordsFault>
+pub fn parse(alloc: Global, arguments: &[String]) -> Result<Command, WordsFault>
     // But for want of memory and for what clap refuses, the answer is what the arguments mean, and clap refuses nothing.
     ensures answer { IfSome (answer_of result) (λ answer.
-        command_of (map string_bytes words.now) ≡ Some answer) }
+        command_of (map string_bytes arguments.now) ≡ Some answer) }
     ensures accepted { IfSome (answer_of result) (λ _.
-        fault_of cachesim_app (respelled (map string_bytes words.now)) ≡ []) }
+        fault_of cachesim_app (respelled (map string_bytes arguments.now)) ≡ []) }
     ensures limit { IfOk result (λ c. max_lines_of c.job ≡ MAX_LINES) }
 
     // What clap takes is not refused, a refusal is one of clap's, and it says whether help was asked for.
-    ensures taken { takes cachesim_app (respelled (map string_bytes words.now)) ≡ true
+    ensures taken { takes cachesim_app (respelled (map string_bytes arguments.now)) ≡ true
         → refusal_of result ≡ None }
     ensures refused { IfSome (refusal_of result) (λ _.
-        fault_of cachesim_app (respelled (map string_bytes words.now)) ≢ []) }
+        fault_of cachesim_app (respelled (map string_bytes arguments.now)) ≢ []) }
     ensures help { IfSome (refusal_of result) (λ help.
-        help ≡ list_any is_help (fault_of cachesim_app (respelled (map string_bytes words.now)))) }
+        help ≡ list_any is_help (fault_of cachesim_app (respelled (map string_bytes arguments.now)))) }
 {
-    let respelled = respell(alloc, words)?;
+    let respelled = respell(alloc, arguments)?;
     let command = cachesim_command(alloc)?;
     match command.try_get_matches_from(respelled.as_slice()) {
         Ok(matches) => read_command(alloc, &matches),
@@ -91,7 +92,7 @@ fn job_of(name: &str, options: &ArgMatches<'_>) -> Result<Job, WordsFault>
 fn file_at(alloc: Global, options: &ArgMatches<'_>) -> Result<Option<String>, AllocError>
     ensures { IfOk result (λ file. option_map string_bytes file ≡ first_of (codes "-t") (rows_given options.now)) }
 {
-    match text_at(options, "-t") {
+    match text_at(options, FILE.name) {
         Some(name) => Ok(Some(String::from_str(alloc, name)?)),
         None => Ok(None),
     }
@@ -99,7 +100,7 @@ fn file_at(alloc: Global, options: &ArgMatches<'_>) -> Result<Option<String>, Al
 
 /// What `clap` refused, with its text less the last LF.
 fn usage_fault(alloc: Global, error: &clap::Error) -> WordsFault
-    ensures silent { judgement_of result ≡ None }
+    ensures silent { job_fault_of result ≡ None }
     ensures memory { kind_of error.now ≡ ErrorKind.OutOfMemory → usage_of result ≡ None }
     ensures help { IfSome (usage_of result) (λ help. help ≡ is_help (kind_of error.now)) }
 {

@@ -5,13 +5,13 @@ ghost use Rattle.arguments.specs.Respell.{is_din, is_dinero_option, respelled, s
 use std::alloc::{AllocError, Global};
 
 /// The arguments, where the options of `din` have two dashes. The first two, the program's name and the command, stay as they are.
-pub fn respell(alloc: Global, words: &[String]) -> Result<Vec<String>, AllocError>
-    ensures { IfOk result (λ v. map string_bytes v.items ≡ respelled (map string_bytes words.now)) }
+pub fn respell(alloc: Global, arguments: &[String]) -> Result<Vec<String>, AllocError>
+    ensures { IfOk result (λ v. map string_bytes v.items ≡ respelled (map string_bytes arguments.now)) }
 {
-    let (head, options) = words.split_at(words.len().min(2));
-    let mut respelled = Vec::with_capacity(alloc, words.len())?;
+    let (head, options) = arguments.split_at(arguments.len().min(2));
+    let mut respelled = Vec::with_capacity(alloc, arguments.len())?;
     push_arguments(alloc, &mut respelled, head, false)?;
-    push_arguments(alloc, &mut respelled, options, is_din(words))?;
+    push_arguments(alloc, &mut respelled, options, is_din(arguments))?;
     Ok(respelled)
 }
 

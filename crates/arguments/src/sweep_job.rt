@@ -7,6 +7,7 @@ ghost use Rattle.arguments.specs.SweepJob.{ranges_of, sweep_of};
 
 use crate::faults::WordsFault;
 use crate::job::Job;
+use crate::options::{AFTER, ASSOC, BSIZE, FORMAT, KIND, POW2, ROWS, SETS, SIZE};
 use crate::readings::{config_at, format_at, is_flagged, kind_at, optional_number_at, range_at};
 use clap::ArgMatches;
 use sweep_core::request::Request;
@@ -22,11 +23,11 @@ pub fn sweep_job(matches: &ArgMatches<'_>) -> Result<Job, WordsFault>
     ensures limit { IfOk result (λ job. max_lines_of job ≡ MAX_LINES) }
 {
     let (bsize, sets, assoc, size) = ranges_at(matches)?;
-    let kind = kind_at(matches, "--kind")?;
-    let format = format_at(matches, "--format")?;
-    let after = config_at(matches, "--after")?;
-    let rows = optional_number_at(matches, "--rows")?;
-    let powers = is_flagged(matches, "--pow2");
+    let kind = kind_at(matches, KIND.name)?;
+    let format = format_at(matches, FORMAT.name)?;
+    let after = config_at(matches, AFTER.name)?;
+    let rows = optional_number_at(matches, ROWS.name)?;
+    let powers = is_flagged(matches, POW2.name);
     let space = Space::new(bsize, sets, assoc, size, powers)?;
     let request = Request {
         space,
@@ -43,9 +44,9 @@ pub fn sweep_job(matches: &ArgMatches<'_>) -> Result<Job, WordsFault>
 fn ranges_at(matches: &ArgMatches<'_>) -> Result<(Range, Range, Range, Range), WordsFault>
     ensures { answer_in result ≡ Some (ranges_of (rows_given matches.now)) }
 {
-    let bsize = range_at(matches, "--bsize")?;
-    let sets = range_at(matches, "--sets")?;
-    let assoc = range_at(matches, "--assoc")?;
-    let size = range_at(matches, "--size")?;
+    let bsize = range_at(matches, BSIZE.name)?;
+    let sets = range_at(matches, SETS.name)?;
+    let assoc = range_at(matches, ASSOC.name)?;
+    let size = range_at(matches, SIZE.name)?;
     Ok((bsize, sets, assoc, size))
 }

@@ -1,4 +1,4 @@
--- One access under any lawful policy, as the cache sees it and as the machine sees it.
+-- One access under any policy, as the cache sees it and as the machine sees it.
 use Rattle.std.proofs.Common.{◌≡◌, ◌≢◌, ℕ, ◌+◌, ◌<◌, ◌≤◌, ◌^◌, ◌==◌, ◌&&◌, Bool, true, false, not, cond, eqb, ltb}
 use Rattle.std.proofs.Common.{replicate}
 use Rattle.std.proofs.Common.{List, [], ◌∷◌, ◌++◌, length, get_or, Option, Some, None, sym, ◌∙◌, ap, refl, subst, arith, map}
@@ -16,9 +16,9 @@ use Rattle.cache_core.specs.declared.outcome.Slot.{Slot}
 use Rattle.cache_core.specs.declared.outcome.Outcome.{Outcome}
 use Rattle.cache_core.specs.declared.outcome.Repl.{Repl}
 use Rattle.cache_core.specs.Geometry.{GeometryValue, block_of, set_of_block}
-use Rattle.cache_core.specs.Outcomes.{Answer, outcome_of, on_placing, on_passing, dirties, allocates}
-use Rattle.cache_core.specs.Machine.{Machine, MachineState, Line, slot_of, option_slot, is_block, lines_of_set, is_full, with_block, touch, placing}
-use Rattle.cache_core.specs.Machine.{start, step_at, answer_at}
+use Rattle.cache_core.specs.Outcomes.{outcome_of, on_placing, dirties, allocates}
+use Rattle.cache_core.specs.Machine.{Machine, MachineState, Line, slot_of, is_block, lines_of_set, is_full, with_block, with_touch, placing}
+use Rattle.cache_core.specs.Machine.{Step, passing, start, step_at}
 use Rattle.cache_core.specs.Order.{Contents, dirty_in, VisitsAt, Fills, PassesOn, Hits, TakesIn, slots_of, position_of, marked}
 use Rattle.cache_core.specs.Stands.{Absent, Distinct}
 use Rattle.cache_core.specs.AnyPolicy.{HoldsSame, MayLeave, AnyStartLaw, AnyAccessLaw, AnyFlushLaw}
@@ -28,21 +28,21 @@ use Rattle.cache_core.proofs.SetLaw.{with_mark}
 use Rattle.cache_core.proofs.StateLaw.{touch_here, touch_other, insert_here, insert_other, exchange_here, exchange_other, member_set}
 use Rattle.cache_core.proofs.Visits.{at_each, set_for, visit_for, others_for}
 use Rattle.cache_core.proofs.FlushLaw.{none_anywhere, dirty_all}
-use Rattle.cache_core.proofs.LruSet.{blocks_of, place_none}
+use Rattle.cache_core.proofs.LruSet.{blocks_of, position_none}
 use Rattle.cache_core.proofs.DownLaw.{any_clean, any_few}
 use Rattle.cache_core.proofs.Lists.{is}
 use Rattle.cache_core.proofs.SlotSums.{LineAt, agree, same, same_is, one_for, one_self, by_sums, line_sum, sum_split, absent_sum, line_for, touch_sum}
 use Rattle.cache_core.proofs.SlotSums.{touch_distinct, insert_sum, insert_distinct, exchange_sum, exchange_distinct}
 
 -- what a step has to do: the set of the block agrees again, the others stay
-record Agrees (m : Machine) (st : MachineState) (k : ℕ) (needed : Bool) (next : Option Line → MachineState) (answer : Option Line → Answer)
-    (slots : List Slot) (outcome : Outcome) : Type 0 where
+record AgreesUpToOrder (m : Machine) (st : MachineState) (k : ℕ) (needed : Bool) (now : Option Line → Step) (slots : List Slot)
+    (outcome : Outcome) : Type 0 where
   gone : Option Line
   may : MayLeave needed (lines_of_set m.design.geometry k st.lines) gone
-  told : outcome ≡ outcome_of (answer gone)
-  held : IsPermutation slots (map slot_of (lines_of_set m.design.geometry k (next gone).lines))
-  distinct : Distinct (lines_of_set m.design.geometry k (next gone).lines)
-  others : (j : ℕ) → j ≢ k → lines_of_set m.design.geometry j (next gone).lines ≡ lines_of_set m.design.geometry j st.lines
+  effect : outcome ≡ outcome_of (now gone).effect
+  held : IsPermutation slots (map slot_of (lines_of_set m.design.geometry k (now gone).after.lines))
+  distinct : Distinct (lines_of_set m.design.geometry k (now gone).after.lines)
+  others : (j : ℕ) → j ≢ k → lines_of_set m.design.geometry j (now gone).after.lines ≡ lines_of_set m.design.geometry j st.lines
 
 one_true : (t : Bool) → 1 ≤ cond t 1 0 → t ≡ true
 one_true true h = refl
@@ -59,7 +59,7 @@ none_of x (s ∷ slots) h =
 abbrev empty_slot : Slot
 empty_slot = record { block = 0; dirty = false }
 
--- the slot at a place that is marked
+-- the slot at an index that is marked
 marked_sum : (d : Bool) (slots : List Slot) (at : ℕ) (line : Line) (f : Slot → ℕ) → at < length slots →
     slot_of line ≡ get_or slots at empty_slot → sum_by f (marked d slots at) + f (slot_of line) ≡ sum_by f slots + f (slot_of (with_mark d line))
 marked_sum false slots at line f h e = refl
@@ -76,16 +76,16 @@ sums_around : (slots : List Slot) (here front : List Line) (line : Line) (back :
 sums_around slots here front line back perm split f =
     omega (arith, sum_by-IsPermutation f slots (map slot_of here) perm, ap (line_sum f) split, sum_split f front line back)
 
--- a block that has a line has a place among the slots
+-- a block that has a line has an index among the slots
 held_placed : (b : ℕ) (here : List Line) (line : Line) (slots : List Slot) → IsPermutation slots (map slot_of here) →
     find (is_block b) here ≡ Some line → position_of b slots ≡ None → ⊥
 held_placed b here line slots perm e q =
     let r = found b here line e in
     let none : sum_by (one_for (slot_of line)) slots ≡ 0 =
-    none_of (slot_of line) slots (place_none line.block slots (ap (λ n. position_of n slots) r.here ∙ q)) in
+    none_of (slot_of line) slots (position_none line.block slots (ap (λ n. position_of n slots) r.here ∙ q)) in
     omega (arith, none, sums_around slots here r.front line r.back perm r.split (one_for (slot_of line)), one_self (slot_of line))
 
--- and a block that has none has no place
+-- and a block that has none has no index
 absent_placed : (b : ℕ) (here : List Line) (slots : List Slot) (at : ℕ) → IsPermutation slots (map slot_of here) → Absent b here →
     position_of b slots ≡ Some at → ⊥
 absent_placed b here slots at perm a q =
@@ -99,10 +99,10 @@ absent_placed b here slots at perm a q =
       absent_sum b x here a (eqb-true x.block b p.1),
     )
 
--- the slot at the place of a block is that of its line
-slot_at_place : (b : ℕ) (here : List Line) (line : Line) (slots : List Slot) (at : ℕ) → Distinct here → IsPermutation slots (map slot_of here) →
+-- the slot at the index of a block is that of its line
+slot_at_position : (b : ℕ) (here : List Line) (line : Line) (slots : List Slot) (at : ℕ) → Distinct here → IsPermutation slots (map slot_of here) →
     find (is_block b) here ≡ Some line → position_of b slots ≡ Some at → slot_of line ≡ get_or slots at empty_slot
-slot_at_place b here line slots at d perm e q =
+slot_at_position b here line slots at d perm e q =
     let r = found b here line e in
     let dr : Distinct (r.front ++ line ∷ r.back) = subst Distinct r.split d in
     let x : Slot = get_or slots at empty_slot in
@@ -122,7 +122,7 @@ slot_at_place b here line slots at d perm e q =
     same_is x (slot_of line) (one_true (same x (slot_of line)) one)
 
 -- a reference at a machine, whose set holds the slots of the machine's lines in some order
-module _ (m : Machine) (st : MachineState) (ref : Ref) (rule : Option Repl) (words : ℕ → ℕ) (outcome : Outcome) (slots new : List Slot)
+module _ (m : Machine) (st : MachineState) (ref : Ref) (policy : Option Repl) (numbers : ℕ → ℕ) (outcome : Outcome) (slots new : List Slot)
     (rest : ℕ → ℕ)
     (some : 1 ≤ m.design.geometry.e) (d : Distinct (lines_of_set m.design.geometry (set_for m ref) st.lines))
     (perm : IsPermutation slots (map slot_of (lines_of_set m.design.geometry (set_for m ref) st.lines))) where
@@ -148,12 +148,12 @@ module _ (m : Machine) (st : MachineState) (ref : Ref) (rule : Option Repl) (wor
 
   -- a hit
   hit_agrees : (line : Line) (at : ℕ) → find (is_block b) here ≡ Some line → position_of b slots ≡ Some at →
-      Hits m.design rule words ref at slots outcome new rest →
-      Agrees m st k false (λ gone. step_at m ref b gone st (Some line)) (λ gone. answer_at m ref b gone (Some line)) new outcome
+      Hits m.design policy numbers ref at slots outcome new rest →
+      AgreesUpToOrder m st k false (λ gone. step_at m ref b gone st (Some line)) new outcome
   hit_agrees line at e q hits = record {
     gone = None;
     may = refl;
-    told = hits.answers;
+    effect = hits.effect;
     held = rw lines (by_sums new (map slot_of after) sums);
     distinct = rw lines (touch_distinct m.policy clock y r.front line r.back i);
     others = λ j ne. touch_other m.policy clock g j y st.lines (λ p. ne (p ∙ in_set));
@@ -176,10 +176,10 @@ module _ (m : Machine) (st : MachineState) (ref : Ref) (rule : Option Repl) (wor
       in_set = ap (set_of_block g) r.here
 
       after : List Line
-      after = touch m.policy clock y (r.front ++ line ∷ r.back)
+      after = with_touch m.policy clock y (r.front ++ line ∷ r.back)
 
-      lines : lines_of_set g k (touch m.policy clock y st.lines) ≡ after
-      lines = touch_here m.policy clock g k y st.lines in_set ∙ ap (touch m.policy clock y) r.split
+      lines : lines_of_set g k (with_touch m.policy clock y st.lines) ≡ after
+      lines = touch_here m.policy clock g k y st.lines in_set ∙ ap (with_touch m.policy clock y) r.split
 
       within : at < length slots
       within = (position-Some (λ (s : Slot). s.block == b) slots at empty_slot q).0
@@ -189,19 +189,19 @@ module _ (m : Machine) (st : MachineState) (ref : Ref) (rule : Option Repl) (wor
           omega (
             arith,
             sum_by-IsPermutation f (marked mark slots at) new
-                (lawful_touch rule (marked mark slots at) at new (omega (arith, within, marked_length mark slots at)) hits.order),
-            marked_sum mark slots at line f within (slot_at_place b here line slots at d perm e q),
+                (lawful_touch policy (marked mark slots at) at new (omega (arith, within, marked_length mark slots at)) hits.order),
+            marked_sum mark slots at line f within (slot_at_position b here line slots at d perm e q),
             sums_around slots here r.front line r.back perm r.split f,
             touch_sum m.policy clock y r.front line r.back f i,
           )
 
-  -- a miss that places its block in a set with room
+  -- a miss that places its block in a set that is not full
   insert_agrees : Absent b here → length slots < g.e → IsPermutation (slot ∷ slots) new →
       outcome ≡ outcome_of (on_placing g m.design.write ref b None) →
-      Agrees m st k (is_full m st k) (λ gone. placing m ref b gone st) (λ gone. on_placing g m.design.write ref b (option_slot gone)) new outcome
+      AgreesUpToOrder m st k (is_full m st k) (λ gone. placing m ref b gone st) new outcome
   insert_agrees a free t o =
       let long : length here ≡ length slots = sym (length-map here slot_of) ∙ length_permutation slots (map slot_of here) perm in
-      let room : ltb (length here) g.e ≡ true = lt-ltb (length here) g.e (omega (arith, free, long)) in
+      let not_full : ltb (length here) g.e ≡ true = lt-ltb (length here) g.e (omega (arith, free, long)) in
       let lines = insert_here m.policy clock (length here) g k slot st.lines refl in
       let sums : (f : Slot → ℕ) → sum_by f new ≡ line_sum f (with_block m.policy clock (length here) slot None here) = λ f.
       omega (
@@ -213,8 +213,8 @@ module _ (m : Machine) (st : MachineState) (ref : Ref) (rule : Option Repl) (wor
       ) in
       record {
         gone = None;
-        may = ap not room;
-        told = o;
+        may = ap not not_full;
+        effect = o;
         held = rw lines (by_sums new (map slot_of (with_block m.policy clock (length here) slot None here)) sums);
         distinct = rw lines (insert_distinct m.policy clock (length here) slot here a d);
         others = λ j ne. insert_other m.policy clock (length here) g j slot st.lines ne;
@@ -223,11 +223,11 @@ module _ (m : Machine) (st : MachineState) (ref : Ref) (rule : Option Repl) (wor
   -- in a full set, where this line leaves
   leaving_agrees : (x : Slot) (rest : List Slot) (r : LineAt x here) → Absent b here → length slots ≡ g.e → IsPermutation slots (x ∷ rest) →
       IsPermutation (slot ∷ rest) new → outcome ≡ outcome_of (on_placing g m.design.write ref b (Some x)) →
-      Agrees m st k (is_full m st k) (λ gone. placing m ref b gone st) (λ gone. on_placing g m.design.write ref b (option_slot gone)) new outcome
+      AgreesUpToOrder m st k (is_full m st k) (λ gone. placing m ref b gone st) new outcome
   leaving_agrees x rest r a whole left t o = record {
     gone = Some r.line;
     may = (ap not full, subst (λ ls. Contains ls r.line) (sym r.split) (Contains-append_right r.front (r.line ∷ r.back) r.line (0, (omega arith), refl)));
-    told = o ∙ ap (λ v. outcome_of (on_placing g m.design.write ref b (Some v))) (sym r.slot);
+    effect = o ∙ ap (λ v. outcome_of (on_placing g m.design.write ref b (Some v))) (sym r.slot);
     held = rw lines (by_sums new (map slot_of after) sums);
     distinct = rw lines (exchange_distinct m.policy clock (length here) slot r.front r.line r.back front back (subst (Absent b) r.split a) dr);
     others = λ j ne. exchange_other m.policy clock (length here) g j slot r.line st.lines in_set ne;
@@ -270,11 +270,11 @@ module _ (m : Machine) (st : MachineState) (ref : Ref) (rule : Option Repl) (wor
             exchange_sum m.policy clock (length here) slot r.front r.line r.back f front back,
           )
 
-  fill_agrees : (word : ℕ) (evicted : Option Slot) → Absent b here → TakesIn None word g.e slots slot evicted new →
+  fill_agrees : (number : ℕ) (evicted : Option Slot) → Absent b here → TakesIn None number g.e slots slot evicted new →
       outcome ≡ outcome_of (on_placing g m.design.write ref b evicted) →
-      Agrees m st k (is_full m st k) (λ gone. placing m ref b gone st) (λ gone. on_placing g m.design.write ref b (option_slot gone)) new outcome
-  fill_agrees word None a t o = insert_agrees a t.0 t.1 o
-  fill_agrees word (Some x) a t o =
+      AgreesUpToOrder m st k (is_full m st k) (λ gone. placing m ref b gone st) new outcome
+  fill_agrees number None a t o = insert_agrees a t.0 t.1 o
+  fill_agrees number (Some x) a t o =
       let counted : 1 ≤ line_sum (one_for x) here =
       omega (
         arith,
@@ -286,18 +286,17 @@ module _ (m : Machine) (st : MachineState) (ref : Ref) (rule : Option Repl) (wor
       leaving_agrees x t.1.0 (line_for x here counted) a t.0 t.1.1 t.1.2 o
 
   miss_agrees : (fills : Bool) → Absent b here →
-      MatchBool fills (Fills m.design rule words ref slots outcome new rest) (PassesOn words ref slots outcome new rest) →
-      Agrees m st k (fills && is_full m st k) (λ gone. cond fills (placing m ref b gone st) (record st { clock = clock }))
-      (λ gone. cond fills (on_placing g m.design.write ref b (option_slot gone)) (on_passing ref)) new outcome
+      MatchBool fills (Fills m.design policy numbers ref slots outcome new rest) (PassesOn numbers ref slots outcome new rest) →
+      AgreesUpToOrder m st k (fills && is_full m st k) (λ gone. cond fills (placing m ref b gone st) (passing ref st)) new outcome
   miss_agrees true a v =
-      fill_agrees 0 outcome.evicted a (lawful_place rule (words 0) 0 g.e slots slot outcome.evicted new some v.order) v.answers
-  miss_agrees false a v = record { gone = None; may = refl; told = v.answers; held = rw v.order perm; distinct = d; others = λ j ne. refl }
+      fill_agrees 0 outcome.evicted a (lawful_place policy (numbers 0) 0 g.e slots slot outcome.evicted new some v.order) v.effect
+  miss_agrees false a v = record { gone = None; may = refl; effect = v.effect; held = rw v.order perm; distinct = d; others = λ j ne. refl }
 
-  -- a hit or a miss, by the block's line and by its place
-  step_agrees : (o : Option Line) (place : Option ℕ) → find (is_block b) here ≡ o → position_of b slots ≡ place →
-      VisitsAt place m.design rule words ref slots outcome new rest →
-      Agrees m st k (is_none o && allocates m.design.allocate ref.access && is_full m st k) (λ gone. step_at m ref b gone st o)
-      (λ gone. answer_at m ref b gone o) new outcome
+  -- a hit or a miss, by the block's line and by its index
+  step_agrees : (o : Option Line) (index : Option ℕ) → find (is_block b) here ≡ o → position_of b slots ≡ index →
+      VisitsAt index m.design policy numbers ref slots outcome new rest →
+      AgreesUpToOrder m st k (is_none o && allocates m.design.allocate ref.access && is_full m st k) (λ gone. step_at m ref b gone st o)
+      new outcome
   step_agrees (Some line) (Some at) e q v = hit_agrees line at e q v
   step_agrees (Some line) None e q v = absurd (held_placed b here line slots perm e q)
   step_agrees None (Some at) e q v = absurd (absent_placed b here slots at perm (not_found b here e) q)
@@ -310,14 +309,14 @@ any_access m st old ref outcome new some i a =
     let k = set_for m ref in
     let o = find (is_block b) st.lines in
     let r =
-    step_agrees m st ref old.rule old.words outcome (slots_of old.sets k) (slots_of new.sets k) new.words some (i.distinct k) (i.sets k) o
+    step_agrees m st ref old.policy old.random_numbers outcome (slots_of old.sets k) (slots_of new.sets k) new.random_numbers some (i.distinct k) (i.sets k) o
     (position_of b (slots_of old.sets k)) (find_in_set g b st.lines) refl (visit_for m old ref outcome new i.design a) in
-    let next : MachineState = step_at m ref b r.gone st o in
+    let next : MachineState = (step_at m ref b r.gone st o).after in
     let stay = others_for m old ref outcome new i.design a in
     record {
       gone = r.gone;
       may = r.may;
-      told = r.told;
+      effect = r.effect;
       few = any_few m st ref r.gone i.clean r.may;
       holds = record {
         design = a.design ∙ i.design;

@@ -1,18 +1,55 @@
--- The counts of the caches of a system, step by step.
-use Rattle.std.proofs.Common.{ℕ, ◌+◌, ◌≤◌, Bool, true, false, List, [], ◌∷◌, Option, Some, None, arith, ap}
-use Rattle.std.specs.Prelude.{MatchBool, is_some}
+-- What one reference adds to the counts of a system.
+use Rattle.std.proofs.Common.{◌≡◌, ℕ, ◌+◌, ◌*◌, ◌≤◌, ◌&&◌, not, Bool, true, false, cond, get_or, List, [], ◌∷◌, length}
+use Rattle.std.proofs.Common.{Option, Some, None, arith, ap, sym, subst, refl}
+use Rattle.std.specs.Prelude.{MatchBool, MatchOption, is_some, is_none}
 use Rattle.trace_core.specs.declared.events.Ref.{Ref}
+use Rattle.trace_core.specs.declared.events.Access.{Access}
+use Rattle.trace_core.specs.declared.events.Access.TheVariants.{Fetch, Read, Write}
 use Rattle.cache_core.specs.declared.outcome.Outcome.{Outcome}
+use Rattle.cache_core.specs.declared.outcome.Design.{Design}
+use Rattle.cache_core.specs.declared.outcome.Slot.{Slot}
+use Rattle.cache_core.specs.declared.outcome.Repl.{Repl}
 use Rattle.cache_core.specs.declared.stats.CacheStats.{CacheStats}
 use Rattle.cache_core.specs.declared.system_cache.SystemCache.{SystemCache}
 use Rattle.cache_core.specs.declared.system.Memory.{Memory}
-use Rattle.cache_core.specs.SystemCaches.{Enters, CacheWithin}
-use Rattle.cache_core.specs.Systems.{is_fetch}
-use Rattle.cache_core.specs.SystemSteps.{AccessesFirst, Descends, AllDescend, AccessesUnified, AccessesSplit, AccessesFirstLevel, copied}
+use Rattle.cache_core.specs.Geometry.{block_of, set_of}
+use Rattle.cache_core.specs.Order.{Accesses, Visits, VisitsAt, Fills, PassesOn, position_of, slots_of, is_dirty, one_if}
+use Rattle.cache_core.specs.Outcomes.{is_write, allocates, on_hit, on_placing, on_passing, two_options}
+use Rattle.cache_core.specs.CacheSteps.{Enters, system_cache_contents}
+use Rattle.cache_core.specs.SystemCaches.{stats_after, accesses, CacheCountsWithin}
+use Rattle.cache_core.specs.Systems.{is_fetch, is_read}
+use Rattle.cache_core.specs.SystemSteps.{AccessesFirst, Descends, AllDescend, AccessesUnified, AccessesSplit, AccessesFirstLevel, copied, counted, reached}
+use Rattle.cache_core.specs.SystemSteps.{present_refs, reaches, all_reach}
 
-pub within_more : (n m : ℕ) (o : Option SystemCache) → n ≤ m → CacheWithin n o → CacheWithin m o
-within_more n m None h w = tt
-within_more n m (Some cache) h w = record {
+-- at most one
+pub one_most : (b : Bool) → one_if b ≤ 1
+one_most true = omega arith
+one_most false = omega arith
+
+one_kind : (a : Access) → one_if (is_fetch a) + one_if (is_read a) + one_if (is_write a) ≡ 1
+one_kind Fetch = refl
+one_kind Read = refl
+one_kind Write = refl
+
+-- a count of one more access
+pub one_access : (s : CacheStats) (ref : Ref) (o : Outcome) → accesses (stats_after s ref o) ≡ accesses s + 1
+one_access s ref o = omega (arith, one_kind ref.access)
+
+-- each count grows by one at most
+pub stats_within : (n : ℕ) (s : CacheStats) (ref : Ref) (o : Outcome) → CacheCountsWithin n s → CacheCountsWithin (n + 1) (stats_after s ref o)
+stats_within n s ref o w = record {
+  fetches = omega (arith, w.fetches, one_most (is_fetch ref.access));
+  fetch_misses = omega (arith, w.fetch_misses, one_most (is_fetch ref.access && not o.hit));
+  reads = omega (arith, w.reads, one_most (is_read ref.access));
+  read_misses = omega (arith, w.read_misses, one_most (is_read ref.access && not o.hit));
+  writes = omega (arith, w.writes, one_most (is_write ref.access));
+  write_misses = omega (arith, w.write_misses, one_most (is_write ref.access && not o.hit));
+  evictions = omega (arith, w.evictions, one_most (is_some o.evicted));
+  copybacks = omega (arith, w.copybacks, one_most (is_dirty o.evicted));
+}
+
+pub within_more : (n m : ℕ) (s : CacheStats) → n ≤ m → CacheCountsWithin n s → CacheCountsWithin m s
+within_more n m s h w = record {
   fetches = omega (arith, w.fetches);
   fetch_misses = omega (arith, w.fetch_misses);
   reads = omega (arith, w.reads);
@@ -20,40 +57,147 @@ within_more n m (Some cache) h w = record {
   writes = omega (arith, w.writes);
   write_misses = omega (arith, w.write_misses);
   evictions = omega (arith, w.evictions);
-  copybacks = w.copybacks;
+  copybacks = omega (arith, w.copybacks);
 }
 
-enters_copied : (old : SystemCache) (ref : Ref) (outcome : Outcome) (new : SystemCache) → Enters old ref outcome new →
-    old.stats.copybacks ≤ new.stats.copybacks
-enters_copied old ref outcome new e = let c = ap (λ (s : CacheStats). s.copybacks) e.counts in omega (arith, c)
+-- a cache's counts after one more access, and after a flush
+pub accessed_within : (s new : CacheStats) (ref : Ref) (o : Outcome) → new ≡ stats_after s ref o → CacheCountsWithin (accesses s) s →
+    CacheCountsWithin (accesses new) new
+accessed_within s new ref o is w =
+    rw is (subst (λ n. CacheCountsWithin n (stats_after s ref o)) (sym (one_access s ref o)) (stats_within (accesses s) s ref o w))
 
-pub first_access_copied : (old : Option SystemCache) (ref : Ref) (down : Option (List (Option Ref))) (new : Option SystemCache) →
-    AccessesFirst old ref down new →
-    copied old ≤ copied new
-first_access_copied old ref None new a = rw (a.0, a.1) (omega arith)
-first_access_copied old ref (Some down) new (a, b, o, p, q, r, e) = rw (p, q) (enters_copied a ref o b e)
+-- one reference at a cache, if it is there
+pub record Grows (more : ℕ) (old new : Option SystemCache) : Type 0 where
+  pub counts : counted new ≤ counted old + more
+  pub copies : copied old ≤ copied new
 
-pub first_copied : (i d u : Option SystemCache) (ref : Ref) (down : Option (List (Option Ref))) (i' d' u' : Option SystemCache) →
-    AccessesFirstLevel i d u ref down i' d' u' → copied i + copied d + copied u ≤ copied i' + copied d' + copied u'
-first_copied i d u ref down i' d' u' f = by_unified (is_some u) f
+entered : (old : SystemCache) (ref : Ref) (outcome : Outcome) (new : SystemCache) → Enters old ref outcome new → Grows 1 (Some old) (Some new)
+entered old ref outcome new e =
+    let counts = ap accesses e.counts in
+    let copies = ap (λ (s : CacheStats). s.copybacks) e.counts in
+    record { counts = omega (arith, counts, one_access old.stats ref outcome); copies = omega (arith, copies) }
+
+first_grows : (old : Option SystemCache) (ref : Ref) (down : Option (List (Option Ref))) (new : Option SystemCache) → AccessesFirst old ref down new →
+    Grows (one_if (is_some down)) old new
+first_grows old ref None new a = rw (a.0, a.1) record { counts = omega arith; copies = omega arith }
+first_grows old ref (Some down) new (a, b, o, p, q, r, e) = rw (p, q) (entered a ref o b e)
+
+-- what goes down for a visit stands in two places
+visit_sends : (d : Design) (policy : Option Repl) (numbers rest : ℕ → ℕ) (ref : Ref) (old : List Slot) (o : Outcome) (new : List Slot) →
+    Visits d policy numbers ref old o new rest → (xs : List Ref) × (o.down ≡ two_options xs)
+visit_sends d policy numbers rest ref old o new v = by_place (position_of (block_of d.geometry ref.addr) old) v
   where
-    by_fetch : (b : Bool) → AccessesSplit b i d u ref down i' d' u' → copied i + copied d + copied u ≤ copied i' + copied d' + copied u'
-    by_fetch true g = rw (g.1, g.2) (omega (arith, first_access_copied i ref down i' g.0))
-    by_fetch false g = rw (g.1, g.2) (omega (arith, first_access_copied d ref down d' g.0))
+    by_miss : (b : Bool) → MatchBool b (Fills d policy numbers ref old o new rest) (PassesOn numbers ref old o new rest) →
+        (xs : List Ref) × (o.down ≡ two_options xs)
+    by_miss true m = ((on_placing d.geometry d.write ref (block_of d.geometry ref.addr) o.evicted).down, ap (λ (x : Outcome). x.down) m.effect)
+    by_miss false m = ((on_passing ref).down, ap (λ (x : Outcome). x.down) m.effect)
+
+    by_place : (at : Option ℕ) → VisitsAt at d policy numbers ref old o new rest → (xs : List Ref) × (o.down ≡ two_options xs)
+    by_place None m = by_miss (allocates d.allocate ref.access) m
+    by_place (Some at) h = ((on_hit d.write ref).down, ap (λ (x : Outcome). x.down) h.effect)
+
+sends : (old : SystemCache) (ref : Ref) (o : Outcome) (new : SystemCache) → Enters old ref o new → (xs : List Ref) × (o.down ≡ two_options xs)
+sends old ref o new e =
+    let c = system_cache_contents old in
+    let set = set_of c.design.geometry ref.addr in
+    visit_sends c.design c.policy c.random_numbers (system_cache_contents new).random_numbers ref (slots_of c.sets set) o (slots_of (system_cache_contents new).sets set)
+    e.access.visit
+
+two_most : (xs : List Ref) → length (present_refs (two_options xs)) ≤ 2
+two_most [] = omega arith
+two_most (x ∷ []) = omega arith
+two_most (x ∷ y ∷ xs) = omega arith
+
+sends_two : (old : SystemCache) (ref : Ref) (o : Outcome) (new : SystemCache) → Enters old ref o new → length (present_refs o.down) ≤ 2
+sends_two old ref o new e = let (xs, is) = sends old ref o new e in rw is (two_most xs)
+
+-- how many references go down from the first level, none where no cache took the reference
+abbrev pub sent_down : Option (List (Option Ref)) → ℕ
+sent_down None = 0
+sent_down (Some down) = length (present_refs down)
+
+first_sends : (old : Option SystemCache) (ref : Ref) (down : Option (List (Option Ref))) (new : Option SystemCache) → AccessesFirst old ref down new →
+    sent_down down ≤ 2
+first_sends old ref None new a = omega arith
+first_sends old ref (Some down) new (a, b, o, p, q, r, e) = rw r (sends_two a ref o b e)
+
+-- one reference at the first level
+pub record FirstGrows (down : Option (List (Option Ref))) (i d u i' d' u' : Option SystemCache) : Type 0 where
+  pub counts : counted i' + counted d' + counted u' + one_if (is_none down) ≤ counted i + counted d + counted u + 1
+  pub copies : copied i + copied d + copied u ≤ copied i' + copied d' + copied u'
+  pub sends : sent_down down ≤ 2
+
+one_way : (down : Option (List (Option Ref))) → one_if (is_some down) + one_if (is_none down) ≡ 1
+one_way None = refl
+one_way (Some down) = refl
+
+pub first_level_grows : (i d u : Option SystemCache) (ref : Ref) (down : Option (List (Option Ref))) (i' d' u' : Option SystemCache) →
+    AccessesFirstLevel i d u ref down i' d' u' → FirstGrows down i d u i' d' u'
+first_level_grows i d u ref down i' d' u' f = by_unified (is_some u) f
+  where
+    by_fetch : (b : Bool) → AccessesSplit b i d u ref down i' d' u' → FirstGrows down i d u i' d' u'
+    by_fetch true g =
+        let x = first_grows i ref down i' g.0 in
+        rw (g.1, g.2) record { counts = omega (arith, x.counts, one_way down); copies = omega (arith, x.copies); sends = first_sends i ref down i' g.0 }
+    by_fetch false g =
+        let x = first_grows d ref down d' g.0 in
+        rw (g.1, g.2) record { counts = omega (arith, x.counts, one_way down); copies = omega (arith, x.copies); sends = first_sends d ref down d' g.0 }
 
     by_unified : (b : Bool) → MatchBool b (AccessesUnified i d u ref down i' d' u') (AccessesSplit (is_fetch ref.access) i d u ref down i' d' u') →
-        copied i + copied d + copied u ≤ copied i' + copied d' + copied u'
-    by_unified true g = rw (g.1, g.2) (omega (arith, first_access_copied u ref down u' g.0))
+        FirstGrows down i d u i' d' u'
+    by_unified true g =
+        let x = first_grows u ref down u' g.0 in
+        rw (g.1, g.2) record { counts = omega (arith, x.counts, one_way down); copies = omega (arith, x.copies); sends = first_sends u ref down u' g.0 }
     by_unified false g = by_fetch (is_fetch ref.access) g
 
-descends_copied : (ref : Ref) (second : Option SystemCache) (memory : Memory) (next : Option SystemCache) (after : Memory) →
-    Descends ref second memory next after →
-    copied second ≤ copied next
-descends_copied ref None memory next after d = omega arith
-descends_copied ref (Some cache) memory next after (o, n, e, s, m) = rw s (enters_copied cache ref o n e)
+-- what reaches memory
+reach_one : (memory : Memory) (written : Bool) →
+    reached (cond written (record memory { writes = memory.writes + 1 }) (record memory { reads = memory.reads + 1 })) ≡ reached memory + 1
+reach_one memory true = omega arith
+reach_one memory false = omega arith
 
-pub all_copied : (refs : List Ref) (second : Option SystemCache) (memory : Memory) (next : Option SystemCache) (after : Memory) →
-    AllDescend refs second memory next after → copied second ≤ copied next
-all_copied [] second memory next after d = rw d.0 (omega arith)
-all_copied (ref ∷ refs) second memory next after (mid, half, d, r) =
-    omega (arith, descends_copied ref second memory mid half d, all_copied refs mid half next after r)
+reach_all : (memory : Memory) (refs : List Ref) → reached (all_reach memory refs) ≡ reached memory + length refs
+reach_all memory [] = omega arith
+reach_all memory (ref ∷ refs) = omega (arith, reach_one memory (is_write ref.access), reach_all (reaches memory ref) refs)
+
+-- so many references come down
+pub record LowerGrows (n : ℕ) (second : Option SystemCache) (memory : Memory) (next : Option SystemCache) (after : Memory) : Type 0 where
+  pub cache : Grows n second next
+  pub memory_counts : reached after ≤ reached memory + 2 * n
+
+descends_grow : (ref : Ref) (second : Option SystemCache) (memory : Memory) (next : Option SystemCache) (after : Memory) →
+    Descends ref second memory next after → LowerGrows 1 second memory next after
+descends_grow ref None memory next after d = rw (d.0, d.1) record {
+  cache = record { counts = omega arith; copies = omega arith };
+  memory_counts = omega (arith, reach_one memory (is_write ref.access));
+}
+descends_grow ref (Some cache) memory next after (o, n, e, s, m) = rw (s, m) record {
+  cache = entered cache ref o n e;
+  memory_counts = omega (arith, reach_all memory (present_refs o.down), sends_two cache ref o n e);
+}
+
+pub all_grow : (refs : List Ref) (second : Option SystemCache) (memory : Memory) (next : Option SystemCache) (after : Memory) →
+    AllDescend refs second memory next after → LowerGrows (length refs) second memory next after
+all_grow [] second memory next after d = rw (d.0, d.1) record { cache = record { counts = omega arith; copies = omega arith }; memory_counts = omega arith }
+all_grow (ref ∷ refs) second memory next after (mid, half, d, r) =
+    let one = descends_grow ref second memory mid half d in
+    let more = all_grow refs mid half next after r in
+    record {
+      cache = record {
+        counts = omega (arith, one.cache.counts, more.cache.counts);
+        copies = omega (arith, one.cache.copies, more.cache.copies);
+      };
+      memory_counts = omega (arith, one.memory_counts, more.memory_counts);
+    }
+
+-- what a cache sends down reaches memory one place after the other
+two_reach : (memory : Memory) (xs : List Ref) →
+    all_reach (all_reach memory (present_refs (get_or (two_options xs) 0 None ∷ []))) (present_refs (get_or (two_options xs) 1 None ∷ []))
+    ≡ all_reach memory (present_refs (two_options xs))
+two_reach memory [] = refl
+two_reach memory (x ∷ []) = refl
+two_reach memory (x ∷ y ∷ xs) = refl
+
+pub sent_reach : (memory : Memory) (old : SystemCache) (ref : Ref) (o : Outcome) (new : SystemCache) → Enters old ref o new →
+    all_reach (all_reach memory (present_refs (get_or o.down 0 None ∷ []))) (present_refs (get_or o.down 1 None ∷ [])) ≡ all_reach memory (present_refs o.down)
+sent_reach memory old ref o new e = let (xs, is) = sends old ref o new e in rw is (two_reach memory xs)

@@ -18,7 +18,7 @@ use Rattle.cache_core.specs.Outcomes.{is_write, dirties, allocates}
 use Rattle.cache_core.specs.Order.{Visits, VisitsAt, Hits, Fills, PassesOn, TakesIn, marked, position_of, dirty_in, is_dirty, one_if, dirty_slots}
 use Rattle.cache_core.specs.Order.{DirtiesByWrites}
 use Rattle.cache_core.specs.Slab.{IsCacheSlab, sets_of}
-use Rattle.cache_core.proofs.Slabs.{room_slots, with_room, IsWritten, set_read, sets_written, length-sets_of}
+use Rattle.cache_core.proofs.Slabs.{segment_slots, with_segment, IsWritten, set_read, sets_written, length-sets_of}
 use Rattle.cache_core.proofs.Lawful.{marked_length, lawful_touch, lawful_insert, lawful_exchange}
 
 by_write : (w : WriteMode) (a : Access) → one_if (dirties w a) ≤ one_if (is_write a)
@@ -35,47 +35,47 @@ dirty_marked true slots at h =
     let m = sum_by-set (λ (slot : Slot). cond slot.dirty 1 0) slots at (record (get_or slots at none) { dirty = true }) none h in
     omega (arith, m)
 
-fills_dirty : (rule : Option Repl) (word room : ℕ) (old : List Slot) (slot : Slot) (evicted : Option Slot) (new : List Slot) → 0 < room →
-    TakesIn rule word room old slot evicted new → dirty_in new + one_if (is_dirty evicted) ≡ dirty_in old + one_if slot.dirty
-fills_dirty rule word room old slot None new r p =
-    let q = sum_by-IsPermutation (λ (s : Slot). cond s.dirty 1 0) (slot ∷ old) new (lawful_insert rule old slot new p.1) in
+fills_dirty : (policy : Option Repl) (number capacity : ℕ) (old : List Slot) (slot : Slot) (evicted : Option Slot) (new : List Slot) → 0 < capacity →
+    TakesIn policy number capacity old slot evicted new → dirty_in new + one_if (is_dirty evicted) ≡ dirty_in old + one_if slot.dirty
+fills_dirty policy number capacity old slot None new r p =
+    let q = sum_by-IsPermutation (λ (s : Slot). cond s.dirty 1 0) (slot ∷ old) new (lawful_insert policy old slot new p.1) in
     omega (arith, q, dirty_cons slot old)
-fills_dirty rule word room old slot (Some gone) new r p =
-    let x = lawful_exchange rule word 0 old slot gone new (omega (arith, p.0)) p.1 in
+fills_dirty policy number capacity old slot (Some gone) new r p =
+    let x = lawful_exchange policy number 0 old slot gone new (omega (arith, p.0)) p.1 in
     let a = sum_by-IsPermutation (λ (s : Slot). cond s.dirty 1 0) old (gone ∷ x.0) x.1 in
     let b = sum_by-IsPermutation (λ (s : Slot). cond s.dirty 1 0) (slot ∷ x.0) new x.2 in
     omega (arith, a, b, dirty_cons gone x.0, dirty_cons slot x.0)
 
-miss_dirty : (d : Design) (rule : Option Repl) (words rest : ℕ → ℕ) (ref : Ref) (old : List Slot) (outcome : Outcome) (new : List Slot) (fills : Bool)
+miss_dirty : (d : Design) (policy : Option Repl) (numbers rest : ℕ → ℕ) (ref : Ref) (old : List Slot) (outcome : Outcome) (new : List Slot) (fills : Bool)
     →
-    0 < d.geometry.e → MatchBool fills (Fills d rule words ref old outcome new rest) (PassesOn words ref old outcome new rest) →
+    0 < d.geometry.e → MatchBool fills (Fills d policy numbers ref old outcome new rest) (PassesOn numbers ref old outcome new rest) →
     dirty_in new + one_if (is_dirty outcome.evicted) ≤ dirty_in old + one_if (is_write ref.access)
-miss_dirty d rule words rest ref old outcome new true e v =
-    omega (arith, fills_dirty rule (words 0) d.geometry.e old _ outcome.evicted new e v.order, by_write d.write ref.access)
-miss_dirty d rule words rest ref old outcome new false e v =
-    let none : outcome.evicted ≡ None = ap (λ (o : Outcome). o.evicted) v.answers in
+miss_dirty d policy numbers rest ref old outcome new true e v =
+    omega (arith, fills_dirty policy (numbers 0) d.geometry.e old _ outcome.evicted new e v.order, by_write d.write ref.access)
+miss_dirty d policy numbers rest ref old outcome new false e v =
+    let none : outcome.evicted ≡ None = ap (λ (o : Outcome). o.evicted) v.effect in
     rw (none, v.order) (omega arith)
 
-hit_dirty : (d : Design) (rule : Option Repl) (words rest : ℕ → ℕ) (ref : Ref) (old : List Slot) (outcome : Outcome) (new : List Slot) (at : ℕ) →
-    at < length old → Hits d rule words ref at old outcome new rest →
+hit_dirty : (d : Design) (policy : Option Repl) (numbers rest : ℕ → ℕ) (ref : Ref) (old : List Slot) (outcome : Outcome) (new : List Slot) (at : ℕ) →
+    at < length old → Hits d policy numbers ref at old outcome new rest →
     dirty_in new + one_if (is_dirty outcome.evicted) ≤ dirty_in old + one_if (is_write ref.access)
-hit_dirty d rule words rest ref old outcome new at h v =
-    let none : outcome.evicted ≡ None = ap (λ (o : Outcome). o.evicted) v.answers in
+hit_dirty d policy numbers rest ref old outcome new at h v =
+    let none : outcome.evicted ≡ None = ap (λ (o : Outcome). o.evicted) v.effect in
     let m = dirty_marked (dirties d.write ref.access) old at h in
     let l : at < length (marked (dirties d.write ref.access) old at) = omega (arith, h, marked_length (dirties d.write ref.access) old at) in
-    let q = sum_by-IsPermutation (λ (s : Slot). cond s.dirty 1 0) (marked (dirties d.write ref.access) old at) new (lawful_touch rule _ at new l v.order) in
+    let q = sum_by-IsPermutation (λ (s : Slot). cond s.dirty 1 0) (marked (dirties d.write ref.access) old at) new (lawful_touch policy _ at new l v.order) in
     rw none (omega (arith, m, q, by_write d.write ref.access))
 
-pub visit_dirty : (d : Design) (rule : Option Repl) (words rest : ℕ → ℕ) (ref : Ref) (old : List Slot) (outcome : Outcome) (new : List Slot) →
-    0 < d.geometry.e → Visits d rule words ref old outcome new rest →
+pub visit_dirty : (d : Design) (policy : Option Repl) (numbers rest : ℕ → ℕ) (ref : Ref) (old : List Slot) (outcome : Outcome) (new : List Slot) →
+    0 < d.geometry.e → Visits d policy numbers ref old outcome new rest →
     dirty_in new + one_if (is_dirty outcome.evicted) ≤ dirty_in old + one_if (is_write ref.access)
-visit_dirty d rule words rest ref old outcome new e v = by_place (position_of (block_of d.geometry ref.addr) old) refl v
+visit_dirty d policy numbers rest ref old outcome new e v = by_index (position_of (block_of d.geometry ref.addr) old) refl v
   where
-    by_place : (o : Option ℕ) → position_of (block_of d.geometry ref.addr) old ≡ o → VisitsAt o d rule words ref old outcome new rest →
+    by_index : (o : Option ℕ) → position_of (block_of d.geometry ref.addr) old ≡ o → VisitsAt o d policy numbers ref old outcome new rest →
         dirty_in new + one_if (is_dirty outcome.evicted) ≤ dirty_in old + one_if (is_write ref.access)
-    by_place None q u = miss_dirty d rule words rest ref old outcome new (allocates d.allocate ref.access) e u
-    by_place (Some at) q u =
-        hit_dirty d rule words rest ref old outcome new at (position-Some _ old at (record { block = 0; dirty = false }) q).0 u
+    by_index None q u = miss_dirty d policy numbers rest ref old outcome new (allocates d.allocate ref.access) e u
+    by_index (Some at) q u =
+        hit_dirty d policy numbers rest ref old outcome new at (position-Some _ old at (record { block = 0; dirty = false }) q).0 u
 
 -- over all sets, where one is written
 pub sets_dirty : (sets : List (List Slot)) (k : ℕ) (new : List Slot) (more less : ℕ) → k < length sets →
@@ -84,15 +84,15 @@ sets_dirty sets k new more less h v =
     omega (arith, v, sum_by-set dirty_in sets k new [] h)
 
 -- one access to a slab
-pub slab_dirty : (d : Design) (filled : List ℕ) (k n ways : ℕ) (slots room : List Slot) → IsCacheSlab d slots filled → IsWritten d k n ways room →
-    (rule : Option Repl) (words words' : ℕ → ℕ) (ref : Ref) (outcome : Outcome) →
-    Visits d rule words ref (room_slots ways filled k slots) outcome (take n room) words' →
-    DirtiesByWrites (sets_of d.geometry.e slots filled) ref outcome (sets_of d.geometry.e (with_room ways k slots room) (set filled k n))
-slab_dirty d filled k n ways slots room i w rule words words' ref outcome v =
+pub slab_dirty : (d : Design) (filled : List ℕ) (k n ways : ℕ) (slots segment : List Slot) → IsCacheSlab d slots filled → IsWritten d k n ways segment →
+    (policy : Option Repl) (numbers numbers' : ℕ → ℕ) (ref : Ref) (outcome : Outcome) →
+    Visits d policy numbers ref (segment_slots ways filled k slots) outcome (take n segment) numbers' →
+    DirtiesByWrites (sets_of d.geometry.e slots filled) ref outcome (sets_of d.geometry.e (with_segment ways k slots segment) (set filled k n))
+slab_dirty d filled k n ways slots segment i w policy numbers numbers' ref outcome v =
     let sets = sets_of d.geometry.e slots filled in
     let in_sets : k < length sets = omega (arith, length-sets_of d.geometry.e filled slots, i.sets, w.within) in
-    let visited = visit_dirty d rule words words' ref _ outcome (take n room) (omega (arith, i.geometry.some)) v in
-    let here = subst (λ xs. dirty_in (take n room) + one_if (is_dirty outcome.evicted) ≤ dirty_in xs + one_if (is_write ref.access))
-    (set_read d filled k n ways slots room i w) visited in
-    subst (λ xs. DirtiesByWrites sets ref outcome xs) (sym (sets_written d filled k n ways slots room i w))
-    (sets_dirty sets k (take n room) (one_if (is_write ref.access)) (one_if (is_dirty outcome.evicted)) in_sets here)
+    let visited = visit_dirty d policy numbers numbers' ref _ outcome (take n segment) (omega (arith, i.geometry.some)) v in
+    let here = subst (λ xs. dirty_in (take n segment) + one_if (is_dirty outcome.evicted) ≤ dirty_in xs + one_if (is_write ref.access))
+    (set_read d filled k n ways slots segment i w) visited in
+    subst (λ xs. DirtiesByWrites sets ref outcome xs) (sym (sets_written d filled k n ways slots segment i w))
+    (sets_dirty sets k (take n segment) (one_if (is_write ref.access)) (one_if (is_dirty outcome.evicted)) in_sets here)

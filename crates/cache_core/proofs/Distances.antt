@@ -2,7 +2,7 @@
 use Rattle.std.proofs.Common.{◌≡◌, ℕ, zero, suc, ◌<◌, false, not, ◌||◌, cond, eqb, List, [], ◌∷◌, length, take, refl, sym, ◌∙◌, ap}
 use Rattle.std.specs.List.{remove, filter, list_any, before_first, position_or_len}
 use Rattle.std.proofs.lemmas.Bool.{eqb-true, eq-eqb}
-use Rattle.cache_core.specs.Windows.{distinct, distinct_of_set, Place, has_last, distance}
+use Rattle.cache_core.specs.Windows.{distinct, distinct_of_set, Occurrence, has_last, distance}
 use Rattle.cache_core.specs.Geometry.{GeometryValue, set_of_block}
 use Rattle.cache_core.proofs.Lists.{cases, other, is, IsOnce, IsOnce-filter, filter-cons_yes, filter-cons_no, filter_comm, filter_other_no, filter_passes}
 use Rattle.cache_core.proofs.Lists.{filter-before_first, before_first-cons, eqb_flip, IsOnce-take, remove_is, take_without, list_any-filter}
@@ -58,8 +58,8 @@ distinct_of_set-before_first g x w =
     ap (λ r. filter (λ y. eqb (set_of_block g y) (set_of_block g x)) r) (distinct-before_first x w)
     ∙ filter-before_first (λ y. eqb (set_of_block g y) (set_of_block g x)) x (distinct w) (eq-eqb _ _ refl)
 
--- the distance is the block's place among them
-pub distance_is : (g : GeometryValue) (p : Place) → distance g p ≡ position_or_len (is p.block) (distinct_of_set g (set_of_block g p.block) p.window)
+-- the distance is the block's index among them
+pub distance_is : (g : GeometryValue) (p : Occurrence) → distance g p ≡ position_or_len (is p.block) (distinct_of_set g (set_of_block g p.block) p.window)
 distance_is g p =
     ap length (distinct_of_set-before_first g p.block p.window) ∙ length-before_first (is p.block) (distinct_of_set g (set_of_block g p.block) p.window)
 
@@ -73,7 +73,7 @@ list_any-distinct x (y ∷ ys) =
     ∙ list_any-distinct x ys)
     refl
 
-pub has_last_is : (g : GeometryValue) (p : Place) → has_last p ≡ list_any (is p.block) (distinct_of_set g (set_of_block g p.block) p.window)
+pub has_last_is : (g : GeometryValue) (p : Occurrence) → has_last p ≡ list_any (is p.block) (distinct_of_set g (set_of_block g p.block) p.window)
 unfolding distinct_of_set
 has_last_is g p =
     sym (list_any-filter (λ y. eqb (set_of_block g y) (set_of_block g p.block)) (is p.block) (distinct p.window)

@@ -14,12 +14,12 @@ use Rattle.cache_core.specs.declared.outcome.Repl.TheVariants.{Lru, Fifo, Random
 use Rattle.cache_core.specs.declared.outcome.WriteMode.{WriteMode}
 use Rattle.cache_core.specs.declared.outcome.WriteMode.TheVariants.{Back, Through}
 use Rattle.cache_core.specs.Geometry.{GeometryValue, block_of, set_of, address_of}
-use Rattle.cache_core.specs.Outcomes.{is_write, dirties, allocates, writes_through, writes_back, fill_access, on_placing, on_passing}
-use Rattle.cache_core.specs.Machine.{Machine, MachineState, Line, option_slot, is_block, lines_of_set, exchange, least, lesser, victim, touch, with_block}
-use Rattle.cache_core.specs.Machine.{leaves, placing, start, step, step_at, step_with, answer_at, answer_with, next, run, dirty_count}
+use Rattle.cache_core.specs.Outcomes.{is_write, dirties, allocates, writes_through, writes_back, block_load_access, on_placing}
+use Rattle.cache_core.specs.Machine.{Machine, MachineState, Line, option_slot, is_block, lines_of_set, exchange, least, lesser, victim, with_touch, with_block}
+use Rattle.cache_core.specs.Machine.{leaves, placing, passing, start, step, step_at, step_with, next, run, dirty_count}
 use Rattle.cache_core.specs.Order.{one_if}
 use Rattle.cache_core.specs.Stands.{DownLaw}
-use Rattle.cache_core.specs.AnyPolicy.{MayLeave, needs_room}
+use Rattle.cache_core.specs.AnyPolicy.{MayLeave, needs_victim}
 use Rattle.cache_core.proofs.Lists.{cases}
 
 -- a line is not dirty, if there is one
@@ -83,12 +83,12 @@ clean_least (l ∷ ls) line h e =
     let same : lesser l (least ls) ≡ line = cc in
     ap (λ (x : Line). x.dirty) (sym same) ∙ clean_lesser l (least ls) h.0 (λ x q. clean_least ls x h.1 q)
 
-clean_victim : (p : Repl) (ways word : ℕ) (ls : List Line) (line : Line) → Clean ls → victim p ways word ls ≡ Some line → line.dirty ≡ false
-clean_victim Lru ways word ls line h e = clean_least ls line h e
-clean_victim Fifo ways word ls line h e = clean_least ls line h e
-clean_victim Random ways word ls line h e = clean_find _ ls line h e
+clean_victim : (p : Repl) (ways number : ℕ) (ls : List Line) (line : Line) → Clean ls → victim p ways number ls ≡ Some line → line.dirty ≡ false
+clean_victim Lru ways number ls line h e = clean_least ls line h e
+clean_victim Fifo ways number ls line h e = clean_least ls line h e
+clean_victim Random ways number ls line h e = clean_find _ ls line h e
 
-clean_touch : (p : Repl) (clock : ℕ) (line : Line) (ls : List Line) → line.dirty ≡ false → Clean ls → Clean (touch p clock line ls)
+clean_touch : (p : Repl) (clock : ℕ) (line : Line) (ls : List Line) → line.dirty ≡ false → Clean ls → Clean (with_touch p clock line ls)
 clean_touch Lru clock line ls e h = (e, clean_filter _ ls h)
 clean_touch Fifo clock line ls e h = clean_exchange line.block line ls e h
 clean_touch Random clock line ls e h = clean_exchange line.block line ls e h
@@ -106,13 +106,13 @@ through_clean : (w : WriteMode) (a : Access) → w ≡ Through → dirties w a �
 through_clean w a e = ap (λ x. dirties x a) e
 
 pub clean_step_at : (m : Machine) (ref : Ref) (block : ℕ) (leaving : Option Line) (st : MachineState) (o : Option Line) → m.design.write ≡ Through →
-    find (is_block block) st.lines ≡ o → Clean st.lines → Clean (step_at m ref block leaving st o).lines
+    find (is_block block) st.lines ≡ o → Clean st.lines → Clean (step_at m ref block leaving st o).after.lines
 clean_step_at m ref block leaving st (Some line) w f h =
     let d : dirties m.design.write ref.access ≡ false = through_clean m.design.write ref.access w in
     let e : (dirties m.design.write ref.access || line.dirty) ≡ false = ap (λ b. b || line.dirty) d ∙ clean_find (is_block block) st.lines line h f in
     clean_touch m.policy (st.clock + 1) (record line { dirty = dirties m.design.write ref.access || line.dirty }) st.lines e h
 clean_step_at m ref block leaving st None w f h =
-    cases (λ b. Clean (cond b (placing m ref block leaving st) (record st { clock = st.clock + 1 })).lines) (allocates m.design.allocate ref.access)
+    cases (λ b. Clean (cond b (placing m ref block leaving st) (passing ref st)).after.lines) (allocates m.design.allocate ref.access)
     (λ _. clean_place m.policy (st.clock + 1) _ (record { block = block; dirty = dirties m.design.write ref.access }) leaving st.lines
     (through_clean m.design.write ref.access w) h)
     (λ _. h)
@@ -121,7 +121,7 @@ clean_fold : (m : Machine) (st : MachineState) (events : List Event) → m.desig
 clean_fold m st [] w h = h
 clean_fold m st (event.Reference ref ∷ events) w h =
     let b = block_of m.design.geometry ref.addr in
-    clean_fold m (step m st ref) events w
+    clean_fold m (step m st ref).after events w
     (clean_step_at m ref b (leaves m st (set_of m.design.geometry ref.addr)) st (find (is_block b) st.lines) w refl h)
 clean_fold m st (event.Flush ∷ events) w h = clean_fold m (next m st event.Flush) events w tt
 
@@ -147,7 +147,7 @@ placing_most : (w : WriteMode) (g : GeometryValue) (ref : Ref) (block : ℕ) (o 
 placing_most w g ref block o h = by_mode w h
   where
     load : Ref
-    load = record { access = fill_access ref.access; addr = address_of g block }
+    load = record { access = block_load_access ref.access; addr = address_of g block }
 
     back : List Ref
     back = writes_back g (option_slot o)
@@ -160,17 +160,16 @@ placing_most w g ref block o h = by_mode w h
 clean_leaves : (m : Machine) (st : MachineState) (set : ℕ) (line : Line) → Clean st.lines → leaves m st set ≡ Some line → line.dirty ≡ false
 clean_leaves m st set line h e =
     let here : List Line = lines_of_set m.design.geometry set st.lines in
-    cases (λ b. (cond b None (victim m.policy m.design.geometry.e (m.words st.drawn) here) ≡ Some line) → line.dirty ≡ false)
+    cases (λ b. (cond b None (victim m.policy m.design.geometry.e (m.random_numbers st.drawn) here) ≡ Some line) → line.dirty ≡ false)
     (ltb (length here) m.design.geometry.e)
     (λ _ q. absurd cc)
-    (λ _ q. clean_victim m.policy m.design.geometry.e (m.words st.drawn) here line (clean_filter _ st.lines h) q) e
+    (λ _ q. clean_victim m.policy m.design.geometry.e (m.random_numbers st.drawn) here line (clean_filter _ st.lines h) q) e
 
-pub answer_most : (m : Machine) (ref : Ref) (block : ℕ) (leaving : Option Line) (o : Option Line) →
-    (m.design.write ≡ Through → NoneDirty leaving) →
-    length (answer_at m ref block leaving o).down ≤ 2
-answer_most m ref block leaving (Some line) h = omega (arith, through_most m.design.write ref)
-answer_most m ref block leaving None h =
-    cases (λ b. length (cond b (on_placing m.design.geometry m.design.write ref block (option_slot leaving)) (on_passing ref)).down ≤ 2)
+pub step_most : (m : Machine) (ref : Ref) (block : ℕ) (leaving : Option Line) (st : MachineState) (o : Option Line) →
+    (m.design.write ≡ Through → NoneDirty leaving) → length (step_at m ref block leaving st o).effect.down ≤ 2
+step_most m ref block leaving st (Some line) h = omega (arith, through_most m.design.write ref)
+step_most m ref block leaving st None h =
+    cases (λ b. length (cond b (placing m ref block leaving st) (passing ref st)).effect.down ≤ 2)
     (allocates m.design.allocate ref.access)
     (λ _. placing_most m.design.write m.design.geometry ref block leaving h)
     (λ _. omega arith)
@@ -179,7 +178,7 @@ pub down_law : DownLaw
 down_law m events ref =
     let st = run m events in
     let set = set_of m.design.geometry ref.addr in
-    answer_most m ref (block_of m.design.geometry ref.addr) (leaves m st set) (find (is_block (block_of m.design.geometry ref.addr)) st.lines)
+    step_most m ref (block_of m.design.geometry ref.addr) (leaves m st set) st (find (is_block (block_of m.design.geometry ref.addr)) st.lines)
     (λ w line e. clean_leaves m st set line (clean_fold m start events w tt) e)
 
 -- a line that may leave a clean cache
@@ -191,19 +190,19 @@ may_clean needed here (Some x) line h may e =
     let (k, lt, at) = may.1 in
     ap (λ (l : Line). l.dirty) (sym same ∙ sym at) ∙ clean_at here k x lt h
 
--- under any lawful policy
+-- under any policy
 pub any_clean : (m : Machine) (st : MachineState) (ref : Ref) (gone : Option Line) → (m.design.write ≡ Through → dirty_count st ≡ 0) →
-    m.design.write ≡ Through → dirty_count (step_with m ref gone st) ≡ 0
+    m.design.write ≡ Through → dirty_count (step_with m ref gone st).after ≡ 0
 any_clean m st ref gone h w =
     let block = block_of m.design.geometry ref.addr in
     let o = find (is_block block) st.lines in
-    clean_count (step_at m ref block gone st o).lines (clean_step_at m ref block gone st o w refl (count_clean st.lines (h w)))
+    clean_count (step_at m ref block gone st o).after.lines (clean_step_at m ref block gone st o w refl (count_clean st.lines (h w)))
 
 pub any_few : (m : Machine) (st : MachineState) (ref : Ref) (gone : Option Line) → (m.design.write ≡ Through → dirty_count st ≡ 0) →
-    MayLeave (needs_room m st ref) (lines_of_set m.design.geometry (set_of m.design.geometry ref.addr) st.lines) gone →
-    length (answer_with m ref gone st).down ≤ 2
+    MayLeave (needs_victim m st ref) (lines_of_set m.design.geometry (set_of m.design.geometry ref.addr) st.lines) gone →
+    length (step_with m ref gone st).effect.down ≤ 2
 any_few m st ref gone h may =
     let block = block_of m.design.geometry ref.addr in
     let here = lines_of_set m.design.geometry (set_of m.design.geometry ref.addr) st.lines in
-    answer_most m ref block gone (find (is_block block) st.lines)
-    (λ w line e. may_clean (needs_room m st ref) here gone line (clean_filter _ st.lines (count_clean st.lines (h w))) may e)
+    step_most m ref block gone st (find (is_block block) st.lines)
+    (λ w line e. may_clean (needs_victim m st ref) here gone line (clean_filter _ st.lines (count_clean st.lines (h w))) may e)

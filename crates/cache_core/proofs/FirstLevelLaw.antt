@@ -11,23 +11,24 @@ use Rattle.cache_core.specs.declared.plan.PlannedCache.{PlannedCache}
 use Rattle.cache_core.specs.declared.plan.CacheName.{CacheName}
 use Rattle.cache_core.specs.declared.plan.CacheName.TheVariants.{L1I, L1D, L1U}
 use Rattle.cache_core.specs.declared.system_cache.SystemCache.{SystemCache}
-use Rattle.cache_core.specs.Outcomes.{two_places}
-use Rattle.cache_core.specs.Machine.{Machine, run, answer}
+use Rattle.cache_core.specs.Outcomes.{two_options}
+use Rattle.cache_core.specs.Machine.{Machine, run, step}
 use Rattle.cache_core.specs.Plans.{IsPlannedCache}
 use Rattle.cache_core.specs.Stands.{CacheStandsFor}
-use Rattle.cache_core.specs.SystemCaches.{system_cache_contents, Enters, tally}
+use Rattle.cache_core.specs.CacheSteps.{system_cache_contents, Enters}
+use Rattle.cache_core.specs.SystemCaches.{stats_after}
 use Rattle.cache_core.specs.Systems.{machine_of, is_fetch, takes, events_for, sends, cache_stats, counts_if_planned}
-use Rattle.cache_core.specs.SystemSteps.{listed, AccessesFirst, AccessesUnified, AccessesSplit, AccessesFirstLevel, stats_held}
-use Rattle.cache_core.specs.SystemStands.{PlannedStandsFor}
+use Rattle.cache_core.specs.SystemSteps.{present_refs, AccessesFirst, AccessesUnified, AccessesSplit, AccessesFirstLevel, stats_held}
+use Rattle.cache_core.specs.SystemStands.{PlannedCacheStandsFor}
 use Rattle.cache_core.proofs.RunLaw.{access_run}
 use Rattle.cache_core.proofs.DownLaw.{down_law}
 use Rattle.cache_core.proofs.SystemPushes.{counts_push, events_taken, events_left}
 
-pub listed_two : (xs : List Ref) → length xs ≤ 2 → listed (two_places xs) ≡ xs
-listed_two [] h = refl
-listed_two (x ∷ []) h = refl
-listed_two (x ∷ y ∷ []) h = refl
-listed_two (x ∷ y ∷ z ∷ xs) h = absurd (omega arith)
+pub present_refs_two : (xs : List Ref) → length xs ≤ 2 → present_refs (two_options xs) ≡ xs
+present_refs_two [] h = refl
+present_refs_two (x ∷ []) h = refl
+present_refs_two (x ∷ y ∷ []) h = refl
+present_refs_two (x ∷ y ∷ z ∷ xs) h = absurd (omega arith)
 
 -- one cache
 pub record Kept (m : Machine) (events : List Event) (cache : SystemCache) : Type 0 where
@@ -36,7 +37,7 @@ pub record Kept (m : Machine) (events : List Event) (cache : SystemCache) : Type
 
 pub record Entered (m : Machine) (events : List Event) (ref : Ref) (outcome : Outcome) (new : SystemCache) : Type 0 where
   pub kept : Kept m (events ++ event.Reference ref ∷ []) new
-  pub sends : listed outcome.down ≡ (answer m (run m events) ref).down
+  pub sends : present_refs outcome.down ≡ (step m (run m events) ref).effect.down
 
 pub enters : (m : Machine) (events : List Event) (old : SystemCache) (ref : Ref) (outcome : Outcome) (new : SystemCache) → 1 ≤ m.design.geometry.e →
     Kept m events old → Enters old ref outcome new → Entered m events ref outcome new
@@ -45,9 +46,9 @@ enters m events old ref outcome new some k e =
     record {
       kept = record {
         stands = r.0;
-        counts = e.counts ∙ ap (λ s. tally s ref outcome) k.counts ∙ ap (tally (cache_stats m events) ref) r.1 ∙ sym (counts_push m events ref);
+        counts = e.counts ∙ ap (λ s. stats_after s ref outcome) k.counts ∙ ap (stats_after (cache_stats m events) ref) r.1 ∙ sym (counts_push m events ref);
       };
-      sends = ap (λ (o : Outcome). listed o.down) r.1 ∙ listed_two (answer m (run m events) ref).down (down_law m events ref);
+      sends = ap (λ (o : Outcome). present_refs o.down) r.1 ∙ present_refs_two (step m (run m events) ref).effect.down (down_law m events ref);
     }
 
 -- a cache, if it is there
@@ -56,7 +57,7 @@ KeptIfPlanned seed None events cache = cache ≡ None
 KeptIfPlanned seed (Some planned) events cache = (there : SystemCache) × (cache ≡ Some there) × Kept (machine_of seed planned) events there
 
 pub with_counts : (seed : ℕ) (planned : Option PlannedCache) (events : List Event) (cache : Option SystemCache) →
-    PlannedStandsFor seed planned events cache →
+    PlannedCacheStandsFor seed planned events cache →
     stats_held cache ≡ counts_if_planned seed planned events → KeptIfPlanned seed planned events cache
 with_counts seed None events cache s c = s
 with_counts seed (Some planned) events cache s c =
@@ -65,7 +66,7 @@ with_counts seed (Some planned) events cache s c =
     (s.0, s.1, record { stands = s.2; counts = same })
 
 pub stands_of : (seed : ℕ) (planned : Option PlannedCache) (events : List Event) (cache : Option SystemCache) → KeptIfPlanned seed planned events cache →
-    PlannedStandsFor seed planned events cache
+    PlannedCacheStandsFor seed planned events cache
 stands_of seed None events cache k = k
 stands_of seed (Some planned) events cache k = (k.0, k.1, k.2.stands)
 
@@ -77,12 +78,12 @@ counts_is seed (Some planned) events cache k = ap stats_held k.1 ∙ ap Some k.2
 -- the references that went down, none where no cache took the reference
 abbrev pub down_list : Option (List (Option Ref)) → List Ref
 down_list None = []
-down_list (Some xs) = listed xs
+down_list (Some xs) = present_refs xs
 
 -- what a cache sends down for a reference that it takes, if it is there
 abbrev pub sends_of : ℕ → Option PlannedCache → List Event → Ref → List Ref
 sends_of seed None events ref = []
-sends_of seed (Some planned) events ref = (answer (machine_of seed planned) (run (machine_of seed planned) events) ref).down
+sends_of seed (Some planned) events ref = (step (machine_of seed planned) (run (machine_of seed planned) events) ref).effect.down
 
 -- a first-level cache after a reference that it takes, if it is there
 record AccessedFirst (seed : ℕ) (planned : Option PlannedCache) (events : List Event) (ref : Ref) (down : Option (List (Option Ref)))
@@ -102,7 +103,7 @@ first_access_keeps seed (Some planned) events cache ref (Some down) next l k a =
     let both : Some k.0 ≡ Some a.0 = sym k.1 ∙ a.3 in
     let same : k.0 ≡ a.0 = cc in
     let r = enters m events a.0 ref a.2 a.1 l.some (subst (λ (s : SystemCache). Kept m events s) same k.2) a.6 in
-    record { kept = (a.1, a.4, r.kept); sends = ap listed a.5 ∙ r.sends; none = refl }
+    record { kept = (a.1, a.4, r.kept); sends = ap present_refs a.5 ∙ r.sends; none = refl }
 
 -- a reference that comes to a cache of the first level, or not
 module _ (seed : ℕ) (name : CacheName) (planned : Option PlannedCache) (events : List Event) (ref : Ref) where
@@ -114,14 +115,14 @@ module _ (seed : ℕ) (name : CacheName) (planned : Option PlannedCache) (events
     where
       by_plan : (p : Option PlannedCache) → sends seed name p events ref ≡ sends_of seed p (events_for name events) ref
       by_plan None = refl
-      by_plan (Some p) = ap (λ b. cond b (answer (machine_of seed p) (run (machine_of seed p) (events_for name events)) ref).down []) t
+      by_plan (Some p) = ap (λ b. cond b (step (machine_of seed p) (run (machine_of seed p) (events_for name events)) ref).effect.down []) t
 
   sends_left : takes name ref ≡ false → sends seed name planned events ref ≡ []
   sends_left t = by_plan planned
     where
       by_plan : (p : Option PlannedCache) → sends seed name p events ref ≡ []
       by_plan None = refl
-      by_plan (Some p) = ap (λ b. cond b (answer (machine_of seed p) (run (machine_of seed p) (events_for name events)) ref).down []) t
+      by_plan (Some p) = ap (λ b. cond b (step (machine_of seed p) (run (machine_of seed p) (events_for name events)) ref).effect.down []) t
 
   kept_taken : (cache : Option SystemCache) → takes name ref ≡ true →
       KeptIfPlanned seed planned (events_for name events ++ event.Reference ref ∷ []) cache →

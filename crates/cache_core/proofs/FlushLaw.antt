@@ -13,7 +13,7 @@ use Rattle.cache_core.specs.declared.outcome.Repl.{Repl}
 use Rattle.cache_core.specs.declared.outcome.Repl.TheVariants.{Lru, Fifo, Random}
 use Rattle.cache_core.specs.Geometry.{GeometryValue, set_of_block}
 use Rattle.cache_core.specs.Machine.{Machine, MachineState, Line, slot_of, lines_of_set, start, dirty_count}
-use Rattle.cache_core.specs.Order.{Contents, Flushes, slots_of, dirty_in, dirty_slots}
+use Rattle.cache_core.specs.Order.{Contents, FlushesCache, slots_of, dirty_in, dirty_slots}
 use Rattle.cache_core.specs.Stands.{IsState, IsGood, IsSoundState}
 use Rattle.cache_core.proofs.Lines.{ne-eqb}
 
@@ -64,12 +64,12 @@ empty_good m c = good m.policy
 pub start_sound : (m : Machine) → IsSoundState m start
 start_sound m k = empty_good m 0
 
-pub start_state : (m : Machine) (c : Contents) → c.design ≡ m.design → c.rule ≡ Some m.policy → c.words ≡ m.words →
+pub start_state : (m : Machine) (c : Contents) → c.design ≡ m.design → c.policy ≡ Some m.policy → c.random_numbers ≡ m.random_numbers →
     c.sets ≡ replicate (2 ^ m.design.geometry.s) [] → IsState m start c
 start_state m c d r w e = record {
   design = d;
-  rule = r;
-  words = w ∙ (λ i n. m.words ((sym (zero-add n)) i));
+  policy = r;
+  random_numbers = w ∙ (λ i n. m.random_numbers ((sym (zero-add n)) i));
   count = ap length e ∙ length-replicate (2 ^ m.design.geometry.s) [];
   sets = λ k. ap (λ s. slots_of s k) e ∙ none_anywhere (2 ^ m.design.geometry.s) k;
 }
@@ -77,19 +77,19 @@ start_state m c d r w e = record {
 -- what a flush leads to
 pub record FlushFollows (m : Machine) (st : MachineState) (dirty : ℕ) (new : Contents) : Type 0 where
   pub state : IsState m (record st { lines = [] }) new
-  pub told : dirty ≡ dirty_count st
+  pub effect : dirty ≡ dirty_count st
   pub sound : IsSoundState m (record st { lines = [] })
 
-pub flush_law : (m : Machine) (st : MachineState) (old : Contents) (dirty : ℕ) (new : Contents) → IsState m st old → Flushes old dirty new →
+pub flush_law : (m : Machine) (st : MachineState) (old : Contents) (dirty : ℕ) (new : Contents) → IsState m st old → FlushesCache old dirty new →
     FlushFollows m st dirty new
 flush_law m st old dirty new i f = record {
   state = record {
     design = f.design ∙ i.design;
-    rule = f.rule ∙ i.rule;
-    words = f.words ∙ i.words;
+    policy = f.policy ∙ i.policy;
+    random_numbers = f.random_numbers ∙ i.random_numbers;
     count = ap length f.empty ∙ length-replicate (length old.sets) [] ∙ i.count;
     sets = λ k. ap (λ s. slots_of s k) f.empty ∙ none_anywhere (length old.sets) k;
   };
-  told = f.counted ∙ dirty_all m.design.geometry st.lines old.sets i.count (λ k. ap (count_by (λ (slot : Slot). slot.dirty)) (i.sets k));
+  effect = f.counted ∙ dirty_all m.design.geometry st.lines old.sets i.count (λ k. ap (count_by (λ (slot : Slot). slot.dirty)) (i.sets k));
   sound = λ k. empty_good m st.clock;
 }

@@ -57,9 +57,9 @@ within_of g l =
     (and_from (leb g.s 20 && leb g.b 20) (leb 1 g.e) (and_from (leb g.s 20) (leb g.b 20) (le-leb g.s 20 l.sets) (le-leb g.b 20 l.blocks)) (le-leb 1 g.e l.some))
     (le-leb g.e 65536 l.ways)) (le-leb (g.e * 2 ^ g.s) (2 ^ 22) l.lines)
 
-told : (spec : CacheSpec) (g h : GeometryValue) → h.e ≡ spec.assoc → 1 * 2 ^ h.b ≡ spec.bsize → spec.assoc * spec.bsize * 2 ^ h.s ≡ spec.size →
+geometry_found : (spec : CacheSpec) (g h : GeometryValue) → h.e ≡ spec.assoc → 1 * 2 ^ h.b ≡ spec.bsize → spec.assoc * spec.bsize * 2 ^ h.s ≡ spec.size →
     geometry_of h.s h.e h.b ≡ Some g → IsGeometryFor spec g
-told spec g h e b s w =
+geometry_found spec g h e b s w =
     cases (λ t. (is_geometry h ≡ t) → (cond t (Some h) None ≡ Some g) → IsGeometryFor spec g) (is_geometry h)
     (λ t _ q. let same : h ≡ g = cc in subst (IsGeometryFor spec) same (record { bsize = omega arith; assoc = sym e; size = sym s; limits = limits_of h t }))
     (λ t _ q. absurd cc)
@@ -69,7 +69,8 @@ by_sets : (spec : CacheSpec) (g : GeometryValue) (b : ℕ) (o : Option ℕ) → 
     1 * 2 ^ b ≡ spec.bsize →
     option_and_then (λ s. geometry_of s spec.assoc b) o ≡ Some g → IsGeometryFor spec g
 by_sets spec g b None e h q = absurd cc
-by_sets spec g b (Some s) e h q = told spec g (record { s = s; e = spec.assoc; b = b }) refl h (exponent_sound (spec.assoc * spec.bsize) spec.size s e).0 q
+by_sets spec g b (Some s) e h q =
+    geometry_found spec g (record { s = s; e = spec.assoc; b = b }) refl h (exponent_sound (spec.assoc * spec.bsize) spec.size s e).0 q
 
 by_blocks : (spec : CacheSpec) (g : GeometryValue) (o : Option ℕ) → exponent_of 1 spec.bsize ≡ o →
     option_and_then (λ b. option_and_then (λ s. geometry_of s spec.assoc b) (exponent_of (spec.assoc * spec.bsize) spec.size)) o ≡ Some g →

@@ -1,4 +1,4 @@
--- The three rules keep the law of a policy: slots are neither made nor lost, and one leaves a full set.
+-- What is said of each policy implies what is said of any: slots are neither made nor lost, and one leaves a full set.
 use Rattle.std.proofs.Common.{◌≡◌, ℕ, ◌+◌, ◌-◌, ◌%◌, ◌<◌, Bool, true, false, List, [], ◌∷◌, ◌++◌, length, get_or, take}
 use Rattle.std.proofs.Common.{drop, Option, Some, None, sym, ◌∙◌, ap, refl, arith, length-take, add-one, suc, length-set, get_or-set_same}
 use Rattle.std.specs.Prelude.{IsPermutation, slice_get, slice_set}
@@ -11,7 +11,7 @@ use Rattle.cache_core.specs.declared.outcome.Repl.{Repl}
 use Rattle.cache_core.specs.declared.outcome.Repl.TheVariants.{Lru, Fifo, Random}
 use Rattle.cache_core.specs.Order.{Touches, TakesIn, Inserts, Exchanges, marked}
 
--- a prefix that ends at a place, turned right by one, brings the slot there to the front
+-- a prefix that ends at an index, turned right by one, brings the slot there to the front
 pub to_front : (s : List Slot) (at : ℕ) (r : List Slot) (d : Slot) → at < length s →
     r ≡ drop (length (take (at + 1) s) - 1) (take (at + 1) s) ++ take (length (take (at + 1) s) - 1) (take (at + 1) s) →
     r ++ drop (at + 1) s ≡ get_or s at d ∷ remove s at
@@ -29,14 +29,14 @@ pub marked_length : (b : Bool) (slots : List Slot) (at : ℕ) → length (marked
 marked_length true slots at = length-set slots at _
 marked_length false slots at = refl
 
-pub lawful_touch : (rule : Option Repl) (old : List Slot) (at : ℕ) (new : List Slot) → at < length old → Touches rule old at new → IsPermutation old new
+pub lawful_touch : (policy : Option Repl) (old : List Slot) (at : ℕ) (new : List Slot) → at < length old → Touches policy old at new → IsPermutation old new
 lawful_touch None old at new h t = t
 lawful_touch (Some Lru) old at new h t =
     rw t.2 (IsPermutation-remove old at t.0 h (sym (get_or_from_slice_get old at t.0 t.0 t.1)))
 lawful_touch (Some Fifo) old at new h t = rw t (IsPermutation-refl old)
 lawful_touch (Some Random) old at new h t = rw t (IsPermutation-refl old)
 
-pub lawful_insert : (rule : Option Repl) (old : List Slot) (slot : Slot) (new : List Slot) → Inserts rule old slot new → Inserts None old slot new
+pub lawful_insert : (policy : Option Repl) (old : List Slot) (slot : Slot) (new : List Slot) → Inserts policy old slot new → Inserts None old slot new
 lawful_insert None old slot new t = t
 lawful_insert (Some Lru) old slot new t = rw t (IsPermutation-refl (slot ∷ old))
 lawful_insert (Some Fifo) old slot new t = rw t (IsPermutation-refl (slot ∷ old))
@@ -48,36 +48,36 @@ exchanged : (old : List Slot) (way : ℕ) (gone slot : Slot) → way < length ol
 exchanged old way gone slot h g =
     rw (set_split old way slot h) (IsPermutation-sym _ _ (IsPermutation-middle (take way old) slot (drop (suc way) old)))
 
-pub lawful_exchange : (rule : Option Repl) (word v : ℕ) (old : List Slot) (slot gone : Slot) (new : List Slot) → 0 < length old →
-    Exchanges rule word old slot gone new → Exchanges None v old slot gone new
-lawful_exchange None word v old slot gone new h t = t
-lawful_exchange (Some Lru) word v old slot gone new h t =
+pub lawful_exchange : (policy : Option Repl) (number v : ℕ) (old : List Slot) (slot gone : Slot) (new : List Slot) → 0 < length old →
+    Exchanges policy number old slot gone new → Exchanges None v old slot gone new
+lawful_exchange None number v old slot gone new h t = t
+lawful_exchange (Some Lru) number v old slot gone new h t =
     (t.0, rw t.1 (IsPermutation-to_front t.0 gone), rw t.2 (IsPermutation-refl (slot ∷ t.0)))
-lawful_exchange (Some Fifo) word v old slot gone new h t =
+lawful_exchange (Some Fifo) number v old slot gone new h t =
     (t.0, rw t.1 (IsPermutation-to_front t.0 gone), rw t.2 (IsPermutation-refl (slot ∷ t.0)))
-lawful_exchange (Some Random) word v old slot gone new h t =
-    let way : word % length old < length old = omega arith in (
-      remove old (word % length old),
-      IsPermutation-remove old (word % length old) gone way (sym (get_or_from_slice_get old _ gone gone t.0)),
+lawful_exchange (Some Random) number v old slot gone new h t =
+    let way : number % length old < length old = omega arith in (
+      remove old (number % length old),
+      IsPermutation-remove old (number % length old) gone way (sym (get_or_from_slice_get old _ gone gone t.0)),
       rw t.1 (exchanged old _ gone slot way t.0),
     )
 
--- what each rule says of a placing, the law says
-pub lawful_place : (rule : Option Repl) (word v room : ℕ) (old : List Slot) (slot : Slot) (gone : Option Slot) (new : List Slot) → 0 < room →
-    TakesIn rule word room old slot gone new → TakesIn None v room old slot gone new
-lawful_place rule word v room old slot None new h t = (t.0, lawful_insert rule old slot new t.1)
-lawful_place rule word v room old slot (Some gone) new h t =
-    (t.0, lawful_exchange rule word v old slot gone new (omega (arith, t.0)) t.1)
+-- what each policy says of a placing, the law says
+pub lawful_place : (policy : Option Repl) (number v capacity : ℕ) (old : List Slot) (slot : Slot) (gone : Option Slot) (new : List Slot) → 0 < capacity →
+    TakesIn policy number capacity old slot gone new → TakesIn None v capacity old slot gone new
+lawful_place policy number v capacity old slot None new h t = (t.0, lawful_insert policy old slot new t.1)
+lawful_place policy number v capacity old slot (Some gone) new h t =
+    (t.0, lawful_exchange policy number v old slot gone new (omega (arith, t.0)) t.1)
 
 -- a slot written over one of a full set
-pub exchange_full : (s : List Slot) (n word w : ℕ) (slot d : Slot) → n ≡ length s → 0 < length s → word ≡ w →
-    TakesIn (Some Random) w (length s) (take n s) slot (Some (get_or s (word % length s) d)) (take (n + 1) (slice_set s (word % length s) slot))
-exchange_full s n word w slot d e h i =
-    let way : word % length s < length s = omega arith in
+pub exchange_full : (s : List Slot) (n number w : ℕ) (slot d : Slot) → n ≡ length s → 0 < length s → number ≡ w →
+    TakesIn (Some Random) w (length s) (take n s) slot (Some (get_or s (number % length s) d)) (take (n + 1) (slice_set s (number % length s) slot))
+exchange_full s n number w slot d e h i =
+    let way : number % length s < length s = omega arith in
     let t : take n s ≡ s = take_all n s (omega arith) in
-    let u : take (n + 1) (slice_set s (word % length s) slot) ≡ slice_set s (word % length s) slot =
-    take_all (n + 1) (slice_set s (word % length s) slot) (omega (arith, length-set s (word % length s) slot)) in
-    rw (u, t, ← i) (refl, (slice_get-get_or s (word % length s) d way, refl))
+    let u : take (n + 1) (slice_set s (number % length s) slot) ≡ slice_set s (number % length s) slot =
+    take_all (n + 1) (slice_set s (number % length s) slot) (omega (arith, length-set s (number % length s) slot)) in
+    rw (u, t, ← i) (refl, (slice_get-get_or s (number % length s) d way, refl))
 
 -- what was written among the first n stands there
 pub written : (n : ℕ) (xs : List Slot) (i : ℕ) (x : Slot) → i < length xs → i < n → slice_get (take n (slice_set xs i x)) i ≡ Some x

@@ -2,9 +2,9 @@
 pub mod Bounds
 pub mod Lists
 pub mod Distances
-pub mod Places
+pub mod Occurrences
 pub mod Lawful
-pub mod WordLemmas
+pub mod RandomNumberLemmas
 pub mod Addresses
 pub mod Slabs
 pub mod Lines

@@ -43,7 +43,7 @@ distinct_without (z ∷ xs) x ys d = (
   distinct_without xs x ys d.1,
 )
 
--- another line in a place
+-- another line at an index
 pub distinct_instead : (xs : List Line) (x : Line) (ys : List Line) → Distinct (xs ++ ys) → Absent x.block xs → Absent x.block ys →
     Distinct (xs ++ x ∷ ys)
 distinct_instead [] x ys d f b = (b, d)
@@ -163,9 +163,9 @@ pub counts_instead : (n : ℕ) (xs : List Line) (x y : Line) (ys : List Line) �
 counts_instead n [] x y ys e f = (e ∙ f.0, f.1)
 counts_instead n (z ∷ xs) x y ys e f = (f.0, counts_instead (n + 1) xs x y ys e f.1)
 
-pub counts_push : (n : ℕ) (xs : List Line) (x : Line) → CountsUp n xs → x.key ≡ n + length xs → CountsUp n (xs ++ x ∷ [])
-counts_push n [] x f e = (omega arith, tt)
-counts_push n (z ∷ xs) x f e = (f.0, counts_push (n + 1) xs x f.1 (omega arith))
+pub counts_up_push : (n : ℕ) (xs : List Line) (x : Line) → CountsUp n xs → x.key ≡ n + length xs → CountsUp n (xs ++ x ∷ [])
+counts_up_push n [] x f e = (omega arith, tt)
+counts_up_push n (z ∷ xs) x f e = (f.0, counts_up_push (n + 1) xs x f.1 (omega arith))
 
 pub find_way : (n w : ℕ) (xs : List Line) (x : Line) (ys : List Line) → CountsUp n (xs ++ x ∷ ys) → w ≡ n + length xs →
     find (λ l. l.key == w) (xs ++ x ∷ ys) ≡ Some x

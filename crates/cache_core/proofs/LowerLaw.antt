@@ -13,7 +13,7 @@ use Rattle.cache_core.specs.declared.system.Memory.{Memory}
 use Rattle.cache_core.specs.Outcomes.{is_write}
 use Rattle.cache_core.specs.Plans.{IsPlannedCache}
 use Rattle.cache_core.specs.Systems.{machine_of, to_memory}
-use Rattle.cache_core.specs.SystemSteps.{listed, reaches, all_reach, Descends, AllDescend}
+use Rattle.cache_core.specs.SystemSteps.{present_refs, reaches, all_reach, Descends, AllDescend}
 use Rattle.cache_core.proofs.SystemPushes.{down_if_planned, memory_push}
 use Rattle.cache_core.proofs.FirstLevelLaw.{enters, KeptIfPlanned, down_list}
 
@@ -103,7 +103,7 @@ module _ (seed flushed : ℕ) where
   pub lower_after : (planned : Option PlannedCache) (events : List Event) (cache next : Option SystemCache) (memory after : Memory)
       (down : Option (List (Option Ref))) →
       IsPlannedCache planned → Lower seed planned events flushed cache memory →
-      MatchOption down ((next ≡ cache) × (after ≡ memory)) (λ refs. AllDescend (listed refs) cache memory next after) →
+      MatchOption down ((next ≡ cache) × (after ≡ memory)) (λ refs. AllDescend (present_refs refs) cache memory next after) →
       Lower seed planned (with_refs events (down_list down)) flushed next after
   lower_after planned events cache next memory after None l low d = stays planned events cache next memory after low d.0 d.1
-  lower_after planned events cache next memory after (Some down) l low d = all_descend planned events cache next memory after (listed down) l low d
+  lower_after planned events cache next memory after (Some down) l low d = all_descend planned events cache next memory after (present_refs down) l low d

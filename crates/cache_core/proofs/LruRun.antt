@@ -15,23 +15,23 @@ use Rattle.cache_core.specs.declared.outcome.Outcome.{Outcome}
 use Rattle.cache_core.specs.declared.outcome.WriteMode.{WriteMode}
 use Rattle.cache_core.specs.declared.outcome.Repl.TheVariants.{Lru}
 use Rattle.cache_core.specs.Geometry.{GeometryValue, block_of, set_of_block}
-use Rattle.cache_core.specs.Outcomes.{Answer}
-use Rattle.cache_core.specs.Machine.{Machine, MachineState, Line, slot_of, is_block, lines_of_set, start, step, answer, next, run, answered_from, answers}
+use Rattle.cache_core.specs.Outcomes.{Effect}
+use Rattle.cache_core.specs.Machine.{Machine, MachineState, Line, slot_of, is_block, lines_of_set, start, step, next, run, with_effects_from, effects}
 use Rattle.cache_core.specs.Stands.{IsSoundState}
-use Rattle.cache_core.specs.Windows.{window, window_after, distinct_of_set, has_last, distance, is_hit, is_evict, places, counts}
+use Rattle.cache_core.specs.Windows.{window, window_after, distinct_of_set, has_last, distance, is_hit, is_evict, occurrences, counts}
 use Rattle.cache_core.specs.LruLaws.{lru_machine, holds, HitLaw, VictimLaw, CountLaw, NextLaw, HitInclusion, HeldInclusion}
 use Rattle.cache_core.proofs.Lists.{is}
 use Rattle.cache_core.proofs.Distances.{distinct_of_set-nil, distinct_of_set-other}
-use Rattle.cache_core.proofs.Places.{places_from, places-from, window-nil, window-push}
+use Rattle.cache_core.proofs.Occurrences.{occurrences_from, occurrences-from, window-nil, window-push}
 use Rattle.cache_core.proofs.StateLaw.{step_agrees}
 use Rattle.cache_core.proofs.Visits.{at_each}
 use Rattle.cache_core.proofs.FlushLaw.{start_sound}
 use Rattle.cache_core.proofs.SoundLaw.{IsFew, visit_exists, sound_ref, sound_next}
 use Rattle.cache_core.proofs.LruSet.{blocks_of, visit_moves}
 
--- the answers from a state
-abbrev pub answers_from : Machine → MachineState → List Event → List Answer
-answers_from m st events = map (λ p. p.1) (answered_from m st events)
+-- the effects from a state
+abbrev pub effects_from : Machine → MachineState → List Event → List Effect
+effects_from m st events = map (λ p. p.1) (with_effects_from m st events)
 
 abbrev pub blocks_in : List Line → List ℕ
 blocks_in lines = map (λ line. line.block) lines
@@ -58,33 +58,33 @@ stacked_start g write = record {
 }
 
 -- one reference
-record Follows (g : GeometryValue) (write : WriteMode) (w : List ℕ) (st : MachineState) (ref : Ref) : Type 0 where
-  stacked : IsStacked g write (block_of g ref.addr ∷ w) (step (lru_machine g write) st ref)
-  hits : (answer (lru_machine g write) st ref).hit ≡ is_hit g (record { block = block_of g ref.addr; window = w })
-  evicts : is_some (answer (lru_machine g write) st ref).evicted ≡ is_evict g (record { block = block_of g ref.addr; window = w })
+record FollowsWindow (g : GeometryValue) (write : WriteMode) (w : List ℕ) (st : MachineState) (ref : Ref) : Type 0 where
+  stacked : IsStacked g write (block_of g ref.addr ∷ w) (step (lru_machine g write) st ref).after
+  hits : (step (lru_machine g write) st ref).effect.hit ≡ is_hit g (record { block = block_of g ref.addr; window = w })
+  evicts : is_some (step (lru_machine g write) st ref).effect.evicted ≡ is_evict g (record { block = block_of g ref.addr; window = w })
 
 follows : (g : GeometryValue) (write : WriteMode) (w : List ℕ) (st : MachineState) (ref : Ref) → 1 ≤ g.e → IsStacked g write w st →
-    Follows g write w st ref
+    FollowsWindow g write w st ref
 follows g write w st ref some h =
     let m : Machine = lru_machine g write in
     let x : ℕ = block_of g ref.addr in
     let k : ℕ = set_of_block g x in
     let here : List Line = lines_of_set g k st.lines in
-    let words : ℕ → ℕ = λ n. m.words (st.drawn + n) in
-    let v = visit_exists m.design Lru words ref (map slot_of here) some (omega (arith, h.few k, length-map here slot_of)) in
-    let a = step_agrees m st ref words v.outcome v.new v.rest h.sound refl (find (is_block x) st.lines) refl v.visit in
-    let moved = visit_moves g write words ref w (map slot_of here) v.outcome v.new v.rest some (blocks_slots here ∙ h.fronts k) v.visit in
+    let numbers : ℕ → ℕ = λ n. m.random_numbers (st.drawn + n) in
+    let v = visit_exists m.design Lru numbers ref (map slot_of here) some (omega (arith, h.few k, length-map here slot_of)) in
+    let a = step_agrees m st ref numbers v.outcome v.new v.rest h.sound refl (find (is_block x) st.lines) refl v.visit in
+    let moved = visit_moves g write numbers ref w (map slot_of here) v.outcome v.new v.rest some (blocks_slots here ∙ h.fronts k) v.visit in
     let after = sound_ref m st ref some h.sound h.few in
     record {
       stacked = record {
         sound = after.0;
         few = after.1;
-        fronts = at_each (λ i. blocks_in (lines_of_set g i (step m st ref).lines) ≡ take g.e (distinct_of_set g i (x ∷ w))) k
-            (sym (blocks_slots (lines_of_set g k (step m st ref).lines)) ∙ ap blocks_of (sym a.held) ∙ moved.front)
+        fronts = at_each (λ i. blocks_in (lines_of_set g i (step m st ref).after.lines) ≡ take g.e (distinct_of_set g i (x ∷ w))) k
+            (sym (blocks_slots (lines_of_set g k (step m st ref).after.lines)) ∙ ap blocks_of (sym a.held) ∙ moved.front)
             (λ j ne. ap blocks_in (a.others j ne) ∙ h.fronts j ∙ ap (take g.e) (sym (distinct_of_set-other g j x w (ne_eqb k j (λ q. ne (sym q))))));
       };
-      hits = ap (λ (o : Outcome). o.hit) (sym a.told) ∙ moved.hits;
-      evicts = ap (λ (o : Outcome). is_some o.evicted) (sym a.told) ∙ moved.evicts;
+      hits = ap (λ (o : Outcome). o.hit) (sym a.effect) ∙ moved.hits;
+      evicts = ap (λ (o : Outcome). is_some o.evicted) (sym a.effect) ∙ moved.evicts;
     }
 
 stacked_next : (g : GeometryValue) (write : WriteMode) (w : List ℕ) (st : MachineState) (event : Event) → 1 ≤ g.e → IsStacked g write w st →
@@ -101,32 +101,32 @@ stacked_run g write w st (v ∷ events) some h =
     stacked_run g write (window_after g w v) (next (lru_machine g write) st v) events some (stacked_next g write w st v some h)
 
 pub hits_from : (g : GeometryValue) (write : WriteMode) (w : List ℕ) (st : MachineState) (events : List Event) → 1 ≤ g.e → IsStacked g write w st →
-    map (λ a. a.hit) (answers_from (lru_machine g write) st events) ≡ map (is_hit g) (places_from g w events)
-unfolding places_from
+    map (λ a. a.hit) (effects_from (lru_machine g write) st events) ≡ map (is_hit g) (occurrences_from g w events)
+unfolding occurrences_from
 hits_from g write w st [] some h = refl
 hits_from g write w st (event.Reference ref ∷ events) some h =
     let f = follows g write w st ref some h in
     let m : Machine = lru_machine g write in
-    ap (λ t. t ∷ map (λ a. a.hit) (answers_from m (step m st ref) events)) f.hits
+    ap (λ t. t ∷ map (λ a. a.hit) (effects_from m (step m st ref).after events)) f.hits
     ∙ ap (λ ts. is_hit g (record { block = block_of g ref.addr; window = w }) ∷ ts)
-    (hits_from g write (block_of g ref.addr ∷ w) (step m st ref) events some f.stacked)
+    (hits_from g write (block_of g ref.addr ∷ w) (step m st ref).after events some f.stacked)
 hits_from g write w st (event.Flush ∷ events) some h =
     hits_from g write [] (next (lru_machine g write) st event.Flush) events some (stacked_next g write w st event.Flush some h)
 
 pub victims_from : (g : GeometryValue) (write : WriteMode) (w : List ℕ) (st : MachineState) (events : List Event) → 1 ≤ g.e → IsStacked g write w st →
-    map (λ a. is_some a.evicted) (answers_from (lru_machine g write) st events) ≡ map (is_evict g) (places_from g w events)
-unfolding places_from
+    map (λ a. is_some a.evicted) (effects_from (lru_machine g write) st events) ≡ map (is_evict g) (occurrences_from g w events)
+unfolding occurrences_from
 victims_from g write w st [] some h = refl
 victims_from g write w st (event.Reference ref ∷ events) some h =
     let f = follows g write w st ref some h in
     let m : Machine = lru_machine g write in
-    ap (λ t. t ∷ map (λ a. is_some a.evicted) (answers_from m (step m st ref) events)) f.evicts
+    ap (λ t. t ∷ map (λ a. is_some a.evicted) (effects_from m (step m st ref).after events)) f.evicts
     ∙ ap (λ ts. is_evict g (record { block = block_of g ref.addr; window = w }) ∷ ts)
-    (victims_from g write (block_of g ref.addr ∷ w) (step m st ref) events some f.stacked)
+    (victims_from g write (block_of g ref.addr ∷ w) (step m st ref).after events some f.stacked)
 victims_from g write w st (event.Flush ∷ events) some h =
     victims_from g write [] (next (lru_machine g write) st event.Flush) events some (stacked_next g write w st event.Flush some h)
 
--- a count over a list is one over its tests' answers
+-- a count over a list is one over the results of its tests
 pub count_by-map : {X : Type 0} (p : X → Bool) (xs : List X) → count_by p xs ≡ count_by (λ b. b) (map p xs)
 count_by-map p [] = refl
 count_by-map p (x ∷ xs) =
@@ -156,21 +156,21 @@ holds_is g write w st x h = any_set g x st.lines ∙ ap (list_any (is x)) (h.fro
 
 -- the machine hits where the windows say so, and a block leaves there
 pub hit_law : HitLaw
-hit_law g write events some = hits_from g write [] start events some (stacked_start g write) ∙ ap (map (is_hit g)) (sym (places-from g events))
+hit_law g write events some = hits_from g write [] start events some (stacked_start g write) ∙ ap (map (is_hit g)) (sym (occurrences-from g events))
 
 pub victim_law : VictimLaw
-victim_law g write events some = victims_from g write [] start events some (stacked_start g write) ∙ ap (map (is_evict g)) (sym (places-from g events))
+victim_law g write events some = victims_from g write [] start events some (stacked_start g write) ∙ ap (map (is_evict g)) (sym (occurrences-from g events))
 
 -- so the machine's counts are the windows'
 pub count_law : CountLaw
 unfolding counts
 count_law g write events some =
-    let all = answers (lru_machine g write) events in
-    let hits = count_by-map (λ a. a.hit) all ∙ ap (count_by (λ t. t)) (hit_law g write events some) ∙ sym (count_by-map (is_hit g) (places g events)) in
-    let misses = count_by-not (λ a. a.hit) all ∙ ap (count_by not) (hit_law g write events some) ∙ sym (count_by-not (is_hit g) (places g events)) in
+    let all = effects (lru_machine g write) events in
+    let hits = count_by-map (λ a. a.hit) all ∙ ap (count_by (λ t. t)) (hit_law g write events some) ∙ sym (count_by-map (is_hit g) (occurrences g events)) in
+    let misses = count_by-not (λ a. a.hit) all ∙ ap (count_by not) (hit_law g write events some) ∙ sym (count_by-not (is_hit g) (occurrences g events)) in
     let evictions =
     count_by-map (λ a. is_some a.evicted) all ∙ ap (count_by (λ t. t)) (victim_law g write events some)
-    ∙ sym (count_by-map (is_evict g) (places g events)) in
+    ∙ sym (count_by-map (is_evict g) (occurrences g events)) in
     cc (hits, misses, evictions)
 
 -- the window of a list, carried along

@@ -18,7 +18,7 @@ use Rattle.cache_core.specs.declared.outcome.Repl.TheVariants.{Lru}
 use Rattle.cache_core.specs.Geometry.{GeometryValue, block_of, set_of_block}
 use Rattle.cache_core.specs.Outcomes.{dirties}
 use Rattle.cache_core.specs.Order.{Visits, VisitsAt, Touches, TakesIn, marked, position_of}
-use Rattle.cache_core.specs.Windows.{Place, distinct_of_set, distance, seen, is_hit, is_evict}
+use Rattle.cache_core.specs.Windows.{Occurrence, distinct_of_set, distance, seen, is_hit, is_evict}
 use Rattle.cache_core.proofs.Lists.{cases, is, other, IsOnce-take, remove_is, filter_all, list_any_is, position_or_len-take}
 use Rattle.cache_core.proofs.Distances.{IsOnce-distinct_of_set, distance_is, has_last_is, take-distinct_of_set-same}
 
@@ -38,38 +38,38 @@ test_blocks x slots =
 
 record FoundAt (x : ℕ) (slots : List Slot) (at : ℕ) : Type 0 where
   there : list_any (is x) (blocks_of slots) ≡ true
-  place : at ≡ position_or_len (is x) (blocks_of slots)
+  index : at ≡ position_or_len (is x) (blocks_of slots)
 
--- the place that is found, if any, by whether the block is among the slots
-abbrev place_if : Bool → ℕ → List Slot → Option ℕ
-place_if found x slots = cond found (Some (position_or_len (λ (slot : Slot). slot.block == x) slots)) None
+-- the index that is found, if any, by whether the block is among the slots
+abbrev position_if : Bool → ℕ → List Slot → Option ℕ
+position_if found x slots = cond found (Some (position_or_len (λ (slot : Slot). slot.block == x) slots)) None
 
-place_some : (x : ℕ) (slots : List Slot) (at : ℕ) → position_of x slots ≡ Some at → FoundAt x slots at
-place_some x slots at e = by_test (ltb (position_or_len (λ (slot : Slot). slot.block == x) slots) (length slots)) refl e
+position_some : (x : ℕ) (slots : List Slot) (at : ℕ) → position_of x slots ≡ Some at → FoundAt x slots at
+position_some x slots at e = by_test (ltb (position_or_len (λ (slot : Slot). slot.block == x) slots) (length slots)) refl e
   where
-    by_test : (b : Bool) → ltb (position_or_len (λ (slot : Slot). slot.block == x) slots) (length slots) ≡ b → place_if b x slots ≡ Some at →
+    by_test : (b : Bool) → ltb (position_or_len (λ (slot : Slot). slot.block == x) slots) (length slots) ≡ b → position_if b x slots ≡ Some at →
         FoundAt x slots at
     by_test true t q =
         let same : position_or_len (λ (slot : Slot). slot.block == x) slots ≡ at = cc in
-        record { there = sym (test_blocks x slots) ∙ t; place = sym same ∙ len_blocks x slots }
+        record { there = sym (test_blocks x slots) ∙ t; index = sym same ∙ len_blocks x slots }
     by_test false t q = absurd cc
 
-pub place_none : (x : ℕ) (slots : List Slot) → position_of x slots ≡ None → list_any (is x) (blocks_of slots) ≡ false
-place_none x slots e = by_test (ltb (position_or_len (λ (slot : Slot). slot.block == x) slots) (length slots)) refl e
+pub position_none : (x : ℕ) (slots : List Slot) → position_of x slots ≡ None → list_any (is x) (blocks_of slots) ≡ false
+position_none x slots e = by_test (ltb (position_or_len (λ (slot : Slot). slot.block == x) slots) (length slots)) refl e
   where
-    by_test : (b : Bool) → ltb (position_or_len (λ (slot : Slot). slot.block == x) slots) (length slots) ≡ b → place_if b x slots ≡ None →
+    by_test : (b : Bool) → ltb (position_or_len (λ (slot : Slot). slot.block == x) slots) (length slots) ≡ b → position_if b x slots ≡ None →
         list_any (is x) (blocks_of slots) ≡ false
     by_test true t q = absurd cc
     by_test false t q = sym (test_blocks x slots) ∙ t
 
-at_place : (x : ℕ) (xs : List ℕ) → list_any (is x) xs ≡ true → slice_get xs (position_or_len (is x) xs) ≡ Some x
-at_place x [] h = absurd (false≢true h)
-at_place x (y ∷ ys) h =
+at_position : (x : ℕ) (xs : List ℕ) → list_any (is x) xs ≡ true → slice_get xs (position_or_len (is x) xs) ≡ Some x
+at_position x [] h = absurd (false≢true h)
+at_position x (y ∷ ys) h =
     cases
     (λ b. (b ≡ eqb y x) → ((b || list_any (is x) ys) ≡ true) → slice_get (y ∷ ys) (cond (not b) (1 + position_or_len (is x) ys) 0) ≡ Some x)
     (eqb y x)
     (λ e k _. ap Some (eqb-true y x e))
-    (λ e k t. rw one-add (at_place x ys t))
+    (λ e k t. rw one-add (at_position x ys t))
     refl h
 
 block_at : (slots : List Slot) (n : ℕ) (y : Slot) → slice_get slots n ≡ Some y → slice_get (blocks_of slots) n ≡ Some y.block
@@ -103,63 +103,63 @@ hit_within : (d n m : ℕ) → d ≤ n → (ltb d n && ltb d m) ≡ ltb (min d m
 hit_within d n m h = grind (arith, nat_tests)
 
 -- the stack of a reference's set: its different blocks, the most recent first
-abbrev stack : GeometryValue → Place → List ℕ
+abbrev stack : GeometryValue → Occurrence → List ℕ
 stack g p = distinct_of_set g (set_of_block g p.block) p.window
 
 -- the front of the stack, before the reference and after it
-abbrev pub front : GeometryValue → Place → List ℕ
+abbrev pub front : GeometryValue → Occurrence → List ℕ
 front g p = take g.e (stack g p)
 
-abbrev pub front_after : GeometryValue → Place → List ℕ
+abbrev pub front_after : GeometryValue → Occurrence → List ℕ
 front_after g p = take g.e (distinct_of_set g (set_of_block g p.block) (p.block ∷ p.window))
 
 -- a hit, by the front of the stack
-pub is_hit_is : (g : GeometryValue) (p : Place) → is_hit g p ≡ list_any (is p.block) (front g p)
+pub is_hit_is : (g : GeometryValue) (p : Occurrence) → is_hit g p ≡ list_any (is p.block) (front g p)
 is_hit_is g p =
-    let place : ℕ = position_or_len (is p.block) (stack g p) in
+    let index : ℕ = position_or_len (is p.block) (stack g p) in
     ap (λ b. b && ltb (distance g p) g.e) (has_last_is g p ∙ list_any_is (is p.block) (stack g p))
-    ∙ ap (λ d. ltb place (length (stack g p)) && ltb d g.e) (distance_is g p)
-    ∙ hit_within place (length (stack g p)) g.e (prefix_len-le-length (λ y. not (eqb y p.block)) (stack g p))
+    ∙ ap (λ d. ltb index (length (stack g p)) && ltb d g.e) (distance_is g p)
+    ∙ hit_within index (length (stack g p)) g.e (prefix_len-le-length (λ y. not (eqb y p.block)) (stack g p))
     ∙ ap (λ d. ltb d (min g.e (length (stack g p)))) (sym (position_or_len-take (is p.block) g.e (stack g p)))
     ∙ ap (ltb (position_or_len (is p.block) (front g p))) (sym (length-take g.e (stack g p)))
     ∙ sym (list_any_is (is p.block) (front g p))
 
 -- an eviction, by the number of different blocks
-evict_is : (g : GeometryValue) (p : Place) (hit : Bool) → is_hit g p ≡ hit → is_evict g p ≡ (not hit && leb g.e (seen g p))
+evict_is : (g : GeometryValue) (p : Occurrence) (hit : Bool) → is_hit g p ≡ hit → is_evict g p ≡ (not hit && leb g.e (seen g p))
 evict_is g p hit e = ap (λ t. not t && leb g.e (seen g p)) e
 
 -- what a visit by a reference leads to
-pub record Moves (g : GeometryValue) (p : Place) (outcome : Outcome) (new : List Slot) : Type 0 where
+pub record Moves (g : GeometryValue) (p : Occurrence) (outcome : Outcome) (new : List Slot) : Type 0 where
   pub front : blocks_of new ≡ front_after g p
   pub hits : outcome.hit ≡ is_hit g p
   pub evicts : is_some outcome.evicted ≡ is_evict g p
 
-no_room : (e n : ℕ) → min e n < e → leb e n ≡ false
-no_room e n h = grind (arith, nat_tests)
+not_full : (e n : ℕ) → min e n < e → leb e n ≡ false
+not_full e n h = grind (arith, nat_tests)
 
 full : (e n : ℕ) → min e n ≡ e → leb e n ≡ true
 full e n h = grind (arith, nat_tests)
 
-module _ (g : GeometryValue) (p : Place) (some : 1 ≤ g.e) where
-  -- the place of the block among the front's blocks
-  abbrev place : ℕ
-  place = position_or_len (is p.block) (front g p)
+module _ (g : GeometryValue) (p : Occurrence) (some : 1 ≤ g.e) where
+  -- the index of the block among the front's blocks
+  abbrev index : ℕ
+  index = position_or_len (is p.block) (front g p)
 
-  -- the slot at that place is the block's
+  -- the slot at that index is the block's
   touched_block : (slots : List Slot) (x : Slot) → blocks_of slots ≡ front g p → list_any (is p.block) (front g p) ≡ true →
-      slice_get slots place ≡ Some x → x.block ≡ p.block
+      slice_get slots index ≡ Some x → x.block ≡ p.block
   touched_block slots x held there got =
-      let read : slice_get (front g p) place ≡ Some x.block = ap (λ xs. slice_get xs place) (sym held) ∙ block_at slots place x got in
-      let both : Some p.block ≡ Some x.block = sym (at_place p.block (front g p) there) ∙ read in
+      let read : slice_get (front g p) index ≡ Some x.block = ap (λ xs. slice_get xs index) (sym held) ∙ block_at slots index x got in
+      let both : Some p.block ≡ Some x.block = sym (at_position p.block (front g p) there) ∙ read in
       cc
 
   -- the front with its block brought to the front
-  front_moved : list_any (is p.block) (front g p) ≡ true → p.block ∷ remove (front g p) place ≡ front_after g p
+  front_moved : list_any (is p.block) (front g p) ≡ true → p.block ∷ remove (front g p) index ≡ front_after g p
   front_moved there =
-      let inside : place < length (front g p) = ltb-true _ _ (sym (list_any_is (is p.block) (front g p)) ∙ there) in
-      let short : length (p.block ∷ remove (front g p) place) ≤ g.e =
-      omega (arith, length-remove (front g p) place inside, length-take g.e (stack g p)) in
-      sym (take_all g.e (p.block ∷ remove (front g p) place) short) ∙ take-distinct_of_set-same g g.e p.block p.window some
+      let inside : index < length (front g p) = ltb-true _ _ (sym (list_any_is (is p.block) (front g p)) ∙ there) in
+      let short : length (p.block ∷ remove (front g p) index) ≤ g.e =
+      omega (arith, length-remove (front g p) index inside, length-take g.e (stack g p)) in
+      sym (take_all g.e (p.block ∷ remove (front g p) index) short) ∙ take-distinct_of_set-same g g.e p.block p.window some
 
   -- a block that is held comes to the front
   hit_moves : (d : Bool) (old new : List Slot) (at : ℕ) → blocks_of old ≡ front g p → FoundAt p.block old at →
@@ -168,16 +168,16 @@ module _ (g : GeometryValue) (p : Place) (some : 1 ≤ g.e) where
   hit_moves d old new at h f t =
       let kept : blocks_of (marked d old at) ≡ front g p = blocks_marked d old at ∙ h in
       let there : list_any (is p.block) (front g p) ≡ true = ap (list_any (is p.block)) (sym h) ∙ f.there in
-      let at_is : at ≡ place = f.place ∙ ap (position_or_len (is p.block)) h in
+      let at_is : at ≡ index = f.index ∙ ap (position_or_len (is p.block)) h in
       let first = touched_block (marked d old at) t.0 kept there (ap (slice_get (marked d old at)) (sym at_is) ∙ t.1) in
-      let rest : blocks_of (remove (marked d old at) at) ≡ remove (front g p) place =
+      let rest : blocks_of (remove (marked d old at) at) ≡ remove (front g p) index =
       blocks_remove (marked d old at) at ∙ ap (λ xs. remove xs at) kept ∙ ap (remove (front g p)) at_is in
       ap blocks_of t.2 ∙ ap (λ x. x ∷ blocks_of (remove (marked d old at) at)) first ∙ ap (λ xs. p.block ∷ xs) rest ∙ front_moved there
 
   -- the front after a block that it doesn't hold
   miss_front : list_any (is p.block) (front g p) ≡ false → take g.e (p.block ∷ front g p) ≡ front_after g p
   miss_front none =
-      let same : remove (front g p) place ≡ front g p =
+      let same : remove (front g p) index ≡ front g p =
       remove_is p.block (front g p) (IsOnce-take g.e (stack g p) (IsOnce-distinct_of_set g (set_of_block g p.block) p.window))
       ∙ filter_all (other p.block) (front g p) (none_is p.block (front g p) none) in
       ap (λ xs. take g.e (p.block ∷ xs)) (sym same) ∙ take-distinct_of_set-same g g.e p.block p.window some
@@ -194,56 +194,56 @@ module _ (g : GeometryValue) (p : Place) (some : 1 ≤ g.e) where
       record { absent = absent; missed = is_hit_is g p ∙ absent; long = ap length (sym h) ∙ length-map old (λ slot. slot.block) }
 
   -- a block that isn't held is put in front, and the last leaves a full set
-  fill_moves : (word : ℕ) (d : Bool) (old new : List Slot) (outcome : Outcome) (evicted : Option Slot) →
+  fill_moves : (number : ℕ) (d : Bool) (old new : List Slot) (outcome : Outcome) (evicted : Option Slot) →
       blocks_of old ≡ front g p → list_any (is p.block) (blocks_of old) ≡ false →
-      TakesIn (Some Lru) word g.e old (record { block = p.block; dirty = d }) evicted new → outcome.hit ≡ false → outcome.evicted ≡ evicted →
+      TakesIn (Some Lru) number g.e old (record { block = p.block; dirty = d }) evicted new → outcome.hit ≡ false → outcome.evicted ≡ evicted →
       Moves g p outcome new
-  fill_moves word d old new outcome None h none places hit left =
+  fill_moves number d old new outcome None h none taken hit left =
       let m = misses old h none in
-      let short : length (p.block ∷ front g p) ≤ g.e = omega (arith, m.long, places.0) in
+      let short : length (p.block ∷ front g p) ≤ g.e = omega (arith, m.long, taken.0) in
       record {
-        front = ap blocks_of places.1 ∙ ap (λ xs. p.block ∷ xs) h ∙ sym (take_all g.e (p.block ∷ front g p) short) ∙ miss_front m.absent;
+        front = ap blocks_of taken.1 ∙ ap (λ xs. p.block ∷ xs) h ∙ sym (take_all g.e (p.block ∷ front g p) short) ∙ miss_front m.absent;
         hits = hit ∙ sym m.missed;
         evicts = ap is_some left
-            ∙ sym (evict_is g p false m.missed ∙ no_room g.e (length (stack g p)) (omega (arith, m.long, places.0, length-take g.e (stack g p))));
+            ∙ sym (evict_is g p false m.missed ∙ not_full g.e (length (stack g p)) (omega (arith, m.long, taken.0, length-take g.e (stack g p))));
       }
-  fill_moves word d old new outcome (Some gone) h none places hit left =
+  fill_moves number d old new outcome (Some gone) h none taken hit left =
       let m = misses old h none in
-      let keep : List Slot = places.1.0 in
+      let keep : List Slot = taken.1.0 in
       let ends : front g p ≡ blocks_of keep ++ gone.block ∷ [] =
-      sym h ∙ ap blocks_of places.1.1 ∙ map-append (λ (slot : Slot). slot.block) keep (gone ∷ []) in
+      sym h ∙ ap blocks_of taken.1.1 ∙ map-append (λ (slot : Slot). slot.block) keep (gone ∷ []) in
       let count : length (p.block ∷ blocks_of keep) ≡ g.e =
-      omega (arith, m.long, places.0, ap length ends, length-append (blocks_of keep) (gone.block ∷ [])) in
+      omega (arith, m.long, taken.0, ap length ends, length-append (blocks_of keep) (gone.block ∷ [])) in
       let cut : take g.e (p.block ∷ (blocks_of keep ++ gone.block ∷ [])) ≡ p.block ∷ blocks_of keep =
       take_at (p.block ∷ blocks_of keep) (gone.block ∷ []) g.e count in
       record {
-        front = ap blocks_of places.1.2 ∙ sym cut ∙ ap (λ xs. take g.e (p.block ∷ xs)) (sym ends) ∙ miss_front m.absent;
+        front = ap blocks_of taken.1.2 ∙ sym cut ∙ ap (λ xs. take g.e (p.block ∷ xs)) (sym ends) ∙ miss_front m.absent;
         hits = hit ∙ sym m.missed;
         evicts = ap is_some left
-            ∙ sym (evict_is g p false m.missed ∙ full g.e (length (stack g p)) (omega (arith, m.long, places.0, length-take g.e (stack g p))));
+            ∙ sym (evict_is g p false m.missed ∙ full g.e (length (stack g p)) (omega (arith, m.long, taken.0, length-take g.e (stack g p))));
       }
 
 -- a visit of a set that holds the front of its stack
-pub visit_moves : (g : GeometryValue) (write : WriteMode) (words : ℕ → ℕ) (ref : Ref) (w : List ℕ) (old : List Slot) (outcome : Outcome)
+pub visit_moves : (g : GeometryValue) (write : WriteMode) (numbers : ℕ → ℕ) (ref : Ref) (w : List ℕ) (old : List Slot) (outcome : Outcome)
     (new : List Slot)
     (rest : ℕ → ℕ) → 1 ≤ g.e → blocks_of old ≡ take g.e (distinct_of_set g (set_of_block g (block_of g ref.addr)) w) →
-    Visits (record { geometry = g; write = write; allocate = Always }) (Some Lru) words ref old outcome new rest →
+    Visits (record { geometry = g; write = write; allocate = Always }) (Some Lru) numbers ref old outcome new rest →
     Moves g (record { block = block_of g ref.addr; window = w }) outcome new
-visit_moves g write words ref w old outcome new rest some h v = by_place (position_of (block_of g ref.addr) old) refl v
+visit_moves g write numbers ref w old outcome new rest some h v = by_index (position_of (block_of g ref.addr) old) refl v
   where
-    p : Place
+    p : Occurrence
     p = record { block = block_of g ref.addr; window = w }
 
-    by_place : (o : Option ℕ) → position_of p.block old ≡ o →
-        VisitsAt o (record { geometry = g; write = write; allocate = Always }) (Some Lru) words ref old outcome new rest → Moves g p outcome new
-    by_place None e x =
-        fill_moves g p some (words 0) (dirties write ref.access) old new outcome outcome.evicted h (place_none p.block old e) x.order
-        (ap (λ (o : Outcome). o.hit) x.answers) refl
-    by_place (Some at) e x =
-        let f = place_some p.block old at e in
+    by_index : (o : Option ℕ) → position_of p.block old ≡ o →
+        VisitsAt o (record { geometry = g; write = write; allocate = Always }) (Some Lru) numbers ref old outcome new rest → Moves g p outcome new
+    by_index None e x =
+        fill_moves g p some (numbers 0) (dirties write ref.access) old new outcome outcome.evicted h (position_none p.block old e) x.order
+        (ap (λ (o : Outcome). o.hit) x.effect) refl
+    by_index (Some at) e x =
+        let f = position_some p.block old at e in
         let hit : is_hit g p ≡ true = is_hit_is g p ∙ ap (list_any (is p.block)) (sym h) ∙ f.there in
         record {
           front = hit_moves g p some (dirties write ref.access) old new at h f x.order;
-          hits = ap (λ (o : Outcome). o.hit) x.answers ∙ sym hit;
-          evicts = ap (λ (o : Outcome). is_some o.evicted) x.answers ∙ sym (evict_is g p true hit);
+          hits = ap (λ (o : Outcome). o.hit) x.effect ∙ sym hit;
+          evicts = ap (λ (o : Outcome). is_some o.evicted) x.effect ∙ sym (evict_is g p true hit);
         }

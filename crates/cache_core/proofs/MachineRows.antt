@@ -13,18 +13,18 @@ use Rattle.cache_core.specs.declared.outcome.WriteMode.{WriteMode}
 use Rattle.cache_core.specs.declared.outcome.WriteMode.TheVariants.{Back, Through}
 use Rattle.cache_core.specs.declared.outcome.AllocMode.{AllocMode}
 use Rattle.cache_core.specs.declared.outcome.AllocMode.TheVariants.{Always, Never}
-use Rattle.cache_core.specs.Outcomes.{Answer}
-use Rattle.cache_core.specs.Machine.{Machine, answer, answers, run, dirty_count}
+use Rattle.cache_core.specs.Outcomes.{Effect}
+use Rattle.cache_core.specs.Machine.{Machine, step, effects, run, dirty_count}
 use Rattle.rand_pcg.specs.Lcg.{state_after}
-use Rattle.cache_core.specs.Words.{word_of, seeded}
+use Rattle.cache_core.specs.RandomNumbers.{random_number, seeded}
 use Rattle.cache_core.proofs.WindowRows.{twelve}
 
--- one set of so many lines of 16 bytes, with the random words of seed 42
+-- one set of so many lines of 16 bytes, with the random numbers of seed 42
 abbrev machine : Repl → ℕ → WriteMode → AllocMode → Machine
 machine policy ways write alloc = record {
   design = record { geometry = record { s = 0; e = ways; b = 4 }; write = write; allocate = alloc };
   policy = policy;
-  words = word_of (seeded 42);
+  random_numbers = random_number (seeded 42);
 }
 
 abbrev pub read : ℕ → Event
@@ -40,65 +40,65 @@ abbrev slot : ℕ → Bool → Slot
 slot block dirty = record { block = block; dirty = dirty }
 
 -- hits, misses and evictions
-abbrev counts : Machine → List Event → ℕ × ℕ × ℕ
-counts m events =
-    let all = answers m events in
+abbrev counts_of : Machine → List Event → ℕ × ℕ × ℕ
+counts_of m events =
+    let all = effects m events in
     (count (λ a. a.hit) all, count (λ a. not a.hit) all, count (λ a. is_some a.evicted) all)
 
 -- with FIFO more lines can miss more (Belady, Nelson and Shedler 1969)
-fifo_of_three : counts (machine Fifo 3 Back Always) twelve ≡ (3, 9, 6)
+fifo_of_three : counts_of (machine Fifo 3 Back Always) twelve ≡ (3, 9, 6)
 fifo_of_three = refl
 
-fifo_of_four : counts (machine Fifo 4 Back Always) twelve ≡ (2, 10, 6)
+fifo_of_four : counts_of (machine Fifo 4 Back Always) twelve ≡ (2, 10, 6)
 fifo_of_four = refl
 
 abbrev pub six : List Event
 six = read 0x10 ∷ read 0x20 ∷ read 0x30 ∷ read 0x10 ∷ read 0x20 ∷ read 0x10 ∷ []
 
-six_by_lru : counts (machine Lru 2 Back Always) six ≡ (1, 5, 3)
+six_by_lru : counts_of (machine Lru 2 Back Always) six ≡ (1, 5, 3)
 six_by_lru = refl
 
-six_by_fifo : counts (machine Fifo 2 Back Always) six ≡ (1, 5, 3)
+six_by_fifo : counts_of (machine Fifo 2 Back Always) six ≡ (1, 5, 3)
 six_by_fifo = refl
 
-six_by_random : counts (machine Random 2 Back Always) six ≡ (2, 4, 2)
+six_by_random : counts_of (machine Random 2 Back Always) six ≡ (2, 4, 2)
 unfolding state_after
 six_by_random = refl
 
--- the first words of the generator (the PCG32 demonstration of O'Neill 2014)
-first_words : map (word_of (seeded 42)) (0 ∷ 1 ∷ 2 ∷ 3 ∷ []) ≡ 0xa15c02b7 ∷ 0x7b47f409 ∷ 0xba1d3330 ∷ 0x83d2f293 ∷ []
+-- the first random numbers of the generator (the PCG32 demonstration of O'Neill 2014)
+first_numbers : map (random_number (seeded 42)) (0 ∷ 1 ∷ 2 ∷ 3 ∷ []) ≡ 0xa15c02b7 ∷ 0x7b47f409 ∷ 0xba1d3330 ∷ 0x83d2f293 ∷ []
 unfolding state_after
-first_words = refl
+first_numbers = refl
 
 -- a flush empties the ways, and the generator goes on where it was
-words_go_on_after_a_flush : counts (machine Random 2 Back Always) (six ++ event.Flush ∷ read 0x10 ∷ read 0x20 ∷ read 0x30 ∷ []) ≡ (2, 7, 3)
+numbers_go_on_after_a_flush : counts_of (machine Random 2 Back Always) (six ++ event.Flush ∷ read 0x10 ∷ read 0x20 ∷ read 0x30 ∷ []) ≡ (2, 7, 3)
 unfolding state_after
-words_go_on_after_a_flush = refl
+numbers_go_on_after_a_flush = refl
 
 clean_blocks_are_not_flushed : dirty_count (run (machine Random 2 Back Always) six) ≡ 0
 unfolding state_after
 clean_blocks_are_not_flushed = refl
 
--- what one machine answers to a reference after a list of events
-abbrev answer_after : Machine → List Event → Ref → Answer
-answer_after m events ref = answer m (run m events) ref
+-- the effect of a reference after a list of events
+abbrev effect_after : Machine → List Event → Ref → Effect
+effect_after m events ref = (step m (run m events) ref).effect
 
-third_word_takes_way_zero :
-    (answer_after (machine Random 2 Back Always) (six ++ event.Flush ∷ read 0x10 ∷ read 0x20 ∷ []) (at Read 0x30)).evicted ≡ Some (slot 1 false)
+third_number_takes_way_zero :
+    (effect_after (machine Random 2 Back Always) (six ++ event.Flush ∷ read 0x10 ∷ read 0x20 ∷ []) (at Read 0x30)).evicted ≡ Some (slot 1 false)
 unfolding state_after
-third_word_takes_way_zero = refl
+third_number_takes_way_zero = refl
 
 -- the same of a cache of one line
-abbrev after : WriteMode → AllocMode → List Event → Ref → Answer
-after w a events ref = answer_after (machine Lru 1 w a) events ref
+abbrev after : WriteMode → AllocMode → List Event → Ref → Effect
+after w a events ref = effect_after (machine Lru 1 w a) events ref
 
-abbrev hits : List Ref → Answer
+abbrev hits : List Ref → Effect
 hits down = record { hit = true; evicted = None; placed = false; down = down }
 
-abbrev places : Option Slot → List Ref → Answer
+abbrev places : Option Slot → List Ref → Effect
 places evicted down = record { hit = false; evicted = evicted; placed = true; down = down }
 
-abbrev passes : List Ref → Answer
+abbrev passes : List Ref → Effect
 passes down = record { hit = false; evicted = None; placed = false; down = down }
 
 dirty_victim_goes_down_first : after Back Always (write 0 ∷ []) (at Read 0x1f) ≡ places (Some (slot 0 true)) (at Write 0 ∷ at Read 0x10 ∷ [])

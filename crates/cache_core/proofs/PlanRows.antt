@@ -17,7 +17,7 @@ abbrev spec : ℕ → ℕ → ℕ → CacheSpec
 spec size bsize assoc = record { size = size; bsize = bsize; assoc = assoc; repl = Lru; wback = Back; walloc = Always }
 
 abbrev planned : ℕ → ℕ → ℕ → PlannedCache
-planned s e b = record { design = record { geometry = geometry_value s e b; write = Back; allocate = Always }; repl = Lru }
+planned s e b = record { design = record { geometry = geometry_value s e b; write = Back; allocate = Always }; policy = Lru }
 
 abbrev unified : CacheSpec → FirstLevel
 unified u = record { i = None; d = None; u = Some u }

@@ -19,12 +19,12 @@ start_law m c d r w e = start_state m c d r w e
 pub access_run : AccessLaw
 access_run m events old ref outcome new ways i a =
     let r = access_law m (run m events) old ref outcome new (run_sound m events ways).0 i a in
-    (subst (λ st. IsState m st new) (sym (run_more m events (event.Reference ref))) r.state, r.told)
+    (subst (λ st. IsState m st new) (sym (run_more m events (event.Reference ref))) r.state, r.effect)
 
 pub flush_run : FlushLaw
 flush_run m events old dirty new i f =
     let r = flush_law m (run m events) old dirty new i f in
-    (subst (λ st. IsState m st new) (sym (run_more m events event.Flush)) r.state, r.told)
+    (subst (λ st. IsState m st new) (sym (run_more m events event.Flush)) r.state, r.effect)
 
 pub order_run : OrderLaw
 order_run m events ways = (run_sound m events ways).0

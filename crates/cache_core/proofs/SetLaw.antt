@@ -8,21 +8,21 @@ use Rattle.std.proofs.lemmas.Bool.{eq-eqb, le-ltb, lt-ltb}
 use Rattle.cache_core.specs.declared.outcome.Slot.{Slot}
 use Rattle.cache_core.specs.declared.outcome.Repl.{Repl}
 use Rattle.cache_core.specs.declared.outcome.Repl.TheVariants.{Lru, Fifo, Random}
-use Rattle.cache_core.specs.Machine.{Line, slot_of, is_block, without, exchange, victim, touch, with_block}
+use Rattle.cache_core.specs.Machine.{Line, slot_of, is_block, without, exchange, victim, with_touch, with_block}
 use Rattle.cache_core.specs.Order.{Touches, Inserts, Exchanges, marked, position_of}
 use Rattle.cache_core.specs.Stands.{Falls, Absent, Distinct, IsGood}
 use Rattle.cache_core.proofs.Lines.{in_place, absent_round}
 use Rattle.cache_core.proofs.Lines.{ne-eqb, Found, found, absent_left, distinct_back, distinct_front, distinct_without}
 use Rattle.cache_core.proofs.Lines.{distinct_instead, without_split, exchange_split, falls_weaker, falls_without, falls_instead, least_last, counts_instead}
-use Rattle.cache_core.proofs.Lines.{counts_push, find_way}
+use Rattle.cache_core.proofs.Lines.{counts_up_push, find_way}
 
 -- where the block of a line stands
 len_absent : (b : ℕ) (ls : List Line) → Absent b ls → position_or_len (λ (x : Slot). x.block == b) (map slot_of ls) ≡ length (map slot_of ls)
 len_absent b [] h = refl
 len_absent b (l ∷ ls) h = rw (ne-eqb l.block b h.0) (omega (arith, len_absent b ls h.1))
 
-pub place_absent : (b : ℕ) (ls : List Line) → Absent b ls → position_of b (map slot_of ls) ≡ None
-place_absent b ls h =
+pub position_absent : (b : ℕ) (ls : List Line) → Absent b ls → position_of b (map slot_of ls) ≡ None
+position_absent b ls h =
     let e = len_absent b ls h in
     let t = le-ltb (length (map slot_of ls)) (length (map slot_of ls)) (omega arith) in
     rw (e, t) refl
@@ -32,14 +32,14 @@ len_split : (b : ℕ) (xs : List Line) (x : Line) (ys : List Line) → Absent b 
 len_split b [] x ys h e = rw (eq-eqb x.block b e) refl
 len_split b (z ∷ xs) x ys h e = rw (ne-eqb z.block b h.0) (omega (arith, len_split b xs x ys h.1 e))
 
-pub place_split : (b : ℕ) (xs : List Line) (x : Line) (ys : List Line) → Absent b xs → x.block ≡ b →
+pub position_split : (b : ℕ) (xs : List Line) (x : Line) (ys : List Line) → Absent b xs → x.block ≡ b →
     position_of b (map slot_of (xs ++ x ∷ ys)) ≡ Some (length xs)
-place_split b xs x ys h e =
+position_split b xs x ys h e =
     let q = len_split b xs x ys h e in
     let t = lt-ltb (length xs) (length (map slot_of (xs ++ x ∷ ys))) (omega (arith, length-map (xs ++ x ∷ ys) slot_of, length-append xs (x ∷ ys))) in
     rw (q, t) refl
 
--- the slot of a line, at its place
+-- the slot of a line, at its index
 slots_split : (xs : List Line) (x : Line) (ys : List Line) → map slot_of (xs ++ x ∷ ys) ≡ map slot_of xs ++ slot_of x ∷ map slot_of ys
 slots_split xs x ys = map-append slot_of xs (x ∷ ys)
 
@@ -65,7 +65,7 @@ marked_split true xs x ys =
     let s = set_at (map slot_of xs) (slot_of x) (map slot_of ys) (record (slot_of x) { dirty = true }) (length xs) l in
     rw (slots_split xs x ys, g, s, slots_split xs (with_mark true x) ys) refl
 
--- a line with its mark in its own place
+-- a line with its mark, where it was
 exchange_marked : (d : Bool) (b : ℕ) (xs : List Line) (x : Line) (ys : List Line) → x.block ≡ b → Absent b xs → Absent b ys →
     exchange x.block (with_mark d x) (xs ++ x ∷ ys) ≡ xs ++ with_mark d x ∷ ys
 exchange_marked d b xs x ys e f h =
@@ -74,7 +74,7 @@ exchange_marked d b xs x ys e f h =
 -- a hit
 touch_law : (policy : Repl) (clock : ℕ) (d : Bool) (b : ℕ) (xs : List Line) (x : Line) (ys : List Line) (new : List Slot) → x.block ≡ b →
     Absent b xs → Absent b ys → Touches (Some policy) (map slot_of (xs ++ with_mark d x ∷ ys)) (length xs) new →
-    new ≡ map slot_of (touch policy clock (with_mark d x) (xs ++ x ∷ ys))
+    new ≡ map slot_of (with_touch policy clock (with_mark d x) (xs ++ x ∷ ys))
 touch_law Lru clock d b xs x ys new e f h t =
     let l = length-map xs slot_of in
     let y = with_mark d x in
@@ -90,7 +90,7 @@ touch_law Fifo clock d b xs x ys new e f h t = rw (exchange_marked d b xs x ys e
 touch_law Random clock d b xs x ys new e f h t = rw (exchange_marked d b xs x ys e f h) t
 
 touch_good : (policy : Repl) (clock : ℕ) (xs : List Line) (x y : Line) (ys : List Line) → x.block ≡ y.block → y.key ≡ x.key →
-    IsGood policy clock (xs ++ x ∷ ys) → IsGood policy (clock + 1) (touch policy (clock + 1) y (xs ++ x ∷ ys))
+    IsGood policy clock (xs ++ x ∷ ys) → IsGood policy (clock + 1) (with_touch policy (clock + 1) y (xs ++ x ∷ ys))
 touch_good Lru clock xs x y ys e q i =
     let p = in_place xs x y ys e i.distinct in
     rw p.taken_out record { distinct = p.others; order = (omega arith, falls_without (clock + 1) xs x ys i.order) }
@@ -105,10 +105,10 @@ touch_good Random clock xs x y ys e q i =
 -- what a touch of a held block does: the slots and the lines agree again, and the set is in order
 pub record Touched (policy : Repl) (clock : ℕ) (b : ℕ) (line : Line) (d : Bool) (ls : List Line) : Type 0 where
   pub at : ℕ
-  pub place : position_of b (map slot_of ls) ≡ Some at
+  pub index : position_of b (map slot_of ls) ≡ Some at
   pub slots : (new : List Slot) → Touches (Some policy) (marked d (map slot_of ls) at) at new →
-      new ≡ map slot_of (touch policy (clock + 1) (with_mark d line) ls)
-  pub good : IsGood policy (clock + 1) (touch policy (clock + 1) (with_mark d line) ls)
+      new ≡ map slot_of (with_touch policy (clock + 1) (with_mark d line) ls)
+  pub good : IsGood policy (clock + 1) (with_touch policy (clock + 1) (with_mark d line) ls)
 
 pub touched : (policy : Repl) (clock b : ℕ) (line : Line) (d : Bool) (ls : List Line) → IsGood policy clock ls →
     find (is_block b) ls ≡ Some line → Touched policy clock b line d ls
@@ -119,13 +119,13 @@ touched policy clock b line d ls i h =
     let k : Absent b r.back = subst (λ n. Absent n r.back) r.here (distinct_back r.front line r.back j.distinct) in
     rw r.split record {
       at = length r.front;
-      place = place_split b r.front line r.back f r.here;
+      index = position_split b r.front line r.back f r.here;
       slots = λ new t. touch_law policy (clock + 1) d b r.front line r.back new r.here f k
           (subst (λ s. Touches (Some policy) s (length r.front) new) (marked_split d r.front line r.back) t);
       good = touch_good policy clock r.front line (with_mark d line) r.back refl refl j;
     }
 
--- a slot put into a set with room
+-- a slot put into a set that is not full
 pub insert_law : (policy : Repl) (clock count : ℕ) (slot : Slot) (ls : List Line) (new : List Slot) →
     Inserts (Some policy) (map slot_of ls) slot new → new ≡ map slot_of (with_block policy clock count slot None ls)
 insert_law Lru clock count slot ls new t = t
@@ -138,7 +138,7 @@ insert_good Lru clock slot ls i h = record { distinct = (h, i.distinct); order =
 insert_good Fifo clock slot ls i h = record { distinct = (h, i.distinct); order = (omega arith, i.order) }
 insert_good Random clock slot ls i h =
     let x : Line = record { block = slot.block; key = length ls; dirty = slot.dirty } in
-    record { distinct = distinct_instead ls x [] (rw append-nil i.distinct) h tt; order = counts_push 0 ls x i.order (omega arith) }
+    record { distinct = distinct_instead ls x [] (rw append-nil i.distinct) h tt; order = counts_up_push 0 ls x i.order (omega arith) }
 
 -- the last slot of a set is that of its last line
 record Last (ls : List Line) (front : List Slot) (gone : Slot) : Type 0 where
@@ -165,7 +165,7 @@ last_line (l ∷ ls) (y ∷ front) gone e =
       slot = r.slot;
     }
 
--- the line whose slot stands at a place
+-- the line whose slot stands at an index
 record Stands (ls : List Line) (n : ℕ) (gone : Slot) : Type 0 where
   xs : List Line
   x : Line
@@ -182,17 +182,17 @@ line_at (l ∷ ls) (suc n) gone e =
     record { xs = l ∷ r.xs; x = r.x; ys = r.ys; split = ap (λ s. l ∷ s) r.split; len = ap suc r.len; slot = r.slot }
 
 -- a slot put into a full set: the line that leaves, the slots and the lines again, and the order
-pub record Exchanged (policy : Repl) (clock ways word count : ℕ) (slot gone : Slot) (ls : List Line) (new : List Slot) : Type 0 where
+pub record Exchanged (policy : Repl) (clock ways number count : ℕ) (slot gone : Slot) (ls : List Line) (new : List Slot) : Type 0 where
   pub line : Line
-  pub leaves : victim policy ways word ls ≡ Some line
+  pub leaves : victim policy ways number ls ≡ Some line
   pub left : gone ≡ slot_of line
   pub among : Found line.block ls line
   pub slots : new ≡ map slot_of (with_block policy (clock + 1) count slot (Some line) ls)
   pub good : IsGood policy (clock + 1) (with_block policy (clock + 1) count slot (Some line) ls)
 
-front_law : (clock ways word count : ℕ) (slot gone : Slot) (ls : List Line) (new front : List Slot) → map slot_of ls ≡ front ++ gone ∷ [] →
-    new ≡ slot ∷ front → IsGood Lru clock ls → Absent slot.block ls → Exchanged Lru clock ways word count slot gone ls new
-front_law clock ways word count slot gone ls new front e n i h =
+front_law : (clock ways number count : ℕ) (slot gone : Slot) (ls : List Line) (new front : List Slot) → map slot_of ls ≡ front ++ gone ∷ [] →
+    new ≡ slot ∷ front → IsGood Lru clock ls → Absent slot.block ls → Exchanged Lru clock ways number count slot gone ls new
+front_law clock ways number count slot gone ls new front e n i h =
     let r = last_line ls front gone e in
     let j : IsGood Lru clock (r.xs ++ r.x ∷ []) = subst (IsGood Lru clock) r.split i in
     let k : Absent slot.block (r.xs ++ r.x ∷ []) = subst (Absent slot.block) r.split h in
@@ -210,9 +210,9 @@ front_law clock ways word count slot gone ls new front e n i h =
     }
 
 -- FIFO keeps a full set as LRU does
-fifo_from_lru : (clock ways word count : ℕ) (slot gone : Slot) (ls : List Line) (new : List Slot) →
-    Exchanged Lru clock ways word count slot gone ls new → Exchanged Fifo clock ways word count slot gone ls new
-fifo_from_lru clock ways word count slot gone ls new x = record {
+fifo_from_lru : (clock ways number count : ℕ) (slot gone : Slot) (ls : List Line) (new : List Slot) →
+    Exchanged Lru clock ways number count slot gone ls new → Exchanged Fifo clock ways number count slot gone ls new
+fifo_from_lru clock ways number count slot gone ls new x = record {
   line = x.line;
   leaves = x.leaves;
   left = x.left;
@@ -222,10 +222,10 @@ fifo_from_lru clock ways word count slot gone ls new x = record {
 }
 
 -- random exchanges a way, and keeps the others
-way_law : (clock ways word count : ℕ) (slot gone : Slot) (ls : List Line) (new : List Slot) (r : Stands ls (word % length (map slot_of ls)) gone) →
-    length (map slot_of ls) ≡ ways → new ≡ slice_set (map slot_of ls) (word % length (map slot_of ls)) slot → IsGood Random clock ls →
-    Absent slot.block ls → Exchanged Random clock ways word count slot gone ls new
-way_law clock ways word count slot gone ls new r l t i h = subst (λ s. Exchanged Random clock ways word count slot gone s new) (sym r.split) whole
+way_law : (clock ways number count : ℕ) (slot gone : Slot) (ls : List Line) (new : List Slot) (r : Stands ls (number % length (map slot_of ls)) gone) →
+    length (map slot_of ls) ≡ ways → new ≡ slice_set (map slot_of ls) (number % length (map slot_of ls)) slot → IsGood Random clock ls →
+    Absent slot.block ls → Exchanged Random clock ways number count slot gone ls new
+way_law clock ways number count slot gone ls new r l t i h = subst (λ s. Exchanged Random clock ways number count slot gone s new) (sym r.split) whole
   where
     j : IsGood Random clock (r.xs ++ r.x ∷ r.ys)
     j = subst (IsGood Random clock) r.split i
@@ -247,12 +247,12 @@ way_law clock ways word count slot gone ls new r l t i h = subst (λ s. Exchange
         ∙ set_at (map slot_of r.xs) (slot_of r.x) (map slot_of r.ys) slot (length r.xs) (length-map r.xs slot_of)
         ∙ sym (slots_split r.xs y r.ys)
 
-    whole : Exchanged Random clock ways word count slot gone (r.xs ++ r.x ∷ r.ys) new
+    whole : Exchanged Random clock ways number count slot gone (r.xs ++ r.x ∷ r.ys) new
     whole =
-        let way : word % ways ≡ length r.xs = ap (λ n. word % n) (sym l) ∙ r.len in
+        let way : number % ways ≡ length r.xs = ap (λ n. number % n) (sym l) ∙ r.len in
         record {
           line = r.x;
-          leaves = find_way 0 (word % ways) r.xs r.x r.ys j.order (omega arith);
+          leaves = find_way 0 (number % ways) r.xs r.x r.ys j.order (omega arith);
           left = r.slot;
           among = record { front = r.xs; back = r.ys; split = refl; here = refl };
           slots = rw exchanged written;
@@ -262,12 +262,12 @@ way_law clock ways word count slot gone ls new r l t i h = subst (λ s. Exchange
           };
         }
 
-pub exchange_law : (policy : Repl) (clock ways word count : ℕ) (slot gone : Slot) (ls : List Line) (new : List Slot) →
-    length (map slot_of ls) ≡ ways → Exchanges (Some policy) word (map slot_of ls) slot gone new → IsGood policy clock ls → Absent slot.block ls →
-    Exchanged policy clock ways word count slot gone ls new
-exchange_law Lru clock ways word count slot gone ls new l t i h = front_law clock ways word count slot gone ls new t.0 t.1 t.2 i h
-exchange_law Fifo clock ways word count slot gone ls new l t i h =
-    fifo_from_lru clock ways word count slot gone ls new
-    (front_law clock ways word count slot gone ls new t.0 t.1 t.2 (record { distinct = i.distinct; order = i.order }) h)
-exchange_law Random clock ways word count slot gone ls new l t i h =
-    way_law clock ways word count slot gone ls new (line_at ls (word % length (map slot_of ls)) gone t.0) l t.1 i h
+pub exchange_law : (policy : Repl) (clock ways number count : ℕ) (slot gone : Slot) (ls : List Line) (new : List Slot) →
+    length (map slot_of ls) ≡ ways → Exchanges (Some policy) number (map slot_of ls) slot gone new → IsGood policy clock ls → Absent slot.block ls →
+    Exchanged policy clock ways number count slot gone ls new
+exchange_law Lru clock ways number count slot gone ls new l t i h = front_law clock ways number count slot gone ls new t.0 t.1 t.2 i h
+exchange_law Fifo clock ways number count slot gone ls new l t i h =
+    fifo_from_lru clock ways number count slot gone ls new
+    (front_law clock ways number count slot gone ls new t.0 t.1 t.2 (record { distinct = i.distinct; order = i.order }) h)
+exchange_law Random clock ways number count slot gone ls new l t i h =
+    way_law clock ways number count slot gone ls new (line_at ls (number % length (map slot_of ls)) gone t.0) l t.1 i h

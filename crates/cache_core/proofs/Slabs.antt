@@ -34,40 +34,40 @@ get_or-sets_of ways (f ∷ fs) (suc k) start slots e h =
 All-rest : {X : Type 0} (P : X → Type 0) (x : X) (xs : List X) → All P (x ∷ xs) → All P xs
 All-rest P x xs h k d l = h (suc k) d (omega arith)
 
-pub sets_of-put : (ways : ℕ) (filled : List ℕ) (k n start : ℕ) (slots room : List Slot) → start ≡ k * ways → start ≤ length slots →
-    All (λ m. m ≤ ways) filled → k < length filled → length room ≡ ways → n ≤ ways →
-    sets_of ways (put_mid start ways slots room) (set filled k n) ≡ set (sets_of ways slots filled) k (take n room)
-sets_of-put ways [] k n start slots room e l a h r m = absurd (omega arith)
-sets_of-put ways (f ∷ fs) zero n start slots room e l a h r m =
+pub sets_of-put : (ways : ℕ) (filled : List ℕ) (k n start : ℕ) (slots segment : List Slot) → start ≡ k * ways → start ≤ length slots →
+    All (λ m. m ≤ ways) filled → k < length filled → length segment ≡ ways → n ≤ ways →
+    sets_of ways (put_mid start ways slots segment) (set filled k n) ≡ set (sets_of ways slots filled) k (take n segment)
+sets_of-put ways [] k n start slots segment e l a h r m = absurd (omega arith)
+sets_of-put ways (f ∷ fs) zero n start slots segment e l a h r m =
     let z : start ≡ 0 = e ∙ zero-mul ways in
-    let t = take-append-le n room (drop ways slots) (omega arith) in
-    let d = drop_at room (drop ways slots) ways r in
+    let t = take-append-le n segment (drop ways slots) (omega arith) in
+    let d = drop_at segment (drop ways slots) ways r in
     rw (z, t, d) refl
-sets_of-put ways (f ∷ fs) (suc k) n start slots room e l a h r m =
+sets_of-put ways (f ∷ fs) (suc k) n start slots segment e l a h r m =
     let s : start ≡ ways + k * ways = e ∙ omega (arith, suc-mul k ways) in
     let f_le : f ≤ ways = a zero 0 (omega arith) in
     let front : length (take (ways + k * ways) slots) ≡ ways + k * ways = length-take-le (ways + k * ways) slots (omega arith) in
     let rest = drop ways (drop (ways + k * ways) slots) in
-    let t = take-append-le f (take (ways + k * ways) slots) (room ++ rest) (omega arith) in
+    let t = take-append-le f (take (ways + k * ways) slots) (segment ++ rest) (omega arith) in
     let t' = take-take f (ways + k * ways) slots (omega arith) in
-    let d = drop-append-le ways (take (ways + k * ways) slots) (room ++ rest) (omega arith) in
+    let d = drop-append-le ways (take (ways + k * ways) slots) (segment ++ rest) (omega arith) in
     let d' = drop-take ways (k * ways) slots in
     let d'' = sym (drop-drop (k * ways) ways slots) in
     let i =
-    sets_of-put ways fs k n (k * ways) (drop ways slots) room refl (omega (arith, length-drop ways slots)) (All-rest (λ x. x ≤ ways) f fs a)
+    sets_of-put ways fs k n (k * ways) (drop ways slots) segment refl (omega (arith, length-drop ways slots)) (All-rest (λ x. x ≤ ways) f fs a)
     (omega arith) r m in
     rw (s, t, t', d, d', d'') (ap (λ (xs : List (List Slot)). take f slots ∷ xs) i)
 
--- the filled slots of a set, as the code reads them: from its room on, so many
-abbrev pub room_slots : ℕ → List ℕ → ℕ → List Slot → List Slot
-room_slots ways filled k slots = take (get_or filled k 0) (take (k * ways + ways - k * ways) (drop (k * ways) slots))
+-- the filled slots of a set, as the code reads them: from its segment on, so many
+abbrev pub segment_slots : ℕ → List ℕ → ℕ → List Slot → List Slot
+segment_slots ways filled k slots = take (get_or filled k 0) (take (k * ways + ways - k * ways) (drop (k * ways) slots))
 
--- the slots with a room written back
-abbrev pub with_room : ℕ → ℕ → List Slot → List Slot → List Slot
-with_room ways k slots room = put_mid (k * ways) (k * ways + ways - k * ways) slots room
+-- the slots with a segment written back
+abbrev pub with_segment : ℕ → ℕ → List Slot → List Slot → List Slot
+with_segment ways k slots segment = put_mid (k * ways) (k * ways + ways - k * ways) slots segment
 
 pub slab_read : (ways : ℕ) (filled : List ℕ) (k : ℕ) (slots : List Slot) → k < length filled → All (λ m. m ≤ ways) filled →
-    room_slots ways filled k slots ≡ get_or (sets_of ways slots filled) k []
+    segment_slots ways filled k slots ≡ get_or (sets_of ways slots filled) k []
 slab_read ways filled k slots h a =
     let w : k * ways + ways - k * ways ≡ ways = omega arith in
     let l : get_or filled k 0 ≤ ways = All-get_or (λ m. m ≤ ways) filled k 0 h a in
@@ -78,25 +78,25 @@ start_le k ways sets h =
     let m : ways * (k + 1) ≤ ways * sets = mul-le-mul_left ways (omega arith) in
     omega (arith, m)
 
--- A room that is written back to its set, the first n slots of it filled.
-pub record IsWritten (d : Design) (k n ways : ℕ) (room : List Slot) : Type 0 where
+-- A segment that is written back to its set, the first n slots of it filled.
+pub record IsWritten (d : Design) (k n ways : ℕ) (segment : List Slot) : Type 0 where
   pub ways_are : ways ≡ d.geometry.e
   pub within : k < 2 ^ d.geometry.s
-  pub long : length room ≡ d.geometry.e
+  pub long : length segment ≡ d.geometry.e
   pub few : n ≤ d.geometry.e
 
-length-put : (a w : ℕ) (slots room : List Slot) → a + w ≤ length slots → length room ≡ w → length (put_mid a w slots room) ≡ length slots
-length-put a w slots room h r =
+length-put : (a w : ℕ) (slots segment : List Slot) → a + w ≤ length slots → length segment ≡ w → length (put_mid a w slots segment) ≡ length slots
+length-put a w slots segment h r =
     omega (
       arith,
-      length-append (take a slots) (room ++ drop w (drop a slots)),
-      length-append room (drop w (drop a slots)),
+      length-append (take a slots) (segment ++ drop w (drop a slots)),
+      length-append segment (drop w (drop a slots)),
       length-take a slots,
       length-drop w (drop a slots),
       length-drop a slots,
     )
 
-module _ (d : Design) (filled : List ℕ) (k n ways : ℕ) (slots room : List Slot) (i : IsCacheSlab d slots filled) (w : IsWritten d k n ways room) where
+module _ (d : Design) (filled : List ℕ) (k n ways : ℕ) (slots segment : List Slot) (i : IsCacheSlab d slots filled) (w : IsWritten d k n ways segment) where
   in_filled : k < length filled
   in_filled = omega (arith, i.sets, w.within)
 
@@ -107,45 +107,45 @@ module _ (d : Design) (filled : List ℕ) (k n ways : ℕ) (slots room : List Sl
   within_slots = omega (arith, i.segments, start_le k d.geometry.e (2 ^ d.geometry.s) w.within)
 
   -- the set as it was
-  pub set_read : room_slots ways filled k slots ≡ get_or (sets_of d.geometry.e slots filled) k []
+  pub set_read : segment_slots ways filled k slots ≡ get_or (sets_of d.geometry.e slots filled) k []
   set_read = rw w.ways_are (slab_read d.geometry.e filled k slots in_filled i.within)
 
   -- the sets after it
-  pub sets_written : sets_of d.geometry.e (with_room ways k slots room) (set filled k n) ≡ set (sets_of d.geometry.e slots filled) k (take n room)
+  pub sets_written : sets_of d.geometry.e (with_segment ways k slots segment) (set filled k n) ≡ set (sets_of d.geometry.e slots filled) k (take n segment)
   sets_written =
       rw (width, w.ways_are)
-      (sets_of-put d.geometry.e filled k n (k * d.geometry.e) slots room refl (omega (arith, within_slots)) i.within in_filled w.long w.few)
+      (sets_of-put d.geometry.e filled k n (k * d.geometry.e) slots segment refl (omega (arith, within_slots)) i.within in_filled w.long w.few)
 
-  pub slab_kept : Addressable d.geometry.b (take n room) → IsCacheSlab d (with_room ways k slots room) (set filled k n)
+  pub slab_kept : Addressable d.geometry.b (take n segment) → IsCacheSlab d (with_segment ways k slots segment) (set filled k n)
   slab_kept a = record {
     geometry = i.geometry;
-    segments = rw (width, w.ways_are) (length-put (k * d.geometry.e) d.geometry.e slots room within_slots w.long ∙ i.segments);
+    segments = rw (width, w.ways_are) (length-put (k * d.geometry.e) d.geometry.e slots segment within_slots w.long ∙ i.segments);
     sets = length-set filled k n ∙ i.sets;
     within = All-set (λ m. m ≤ d.geometry.e) filled k n w.few i.within;
-    addresses = rw sets_written (All-set (Addressable d.geometry.b) (sets_of d.geometry.e slots filled) k (take n room) a i.addresses);
+    addresses = rw sets_written (All-set (Addressable d.geometry.b) (sets_of d.geometry.e slots filled) k (take n segment) a i.addresses);
   }
 
-  -- one access to a slab, by a visit of a room
-  pub slab_access : (rule rule' : Option Repl) (words words' : ℕ → ℕ) (ref : Ref) (outcome : Outcome) → k ≡ set_of d.geometry ref.addr →
-      rule' ≡ rule →
-      Visits d rule words ref (room_slots ways filled k slots) outcome (take n room) words' →
-      Accesses (slab_contents d rule words slots filled) ref outcome
-      (slab_contents d rule' words' (with_room ways k slots room) (set filled k n))
-  slab_access rule rule' words words' ref outcome s u v =
+  -- one access to a slab, by a visit of a segment
+  pub slab_access : (policy policy' : Option Repl) (numbers numbers' : ℕ → ℕ) (ref : Ref) (outcome : Outcome) → k ≡ set_of d.geometry ref.addr →
+      policy' ≡ policy →
+      Visits d policy numbers ref (segment_slots ways filled k slots) outcome (take n segment) numbers' →
+      Accesses (slab_contents d policy numbers slots filled) ref outcome
+      (slab_contents d policy' numbers' (with_segment ways k slots segment) (set filled k n))
+  slab_access policy policy' numbers numbers' ref outcome s u v =
       let old = sets_of d.geometry.e slots filled in
-      let new = sets_of d.geometry.e (with_room ways k slots room) (set filled k n) in
+      let new = sets_of d.geometry.e (with_segment ways k slots segment) (set filled k n) in
       let same : slots_of old k ≡ slots_of old (set_of d.geometry ref.addr) = ap (slots_of old) s in
-      let here : take n room ≡ slots_of new (set_of d.geometry ref.addr) =
-      sym (ap (λ xs. slots_of xs (set_of d.geometry ref.addr)) sets_written ∙ ap (λ j. get_or (set old k (take n room)) j []) (sym s)
-      ∙ get_or-set_same old k (take n room) [] (omega (arith, length-sets_of d.geometry.e filled slots, in_filled))) in
+      let here : take n segment ≡ slots_of new (set_of d.geometry ref.addr) =
+      sym (ap (λ xs. slots_of xs (set_of d.geometry ref.addr)) sets_written ∙ ap (λ j. get_or (set old k (take n segment)) j []) (sym s)
+      ∙ get_or-set_same old k (take n segment) [] (omega (arith, length-sets_of d.geometry.e filled slots, in_filled))) in
       record {
         visit =
-            subst (λ xs. Visits d rule words ref xs outcome (slots_of new (set_of d.geometry ref.addr)) words') (set_read ∙ same)
-            (subst (λ xs. Visits d rule words ref (room_slots ways filled k slots) outcome xs words') here v);
-        others = λ j ne. ap (λ xs. slots_of xs j) sets_written ∙ get_or-set_other old k j (take n room) [] (λ q. ne (q ∙ s));
-        count = ap length sets_written ∙ length-set old k (take n room);
+            subst (λ xs. Visits d policy numbers ref xs outcome (slots_of new (set_of d.geometry ref.addr)) numbers') (set_read ∙ same)
+            (subst (λ xs. Visits d policy numbers ref (segment_slots ways filled k slots) outcome xs numbers') here v);
+        others = λ j ne. ap (λ xs. slots_of xs j) sets_written ∙ get_or-set_other old k j (take n segment) [] (λ q. ne (q ∙ s));
+        count = ap length sets_written ∙ length-set old k (take n segment);
         design = refl;
-        rule = u;
+        policy = u;
       }
 
 pub sets_of-empty : (ways n : ℕ) (slots : List Slot) → sets_of ways slots (replicate n 0) ≡ replicate n []

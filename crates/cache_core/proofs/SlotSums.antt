@@ -9,7 +9,7 @@ use Rattle.std.proofs.lemmas.List.Sorted.{IsPermutation-refl, IsPermutation-sym,
 use Rattle.cache_core.specs.declared.outcome.Slot.{Slot}
 use Rattle.cache_core.specs.declared.outcome.Repl.{Repl}
 use Rattle.cache_core.specs.declared.outcome.Repl.TheVariants.{Lru, Fifo, Random}
-use Rattle.cache_core.specs.Machine.{Line, slot_of, without, touch, with_block}
+use Rattle.cache_core.specs.Machine.{Line, slot_of, without, with_touch, with_block}
 use Rattle.cache_core.specs.Stands.{Absent, Distinct}
 use Rattle.cache_core.proofs.Lists.{cases}
 use Rattle.cache_core.proofs.Lines.{InPlace, absent_round}
@@ -129,18 +129,18 @@ front_sum new ls f = omega (arith, sum_by-cons f new (map slot_of ls))
 
 -- a touch
 pub touch_sum : (p : Repl) (c : ℕ) (y : Line) (xs : List Line) (x : Line) (ys : List Line) (f : Slot → ℕ) → InPlace xs x y ys →
-    line_sum f (touch p c y (xs ++ x ∷ ys)) ≡ line_sum f (xs ++ ys) + f (slot_of y)
+    line_sum f (with_touch p c y (xs ++ x ∷ ys)) ≡ line_sum f (xs ++ ys) + f (slot_of y)
 touch_sum Lru c y xs x ys f i = rw i.taken_out (front_sum (slot_of y) (xs ++ ys) f)
 touch_sum Fifo c y xs x ys f i = rw i.exchanged (sum_split f xs y ys)
 touch_sum Random c y xs x ys f i = rw i.exchanged (sum_split f xs y ys)
 
 pub touch_distinct : (p : Repl) (c : ℕ) (y : Line) (xs : List Line) (x : Line) (ys : List Line) → InPlace xs x y ys →
-    Distinct (touch p c y (xs ++ x ∷ ys))
+    Distinct (with_touch p c y (xs ++ x ∷ ys))
 touch_distinct Lru c y xs x ys i = rw i.taken_out i.others
 touch_distinct Fifo c y xs x ys i = rw i.exchanged i.distinct
 touch_distinct Random c y xs x ys i = rw i.exchanged i.distinct
 
--- a new block in a set with room
+-- a new block in a set that is not full
 pub insert_sum : (p : Repl) (c n : ℕ) (new : Slot) (ls : List Line) (f : Slot → ℕ) → line_sum f (with_block p c n new None ls) ≡ line_sum f ls + f new
 insert_sum Lru c n new ls f = front_sum new ls f
 insert_sum Fifo c n new ls f = front_sum new ls f

@@ -18,7 +18,7 @@ use Rattle.cache_core.specs.declared.outcome.Repl.TheVariants.{Lru, Fifo, Random
 use Rattle.cache_core.specs.Geometry.{set_of_block, block_of}
 use Rattle.cache_core.specs.Outcomes.{outcome_of, on_hit, on_placing, on_passing, dirties, allocates}
 use Rattle.cache_core.specs.Machine.{Machine, MachineState, slot_of, is_block, lines_of_set, start, step, next, run}
-use Rattle.cache_core.specs.Order.{Visits, VisitsAt, Fills, PassesOn, Touches, TakesIn, marked, position_of, words_after}
+use Rattle.cache_core.specs.Order.{Visits, VisitsAt, Fills, PassesOn, Touches, TakesIn, marked, position_of, random_numbers_after}
 use Rattle.cache_core.specs.Stands.{IsSoundState}
 use Rattle.cache_core.proofs.StateLaw.{step_agrees, sound_step}
 use Rattle.cache_core.proofs.Visits.{at_each}
@@ -45,88 +45,88 @@ unsnoc (x ∷ y ∷ slots) h =
     let r = unsnoc (y ∷ slots) (omega arith) in
     record { front = x ∷ r.front; gone = r.gone; split = ap (λ s. x ∷ s) r.split }
 
-record Placed (p : Repl) (word room : ℕ) (slots : List Slot) (slot : Slot) : Type 0 where
+record Placed (p : Repl) (number capacity : ℕ) (slots : List Slot) (slot : Slot) : Type 0 where
   evicted : Option Slot
   new : List Slot
-  places : TakesIn (Some p) word room slots slot evicted new
-  few : length new ≤ room
+  places : TakesIn (Some p) number capacity slots slot evicted new
+  few : length new ≤ capacity
 
 -- a slot put in front of a full set, whose last one leaves
-front_placed : (p : Repl) (word room : ℕ) (slots : List Slot) (slot : Slot) (u : Unsnoc slots) → length slots ≡ room →
-    TakesIn (Some p) word room slots slot (Some u.gone) (slot ∷ u.front) → Placed p word room slots slot
-front_placed p word room slots slot u e places =
+front_placed : (p : Repl) (number capacity : ℕ) (slots : List Slot) (slot : Slot) (u : Unsnoc slots) → length slots ≡ capacity →
+    TakesIn (Some p) number capacity slots slot (Some u.gone) (slot ∷ u.front) → Placed p number capacity slots slot
+front_placed p number capacity slots slot u e places =
     record { evicted = Some u.gone; new = slot ∷ u.front; places = places; few = omega (arith, length-append u.front (u.gone ∷ []), ap length u.split) }
 
-place_exists : (p : Repl) (word room : ℕ) (slots : List Slot) (slot : Slot) → 0 < room → length slots ≤ room → Placed p word room slots slot
-place_exists p word room slots slot r l = ⊎_elim
-    (λ (t : length slots < room). insert p t)
-    (λ (f : room ≤ length slots). exchange p (omega arith))
-    (cases_lt (length slots) room)
+place_exists : (p : Repl) (number capacity : ℕ) (slots : List Slot) (slot : Slot) → 0 < capacity → length slots ≤ capacity → Placed p number capacity slots slot
+place_exists p number capacity slots slot r l = ⊎_elim
+    (λ (t : length slots < capacity). insert p t)
+    (λ (f : capacity ≤ length slots). exchange p (omega arith))
+    (cases_lt (length slots) capacity)
   where
-    insert : (q : Repl) → length slots < room → Placed q word room slots slot
+    insert : (q : Repl) → length slots < capacity → Placed q number capacity slots slot
     insert Lru t = record { evicted = None; new = slot ∷ slots; places = (t, refl); few = omega arith }
     insert Fifo t = record { evicted = None; new = slot ∷ slots; places = (t, refl); few = omega arith }
     insert Random t = record { evicted = None; new = slots ++ slot ∷ []; places = (t, refl); few = omega (arith, length-append slots (slot ∷ [])) }
 
-    exchange : (q : Repl) → length slots ≡ room → Placed q word room slots slot
-    exchange Lru e = let u = unsnoc slots (omega arith) in front_placed Lru word room slots slot u e (e, (u.front, u.split, refl))
-    exchange Fifo e = let u = unsnoc slots (omega arith) in front_placed Fifo word room slots slot u e (e, (u.front, u.split, refl))
+    exchange : (q : Repl) → length slots ≡ capacity → Placed q number capacity slots slot
+    exchange Lru e = let u = unsnoc slots (omega arith) in front_placed Lru number capacity slots slot u e (e, (u.front, u.split, refl))
+    exchange Fifo e = let u = unsnoc slots (omega arith) in front_placed Fifo number capacity slots slot u e (e, (u.front, u.split, refl))
     exchange Random e =
-        let way : word % length slots < length slots = omega arith in
+        let way : number % length slots < length slots = omega arith in
         let none : Slot = record { block = 0; dirty = false } in
         record {
-          evicted = Some (get_or slots (word % length slots) none);
-          new = slice_set slots (word % length slots) slot;
-          places = (e, (slice_get-get_or slots (word % length slots) none way, refl));
-          few = omega (arith, length-set slots (word % length slots) slot);
+          evicted = Some (get_or slots (number % length slots) none);
+          new = slice_set slots (number % length slots) slot;
+          places = (e, (slice_get-get_or slots (number % length slots) none way, refl));
+          few = omega (arith, length-set slots (number % length slots) slot);
         }
 
 -- some visit of a set, whatever the reference
-pub record Visited (d : Design) (p : Repl) (words : ℕ → ℕ) (ref : Ref) (slots : List Slot) : Type 0 where
+pub record Visited (d : Design) (p : Repl) (numbers : ℕ → ℕ) (ref : Ref) (slots : List Slot) : Type 0 where
   pub outcome : Outcome
   pub new : List Slot
   pub rest : ℕ → ℕ
-  pub visit : Visits d (Some p) words ref slots outcome new rest
+  pub visit : Visits d (Some p) numbers ref slots outcome new rest
   pub few : length new ≤ d.geometry.e
 
-pub visit_exists : (d : Design) (p : Repl) (words : ℕ → ℕ) (ref : Ref) (slots : List Slot) → 0 < d.geometry.e → length slots ≤ d.geometry.e →
-    Visited d p words ref slots
-visit_exists d p words ref slots r l = by_place (position_of b slots) refl
+pub visit_exists : (d : Design) (p : Repl) (numbers : ℕ → ℕ) (ref : Ref) (slots : List Slot) → 0 < d.geometry.e → length slots ≤ d.geometry.e →
+    Visited d p numbers ref slots
+visit_exists d p numbers ref slots r l = by_index (position_of b slots) refl
   where
     b : ℕ
     b = block_of d.geometry ref.addr
 
     by_alloc : (al : Bool) →
         (outcome : Outcome) × (new : List Slot) × (rest : ℕ → ℕ)
-        × MatchBool al (Fills d (Some p) words ref slots outcome new rest) (PassesOn words ref slots outcome new rest) × (length new ≤ d.geometry.e)
+        × MatchBool al (Fills d (Some p) numbers ref slots outcome new rest) (PassesOn numbers ref slots outcome new rest) × (length new ≤ d.geometry.e)
     by_alloc true =
-        let x = place_exists p (words 0) d.geometry.e slots (record { block = b; dirty = dirties d.write ref.access }) r l in (
+        let x = place_exists p (numbers 0) d.geometry.e slots (record { block = b; dirty = dirties d.write ref.access }) r l in (
           outcome_of (on_placing d.geometry d.write ref b x.evicted),
           x.new,
-          words_after (Some p) x.evicted words,
-          record { order = x.places; undrawn = refl; answers = refl },
+          random_numbers_after (Some p) x.evicted numbers,
+          record { order = x.places; undrawn = refl; effect = refl },
           x.few,
         )
-    by_alloc false = (outcome_of (on_passing ref), slots, words, record { order = refl; undrawn = refl; answers = refl }, l)
+    by_alloc false = (outcome_of (on_passing ref), slots, numbers, record { order = refl; undrawn = refl; effect = refl }, l)
 
-    visited : (place : Option ℕ) (outcome : Outcome) (new : List Slot) (rest : ℕ → ℕ) → position_of b slots ≡ place →
-        VisitsAt place d (Some p) words ref slots outcome new rest → length new ≤ d.geometry.e → Visited d p words ref slots
-    visited place outcome new rest e v few = record {
+    visited : (index : Option ℕ) (outcome : Outcome) (new : List Slot) (rest : ℕ → ℕ) → position_of b slots ≡ index →
+        VisitsAt index d (Some p) numbers ref slots outcome new rest → length new ≤ d.geometry.e → Visited d p numbers ref slots
+    visited index outcome new rest e v few = record {
       outcome = outcome;
       new = new;
       rest = rest;
-      visit = subst (λ o. VisitsAt o d (Some p) words ref slots outcome new rest) (sym e) v;
+      visit = subst (λ o. VisitsAt o d (Some p) numbers ref slots outcome new rest) (sym e) v;
       few = few;
     }
 
-    by_place : (o : Option ℕ) → position_of b slots ≡ o → Visited d p words ref slots
-    by_place None e = let x = by_alloc (allocates d.allocate ref.access) in visited None x.0 x.1 x.2 e x.3 x.4
-    by_place (Some at) e =
+    by_index : (o : Option ℕ) → position_of b slots ≡ o → Visited d p numbers ref slots
+    by_index None e = let x = by_alloc (allocates d.allocate ref.access) in visited None x.0 x.1 x.2 e x.3 x.4
+    by_index (Some at) e =
         let s = marked (dirties d.write ref.access) slots at in
         let same : length s ≡ length slots = marked_length (dirties d.write ref.access) slots at in
         let h : at < length s = omega (arith, (position-Some _ slots at (record { block = 0; dirty = false }) e).0, same) in
         let x = touch_exists p s at h in
-        visited (Some at) (outcome_of (on_hit d.write ref)) x.0 words e (record { order = x.1; undrawn = refl; answers = refl })
+        visited (Some at) (outcome_of (on_hit d.write ref)) x.0 numbers e (record { order = x.1; undrawn = refl; effect = refl })
         (omega (arith, x.2, same))
 
 -- no set has more lines than ways
@@ -134,18 +134,18 @@ abbrev pub IsFew : Machine → MachineState → Type 0
 IsFew m st = (k : ℕ) → length (lines_of_set m.design.geometry k st.lines) ≤ m.design.geometry.e
 
 pub sound_ref : (m : Machine) (st : MachineState) (ref : Ref) → 0 < m.design.geometry.e → IsSoundState m st → IsFew m st →
-    IsSoundState m (step m st ref) × IsFew m (step m st ref)
+    IsSoundState m (step m st ref).after × IsFew m (step m st ref).after
 sound_ref m st ref r s f =
     let g = m.design.geometry in
     let b = block_of g ref.addr in
     let k = set_of_block g b in
-    let words : ℕ → ℕ = λ n. m.words (st.drawn + n) in
+    let numbers : ℕ → ℕ = λ n. m.random_numbers (st.drawn + n) in
     let here = lines_of_set g k st.lines in
-    let v = visit_exists m.design m.policy words ref (map slot_of here) r (omega (arith, f k, length-map here slot_of)) in
-    let a = step_agrees m st ref words v.outcome v.new v.rest s refl (find (is_block b) st.lines) refl v.visit in (
-      sound_step m st (step m st ref) k v.new v.rest v.outcome _ s a,
-      at_each (λ i. length (lines_of_set g i (step m st ref).lines) ≤ g.e) k
-          (omega (arith, v.few, ap length a.held, length-map (lines_of_set g k (step m st ref).lines) slot_of))
+    let v = visit_exists m.design m.policy numbers ref (map slot_of here) r (omega (arith, f k, length-map here slot_of)) in
+    let a = step_agrees m st ref numbers v.outcome v.new v.rest s refl (find (is_block b) st.lines) refl v.visit in (
+      sound_step m st (step m st ref) k v.new v.rest v.outcome s a,
+      at_each (λ i. length (lines_of_set g i (step m st ref).after.lines) ≤ g.e) k
+          (omega (arith, v.few, ap length a.held, length-map (lines_of_set g k (step m st ref).after.lines) slot_of))
           (λ j ne. rw (a.others j ne) (f j)),
     )
 

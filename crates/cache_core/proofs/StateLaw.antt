@@ -12,14 +12,14 @@ use Rattle.cache_core.specs.declared.outcome.Outcome.{Outcome}
 use Rattle.cache_core.specs.declared.outcome.Repl.{Repl}
 use Rattle.cache_core.specs.declared.outcome.Repl.TheVariants.{Lru, Fifo, Random}
 use Rattle.cache_core.specs.Geometry.{GeometryValue, set_of_block, block_of}
-use Rattle.cache_core.specs.Outcomes.{Answer, outcome_of, on_placing, on_passing, dirties, allocates}
-use Rattle.cache_core.specs.Machine.{Machine, MachineState, Line, slot_of, option_slot, is_block, lines_of_set, without, victim, touch, with_block, leaves}
-use Rattle.cache_core.specs.Machine.{placing, draws, step_at, answer_at, step, answer}
-use Rattle.cache_core.specs.Order.{Contents, Accesses, Visits, VisitsAt, Fills, PassesOn, TakesIn, words_after, slots_of}
+use Rattle.cache_core.specs.Outcomes.{outcome_of, on_placing, dirties, allocates}
+use Rattle.cache_core.specs.Machine.{Machine, MachineState, Line, slot_of, is_block, lines_of_set, without, victim, with_touch, with_block, leaves}
+use Rattle.cache_core.specs.Machine.{Step, placing, passing, draws, step_at, step}
+use Rattle.cache_core.specs.Order.{Contents, Accesses, Visits, VisitsAt, Fills, PassesOn, TakesIn, random_numbers_after, slots_of}
 use Rattle.cache_core.specs.Stands.{IsState, Absent, IsGood, IsSoundState}
 use Rattle.cache_core.proofs.Lines.{ne-eqb, not_found, find_in_set, absent_other, set_without, set_exchange, without_absent, exchange_absent, Found, found}
 use Rattle.cache_core.proofs.Lines.{absent_right, falls_weaker}
-use Rattle.cache_core.proofs.SetLaw.{touched, with_mark, place_absent, insert_law, insert_good, exchange_law}
+use Rattle.cache_core.proofs.SetLaw.{touched, with_mark, position_absent, insert_law, insert_good, exchange_law}
 use Rattle.cache_core.proofs.Visits.{at_each, set_for, visit_for, others_for}
 
 -- a line of a set, and one of another
@@ -32,19 +32,19 @@ cons_other g k x ls e = rw (ne-eqb (set_of_block g x.block) k (λ q. e (sym q)))
 
 -- a touch changes the set of its block, and no other
 pub touch_here : (p : Repl) (c : ℕ) (g : GeometryValue) (k : ℕ) (x : Line) (ls : List Line) → set_of_block g x.block ≡ k →
-    lines_of_set g k (touch p c x ls) ≡ touch p c x (lines_of_set g k ls)
+    lines_of_set g k (with_touch p c x ls) ≡ with_touch p c x (lines_of_set g k ls)
 touch_here Lru c g k x ls e = cons_here g k (record x { key = c }) (without x.block ls) e ∙ ap (λ s. record x { key = c } ∷ s) (set_without g k x.block ls)
 touch_here Fifo c g k x ls e = set_exchange g k x.block x ls refl
 touch_here Random c g k x ls e = set_exchange g k x.block x ls refl
 
 pub touch_other : (p : Repl) (c : ℕ) (g : GeometryValue) (k : ℕ) (x : Line) (ls : List Line) → k ≢ set_of_block g x.block →
-    lines_of_set g k (touch p c x ls) ≡ lines_of_set g k ls
+    lines_of_set g k (with_touch p c x ls) ≡ lines_of_set g k ls
 touch_other p c g k x ls e = by_policy p
   where
     absent : Absent x.block (lines_of_set g k ls)
     absent = absent_other g k x.block ls e
 
-    by_policy : (q : Repl) → lines_of_set g k (touch q c x ls) ≡ lines_of_set g k ls
+    by_policy : (q : Repl) → lines_of_set g k (with_touch q c x ls) ≡ lines_of_set g k ls
     by_policy Lru =
         cons_other g k (record x { key = c }) (without x.block ls) e ∙ set_without g k x.block ls ∙ without_absent x.block (lines_of_set g k ls) absent
     by_policy Fifo = set_exchange g k x.block x ls refl ∙ exchange_absent x.block x (lines_of_set g k ls) absent
@@ -54,7 +54,7 @@ touch_other p c g k x ls e = by_policy p
 abbrev keyed : ℕ → Slot → Line
 keyed key new = record { block = new.block; key = key; dirty = new.dirty }
 
--- so does a placing with room: at the end of the lines
+-- so does a placing in a set that is not full: at the end of the lines
 push_here : (g : GeometryValue) (k : ℕ) (x : Line) (ls : List Line) → set_of_block g x.block ≡ k →
     lines_of_set g k (ls ++ x ∷ []) ≡ lines_of_set g k ls ++ x ∷ []
 push_here g k x ls e =
@@ -106,13 +106,13 @@ exchange_other Random c n g k new gone ls e f =
     ∙ exchange_absent gone.block (keyed gone.key new) (lines_of_set g k ls) (absent_other g k gone.block ls (λ q. f (q ∙ e)))
 
 -- what a step has to do: the set of the block agrees again, the others stay
-pub record Agrees (m : Machine) (st next : MachineState) (k : ℕ) (slots : List Slot) (rest : ℕ → ℕ) (outcome : Outcome) (a : Answer) : Type 0 where
-  pub held : slots ≡ map slot_of (lines_of_set m.design.geometry k next.lines)
-  pub others : (j : ℕ) → j ≢ k → lines_of_set m.design.geometry j next.lines ≡ lines_of_set m.design.geometry j st.lines
-  pub words : rest ≡ (λ n. m.words (next.drawn + n))
-  pub told : outcome ≡ outcome_of a
-  pub good : IsGood m.policy next.clock (lines_of_set m.design.geometry k next.lines)
-  pub clock : next.clock ≡ st.clock + 1
+pub record Agrees (m : Machine) (st : MachineState) (now : Step) (k : ℕ) (slots : List Slot) (rest : ℕ → ℕ) (outcome : Outcome) : Type 0 where
+  pub held : slots ≡ map slot_of (lines_of_set m.design.geometry k now.after.lines)
+  pub others : (j : ℕ) → j ≢ k → lines_of_set m.design.geometry j now.after.lines ≡ lines_of_set m.design.geometry j st.lines
+  pub random_numbers : rest ≡ (λ n. m.random_numbers (now.after.drawn + n))
+  pub effect : outcome ≡ outcome_of now.effect
+  pub good : IsGood m.policy now.after.clock (lines_of_set m.design.geometry k now.after.lines)
+  pub clock : now.after.clock ≡ st.clock + 1
 
 -- a line among those of a set is of that set
 pub member_set : (g : GeometryValue) (k : ℕ) (x : Line) (ls : List Line) → Found x.block (lines_of_set g k ls) x → set_of_block g x.block ≡ k
@@ -122,17 +122,17 @@ member_set g k x ls r = ⊎_elim
     absurd ((absent_right x.block r.front (x ∷ r.back) a).0 refl))
     (eqb_tells (set_of_block g x.block) k)
 
-words_none : (p : Repl) (words : ℕ → ℕ) → words_after (Some p) None words ≡ words
-words_none Lru words = refl
-words_none Fifo words = refl
-words_none Random words = refl
+numbers_none : (p : Repl) (numbers : ℕ → ℕ) → random_numbers_after (Some p) None numbers ≡ numbers
+numbers_none Lru numbers = refl
+numbers_none Fifo numbers = refl
+numbers_none Random numbers = refl
 
-words_some : (p : Repl) (gone : Slot) (words w : ℕ → ℕ) (drawn : ℕ) → words ≡ (λ n. w (drawn + n)) →
-    words_after (Some p) (Some gone) words ≡ (λ n. w (cond (draws p) (drawn + 1) drawn + n))
-words_some Lru gone words w drawn e = e
-words_some Fifo gone words w drawn e = e
-words_some Random gone words w drawn e =
-    let shifted : (n : ℕ) → words (n + 1) ≡ w (drawn + 1 + n) = λ n. ap (λ (f : ℕ → ℕ). f (n + 1)) e ∙ ap w (omega arith) in
+numbers_some : (p : Repl) (gone : Slot) (numbers w : ℕ → ℕ) (drawn : ℕ) → numbers ≡ (λ n. w (drawn + n)) →
+    random_numbers_after (Some p) (Some gone) numbers ≡ (λ n. w (cond (draws p) (drawn + 1) drawn + n))
+numbers_some Lru gone numbers w drawn e = e
+numbers_some Fifo gone numbers w drawn e = e
+numbers_some Random gone numbers w drawn e =
+    let shifted : (n : ℕ) → numbers (n + 1) ≡ w (drawn + 1 + n) = λ n. ap (λ (f : ℕ → ℕ). f (n + 1)) e ∙ ap w (omega arith) in
     λ i n. shifted n i
 
 -- a set that stays is good at the next clock
@@ -142,8 +142,8 @@ later Fifo c ls i = record { distinct = i.distinct; order = falls_weaker (c + 1)
 later Random c ls i = record { distinct = i.distinct; order = i.order }
 
 -- one reference at a sound machine, whose set is visited
-module _ (m : Machine) (st : MachineState) (ref : Ref) (words : ℕ → ℕ) (outcome : Outcome) (slots : List Slot) (rest : ℕ → ℕ)
-    (sound : IsSoundState m st) (undrawn : words ≡ (λ n. m.words (st.drawn + n))) where
+module _ (m : Machine) (st : MachineState) (ref : Ref) (numbers : ℕ → ℕ) (outcome : Outcome) (slots : List Slot) (rest : ℕ → ℕ)
+    (sound : IsSoundState m st) (undrawn : numbers ≡ (λ n. m.random_numbers (st.drawn + n))) where
   abbrev g : GeometryValue
   g = m.design.geometry
 
@@ -161,112 +161,112 @@ module _ (m : Machine) (st : MachineState) (ref : Ref) (words : ℕ → ℕ) (ou
   new = record { block = b; dirty = dirties m.design.write ref.access }
 
   hit_agrees : (line : Line) → find (is_block b) st.lines ≡ Some line →
-      Visits m.design (Some m.policy) words ref (map slot_of here) outcome slots rest →
-      Agrees m st (step_at m ref b (leaves m st k) st (Some line)) k slots rest outcome (answer_at m ref b (leaves m st k) (Some line))
+      Visits m.design (Some m.policy) numbers ref (map slot_of here) outcome slots rest →
+      Agrees m st (step_at m ref b (leaves m st k) st (Some line)) k slots rest outcome
   hit_agrees line h v =
       let d = dirties m.design.write ref.access in
       let f : find (is_block b) here ≡ Some line = find_in_set g b st.lines ∙ h in
       let t = touched m.policy st.clock b line d here (sound k) f in
-      let hits = subst (λ o. VisitsAt o m.design (Some m.policy) words ref (map slot_of here) outcome slots rest) t.place v in
+      let hits = subst (λ o. VisitsAt o m.design (Some m.policy) numbers ref (map slot_of here) outcome slots rest) t.index v in
       let in_set : set_of_block g line.block ≡ k = ap (set_of_block g) (found b here line f).here in
       let e = touch_here m.policy (st.clock + 1) g k (with_mark d line) st.lines in_set in
       record {
         held = t.slots slots hits.order ∙ ap (map slot_of) (sym e);
         others = λ j ne. touch_other m.policy (st.clock + 1) g j (with_mark d line) st.lines (λ q. ne (q ∙ in_set));
-        words = hits.undrawn ∙ undrawn;
-        told = hits.answers;
+        random_numbers = hits.undrawn ∙ undrawn;
+        effect = hits.effect;
         good = rw e t.good;
         clock = refl;
       }
 
-  fill_agrees : (evicted : Option Slot) → Absent b here → TakesIn (Some m.policy) (words 0) g.e (map slot_of here) new evicted slots →
-      rest ≡ words_after (Some m.policy) evicted words → outcome ≡ outcome_of (on_placing g m.design.write ref b evicted) →
-      Agrees m st (placing m ref b (leaves m st k) st) k slots rest outcome (on_placing g m.design.write ref b (option_slot (leaves m st k)))
+  fill_agrees : (evicted : Option Slot) → Absent b here → TakesIn (Some m.policy) (numbers 0) g.e (map slot_of here) new evicted slots →
+      rest ≡ random_numbers_after (Some m.policy) evicted numbers → outcome ≡ outcome_of (on_placing g m.design.write ref b evicted) →
+      Agrees m st (placing m ref b (leaves m st k) st) k slots rest outcome
   fill_agrees None a p u o =
-      let room : ltb (length here) g.e ≡ true = lt-ltb (length here) g.e (omega (arith, p.0, length-map here slot_of)) in
+      let not_full : ltb (length here) g.e ≡ true = lt-ltb (length here) g.e (omega (arith, p.0, length-map here slot_of)) in
       let e = insert_here m.policy (st.clock + 1) (length here) g k new st.lines refl in
-      rw room record {
+      rw not_full record {
         held = insert_law m.policy (st.clock + 1) (length here) new here slots p.1 ∙ ap (map slot_of) (sym e);
         others = λ j ne. insert_other m.policy (st.clock + 1) (length here) g j new st.lines ne;
-        words = u ∙ words_none m.policy words ∙ undrawn;
-        told = o;
+        random_numbers = u ∙ numbers_none m.policy numbers ∙ undrawn;
+        effect = o;
         good = rw e (insert_good m.policy st.clock new here (sound k) a);
         clock = refl;
       }
   fill_agrees (Some gone) a p u o =
       let full : ltb (length here) g.e ≡ false = le-ltb (length here) g.e (omega (arith, p.0, length-map here slot_of)) in
-      let x = exchange_law m.policy st.clock g.e (words 0) (length here) new gone here slots p.0 p.1 (sound k) a in
-      let first : words 0 ≡ m.words st.drawn = ap (λ (f : ℕ → ℕ). f 0) undrawn ∙ ap m.words (omega arith) in
-      let left : victim m.policy g.e (m.words st.drawn) here ≡ Some x.line = ap (λ n. victim m.policy g.e n here) (sym first) ∙ x.leaves in
+      let x = exchange_law m.policy st.clock g.e (numbers 0) (length here) new gone here slots p.0 p.1 (sound k) a in
+      let first : numbers 0 ≡ m.random_numbers st.drawn = ap (λ (f : ℕ → ℕ). f 0) undrawn ∙ ap m.random_numbers (omega arith) in
+      let left : victim m.policy g.e (m.random_numbers st.drawn) here ≡ Some x.line = ap (λ n. victim m.policy g.e n here) (sym first) ∙ x.leaves in
       let in_set : set_of_block g x.line.block ≡ k = member_set g k x.line st.lines x.among in
       let e = exchange_here m.policy (st.clock + 1) (length here) g k new x.line st.lines refl in_set in
       rw (full, left) record {
         held = x.slots ∙ ap (map slot_of) (sym e);
         others = λ j ne. exchange_other m.policy (st.clock + 1) (length here) g j new x.line st.lines in_set ne;
-        words = u ∙ words_some m.policy gone words m.words st.drawn undrawn;
-        told = o ∙ ap (λ v. outcome_of (on_placing g m.design.write ref b (Some v))) x.left;
+        random_numbers = u ∙ numbers_some m.policy gone numbers m.random_numbers st.drawn undrawn;
+        effect = o ∙ ap (λ v. outcome_of (on_placing g m.design.write ref b (Some v))) x.left;
         good = rw e x.good;
         clock = refl;
       }
 
-  pass_agrees : PassesOn words ref (map slot_of here) outcome slots rest →
-      Agrees m st (record st { clock = st.clock + 1 }) k slots rest outcome (on_passing ref)
+  pass_agrees : PassesOn numbers ref (map slot_of here) outcome slots rest → Agrees m st (passing ref st) k slots rest outcome
   pass_agrees v = record {
     held = v.order;
     others = λ j ne. refl;
-    words = v.undrawn ∙ undrawn;
-    told = v.answers;
+    random_numbers = v.undrawn ∙ undrawn;
+    effect = v.effect;
     good = later m.policy st.clock here (sound k);
     clock = refl;
   }
 
   miss_agrees : (fills : Bool) → Absent b here →
-      MatchBool fills (Fills m.design (Some m.policy) words ref (map slot_of here) outcome slots rest)
-      (PassesOn words ref (map slot_of here) outcome slots rest) →
-      Agrees m st (cond fills (placing m ref b (leaves m st k) st) (record st { clock = st.clock + 1 })) k slots rest outcome
-      (cond fills (on_placing g m.design.write ref b (option_slot (leaves m st k))) (on_passing ref))
-  miss_agrees true a v = fill_agrees outcome.evicted a v.order v.undrawn v.answers
+      MatchBool fills (Fills m.design (Some m.policy) numbers ref (map slot_of here) outcome slots rest)
+      (PassesOn numbers ref (map slot_of here) outcome slots rest) →
+      Agrees m st (cond fills (placing m ref b (leaves m st k) st) (passing ref st)) k slots rest outcome
+  miss_agrees true a v = fill_agrees outcome.evicted a v.order v.undrawn v.effect
   miss_agrees false a v = pass_agrees v
 
   pub step_agrees : (o : Option Line) → find (is_block b) st.lines ≡ o →
-      Visits m.design (Some m.policy) words ref (map slot_of here) outcome slots rest →
-      Agrees m st (step_at m ref b (leaves m st k) st o) k slots rest outcome (answer_at m ref b (leaves m st k) o)
+      Visits m.design (Some m.policy) numbers ref (map slot_of here) outcome slots rest →
+      Agrees m st (step_at m ref b (leaves m st k) st o) k slots rest outcome
   step_agrees (Some line) e v = hit_agrees line e v
   step_agrees None e v =
       let a : Absent b here = not_found b here (find_in_set g b st.lines ∙ e) in
       miss_agrees (allocates m.design.allocate ref.access) a
-      (subst (λ o. VisitsAt o m.design (Some m.policy) words ref (map slot_of here) outcome slots rest) (place_absent b here a) v)
+      (subst (λ o. VisitsAt o m.design (Some m.policy) numbers ref (map slot_of here) outcome slots rest) (position_absent b here a) v)
 
 -- the machine stays sound
-pub sound_step : (m : Machine) (st next : MachineState) (k : ℕ) (slots : List Slot) (rest : ℕ → ℕ) (outcome : Outcome) (a : Answer) →
-    IsSoundState m st → Agrees m st next k slots rest outcome a → IsSoundState m next
-sound_step m st next k slots rest outcome a s r =
-    at_each (λ i. IsGood m.policy next.clock (lines_of_set m.design.geometry i next.lines)) k r.good
+pub sound_step : (m : Machine) (st : MachineState) (now : Step) (k : ℕ) (slots : List Slot) (rest : ℕ → ℕ) (outcome : Outcome) →
+    IsSoundState m st → Agrees m st now k slots rest outcome → IsSoundState m now.after
+sound_step m st now k slots rest outcome s r =
+    at_each (λ i. IsGood m.policy now.after.clock (lines_of_set m.design.geometry i now.after.lines)) k r.good
     (λ j ne. rw (r.others j ne, r.clock) (later m.policy st.clock (lines_of_set m.design.geometry j st.lines) (s j)))
 
 -- what one access leads to
 pub record Follows (m : Machine) (st : MachineState) (ref : Ref) (outcome : Outcome) (new : Contents) : Type 0 where
-  pub state : IsState m (step m st ref) new
-  pub told : outcome ≡ outcome_of (answer m st ref)
-  pub sound : IsSoundState m (step m st ref)
+  pub state : IsState m (step m st ref).after new
+  pub effect : outcome ≡ outcome_of (step m st ref).effect
+  pub sound : IsSoundState m (step m st ref).after
 
 pub access_law : (m : Machine) (st : MachineState) (old : Contents) (ref : Ref) (outcome : Outcome) (new : Contents) → IsSoundState m st →
     IsState m st old → Accesses old ref outcome new → Follows m st ref outcome new
 access_law m st old ref outcome new s i a =
     let g = m.design.geometry in
     let k = set_for m ref in
-    let v : Visits m.design (Some m.policy) old.words ref (map slot_of (lines_of_set g k st.lines)) outcome (slots_of new.sets k) new.words =
-    rw (← i.rule, ← i.sets k) (visit_for m old ref outcome new i.design a) in
-    let r = step_agrees m st ref old.words outcome (slots_of new.sets k) new.words s i.words (find (is_block (block_of g ref.addr)) st.lines) refl v in
+    let v : Visits m.design (Some m.policy) old.random_numbers ref (map slot_of (lines_of_set g k st.lines)) outcome (slots_of new.sets k) new.random_numbers =
+    rw (← i.policy, ← i.sets k) (visit_for m old ref outcome new i.design a) in
+    let r =
+    step_agrees m st ref old.random_numbers outcome (slots_of new.sets k) new.random_numbers s i.random_numbers
+    (find (is_block (block_of g ref.addr)) st.lines) refl v in
     record {
       state = record {
         design = a.design ∙ i.design;
-        rule = a.rule ∙ i.rule;
-        words = r.words;
+        policy = a.policy ∙ i.policy;
+        random_numbers = r.random_numbers;
         count = a.count ∙ i.count;
-        sets = at_each (λ n. slots_of new.sets n ≡ map slot_of (lines_of_set g n (step m st ref).lines)) k r.held
+        sets = at_each (λ n. slots_of new.sets n ≡ map slot_of (lines_of_set g n (step m st ref).after.lines)) k r.held
             (λ j ne. others_for m old ref outcome new i.design a j ne ∙ i.sets j ∙ ap (map slot_of) (sym (r.others j ne)));
       };
-      told = r.told;
-      sound = sound_step m st (step m st ref) k (slots_of new.sets k) new.words outcome (answer m st ref) s r;
+      effect = r.effect;
+      sound = sound_step m st (step m st ref) k (slots_of new.sets k) new.random_numbers outcome s r;
     }

@@ -16,10 +16,10 @@ use Rattle.cache_core.specs.declared.system.Memory.{Memory}
 use Rattle.cache_core.specs.Machine.{Machine, run, dirty_count}
 use Rattle.cache_core.specs.Order.{one_if}
 use Rattle.cache_core.specs.Plans.{PlannedCaches, IsPlan}
-use Rattle.cache_core.specs.SystemCaches.{system_cache_contents, Empties}
+use Rattle.cache_core.specs.CacheSteps.{system_cache_contents, Empties}
 use Rattle.cache_core.specs.Systems.{machine_of, takes, events_for, sent, below, cache_stats, flushed_if_planned, references_in, to_memory, is_taken}
-use Rattle.cache_core.specs.SystemSteps.{SystemValue, listed, AllDescend, Steps, FlushStep, EmptiesCache, IsNewSystemCache, IsNewCache, IsNewSystem}
-use Rattle.cache_core.specs.SystemStands.{SystemStands, NewSystemLaw, StepLaw, SystemFlushLaw, SystemRunLaw}
+use Rattle.cache_core.specs.SystemSteps.{SystemValue, present_refs, AllDescend, StepsSystem, FlushesSystem, EmptiesCache, IsNewSystemCache, IsNewCache, IsNewSystem}
+use Rattle.cache_core.specs.SystemStands.{SystemStandsFor, SystemRuns, NewSystemLaw, StepLaw, SystemFlushLaw, SystemRunLaw}
 use Rattle.cache_core.proofs.RunLaw.{start_law, flush_run}
 use Rattle.cache_core.proofs.Pushes.{count_by_push}
 use Rattle.cache_core.proofs.SystemPushes.{counts_flush, flushed_flush, events_taken, events_left, events_flush, references_push, references_flush}
@@ -46,7 +46,7 @@ record SystemKept (plan : PlannedCaches) (seed : ℕ) (events : List Event) (v :
   bypassed : v.bypassed ≡ count_by (is_untaken plan) (references_in events)
 
 module _ (plan : PlannedCaches) (seed : ℕ) where
-  kept_of : (events : List Event) (v : SystemValue) → SystemStands plan seed events v → SystemKept plan seed events v
+  kept_of : (events : List Event) (v : SystemValue) → SystemStandsFor plan seed events v → SystemKept plan seed events v
   kept_of events v s = record {
     i = with_counts seed plan.i (events_for L1I events) v.i s.i (ap (λ (x : Stats). x.l1i) s.stats);
     d = with_counts seed plan.d (events_for L1D events) v.d s.d (ap (λ (x : Stats). x.l1d) s.stats);
@@ -59,7 +59,7 @@ module _ (plan : PlannedCaches) (seed : ℕ) where
     bypassed = ap (λ (x : Stats). x.bypassed) s.stats;
   }
 
-  stands_kept : (events : List Event) (v : SystemValue) → SystemKept plan seed events v → v.steps ≡ length events → SystemStands plan seed events v
+  stands_kept : (events : List Event) (v : SystemValue) → SystemKept plan seed events v → v.steps ≡ length events → SystemStandsFor plan seed events v
   stands_kept events v k steps = record {
     i = stands_of seed plan.i (events_for L1I events) v.i k.i;
     d = stands_of seed plan.d (events_for L1D events) v.d k.d;
@@ -82,7 +82,7 @@ new_cache : (seed : ℕ) (planned : Option PlannedCache) (cache : Option SystemC
 new_cache seed None cache n = n
 new_cache seed (Some planned) cache n =
     let new : IsNewSystemCache seed planned n.0 = n.2 in
-    let stands = start_law (machine_of seed planned) (system_cache_contents n.0) new.design new.rule new.words new.empty in
+    let stands = start_law (machine_of seed planned) (system_cache_contents n.0) new.design new.policy new.random_numbers new.empty in
     (n.0, n.1, record { stands = stands; counts = new.counts })
 
 memory_nil : (seed : ℕ) (planned : Option PlannedCache) → to_memory seed planned [] ≡ []
@@ -158,7 +158,7 @@ module _ (plan : PlannedCaches) (seed : ℕ) (events : List Event) (ref : Ref) w
   lower_step : (old new : SystemValue) (down : Option (List (Option Ref))) → IsPlan plan → SystemKept plan seed events old →
       down_list down ≡ sent plan seed events ref →
       MatchOption down ((new.second ≡ old.second) × (new.memory ≡ old.memory))
-      (λ refs. AllDescend (listed refs) old.second old.memory new.second new.memory) →
+      (λ refs. AllDescend (present_refs refs) old.second old.memory new.second new.memory) →
       Lower seed plan.second (below plan seed more) (flushed_all plan seed more) new.second new.memory
   lower_step old new down p k all_sent l =
       let moved =
@@ -169,7 +169,7 @@ module _ (plan : PlannedCaches) (seed : ℕ) (events : List Event) (ref : Ref) w
       subst (λ (n : ℕ). Lower seed plan.second (below plan seed more) n new.second new.memory) flushed_step
       (subst (λ (es : List Event). Lower seed plan.second es (flushed_all plan seed events) new.second new.memory) to moved)
 
-  kept_step : (old new : SystemValue) → IsPlan plan → SystemKept plan seed events old → Steps old ref new → SystemKept plan seed more new
+  kept_step : (old new : SystemValue) → IsPlan plan → SystemKept plan seed events old → StepsSystem old ref new → SystemKept plan seed more new
   kept_step old new p k t =
       let f : FirstKept seed plan.i plan.d plan.u events ref t.down new.i new.d new.u =
       first_keeps seed events ref t.down old.i old.d old.u new.i new.d new.u plan.i plan.d plan.u p.i p.d p.u p.apart k.i k.d k.u t.first in
@@ -226,7 +226,7 @@ emptied_if_planned seed (Some planned) events after cache dirty new is k e =
     }
 
 module _ (plan : PlannedCaches) (seed : ℕ) (events : List Event) where
-  kept_flush : (old new : SystemValue) → SystemKept plan seed events old → FlushStep old new → SystemKept plan seed (events ++ event.Flush ∷ []) new
+  kept_flush : (old new : SystemValue) → SystemKept plan seed events old → FlushesSystem old new → SystemKept plan seed (events ++ event.Flush ∷ []) new
   kept_flush old new k t =
       let lower = below plan seed events in
       let i = emptied_if_planned seed plan.i (events_for L1I events) _ old.i t.dirty_i new.i (events_flush L1I events) k.i t.i in
@@ -249,18 +249,30 @@ module _ (plan : PlannedCaches) (seed : ℕ) (events : List Event) where
         bypassed = t.bypassed ∙ k.bypassed ∙ sym (ap (count_by (is_untaken plan)) (references_flush events));
       }
 
-pub flush_law : SystemFlushLaw
-flush_law plan seed events old new s t =
+pub system_flush_law : SystemFlushLaw
+system_flush_law plan seed events old new s t =
     stands_kept plan seed (events ++ event.Flush ∷ []) new (kept_flush plan seed events old new (kept_of plan seed events old s) t)
     (omega (arith, t.steps, s.steps, length-append events (event.Flush ∷ [])))
 
 -- a run
 pub system_runs_law : SystemRunLaw
 system_runs_law plan seed events [] old new p i r =
-    subst (λ es. SystemStands plan seed es new) (sym (append-nil events)) (subst (SystemStands plan seed events) (sym r) i)
+    subst (λ es. SystemStandsFor plan seed es new) (sym (append-nil events)) (subst (SystemStandsFor plan seed events) (sym r) i)
 system_runs_law plan seed events (event.Reference ref ∷ more) old new p i (half, a, r) =
-    subst (λ es. SystemStands plan seed es new) (append_assoc events (event.Reference ref ∷ []) more)
+    subst (λ es. SystemStandsFor plan seed es new) (append_assoc events (event.Reference ref ∷ []) more)
     (system_runs_law plan seed (events ++ event.Reference ref ∷ []) more half new p (step_law plan seed events old ref half p i a) r)
 system_runs_law plan seed events (event.Flush ∷ more) old new p i (half, f, r) =
-    subst (λ es. SystemStands plan seed es new) (append_assoc events (event.Flush ∷ []) more)
-    (system_runs_law plan seed (events ++ event.Flush ∷ []) more half new p (flush_law plan seed events old half i f) r)
+    subst (λ es. SystemStandsFor plan seed es new) (append_assoc events (event.Flush ∷ []) more)
+    (system_runs_law plan seed (events ++ event.Flush ∷ []) more half new p (system_flush_law plan seed events old half i f) r)
+
+pub system_runs-append : (v mid new : SystemValue) (events more : List Event) → SystemRuns v events mid → SystemRuns mid more new →
+    SystemRuns v (events ++ more) new
+system_runs-append v mid new [] more r s = subst (λ (x : SystemValue). SystemRuns x more new) r s
+system_runs-append v mid new (event.Reference ref ∷ events) more (half, a, r) s = (half, a, system_runs-append half mid new events more r s)
+system_runs-append v mid new (event.Flush ∷ events) more (half, f, r) s = (half, f, system_runs-append half mid new events more r s)
+
+-- each event is a step
+pub system_runs-steps : (v new : SystemValue) (events : List Event) → SystemRuns v events new → new.steps ≡ v.steps + length events
+system_runs-steps v new [] r = rw r (omega arith)
+system_runs-steps v new (event.Reference ref ∷ events) (half, a, r) = omega (arith, a.steps, system_runs-steps half new events r)
+system_runs-steps v new (event.Flush ∷ events) (half, f, r) = omega (arith, f.steps, system_runs-steps half new events r)

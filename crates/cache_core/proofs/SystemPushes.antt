@@ -9,20 +9,20 @@ use Rattle.trace_core.specs.declared.events.Event.{Event}
 use Rattle.trace_core.specs.declared.events.Event.TheVariants as event
 use Rattle.cache_core.specs.declared.plan.PlannedCache.{PlannedCache}
 use Rattle.cache_core.specs.declared.plan.CacheName.{CacheName}
-use Rattle.cache_core.specs.Outcomes.{Answer, is_write, outcome_of}
-use Rattle.cache_core.specs.Machine.{Machine, MachineState, start, run, next, step, answer, answered, dirty_count}
+use Rattle.cache_core.specs.Outcomes.{Effect, is_write, outcome_of}
+use Rattle.cache_core.specs.Machine.{Machine, MachineState, start, run, next, step, with_effects, dirty_count}
 use Rattle.cache_core.specs.Order.{is_dirty, one_if}
 use Rattle.cache_core.specs.Plans.{PlannedCaches}
 use Rattle.cache_core.specs.Systems.{stats_from, machine_of, is_fetch, is_read, takes, takes_event, events_for, sent, below_from, below, flushed_from, flushed}
 use Rattle.cache_core.specs.Systems.{cache_stats, flushed_if_planned, references_in, to_memory}
-use Rattle.cache_core.specs.SystemCaches.{tally}
-use Rattle.cache_core.proofs.Pushes.{count_by_push, answered_push, answered_flush}
+use Rattle.cache_core.specs.SystemCaches.{stats_after}
+use Rattle.cache_core.proofs.Pushes.{count_by_push, with_effects_push, with_effects_flush}
 
 -- the dirty blocks that its flushes find
 flushed_push_from : (m : Machine) (st : MachineState) (events : List Event) (ref : Ref) →
     flushed_from m st (events ++ event.Reference ref ∷ []) ≡ flushed_from m st events
 flushed_push_from m st [] ref = refl
-flushed_push_from m st (event.Reference r ∷ events) ref = flushed_push_from m (step m st r) events ref
+flushed_push_from m st (event.Reference r ∷ events) ref = flushed_push_from m (step m st r).after events ref
 flushed_push_from m st (event.Flush ∷ events) ref = ap (λ n. dirty_count st + n) (flushed_push_from m (next m st event.Flush) events ref)
 
 pub flushed_push : (m : Machine) (events : List Event) (ref : Ref) → flushed m (events ++ event.Reference ref ∷ []) ≡ flushed m events
@@ -31,20 +31,20 @@ flushed_push m events ref = flushed_push_from m start events ref
 flushed_flush_from : (m : Machine) (st : MachineState) (events : List Event) →
     flushed_from m st (events ++ event.Flush ∷ []) ≡ flushed_from m st events + dirty_count (fold (next m) st events)
 flushed_flush_from m st [] = omega arith
-flushed_flush_from m st (event.Reference r ∷ events) = flushed_flush_from m (step m st r) events
+flushed_flush_from m st (event.Reference r ∷ events) = flushed_flush_from m (step m st r).after events
 flushed_flush_from m st (event.Flush ∷ events) = omega (arith, flushed_flush_from m (next m st event.Flush) events)
 
 pub flushed_flush : (m : Machine) (events : List Event) → flushed m (events ++ event.Flush ∷ []) ≡ flushed m events + dirty_count (run m events)
 flushed_flush m events = flushed_flush_from m start events
 
 -- its counts
-stats_push : (all : List (Ref × Answer)) (flushes : ℕ) (ref : Ref) (a : Answer) →
-    stats_from (all ++ (ref, a) ∷ []) flushes ≡ tally (stats_from all flushes) ref (outcome_of a)
+stats_push : (all : List (Ref × Effect)) (flushes : ℕ) (ref : Ref) (a : Effect) →
+    stats_from (all ++ (ref, a) ∷ []) flushes ≡ stats_after (stats_from all flushes) ref (outcome_of a)
 stats_push all flushes ref a =
-    let more : (p : Ref × Answer → Bool) → count_by p (all ++ (ref, a) ∷ []) ≡ count_by p all + cond (p (ref, a)) 1 0 =
+    let more : (p : Ref × Effect → Bool) → count_by p (all ++ (ref, a) ∷ []) ≡ count_by p all + cond (p (ref, a)) 1 0 =
     λ p. count_by_push p all (ref, a) in
-    let copybacks : count_by (λ (p : Ref × Answer). is_dirty p.1.evicted) (all ++ (ref, a) ∷ []) + flushes
-    ≡ count_by (λ (p : Ref × Answer). is_dirty p.1.evicted) all + flushes + one_if (is_dirty a.evicted) =
+    let copybacks : count_by (λ (p : Ref × Effect). is_dirty p.1.evicted) (all ++ (ref, a) ∷ []) + flushes
+    ≡ count_by (λ (p : Ref × Effect). is_dirty p.1.evicted) all + flushes + one_if (is_dirty a.evicted) =
     omega (arith, more (λ p. is_dirty p.1.evicted)) in
     cc (
       more (λ p. is_fetch p.0.access),
@@ -58,21 +58,21 @@ stats_push all flushes ref a =
     )
 
 pub counts_push : (m : Machine) (events : List Event) (ref : Ref) →
-    cache_stats m (events ++ event.Reference ref ∷ []) ≡ tally (cache_stats m events) ref (outcome_of (answer m (run m events) ref))
+    cache_stats m (events ++ event.Reference ref ∷ []) ≡ stats_after (cache_stats m events) ref (outcome_of (step m (run m events) ref).effect)
 counts_push m events ref =
-    ap (λ all. stats_from all (flushed m (events ++ event.Reference ref ∷ []))) (answered_push m events ref)
-    ∙ ap (stats_from (answered m events ++ (ref, answer m (run m events) ref) ∷ [])) (flushed_push m events ref)
-    ∙ stats_push (answered m events) (flushed m events) ref (answer m (run m events) ref)
+    ap (λ all. stats_from all (flushed m (events ++ event.Reference ref ∷ []))) (with_effects_push m events ref)
+    ∙ ap (stats_from (with_effects m events ++ (ref, (step m (run m events) ref).effect) ∷ [])) (flushed_push m events ref)
+    ∙ stats_push (with_effects m events) (flushed m events) ref (step m (run m events) ref).effect
 
 pub counts_flush : (m : Machine) (events : List Event) →
     cache_stats m (events ++ event.Flush ∷ [])
     ≡ record (cache_stats m events) { copybacks = (cache_stats m events).copybacks + dirty_count (run m events) }
 counts_flush m events =
-    let all = answered m events in
-    let copybacks : count_by (λ (p : Ref × Answer). is_dirty p.1.evicted) all + flushed m (events ++ event.Flush ∷ [])
-    ≡ count_by (λ (p : Ref × Answer). is_dirty p.1.evicted) all + flushed m events + dirty_count (run m events) =
+    let all = with_effects m events in
+    let copybacks : count_by (λ (p : Ref × Effect). is_dirty p.1.evicted) all + flushed m (events ++ event.Flush ∷ [])
+    ≡ count_by (λ (p : Ref × Effect). is_dirty p.1.evicted) all + flushed m events + dirty_count (run m events) =
     omega (arith, flushed_flush m events) in
-    ap (λ xs. stats_from xs (flushed m (events ++ event.Flush ∷ []))) (answered_flush m events)
+    ap (λ xs. stats_from xs (flushed m (events ++ event.Flush ∷ []))) (with_effects_flush m events)
     ∙ ap (λ n. record (cache_stats m events) { copybacks = n }) copybacks
 
 -- the events of a cache of the first level
@@ -140,21 +140,21 @@ below_flush plan seed events = below_flush_from plan seed [] events
 -- what reaches memory
 abbrev pub down_if_planned : ℕ → Option PlannedCache → List Event → Ref → List Ref
 down_if_planned seed None events ref = ref ∷ []
-down_if_planned seed (Some planned) events ref = (answer (machine_of seed planned) (run (machine_of seed planned) events) ref).down
+down_if_planned seed (Some planned) events ref = (step (machine_of seed planned) (run (machine_of seed planned) events) ref).effect.down
 
 pub memory_push : (seed : ℕ) (planned : Option PlannedCache) (events : List Event) (ref : Ref) →
     to_memory seed planned (events ++ event.Reference ref ∷ []) ≡ to_memory seed planned events ++ down_if_planned seed planned events ref
 memory_push seed None events ref = references_push events ref
 memory_push seed (Some planned) events ref =
     let m = machine_of seed planned in
-    let down : Ref × Answer → List Ref = λ p. p.1.down in
-    ap (flat_map down) (answered_push m events ref) ∙ flat_map-append down (answered m events) ((ref, answer m (run m events) ref) ∷ [])
-    ∙ ap (λ xs. flat_map down (answered m events) ++ xs) (append-nil (answer m (run m events) ref).down)
+    let down : Ref × Effect → List Ref = λ p. p.1.down in
+    ap (flat_map down) (with_effects_push m events ref) ∙ flat_map-append down (with_effects m events) ((ref, (step m (run m events) ref).effect) ∷ [])
+    ∙ ap (λ xs. flat_map down (with_effects m events) ++ xs) (append-nil (step m (run m events) ref).effect.down)
 
 pub memory_flush : (seed : ℕ) (planned : Option PlannedCache) (events : List Event) →
     to_memory seed planned (events ++ event.Flush ∷ []) ≡ to_memory seed planned events
 memory_flush seed None events = references_flush events
-memory_flush seed (Some planned) events = ap (flat_map (λ p. p.1.down)) (answered_flush (machine_of seed planned) events)
+memory_flush seed (Some planned) events = ap (flat_map (λ p. p.1.down)) (with_effects_flush (machine_of seed planned) events)
 
 pub flushed_if_planned_push : (seed : ℕ) (planned : Option PlannedCache) (events : List Event) (ref : Ref) →
     flushed_if_planned seed planned (events ++ event.Reference ref ∷ []) ≡ flushed_if_planned seed planned events

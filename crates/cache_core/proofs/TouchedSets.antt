@@ -7,7 +7,7 @@ use Rattle.std.specs.List.{list_any}
 use Rattle.std.proofs.lemmas.Bool.{cases_eq, eq-eqb, eqb-true, ne_eqb, false≢true}
 use Rattle.std.proofs.lemmas.List.Elements.{All-nil, All-cons, All-tail, All-append}
 use Rattle.std.proofs.lemmas.List.Folds.{list_any-append}
-use Rattle.cache_core.specs.Touched.{Touched, Covers, ListsFilled, after_count, joined}
+use Rattle.cache_core.specs.Touched.{TouchedValue, Covers, ListsFilled, after_count, joined}
 use Rattle.cache_core.proofs.Lists.{cases}
 
 all_zero : (counts : List ℕ) → ((k : ℕ) → get_or counts k 0 ≡ 0) → counts ≡ replicate (length counts) 0
@@ -24,9 +24,9 @@ zero_at (suc n) zero = refl
 zero_at (suc n) (suc k) = zero_at n k
 
 -- a list of no set stands for counts that are all 0
-pub covers_none : (touched : Touched) (room n : ℕ) (counts : List ℕ) → touched ≡ record { room = room; listed = Some [] } →
+pub covers_none : (touched : TouchedValue) (capacity n : ℕ) (counts : List ℕ) → touched ≡ record { capacity = capacity; listed = Some [] } →
     counts ≡ replicate n 0 → Covers touched counts
-covers_none touched room n counts is none = rw (is, none) record { within = All-nil (λ k. k < length (replicate n 0)); others = λ k _. zero_at n k }
+covers_none touched capacity n counts is none = rw (is, none) record { within = All-nil (λ k. k < length (replicate n 0)); others = λ k _. zero_at n k }
 
 or_left : (a b : Bool) → (a || b) ≡ false → a ≡ false
 or_left true b h = h
@@ -82,11 +82,11 @@ last_listed sets k n unlisted =
     or_right (list_any (λ other. eqb other k) sets) _ (sym (list_any-append (λ other. eqb other k) sets (k ∷ [])) ∙ unlisted) in
     absurd (false≢true (sym (or_left (eqb k k) false last) ∙ eq-eqb k k refl))
 
-covers_joined : (room k n : ℕ) (listed : Option (List ℕ)) (counts : List ℕ) → k < length counts →
-    IfSome listed (λ sets. ListsFilled sets counts) → IfSome (joined room k listed) (λ sets. ListsFilled sets (set counts k n))
-covers_joined room k n None counts lt l = tt
-covers_joined room k n (Some sets) counts lt l =
-    cases (λ b. IfSome (cond b (Some (sets ++ k ∷ [])) None) (λ xs. ListsFilled xs (set counts k n))) (ltb (length sets) room)
+covers_joined : (capacity k n : ℕ) (listed : Option (List ℕ)) (counts : List ℕ) → k < length counts →
+    IfSome listed (λ sets. ListsFilled sets counts) → IfSome (joined capacity k listed) (λ sets. ListsFilled sets (set counts k n))
+covers_joined capacity k n None counts lt l = tt
+covers_joined capacity k n (Some sets) counts lt l =
+    cases (λ b. IfSome (cond b (Some (sets ++ k ∷ [])) None) (λ xs. ListsFilled xs (set counts k n))) (ltb (length sets) capacity)
     (λ _. changed (sets ++ k ∷ []) counts k n lt (longer sets counts k lt l) (last_listed sets k n))
     (λ _. tt)
 
@@ -103,10 +103,10 @@ not_grown before after h e =
     (λ _ _ n. absurd (false≢true (sym n))) refl some
 
 -- the count of a set changes
-pub covers_change : (touched : Touched) (counts : List ℕ) (k before after : ℕ) → k < length counts → before ≡ get_or counts k 0 →
+pub covers_change : (touched : TouchedValue) (counts : List ℕ) (k before after : ℕ) → k < length counts → before ≡ get_or counts k 0 →
     Covers touched counts → Covers (after_count k before after touched) (set counts k after)
 covers_change touched counts k before after lt is l =
-    cases (λ b. Covers (cond b (record touched { listed = joined touched.room k touched.listed }) touched) (set counts k after))
+    cases (λ b. Covers (cond b (record touched { listed = joined touched.capacity k touched.listed }) touched) (set counts k after))
     (eqb before 0 && not (eqb after 0))
-    (λ _. covers_joined touched.room k after touched.listed counts lt l)
+    (λ _. covers_joined touched.capacity k after touched.listed counts lt l)
     (λ h. covers_kept k after touched.listed counts lt (λ e. not_grown before after h (is ∙ e)) l)

@@ -18,9 +18,10 @@ set_for m ref = set_of m.design.geometry ref.addr
 
 module _ (m : Machine) (old : Contents) (ref : Ref) (outcome : Outcome) (new : Contents) (same : old.design ≡ m.design)
     (access : Accesses old ref outcome new) where
-  pub visit_for : Visits m.design old.rule old.words ref (slots_of old.sets (set_for m ref)) outcome (slots_of new.sets (set_for m ref)) new.words
-  visit_for = subst (λ (d : Design). Visits d old.rule old.words ref (slots_of old.sets (set_of d.geometry ref.addr)) outcome
-      (slots_of new.sets (set_of d.geometry ref.addr)) new.words) same access.visit
+  pub visit_for : Visits m.design old.policy old.random_numbers ref (slots_of old.sets (set_for m ref)) outcome
+      (slots_of new.sets (set_for m ref)) new.random_numbers
+  visit_for = subst (λ (d : Design). Visits d old.policy old.random_numbers ref (slots_of old.sets (set_of d.geometry ref.addr)) outcome
+      (slots_of new.sets (set_of d.geometry ref.addr)) new.random_numbers) same access.visit
 
   pub others_for : (k : ℕ) → k ≢ set_for m ref → slots_of new.sets k ≡ slots_of old.sets k
   others_for k ne = access.others k (λ q. ne (q ∙ ap (λ (d : Design). set_of d.geometry ref.addr) same))

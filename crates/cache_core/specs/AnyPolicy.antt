@@ -1,15 +1,26 @@
--- Any lawful policy: a cache under it does what the stamp machine does, where any line of a full set may leave.
-use Rattle.std.specs.Prelude.{◌≡◌, ℕ, ◌≤◌, ◌^◌, Bool, true, false, ◌&&◌, List, [], Option, None, Some, is_none, find, map, length}
+-- Any policy: it keeps a set's slots, and a cache under it does what the stamp machine does, where any line of a full set may leave.
+use Rattle.std.specs.Prelude.{◌≡◌, ℕ, ◌<◌, ◌≤◌, ◌^◌, Bool, true, false, ◌&&◌, List, [], Option, None, Some, is_none, find, map, length}
 use Rattle.std.specs.Prelude.{replicate, Contains, IsPermutation}
 use Rattle.trace_core.specs.declared.events.Ref.{Ref}
 use Rattle.trace_core.specs.declared.events.Event.TheVariants as event
+use Rattle.cache_core.specs.declared.outcome.Slot.{Slot}
+use Rattle.cache_core.specs.declared.outcome.Repl.{Repl}
 use Rattle.cache_core.specs.declared.outcome.Outcome.{Outcome}
 use Rattle.cache_core.specs.declared.outcome.WriteMode.TheVariants.{Through}
 use Rattle.cache_core.specs.Geometry.{block_of, set_of}
-use Rattle.cache_core.specs.Machine.{Machine, MachineState, Line, start, slot_of, is_block, lines_of_set, is_full, step_with, answer_with, next, dirty_count}
-use Rattle.cache_core.specs.Order.{Contents, Accesses, Flushes, slots_of}
+use Rattle.cache_core.specs.Machine.{Machine, MachineState, Line, start, slot_of, is_block, lines_of_set, is_full, step_with, next, dirty_count}
+use Rattle.cache_core.specs.Order.{Touches, TakesIn, Contents, Accesses, FlushesCache, slots_of}
 use Rattle.cache_core.specs.Outcomes.{allocates, outcome_of}
 use Rattle.cache_core.specs.Stands.{Distinct}
+
+-- a touch keeps the slots of its set
+abbrev pub TouchKeeps : Type 0
+TouchKeeps = (policy : Option Repl) (old : List Slot) (at : ℕ) (new : List Slot) → at < length old → Touches policy old at new → IsPermutation old new
+
+-- A placing does what it may under any policy: the new slot is in, and where the set is full one of its slots is out.
+abbrev pub PlaceKeeps : Type 0
+PlaceKeeps = (policy : Option Repl) (number capacity : ℕ) (old : List Slot) (slot : Slot) (gone : Option Slot) (new : List Slot) →
+    1 ≤ capacity → TakesIn policy number capacity old slot gone new → TakesIn None 0 capacity old slot gone new
 
 -- Each set holds the slots of the machine's lines of it, in some order; a block has one line at most; a write-through cache
 -- holds no dirty line.
@@ -21,29 +32,29 @@ pub record HoldsSame (m : Machine) (st : MachineState) (c : Contents) : Type 0 w
   pub clean : m.design.write ≡ Through → dirty_count st ≡ 0
 
 -- whether a reference places its block in a full set
-abbrev pub needs_room : Machine → MachineState → Ref → Bool
-needs_room m st ref =
+abbrev pub needs_victim : Machine → MachineState → Ref → Bool
+needs_victim m st ref =
     is_none (find (is_block (block_of m.design.geometry ref.addr)) st.lines) && allocates m.design.allocate ref.access
     && is_full m st (set_of m.design.geometry ref.addr)
 
--- A line leaves exactly where a block needs room, and then it is any line of the set.
+-- A line leaves exactly where a block needs a victim, and then it is any line of the set.
 abbrev pub MayLeave : Bool → List Line → Option Line → Type 0
 MayLeave needed here None = needed ≡ false
 MayLeave needed here (Some line) = (needed ≡ true) × Contains here line
 
--- what one access is to the machine: its step and its answer, where some line leaves that may; at most two references go down
+-- what one access is to the machine: its step, where some line leaves that may, and its effect; at most two references go down
 pub record AnyStep (m : Machine) (st : MachineState) (ref : Ref) (outcome : Outcome) (new : Contents) : Type 0 where
   pub gone : Option Line
-  pub may : MayLeave (needs_room m st ref) (lines_of_set m.design.geometry (set_of m.design.geometry ref.addr) st.lines) gone
-  pub told : outcome ≡ outcome_of (answer_with m ref gone st)
-  pub few : length (answer_with m ref gone st).down ≤ 2
-  pub holds : HoldsSame m (step_with m ref gone st) new
+  pub may : MayLeave (needs_victim m st ref) (lines_of_set m.design.geometry (set_of m.design.geometry ref.addr) st.lines) gone
+  pub effect : outcome ≡ outcome_of (step_with m ref gone st).effect
+  pub few : length (step_with m ref gone st).effect.down ≤ 2
+  pub holds : HoldsSame m (step_with m ref gone st).after new
 
 -- a new cache holds what the machine holds at its start
 abbrev pub AnyStartLaw : Type 0
 AnyStartLaw = (m : Machine) (c : Contents) → c.design ≡ m.design → c.sets ≡ replicate (2 ^ m.design.geometry.s) [] → HoldsSame m start c
 
--- an access is such a step, whatever lawful policy there is, and whatever keys the machine gives
+-- an access is such a step, whatever policy there is, and whatever keys the machine gives
 abbrev pub AnyAccessLaw : Type 0
 AnyAccessLaw = (m : Machine) (st : MachineState) (old : Contents) (ref : Ref) (outcome : Outcome) (new : Contents) →
     1 ≤ m.design.geometry.e → HoldsSame m st old → Accesses old ref outcome new → AnyStep m st ref outcome new
@@ -51,4 +62,4 @@ AnyAccessLaw = (m : Machine) (st : MachineState) (old : Contents) (ref : Ref) (o
 -- a flush is the machine's flush
 abbrev pub AnyFlushLaw : Type 0
 AnyFlushLaw = (m : Machine) (st : MachineState) (old : Contents) (dirty : ℕ) (new : Contents) →
-    HoldsSame m st old → Flushes old dirty new → HoldsSame m (next m st event.Flush) new × (dirty ≡ dirty_count st)
+    HoldsSame m st old → FlushesCache old dirty new → HoldsSame m (next m st event.Flush) new × (dirty ≡ dirty_count st)

@@ -11,7 +11,7 @@ pub record GeometryValue : Type 0 where
 abbrev pub geometry_value : ℕ → ℕ → ℕ → GeometryValue
 geometry_value s e b = record { s = s; e = e; b = b }
 
--- the limits of a geometry: at most 2^20 sets, blocks of at most 2^20 bytes, 1 to 65,536 lines a set and at most 2^22 in all
+-- the limits of a geometry: at most 2^20 sets, blocks of at most 2^20 bytes, 1 to 65,536 lines per set and at most 2^22 in all
 pub record IsGeometry (g : GeometryValue) : Type 0 where
   pub sets : g.s ≤ 20
   pub blocks : g.b ≤ 20

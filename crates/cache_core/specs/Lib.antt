@@ -1,7 +1,7 @@
 pub mod Geometry
 pub mod Windows
 pub mod Outcomes
-pub mod Words
+pub mod RandomNumbers
 pub mod Machine
 pub mod Order
 pub mod Slab
@@ -12,6 +12,8 @@ pub mod Simulation
 pub mod Plans
 pub mod Systems
 pub mod SystemCaches
+pub mod CacheSteps
 pub mod SystemSteps
+pub mod SystemFields
 pub mod SystemStands
 pub mod AnyPolicy

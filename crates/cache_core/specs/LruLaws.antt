@@ -10,17 +10,17 @@ use Rattle.cache_core.specs.declared.outcome.Counts.{Counts}
 use Rattle.cache_core.specs.declared.outcome.Outcome.{Outcome}
 use Rattle.cache_core.specs.declared.replacement.Lru.{Lru as LruPolicy}
 use Rattle.cache_core.specs.Geometry.{GeometryValue, block_of}
-use Rattle.cache_core.specs.Machine.{Machine, MachineState, run, answer, answers, counts_in, is_block}
+use Rattle.cache_core.specs.Machine.{Machine, MachineState, run, step, effects, counts_in, is_block}
 use Rattle.cache_core.specs.Order.{Contents, one_if}
 use Rattle.cache_core.specs.Slab.{CacheValue, contents_of}
-use Rattle.cache_core.specs.Windows.{Place, window, places, is_hit, is_evict, counts}
+use Rattle.cache_core.specs.Windows.{Occurrence, window, occurrences, is_hit, is_evict, counts}
 
 -- the machine of an LRU cache with write-allocate
 abbrev pub lru_machine : GeometryValue → WriteMode → Machine
 lru_machine g write = record {
   design = record { geometry = g; write = write; allocate = Always };
   policy = Lru;
-  words = λ n. 0;
+  random_numbers = λ n. 0;
 }
 
 -- what a cache under LRU holds
@@ -39,34 +39,34 @@ counts_after c outcome = record {
 abbrev pub holds : MachineState → ℕ → Bool
 holds st block = list_any (is_block block) st.lines
 
--- the place of one more reference
-abbrev pub place_after : GeometryValue → List Event → Ref → Place
-place_after g events ref = record { block = block_of g ref.addr; window = window g events }
+-- one more reference, as it occurs after the list
+abbrev pub occurrence_after : GeometryValue → List Event → Ref → Occurrence
+occurrence_after g events ref = record { block = block_of g ref.addr; window = window g events }
 
--- for one more reference the machine's answer is the windows'
+-- the effect of one more reference is what the windows say
 abbrev pub NextLaw : Type 0
 NextLaw = (g : GeometryValue) (write : WriteMode) (events : List Event) (ref : Ref) → 1 ≤ g.e → let m = lru_machine g write in
-    ((answer m (run m events) ref).hit ≡ is_hit g (place_after g events ref))
-    × (is_some (answer m (run m events) ref).evicted ≡ is_evict g (place_after g events ref))
+    ((step m (run m events) ref).effect.hit ≡ is_hit g (occurrence_after g events ref))
+    × (is_some (step m (run m events) ref).effect.evicted ≡ is_evict g (occurrence_after g events ref))
 
 -- the machine hits exactly where the windows say so
 abbrev pub HitLaw : Type 0
 HitLaw = (g : GeometryValue) (write : WriteMode) (events : List Event) → 1 ≤ g.e
-    → map (λ a. a.hit) (answers (lru_machine g write) events) ≡ map (is_hit g) (places g events)
+    → map (λ a. a.hit) (effects (lru_machine g write) events) ≡ map (is_hit g) (occurrences g events)
 
 -- a block leaves exactly where the windows say so
 abbrev pub VictimLaw : Type 0
 VictimLaw = (g : GeometryValue) (write : WriteMode) (events : List Event) → 1 ≤ g.e
-    → map (λ a. is_some a.evicted) (answers (lru_machine g write) events) ≡ map (is_evict g) (places g events)
+    → map (λ a. is_some a.evicted) (effects (lru_machine g write) events) ≡ map (is_evict g) (occurrences g events)
 
 -- so the counts are equal
 abbrev pub CountLaw : Type 0
 CountLaw = (g : GeometryValue) (write : WriteMode) (events : List Event) → 1 ≤ g.e
-    → counts_in (answers (lru_machine g write) events) ≡ counts g events
+    → counts_in (effects (lru_machine g write) events) ≡ counts g events
 
 -- what a cache hits, one with a line more in each set hits
 abbrev pub HitInclusion : Type 0
-HitInclusion = (g : GeometryValue) (p : Place) → IsTrue (is_hit g p) → IsTrue (is_hit (record g { e = g.e + 1 }) p)
+HitInclusion = (g : GeometryValue) (p : Occurrence) → IsTrue (is_hit g p) → IsTrue (is_hit (record g { e = g.e + 1 }) p)
 
 -- what a cache holds after a list of events, one with a line more in each set holds (Mattson and others 1970)
 abbrev pub HeldInclusion : Type 0

@@ -11,7 +11,7 @@ use Rattle.cache_core.specs.declared.outcome.Design.{Design}
 use Rattle.cache_core.specs.declared.outcome.Repl.{Repl}
 use Rattle.cache_core.specs.declared.outcome.Repl.TheVariants.{Lru, Fifo, Random}
 use Rattle.cache_core.specs.Geometry.{GeometryValue, block_of, set_of_block, set_of}
-use Rattle.cache_core.specs.Outcomes.{Answer, on_hit, on_placing, on_passing, dirties, allocates}
+use Rattle.cache_core.specs.Outcomes.{Effect, on_hit, on_placing, on_passing, dirties, allocates}
 
 -- a block that is held. Its key is the clock of the last touch or placing (LRU), the clock of placing
 -- (FIFO), or the way (random)
@@ -20,20 +20,20 @@ pub record Line : Type 0 where
   pub key : ℕ
   pub dirty : Bool
 
--- The clock, the blocks held, and how many random words were drawn. The lines of each set are in the policy's order, which
+-- The clock, the blocks held, and how many random numbers were drawn. The lines of each set are in the policy's order, which
 -- is that of their keys (the law `sets_in_order`), so nothing hangs on how the lines of different sets are mixed.
 pub record MachineState : Type 0 where
   pub clock : ℕ
   pub lines : List Line
   pub drawn : ℕ
 
--- what a machine is made of: words n is the random word number n, from 0
+-- what a machine is made of: random_numbers n is its random number n, from 0
 pub record Machine : Type 0 where
   pub design : Design
   pub policy : Repl
-  pub words : ℕ → ℕ
+  pub random_numbers : ℕ → ℕ
 
--- the state at first: nothing is held, and no word is drawn
+-- the state at first: nothing is held, and no random number is drawn
 abbrev pub start : MachineState
 start = record { clock = 0; lines = []; drawn = 0 }
 
@@ -58,7 +58,7 @@ lines_of_set g set lines = filter (λ line. set_of_block g line.block == set) li
 abbrev pub without : ℕ → List Line → List Line
 without block lines = filter (λ line. not (is_block block line)) lines
 
--- the lines with another in the place of that of a block
+-- the lines with another instead of that of a block
 abbrev pub exchange : ℕ → Line → List Line → List Line
 exchange block new lines = map (λ line. if is_block block line then new else line) lines
 
@@ -72,23 +72,23 @@ abbrev pub least : List Line → Option Line
 least [] = None
 least (line ∷ lines) = Some (lesser line (least lines))
 
--- the line that leaves a full set, where word is the next random word
+-- the line that leaves a full set, where number is the next random number
 abbrev pub victim : Repl → ℕ → ℕ → List Line → Option Line
-victim Lru ways word lines = least lines
-victim Fifo ways word lines = least lines
-victim Random ways word lines = find (λ line. line.key == word % ways) lines
+victim Lru ways number lines = least lines
+victim Fifo ways number lines = least lines
+victim Random ways number lines = find (λ line. line.key == number % ways) lines
 
--- whether a policy draws a word for a block that is placed in a full set
+-- whether a policy draws a random number for a block that is placed in a full set
 abbrev pub draws : Repl → Bool
 draws Lru = false
 draws Fifo = false
 draws Random = true
 
--- the lines after a touch of this one: LRU puts it in front with this clock as its key, the others leave it in its place
-abbrev pub touch : Repl → ℕ → Line → List Line → List Line
-touch Lru clock line lines = record line { key = clock } ∷ without line.block lines
-touch Fifo clock line lines = exchange line.block line lines
-touch Random clock line lines = exchange line.block line lines
+-- the lines after a touch of this one: LRU puts it in front with this clock as its key, the others leave it where it is
+abbrev pub with_touch : Repl → ℕ → Line → List Line → List Line
+with_touch Lru clock line lines = record line { key = clock } ∷ without line.block lines
+with_touch Fifo clock line lines = exchange line.block line lines
+with_touch Random clock line lines = exchange line.block line lines
 
 -- the lines with a new block placed at this clock in a set that held so many blocks, from which this line leaves, if any
 abbrev pub with_block : Repl → ℕ → ℕ → Slot → Option Line → List Line → List Line
@@ -102,89 +102,89 @@ with_block Fifo clock count new None lines = record { block = new.block; key = c
 with_block Fifo clock count new (Some gone) lines =
     record { block = new.block; key = clock; dirty = new.dirty } ∷ without gone.block lines
 
--- whether a set has no room for one more block
+-- whether a set is full
 abbrev pub is_full : Machine → MachineState → ℕ → Bool
 is_full m st set = not (nat_lt (length (lines_of_set m.design.geometry set st.lines)) m.design.geometry.e)
 
--- the state after a reference whose block is placed, where this line of its set leaves, if any
-abbrev pub placing : Machine → Ref → ℕ → Option Line → MachineState → MachineState
+-- what one reference does: the state after it, and its effect
+pub record Step : Type 0 where
+  pub after : MachineState
+  pub effect : Effect
+
+-- a reference whose block is placed, where this line of its set leaves, if any
+abbrev pub placing : Machine → Ref → ℕ → Option Line → MachineState → Step
 placing m ref block leaving st =
     let set = set_of_block m.design.geometry block in
     record {
-      clock = st.clock + 1;
-      lines = with_block m.policy (st.clock + 1) (length (lines_of_set m.design.geometry set st.lines))
-          (record { block = block; dirty = dirties m.design.write ref.access }) leaving st.lines;
-      drawn = (if is_full m st set && draws m.policy then st.drawn + 1 else st.drawn);
+      after = record {
+        clock = st.clock + 1;
+        lines = with_block m.policy (st.clock + 1) (length (lines_of_set m.design.geometry set st.lines))
+            (record { block = block; dirty = dirties m.design.write ref.access }) leaving st.lines;
+        drawn = (if is_full m st set && draws m.policy then st.drawn + 1 else st.drawn);
+      };
+      effect = on_placing m.design.geometry m.design.write ref block (option_slot leaving);
     }
 
+-- a reference that is passed on
+abbrev pub passing : Ref → MachineState → Step
+passing ref st = record { after = record st { clock = st.clock + 1 }; effect = on_passing ref }
+
 -- one reference to a block, where this line leaves if the block is placed (the last argument is the block's line, if it is held)
-abbrev pub step_at : Machine → Ref → ℕ → Option Line → MachineState → Option Line → MachineState
-step_at m ref block leaving st (Some line) = record st {
-  clock = st.clock + 1;
-  lines = touch m.policy (st.clock + 1) (record line { dirty = dirties m.design.write ref.access || line.dirty }) st.lines;
+abbrev pub step_at : Machine → Ref → ℕ → Option Line → MachineState → Option Line → Step
+step_at m ref block leaving st (Some line) = record {
+  after = record st {
+    clock = st.clock + 1;
+    lines = with_touch m.policy (st.clock + 1) (record line { dirty = dirties m.design.write ref.access || line.dirty }) st.lines;
+  };
+  effect = on_hit m.design.write ref;
 }
 step_at m ref block leaving st None =
-    if allocates m.design.allocate ref.access then placing m ref block leaving st else record st { clock = st.clock + 1 }
+    if allocates m.design.allocate ref.access then placing m ref block leaving st else passing ref st
 
--- the answer to it, over the same arguments but the state
-abbrev pub answer_at : Machine → Ref → ℕ → Option Line → Option Line → Answer
-answer_at m ref block leaving (Some line) = on_hit m.design.write ref
-answer_at m ref block leaving None =
-    if allocates m.design.allocate ref.access then on_placing m.design.geometry m.design.write ref block (option_slot leaving) else on_passing ref
-
--- the state after one reference, where this line leaves if the block is placed
-abbrev pub step_with : Machine → Ref → Option Line → MachineState → MachineState
+-- one reference, where this line leaves if its block is placed
+abbrev pub step_with : Machine → Ref → Option Line → MachineState → Step
 step_with m ref leaving st =
     let block = block_of m.design.geometry ref.addr in step_at m ref block leaving st (find (is_block block) st.lines)
-
--- the answer to it
-abbrev pub answer_with : Machine → Ref → Option Line → MachineState → Answer
-answer_with m ref leaving st =
-    let block = block_of m.design.geometry ref.addr in answer_at m ref block leaving (find (is_block block) st.lines)
 
 -- the line that leaves for a block of this set by the policy, if the set is full
 abbrev pub leaves : Machine → MachineState → ℕ → Option Line
 leaves m st set =
     let here = lines_of_set m.design.geometry set st.lines in
-    if nat_lt (length here) m.design.geometry.e then None else victim m.policy m.design.geometry.e (m.words st.drawn) here
+    if nat_lt (length here) m.design.geometry.e then None else victim m.policy m.design.geometry.e (m.random_numbers st.drawn) here
 
--- the state after one reference
-abbrev pub step : Machine → MachineState → Ref → MachineState
+-- one reference, where the line leaves that the policy names
+abbrev pub step : Machine → MachineState → Ref → Step
 step m st ref = step_with m ref (leaves m st (set_of m.design.geometry ref.addr)) st
-
--- the answer to one reference
-abbrev pub answer : Machine → MachineState → Ref → Answer
-answer m st ref = answer_with m ref (leaves m st (set_of m.design.geometry ref.addr)) st
 
 -- how many blocks are dirty
 abbrev pub dirty_count : MachineState → ℕ
 dirty_count st = count_by (λ line. line.dirty) st.lines
 
--- the state after one event: a flush empties the cache, and keeps the number of words drawn
+-- the state after one event: a flush empties the cache, and keeps the number of random numbers drawn
 abbrev pub next : Machine → MachineState → Event → MachineState
-next m st (event.Reference ref) = step m st ref
+next m st (event.Reference ref) = (step m st ref).after
 next m st event.Flush = record st { lines = [] }
 
 -- the state after a list of events
 abbrev pub run : Machine → List Event → MachineState
 run m events = fold (next m) start events
 
--- the references of a list of events, each with the machine's answer, from a state
-abbrev pub answered_from : Machine → MachineState → List Event → List (Ref × Answer)
-answered_from m st [] = []
-answered_from m st (event.Reference ref ∷ events) = (ref, answer m st ref) ∷ answered_from m (step m st ref) events
-answered_from m st (event.Flush ∷ events) = answered_from m (next m st event.Flush) events
+-- the references of a list of events, each with its effect on the machine, from a state
+abbrev pub with_effects_from : Machine → MachineState → List Event → List (Ref × Effect)
+with_effects_from m st [] = []
+with_effects_from m st (event.Reference ref ∷ events) = let now = step m st ref in (ref, now.effect) ∷ with_effects_from m now.after events
+with_effects_from m st (event.Flush ∷ events) = with_effects_from m (next m st event.Flush) events
 
 -- the same from the start
-abbrev pub answered : Machine → List Event → List (Ref × Answer)
-answered m events = answered_from m start events
+abbrev pub with_effects : Machine → List Event → List (Ref × Effect)
+with_effects m events = with_effects_from m start events
 
--- the answers alone
-abbrev pub answers : Machine → List Event → List Answer
-answers m events = map (λ p. p.1) (answered m events)
+-- the effects alone
+abbrev pub effects : Machine → List Event → List Effect
+effects m events = map (λ p. p.1) (with_effects m events)
 
--- how many of the answers hit, missed and took out a block
-abbrev pub counts_in : List Answer → Counts
+-- how many of the effects hit, missed and took out a block
+abbrev pub counts_in : List Effect → Counts
 counts_in all = record {
   hits = count_by (λ a. a.hit) all;
   misses = count_by (λ a. not a.hit) all;

@@ -11,15 +11,15 @@ use Rattle.cache_core.specs.declared.outcome.Repl.TheVariants.{Lru, Fifo, Random
 use Rattle.cache_core.specs.Geometry.{block_of, set_of}
 use Rattle.cache_core.specs.Outcomes.{outcome_of, on_hit, on_placing, on_passing, dirties, allocates, is_write}
 
--- A touch of the slot at a place. LRU brings it to the front; FIFO and random leave the order. Of any
--- other rule it is known that the slots are the same.
+-- A touch of the slot at an index. LRU brings it to the front; FIFO and random leave the order. Of any
+-- other policy it is known that the slots are the same.
 abbrev pub Touches : Option Repl → List Slot → ℕ → List Slot → Type 0
 Touches None old at new = IsPermutation old new
 Touches (Some Lru) old at new = (x : Slot) × (slice_get old at ≡ Some x) × (new ≡ x ∷ remove old at)
 Touches (Some Fifo) old at new = new ≡ old
 Touches (Some Random) old at new = new ≡ old
 
--- A slot put into a set with room: LRU and FIFO put it in front, random in the next way.
+-- A slot put into a set that is not full: LRU and FIFO put it in front, random in the next way.
 abbrev pub Inserts : Option Repl → List Slot → Slot → List Slot → Type 0
 Inserts None old slot new = IsPermutation (slot ∷ old) new
 Inserts (Some Lru) old slot new = new ≡ slot ∷ old
@@ -27,74 +27,75 @@ Inserts (Some Fifo) old slot new = new ≡ slot ∷ old
 Inserts (Some Random) old slot new = new ≡ old ++ slot ∷ []
 
 -- A slot put into a full set, where one leaves: LRU and FIFO put it in front and take out the last,
--- random exchanges the way that the word names.
+-- random exchanges the way that the random number names.
 abbrev pub Exchanges : Option Repl → ℕ → List Slot → Slot → Slot → List Slot → Type 0
-Exchanges None word old slot gone new =
+Exchanges None number old slot gone new =
     (rest : List Slot) × IsPermutation old (gone ∷ rest) × IsPermutation (slot ∷ rest) new
-Exchanges (Some Lru) word old slot gone new = (front : List Slot) × (old ≡ front ++ gone ∷ []) × (new ≡ slot ∷ front)
-Exchanges (Some Fifo) word old slot gone new = (front : List Slot) × (old ≡ front ++ gone ∷ []) × (new ≡ slot ∷ front)
-Exchanges (Some Random) word old slot gone new =
-    (slice_get old (word % length old) ≡ Some gone) × (new ≡ slice_set old (word % length old) slot)
+Exchanges (Some Lru) number old slot gone new = (front : List Slot) × (old ≡ front ++ gone ∷ []) × (new ≡ slot ∷ front)
+Exchanges (Some Fifo) number old slot gone new = (front : List Slot) × (old ≡ front ++ gone ∷ []) × (new ≡ slot ∷ front)
+Exchanges (Some Random) number old slot gone new =
+    (slice_get old (number % length old) ≡ Some gone) × (new ≡ slice_set old (number % length old) slot)
 
--- A slot placed in a set of so many places, by what leaves.
+-- A slot placed in a set of this capacity, by what leaves.
 abbrev pub TakesIn : Option Repl → ℕ → ℕ → List Slot → Slot → Option Slot → List Slot → Type 0
-TakesIn rule word room old slot None new = (length old < room) × Inserts rule old slot new
-TakesIn rule word room old slot (Some gone) new = (length old ≡ room) × Exchanges rule word old slot gone new
+TakesIn policy number capacity old slot None new = (length old < capacity) × Inserts policy old slot new
+TakesIn policy number capacity old slot (Some gone) new = (length old ≡ capacity) × Exchanges policy number old slot gone new
 
--- only random draws a word, and only when a slot leaves
-abbrev pub words_after : Option Repl → Option Slot → (ℕ → ℕ) → ℕ → ℕ
-words_after (Some Random) (Some _) words n = words (n + 1)
-words_after (Some Random) None words n = words n
-words_after (Some Lru) _ words n = words n
-words_after (Some Fifo) _ words n = words n
-words_after None _ words n = words n
+-- only random draws a random number, and only when a slot leaves
+abbrev pub random_numbers_after : Option Repl → Option Slot → (ℕ → ℕ) → ℕ → ℕ
+random_numbers_after (Some Random) (Some _) numbers n = numbers (n + 1)
+random_numbers_after (Some Random) None numbers n = numbers n
+random_numbers_after (Some Lru) _ numbers n = numbers n
+random_numbers_after (Some Fifo) _ numbers n = numbers n
+random_numbers_after None _ numbers n = numbers n
 
--- the slots with that at a place marked dirty, if it is to be
+-- the slots with that at an index marked dirty, if it is to be
 abbrev pub marked : Bool → List Slot → ℕ → List Slot
 marked false slots at = slots
 marked true slots at =
     slice_set slots at (record (slice_index_or slots at (record { block = 0; dirty = false })) { dirty = true })
 
--- the place of a block among slots
+-- the index of a block among slots
 abbrev pub position_of : ℕ → List Slot → Option ℕ
 position_of block slots = position (λ x. x.block == block) slots
 
--- a reference whose block is at a place of its set
-pub record Hits (d : Design) (rule : Option Repl) (words : ℕ → ℕ) (ref : Ref) (at : ℕ) (old : List Slot) (outcome : Outcome) (new : List Slot)
+-- a reference whose block is at an index of its set
+pub record Hits (d : Design) (policy : Option Repl) (numbers : ℕ → ℕ) (ref : Ref) (at : ℕ) (old : List Slot) (outcome : Outcome) (new : List Slot)
     (rest : ℕ → ℕ) : Type 0 where
-  pub order : Touches rule (marked (dirties d.write ref.access) old at) at new
-  pub undrawn : rest ≡ words
-  pub answers : outcome ≡ outcome_of (on_hit d.write ref)
+  pub order : Touches policy (marked (dirties d.write ref.access) old at) at new
+  pub undrawn : rest ≡ numbers
+  pub effect : outcome ≡ outcome_of (on_hit d.write ref)
 
 -- a reference whose block is placed
-pub record Fills (d : Design) (rule : Option Repl) (words : ℕ → ℕ) (ref : Ref) (old : List Slot) (outcome : Outcome) (new : List Slot)
+pub record Fills (d : Design) (policy : Option Repl) (numbers : ℕ → ℕ) (ref : Ref) (old : List Slot) (outcome : Outcome) (new : List Slot)
     (rest : ℕ → ℕ) : Type 0 where
-  pub order : TakesIn rule (words 0) d.geometry.e old (record { block = block_of d.geometry ref.addr; dirty = dirties d.write ref.access }) outcome.evicted new
-  pub undrawn : rest ≡ words_after rule outcome.evicted words
-  pub answers : outcome ≡ outcome_of (on_placing d.geometry d.write ref (block_of d.geometry ref.addr) outcome.evicted)
+  pub order : TakesIn policy (numbers 0) d.geometry.e old
+      (record { block = block_of d.geometry ref.addr; dirty = dirties d.write ref.access }) outcome.evicted new
+  pub undrawn : rest ≡ random_numbers_after policy outcome.evicted numbers
+  pub effect : outcome ≡ outcome_of (on_placing d.geometry d.write ref (block_of d.geometry ref.addr) outcome.evicted)
 
 -- a reference that the cache passes on
-pub record PassesOn (words : ℕ → ℕ) (ref : Ref) (old : List Slot) (outcome : Outcome) (new : List Slot) (rest : ℕ → ℕ) : Type 0 where
+pub record PassesOn (numbers : ℕ → ℕ) (ref : Ref) (old : List Slot) (outcome : Outcome) (new : List Slot) (rest : ℕ → ℕ) : Type 0 where
   pub order : new ≡ old
-  pub undrawn : rest ≡ words
-  pub answers : outcome ≡ outcome_of (on_passing ref)
+  pub undrawn : rest ≡ numbers
+  pub effect : outcome ≡ outcome_of (on_passing ref)
 
--- One access, by the place of its block among the slots: a hit, or else a block that is placed or a reference that is passed on.
+-- One access, by the index of its block among the slots: a hit, or else a block that is placed or a reference that is passed on.
 abbrev pub VisitsAt : Option ℕ → Design → Option Repl → (ℕ → ℕ) → Ref → List Slot → Outcome → List Slot → (ℕ → ℕ) → Type 0
-VisitsAt place d rule words ref old outcome new rest =
-    MatchOption place
-    (MatchBool (allocates d.allocate ref.access) (Fills d rule words ref old outcome new rest) (PassesOn words ref old outcome new rest))
-    (λ at. Hits d rule words ref at old outcome new rest)
+VisitsAt index d policy numbers ref old outcome new rest =
+    MatchOption index
+    (MatchBool (allocates d.allocate ref.access) (Fills d policy numbers ref old outcome new rest) (PassesOn numbers ref old outcome new rest))
+    (λ at. Hits d policy numbers ref at old outcome new rest)
 
--- One access, as its set sees it: the slots and the words to come, before it and after it.
+-- One access, as its set sees it: the slots and the random numbers to come, before it and after it.
 abbrev pub Visits : Design → Option Repl → (ℕ → ℕ) → Ref → List Slot → Outcome → List Slot → (ℕ → ℕ) → Type 0
-Visits d rule words ref old outcome new rest = VisitsAt (position_of (block_of d.geometry ref.addr) old) d rule words ref old outcome new rest
+Visits d policy numbers ref old outcome new rest = VisitsAt (position_of (block_of d.geometry ref.addr) old) d policy numbers ref old outcome new rest
 
--- what a cache holds: its sets, each in its policy's order, and the random words still to come
+-- what a cache holds: its sets, each in its policy's order, and the random numbers still to come
 pub record Contents : Type 0 where
   pub design : Design
-  pub rule : Option Repl
-  pub words : ℕ → ℕ
+  pub policy : Option Repl
+  pub random_numbers : ℕ → ℕ
   pub sets : List (List Slot)
 
 -- the slots of a set
@@ -103,12 +104,12 @@ slots_of sets set = slice_index_or sets set []
 
 -- one access: its set is visited, and the others stay
 pub record Accesses (old : Contents) (ref : Ref) (outcome : Outcome) (new : Contents) : Type 0 where
-  pub visit : Visits old.design old.rule old.words ref (slots_of old.sets (set_of old.design.geometry ref.addr)) outcome
-      (slots_of new.sets (set_of old.design.geometry ref.addr)) new.words
+  pub visit : Visits old.design old.policy old.random_numbers ref (slots_of old.sets (set_of old.design.geometry ref.addr)) outcome
+      (slots_of new.sets (set_of old.design.geometry ref.addr)) new.random_numbers
   pub others : (k : ℕ) → k ≢ set_of old.design.geometry ref.addr → slots_of new.sets k ≡ slots_of old.sets k
   pub count : length new.sets ≡ length old.sets
   pub design : new.design ≡ old.design
-  pub rule : new.rule ≡ old.rule
+  pub policy : new.policy ≡ old.policy
 
 -- how many slots of a set are dirty
 abbrev pub dirty_in : List Slot → ℕ
@@ -118,13 +119,13 @@ dirty_in slots = count_by (λ slot. slot.dirty) slots
 abbrev pub dirty_slots : List (List Slot) → ℕ
 dirty_slots sets = sum_by dirty_in sets
 
--- a flush empties each set and keeps the words; it returns how many slots were dirty
-pub record Flushes (old : Contents) (dirty : ℕ) (new : Contents) : Type 0 where
+-- a flush empties each set and keeps the random numbers; it returns how many slots were dirty
+pub record FlushesCache (old : Contents) (dirty : ℕ) (new : Contents) : Type 0 where
   pub empty : new.sets ≡ replicate (length old.sets) []
-  pub words : new.words ≡ old.words
+  pub random_numbers : new.random_numbers ≡ old.random_numbers
   pub counted : dirty ≡ dirty_slots old.sets
   pub design : new.design ≡ old.design
-  pub rule : new.rule ≡ old.rule
+  pub policy : new.policy ≡ old.policy
 
 -- whether there is a slot, and it is dirty
 abbrev pub is_dirty : Option Slot → Bool

@@ -40,41 +40,41 @@ writes_back g (Some victim) =
     if victim.dirty then record { access = Write; addr = address_of g victim.block } ∷ [] else []
 
 -- the block is fetched for a fetch, and read for a read or a write
-abbrev pub fill_access : Access → Access
-fill_access Fetch = Fetch
-fill_access Read = Read
-fill_access Write = Read
+abbrev pub block_load_access : Access → Access
+block_load_access Fetch = Fetch
+block_load_access Read = Read
+block_load_access Write = Read
 
--- what one reference does, and what goes down, in order
-pub record Answer : Type 0 where
+-- what one reference does, and what is sent to the next level, in order
+pub record Effect : Type 0 where
   pub hit : Bool
   pub evicted : Option Slot
   pub placed : Bool
   pub down : List Ref
 
--- a hit: nothing leaves, and only a write that goes through goes down
-abbrev pub on_hit : WriteMode → Ref → Answer
+-- a hit: nothing leaves, and only a write that goes through is sent on
+abbrev pub on_hit : WriteMode → Ref → Effect
 on_hit write ref = record { hit = true; evicted = None; placed = false; down = writes_through write ref }
 
 -- a miss that places the block, where this victim left, if any
-abbrev pub on_placing : GeometryValue → WriteMode → Ref → ℕ → Option Slot → Answer
+abbrev pub on_placing : GeometryValue → WriteMode → Ref → ℕ → Option Slot → Effect
 on_placing g write ref block victim = record {
   hit = false;
   evicted = victim;
   placed = true;
-  down = writes_back g victim ++ record { access = fill_access ref.access; addr = address_of g block } ∷ writes_through write ref;
+  down = writes_back g victim ++ record { access = block_load_access ref.access; addr = address_of g block } ∷ writes_through write ref;
 }
 
 -- a write that misses without allocation
-abbrev pub on_passing : Ref → Answer
+abbrev pub on_passing : Ref → Effect
 on_passing ref = record { hit = false; evicted = None; placed = false; down = ref ∷ [] }
 
--- a list of at most two in two places, filled from the first on
-abbrev pub two_places : List Ref → List (Option Ref)
-two_places [] = None ∷ None ∷ []
-two_places (x ∷ []) = Some x ∷ None ∷ []
-two_places (x ∷ y ∷ _) = Some x ∷ Some y ∷ []
+-- a list of at most two as two options, the first ones filled
+abbrev pub two_options : List Ref → List (Option Ref)
+two_options [] = None ∷ None ∷ []
+two_options (x ∷ []) = Some x ∷ None ∷ []
+two_options (x ∷ y ∷ _) = Some x ∷ Some y ∷ []
 
--- an answer as an outcome of the code
-abbrev pub outcome_of : Answer → Outcome
-outcome_of a = record { hit = a.hit; evicted = a.evicted; placed = a.placed; down = two_places a.down }
+-- an effect as an outcome of the code
+abbrev pub outcome_of : Effect → Outcome
+outcome_of a = record { hit = a.hit; evicted = a.evicted; placed = a.placed; down = two_options a.down }

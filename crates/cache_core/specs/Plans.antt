@@ -45,7 +45,7 @@ pub record IsGeometryFor (spec : CacheSpec) (g : GeometryValue) : Type 0 where
 
 -- a cache that is asked for, with this geometry
 abbrev pub planned_with : CacheSpec → GeometryValue → PlannedCache
-planned_with spec g = record { design = record { geometry = g; write = spec.wback; allocate = spec.walloc }; repl = spec.repl }
+planned_with spec g = record { design = record { geometry = g; write = spec.wback; allocate = spec.walloc }; policy = spec.repl }
 
 -- the same with its own geometry; none if it has none
 abbrev pub planned_cache : CacheSpec → Option PlannedCache

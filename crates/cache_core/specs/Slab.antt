@@ -26,7 +26,7 @@ pub record IsCacheSlab (d : Design) (slots : List Slot) (filled : List ℕ) : Ty
 
 -- what a slab holds
 abbrev pub slab_contents : Design → Option Repl → (ℕ → ℕ) → List Slot → List ℕ → Contents
-slab_contents d rule words slots filled = record { design = d; rule = rule; words = words; sets = sets_of d.geometry.e slots filled }
+slab_contents d policy numbers slots filled = record { design = d; policy = policy; random_numbers = numbers; sets = sets_of d.geometry.e slots filled }
 
 -- a cache: its design, its policy and its sets
 pub record CacheValue (P : Type 0) : Type 0 where
@@ -34,9 +34,9 @@ pub record CacheValue (P : Type 0) : Type 0 where
   pub policy : P
   pub sets : List (List Slot)
 
--- what it holds, where rule and words are those of its policy's type
+-- what it holds, where policy and numbers are those of its policy's type
 abbrev pub contents_of : {P : Type 0} → (P → Option Repl) → (P → ℕ → ℕ) → CacheValue P → Contents
-contents_of rule words c = record { design = c.design; rule = rule c.policy; words = words c.policy; sets = c.sets }
+contents_of policy numbers c = record { design = c.design; policy = policy c.policy; random_numbers = numbers c.policy; sets = c.sets }
 
 -- the sets of an empty cache
 abbrev pub empty_sets : GeometryValue → List (List Slot)

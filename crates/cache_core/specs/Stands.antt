@@ -6,16 +6,16 @@ use Rattle.trace_core.specs.declared.events.Event.TheVariants as event
 use Rattle.cache_core.specs.declared.outcome.Outcome.{Outcome}
 use Rattle.cache_core.specs.declared.outcome.Repl.{Repl}
 use Rattle.cache_core.specs.declared.outcome.Repl.TheVariants.{Lru, Fifo, Random}
-use Rattle.cache_core.specs.Machine.{Machine, MachineState, Line, run, slot_of, lines_of_set, answer, dirty_count}
-use Rattle.cache_core.specs.Order.{Contents, Accesses, Flushes, slots_of}
+use Rattle.cache_core.specs.Machine.{Machine, MachineState, Line, run, slot_of, lines_of_set, step, dirty_count}
+use Rattle.cache_core.specs.Order.{Contents, Accesses, FlushesCache, slots_of}
 use Rattle.cache_core.specs.Outcomes.{outcome_of}
 
--- Each set holds the slots of the machine's lines of it, in their order, and the words still to come
+-- Each set holds the slots of the machine's lines of it, in their order, and the random numbers still to come
 -- are those that the machine hasn't drawn.
 pub record IsState (m : Machine) (st : MachineState) (c : Contents) : Type 0 where
   pub design : c.design ≡ m.design
-  pub rule : c.rule ≡ Some m.policy
-  pub words : c.words ≡ (λ n. m.words (st.drawn + n))
+  pub policy : c.policy ≡ Some m.policy
+  pub random_numbers : c.random_numbers ≡ (λ n. m.random_numbers (st.drawn + n))
   pub count : length c.sets ≡ 2 ^ m.design.geometry.s
   pub sets : (k : ℕ) → slots_of c.sets k ≡ map slot_of (lines_of_set m.design.geometry k st.lines)
 
@@ -61,26 +61,27 @@ CacheStandsFor m events c = IsState m (run m events) c
 -- a new cache stands for no event
 abbrev pub StartLaw : Type 0
 StartLaw = (m : Machine) (c : Contents) →
-    c.design ≡ m.design → c.rule ≡ Some m.policy → c.words ≡ m.words → c.sets ≡ replicate (2 ^ m.design.geometry.s) [] → CacheStandsFor m [] c
+    c.design ≡ m.design → c.policy ≡ Some m.policy → c.random_numbers ≡ m.random_numbers →
+    c.sets ≡ replicate (2 ^ m.design.geometry.s) [] → CacheStandsFor m [] c
 
 -- a list of events at a cache, one after another
 abbrev pub Runs : Contents → List Event → Contents → Type 0
 Runs old [] new = new ≡ old
 Runs old (event.Reference ref ∷ events) new = (outcome : Outcome) × (half : Contents) × Accesses old ref outcome half × Runs half events new
-Runs old (event.Flush ∷ events) new = (dirty : ℕ) × (half : Contents) × Flushes old dirty half × Runs half events new
+Runs old (event.Flush ∷ events) new = (dirty : ℕ) × (half : Contents) × FlushesCache old dirty half × Runs half events new
 
 -- an access leads from a list of events to that list with the reference, and its outcome is the machine's
 abbrev pub AccessLaw : Type 0
 AccessLaw =
     (m : Machine) (events : List Event) (old : Contents) (ref : Ref) (outcome : Outcome) (new : Contents) →
     1 ≤ m.design.geometry.e → CacheStandsFor m events old → Accesses old ref outcome new →
-    CacheStandsFor m (events ++ event.Reference ref ∷ []) new × (outcome ≡ outcome_of (answer m (run m events) ref))
+    CacheStandsFor m (events ++ event.Reference ref ∷ []) new × (outcome ≡ outcome_of (step m (run m events) ref).effect)
 
 -- a flush leads to that list with a flush, and returns how many blocks the machine holds dirty
 abbrev pub FlushLaw : Type 0
 FlushLaw =
     (m : Machine) (events : List Event) (old : Contents) (dirty : ℕ) (new : Contents) →
-    CacheStandsFor m events old → Flushes old dirty new →
+    CacheStandsFor m events old → FlushesCache old dirty new →
     CacheStandsFor m (events ++ event.Flush ∷ []) new × (dirty ≡ dirty_count (run m events))
 
 -- so a list of events leads to that list with the others behind it
@@ -95,4 +96,4 @@ OrderLaw = (m : Machine) (events : List Event) → 1 ≤ m.design.geometry.e →
 
 -- never more than two references go down
 abbrev pub DownLaw : Type 0
-DownLaw = (m : Machine) (events : List Event) (ref : Ref) → length (answer m (run m events) ref).down ≤ 2
+DownLaw = (m : Machine) (events : List Event) (ref : Ref) → length (step m (run m events) ref).effect.down ≤ 2

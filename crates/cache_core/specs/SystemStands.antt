@@ -8,46 +8,46 @@ use Rattle.cache_core.specs.declared.plan.CacheName.TheVariants.{L1I, L1D, L1U}
 use Rattle.cache_core.specs.declared.system_cache.SystemCache.{SystemCache}
 use Rattle.cache_core.specs.Plans.{PlannedCaches, IsPlan}
 use Rattle.cache_core.specs.Stands.{CacheStandsFor}
-use Rattle.cache_core.specs.SystemCaches.{system_cache_contents}
+use Rattle.cache_core.specs.CacheSteps.{system_cache_contents}
 use Rattle.cache_core.specs.Systems.{machine_of, events_for, below, system_run}
-use Rattle.cache_core.specs.SystemSteps.{SystemValue, IsNewSystem, Steps, FlushStep, stats_of}
+use Rattle.cache_core.specs.SystemSteps.{SystemValue, IsNewSystem, StepsSystem, FlushesSystem, stats_of}
 
 -- a cache of a system stands for the events that come to it
-abbrev pub PlannedStandsFor : ℕ → Option PlannedCache → List Event → Option SystemCache → Type 0
-PlannedStandsFor seed None events cache = cache ≡ None
-PlannedStandsFor seed (Some planned) events cache =
+abbrev pub PlannedCacheStandsFor : ℕ → Option PlannedCache → List Event → Option SystemCache → Type 0
+PlannedCacheStandsFor seed None events cache = cache ≡ None
+PlannedCacheStandsFor seed (Some planned) events cache =
     (there : SystemCache) × (cache ≡ Some there) × CacheStandsFor (machine_of seed planned) events (system_cache_contents there)
 
 -- a system stands for a list of events
-pub record SystemStands (plan : PlannedCaches) (seed : ℕ) (events : List Event) (v : SystemValue) : Type 0 where
-  pub i : PlannedStandsFor seed plan.i (events_for L1I events) v.i
-  pub d : PlannedStandsFor seed plan.d (events_for L1D events) v.d
-  pub u : PlannedStandsFor seed plan.u (events_for L1U events) v.u
-  pub second : PlannedStandsFor seed plan.second (below plan seed events) v.second
+pub record SystemStandsFor (plan : PlannedCaches) (seed : ℕ) (events : List Event) (v : SystemValue) : Type 0 where
+  pub i : PlannedCacheStandsFor seed plan.i (events_for L1I events) v.i
+  pub d : PlannedCacheStandsFor seed plan.d (events_for L1D events) v.d
+  pub u : PlannedCacheStandsFor seed plan.u (events_for L1U events) v.u
+  pub second : PlannedCacheStandsFor seed plan.second (below plan seed events) v.second
   pub stats : stats_of v ≡ system_run plan seed events
   pub steps : v.steps ≡ length events
 
 -- a list of events at a system, one after another
 abbrev pub SystemRuns : SystemValue → List Event → SystemValue → Type 0
 SystemRuns old [] new = new ≡ old
-SystemRuns old (event.Reference ref ∷ events) new = (half : SystemValue) × Steps old ref half × SystemRuns half events new
-SystemRuns old (event.Flush ∷ events) new = (half : SystemValue) × FlushStep old half × SystemRuns half events new
+SystemRuns old (event.Reference ref ∷ events) new = (half : SystemValue) × StepsSystem old ref half × SystemRuns half events new
+SystemRuns old (event.Flush ∷ events) new = (half : SystemValue) × FlushesSystem old half × SystemRuns half events new
 
 -- a new system stands for no event
 abbrev pub NewSystemLaw : Type 0
-NewSystemLaw = (plan : PlannedCaches) (seed : ℕ) (v : SystemValue) → IsNewSystem plan seed v → SystemStands plan seed [] v
+NewSystemLaw = (plan : PlannedCaches) (seed : ℕ) (v : SystemValue) → IsNewSystem plan seed v → SystemStandsFor plan seed [] v
 
 -- a step adds its reference to the list
 abbrev pub StepLaw : Type 0
 StepLaw = (plan : PlannedCaches) (seed : ℕ) (events : List Event) (old : SystemValue) (ref : Ref) (new : SystemValue) →
-    IsPlan plan → SystemStands plan seed events old → Steps old ref new → SystemStands plan seed (events ++ event.Reference ref ∷ []) new
+    IsPlan plan → SystemStandsFor plan seed events old → StepsSystem old ref new → SystemStandsFor plan seed (events ++ event.Reference ref ∷ []) new
 
 -- a flush adds itself
 abbrev pub SystemFlushLaw : Type 0
 SystemFlushLaw = (plan : PlannedCaches) (seed : ℕ) (events : List Event) (old new : SystemValue) →
-    SystemStands plan seed events old → FlushStep old new → SystemStands plan seed (events ++ event.Flush ∷ []) new
+    SystemStandsFor plan seed events old → FlushesSystem old new → SystemStandsFor plan seed (events ++ event.Flush ∷ []) new
 
 -- so a list of events adds itself
 abbrev pub SystemRunLaw : Type 0
 SystemRunLaw = (plan : PlannedCaches) (seed : ℕ) (events more : List Event) (old new : SystemValue) →
-    IsPlan plan → SystemStands plan seed events old → SystemRuns old more new → SystemStands plan seed (events ++ more) new
+    IsPlan plan → SystemStandsFor plan seed events old → SystemRuns old more new → SystemStandsFor plan seed (events ++ more) new

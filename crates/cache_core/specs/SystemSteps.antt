@@ -10,17 +10,18 @@ use Rattle.cache_core.specs.declared.system.Memory.{Memory}
 use Rattle.cache_core.specs.declared.system.TheConstants.{MAX_STEPS}
 use Rattle.cache_core.specs.Order.{one_if}
 use Rattle.cache_core.specs.Outcomes.{is_write}
-use Rattle.cache_core.specs.Systems.{is_fetch, words_for}
+use Rattle.cache_core.specs.Systems.{is_fetch, random_numbers_for}
 use Rattle.cache_core.specs.declared.plan.PlannedCache.{PlannedCache}
 use Rattle.cache_core.specs.Plans.{PlannedCaches}
 use Rattle.cache_core.specs.Slab.{empty_sets}
-use Rattle.cache_core.specs.SystemCaches.{rule_of, random_words, Enters, Empties, CacheWithin}
+use Rattle.cache_core.specs.SystemCaches.{policy_of, random_numbers_of, accesses}
+use Rattle.cache_core.specs.CacheSteps.{Enters, Empties}
 
 -- the references that are there, in order
-abbrev pub listed : List (Option Ref) → List Ref
-listed [] = []
-listed (None ∷ xs) = listed xs
-listed (Some ref ∷ xs) = ref ∷ listed xs
+abbrev pub present_refs : List (Option Ref) → List Ref
+present_refs [] = []
+present_refs (None ∷ xs) = present_refs xs
+present_refs (Some ref ∷ xs) = ref ∷ present_refs xs
 
 -- the memory's counts after a reference comes down to it
 abbrev pub reaches : Memory → Ref → Memory
@@ -35,7 +36,7 @@ all_reach memory (ref ∷ refs) = all_reach (reaches memory ref) refs
 abbrev pub Descends : Ref → Option SystemCache → Memory → Option SystemCache → Memory → Type 0
 Descends ref None memory second after = (second ≡ None) × (after ≡ reaches memory ref)
 Descends ref (Some cache) memory second after =
-    (outcome : Outcome) × (next : SystemCache) × Enters cache ref outcome next × (second ≡ Some next) × (after ≡ all_reach memory (listed outcome.down))
+    (outcome : Outcome) × (next : SystemCache) × Enters cache ref outcome next × (second ≡ Some next) × (after ≡ all_reach memory (present_refs outcome.down))
 
 -- a list of references comes down, one after another
 abbrev pub AllDescend : List Ref → Option SystemCache → Memory → Option SystemCache → Memory → Type 0
@@ -83,24 +84,30 @@ copied None = 0
 copied (Some cache) = cache.stats.copybacks
 
 -- one reference at a system
-pub record Steps (old : SystemValue) (ref : Ref) (new : SystemValue) : Type 0 where
+pub record StepsSystem (old : SystemValue) (ref : Ref) (new : SystemValue) : Type 0 where
   pub down : Option (List (Option Ref))
   pub first : AccessesFirstLevel old.i old.d old.u ref down new.i new.d new.u
   pub lower : MatchOption down ((new.second ≡ old.second) × (new.memory ≡ old.memory))
-      (λ refs. AllDescend (listed refs) old.second old.memory new.second new.memory)
+      (λ refs. AllDescend (present_refs refs) old.second old.memory new.second new.memory)
   pub bypassed : new.bypassed ≡ old.bypassed + one_if (is_none down)
   pub steps : new.steps ≡ old.steps + 1
 
--- What a system keeps: in each step a first-level cache counts at most one access and the second level at most two; what
--- reached memory is at most four for each step, and all copybacks.
+-- how many references a cache counted, none if it isn't there
+abbrev pub counted : Option SystemCache → ℕ
+counted None = 0
+counted (Some cache) = accesses cache.stats
+
+-- how many references reached memory
+abbrev pub reached : Memory → ℕ
+reached memory = memory.reads + memory.writes
+
+-- What a system keeps: a step is counted at one first-level cache, or as bypassed; it sends at most two references to the second level,
+-- and four to memory, to which each copyback comes, too.
 pub record IsSystem (v : SystemValue) : Type 0 where
   pub steps : v.steps ≤ MAX_STEPS
-  pub i : CacheWithin v.steps v.i
-  pub d : CacheWithin v.steps v.d
-  pub u : CacheWithin v.steps v.u
-  pub second : CacheWithin (v.steps + v.steps) v.second
-  pub memory : v.memory.reads + v.memory.writes ≤ 4 * v.steps + copied v.i + copied v.d + copied v.u + copied v.second
-  pub bypassed : v.bypassed ≤ v.steps
+  pub first : counted v.i + counted v.d + counted v.u + v.bypassed ≤ v.steps
+  pub second : counted v.second ≤ 2 * v.steps
+  pub memory : reached v.memory ≤ 4 * v.steps + copied v.i + copied v.d + copied v.u + copied v.second
 
 -- a cache of a system is emptied; none has no dirty line
 abbrev pub EmptiesCache : Option SystemCache → ℕ → Option SystemCache → Type 0
@@ -108,7 +115,7 @@ EmptiesCache None dirty new = (new ≡ None) × (dirty ≡ 0)
 EmptiesCache (Some old) dirty new = (next : SystemCache) × (new ≡ Some next) × Empties old dirty next
 
 -- one flush of a system: each dirty line is a memory write
-pub record FlushStep (old new : SystemValue) : Type 0 where
+pub record FlushesSystem (old new : SystemValue) : Type 0 where
   pub dirty_i : ℕ
   pub dirty_d : ℕ
   pub dirty_u : ℕ
@@ -147,11 +154,11 @@ stats_of v = record {
 abbrev pub no_counts : CacheStats
 no_counts = record { fetches = 0; fetch_misses = 0; reads = 0; read_misses = 0; writes = 0; write_misses = 0; evictions = 0; copybacks = 0 }
 
--- a new cache of a system: empty, under its rule, with the words of the seed
+-- a new cache of a system: empty, under its policy, with the random numbers of the seed
 pub record IsNewSystemCache (seed : ℕ) (planned : PlannedCache) (cache : SystemCache) : Type 0 where
   pub design : cache.cache.design ≡ planned.design
-  pub rule : rule_of cache.cache.policy ≡ Some planned.repl
-  pub words : random_words cache.cache.policy ≡ words_for planned.repl seed
+  pub policy : policy_of cache.cache.policy ≡ Some planned.policy
+  pub random_numbers : random_numbers_of cache.cache.policy ≡ random_numbers_for planned.policy seed
   pub empty : cache.cache.sets ≡ empty_sets planned.design.geometry
   pub counts : cache.stats ≡ no_counts
 

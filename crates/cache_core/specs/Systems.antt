@@ -14,21 +14,21 @@ use Rattle.cache_core.specs.declared.plan.CacheName.{CacheName}
 use Rattle.cache_core.specs.declared.plan.CacheName.TheVariants.{L1I, L1D, L1U, L2U}
 use Rattle.cache_core.specs.declared.stats.CacheStats.{CacheStats}
 use Rattle.cache_core.specs.declared.stats.Stats.{Stats}
-use Rattle.cache_core.specs.Outcomes.{Answer, is_write}
-use Rattle.cache_core.specs.Machine.{Machine, MachineState, start, step, answer, next, run, dirty_count, answered}
+use Rattle.cache_core.specs.Outcomes.{Effect, is_write}
+use Rattle.cache_core.specs.Machine.{Machine, MachineState, start, step, next, run, dirty_count, with_effects}
 use Rattle.cache_core.specs.Order.{is_dirty}
 use Rattle.cache_core.specs.Plans.{PlannedCaches}
-use Rattle.cache_core.specs.Words.{word_of, seeded}
+use Rattle.cache_core.specs.RandomNumbers.{random_number, seeded}
 
--- the words of a policy: only random has a generator
-abbrev pub words_for : Repl → ℕ → ℕ → ℕ
-words_for Lru seed = λ n. 0
-words_for Fifo seed = λ n. 0
-words_for Random seed = word_of (seeded seed)
+-- the random numbers of a policy: only random has a generator
+abbrev pub random_numbers_for : Repl → ℕ → ℕ → ℕ
+random_numbers_for Lru seed = λ n. 0
+random_numbers_for Fifo seed = λ n. 0
+random_numbers_for Random seed = random_number (seeded seed)
 
 -- each cache with random replacement has a generator of its own, of the same seed
 abbrev pub machine_of : ℕ → PlannedCache → Machine
-machine_of seed planned = record { design = planned.design; policy = planned.repl; words = words_for planned.repl seed }
+machine_of seed planned = record { design = planned.design; policy = planned.policy; random_numbers = random_numbers_for planned.policy seed }
 
 -- whether an access is an instruction fetch
 abbrev pub is_fetch : Access → Bool
@@ -58,40 +58,40 @@ takes_event name event.Flush = true
 abbrev pub events_for : CacheName → List Event → List Event
 events_for name events = filter (takes_event name) events
 
--- what goes down from a cache of the first level for a reference, after earlier events
+-- what a cache of the first level sends on for a reference, after earlier events
 abbrev pub sends : ℕ → CacheName → Option PlannedCache → List Event → Ref → List Ref
 sends seed name None earlier ref = []
 sends seed name (Some planned) earlier ref =
-    if takes name ref then (answer (machine_of seed planned) (run (machine_of seed planned) (events_for name earlier)) ref).down else []
+    if takes name ref then (step (machine_of seed planned) (run (machine_of seed planned) (events_for name earlier)) ref).effect.down else []
 
--- what goes down from the first level for a reference
+-- what the first level sends on for a reference
 abbrev pub sent : PlannedCaches → ℕ → List Event → Ref → List Ref
 sent plan seed earlier ref =
     sends seed L1I plan.i earlier ref ++ sends seed L1D plan.d earlier ref ++ sends seed L1U plan.u earlier ref
 
--- what goes down from the first level for events that come after earlier ones, in order, with each flush at its place
+-- what the first level sends on for events that come after earlier ones, in order, with each flush where it comes
 abbrev pub below_from : PlannedCaches → ℕ → List Event → List Event → List Event
 below_from plan seed earlier [] = []
 below_from plan seed earlier (event.Reference ref ∷ events) =
     map event.Reference (sent plan seed earlier ref) ++ below_from plan seed (earlier ++ event.Reference ref ∷ []) events
 below_from plan seed earlier (event.Flush ∷ events) = event.Flush ∷ below_from plan seed (earlier ++ event.Flush ∷ []) events
 
--- the events of the second level: what goes down from the first for a whole list
+-- the events of the second level: what the first sends on for a whole list
 abbrev pub below : PlannedCaches → ℕ → List Event → List Event
 below plan seed events = below_from plan seed [] events
 
 -- how many dirty blocks the flushes of a list find, from a state
 abbrev pub flushed_from : Machine → MachineState → List Event → ℕ
 flushed_from m st [] = 0
-flushed_from m st (event.Reference ref ∷ events) = flushed_from m (step m st ref) events
+flushed_from m st (event.Reference ref ∷ events) = flushed_from m (step m st ref).after events
 flushed_from m st (event.Flush ∷ events) = dirty_count st + flushed_from m (next m st event.Flush) events
 
 -- the same from the start
 abbrev pub flushed : Machine → List Event → ℕ
 flushed m events = flushed_from m start events
 
--- the counts of references with their answers, where so many dirty blocks were flushed
-abbrev pub stats_from : List (Ref × Answer) → ℕ → CacheStats
+-- the counts of references with their effects, where so many dirty blocks were flushed
+abbrev pub stats_from : List (Ref × Effect) → ℕ → CacheStats
 stats_from all flushes = record {
   fetches = count_by (λ p. is_fetch p.0.access) all;
   fetch_misses = count_by (λ p. is_fetch p.0.access && not p.1.hit) all;
@@ -105,7 +105,7 @@ stats_from all flushes = record {
 
 -- what a cache counts over its events
 abbrev pub cache_stats : Machine → List Event → CacheStats
-cache_stats m events = stats_from (answered m events) (flushed m events)
+cache_stats m events = stats_from (with_effects m events) (flushed m events)
 
 -- what a cache counts over its events, if the plan has it
 abbrev pub counts_if_planned : ℕ → Option PlannedCache → List Event → Option CacheStats
@@ -123,10 +123,10 @@ references_in [] = []
 references_in (event.Reference ref ∷ events) = ref ∷ references_in events
 references_in (event.Flush ∷ events) = references_in events
 
--- what goes down from the last level, where these events come to the second
+-- what the last level sends on, where these events come to the second
 abbrev pub to_memory : ℕ → Option PlannedCache → List Event → List Ref
 to_memory seed None events = references_in events
-to_memory seed (Some planned) events = flat_map (λ p. p.1.down) (answered (machine_of seed planned) events)
+to_memory seed (Some planned) events = flat_map (λ p. p.1.down) (with_effects (machine_of seed planned) events)
 
 -- whether some cache of the first level takes a reference
 abbrev pub is_taken : PlannedCaches → Ref → Bool

@@ -3,20 +3,20 @@ use Rattle.std.specs.Prelude.{ℕ, ◌≡◌, ◌<◌, ◌&&◌, not, false, Lis
 use Rattle.std.specs.Prelude.{◌==◌, nat_lt, length, All, IfSome, slice_index_or}
 use Rattle.std.specs.List.{list_any}
 
--- the sets that are listed, or `None` once there were more of them than room
-pub record Touched : Type 0 where
-  pub room : ℕ
+-- the sets that are listed, or `None` once there were more of them than its capacity
+pub record TouchedValue : Type 0 where
+  pub capacity : ℕ
   pub listed : Option (List ℕ)
 
--- a list with one set more, where there is room
+-- a list with one set more, where it is not full yet
 abbrev pub joined : ℕ → ℕ → Option (List ℕ) → Option (List ℕ)
-joined room set None = None
-joined room set (Some sets) = if nat_lt (length sets) room then Some (sets ++ set ∷ []) else None
+joined capacity set None = None
+joined capacity set (Some sets) = if nat_lt (length sets) capacity then Some (sets ++ set ∷ []) else None
 
 -- a set whose count was 0 and is not any more joins the list
-abbrev pub after_count : ℕ → ℕ → ℕ → Touched → Touched
+abbrev pub after_count : ℕ → ℕ → ℕ → TouchedValue → TouchedValue
 after_count set before after touched =
-    if (before == 0) && not (after == 0) then record touched { listed = joined touched.room set touched.listed } else touched
+    if (before == 0) && not (after == 0) then record touched { listed = joined touched.capacity set touched.listed } else touched
 
 -- each listed set has a count, and a set that is not listed has the count 0
 pub record ListsFilled (sets counts : List ℕ) : Type 0 where
@@ -24,9 +24,9 @@ pub record ListsFilled (sets counts : List ℕ) : Type 0 where
   pub others : (set : ℕ) → list_any (λ other. other == set) sets ≡ false → slice_index_or counts set 0 ≡ 0
 
 -- a list that stands for counts has each set whose count is not 0
-abbrev pub Covers : Touched → List ℕ → Type 0
+abbrev pub Covers : TouchedValue → List ℕ → Type 0
 Covers touched counts = IfSome touched.listed (λ sets. ListsFilled sets counts)
 
 -- a list of no set
-abbrev pub no_sets : Touched → Touched
+abbrev pub no_sets : TouchedValue → TouchedValue
 no_sets touched = record touched { listed = Some [] }

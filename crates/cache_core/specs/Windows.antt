@@ -21,23 +21,23 @@ block_in g event.Flush = None
 unfoldable pub window : GeometryValue → List Event → List ℕ
 window g es = filter_map (block_in g) (before_first is_flush (reverse es))
 
--- a place of a list of events that holds a reference: its block, and the window before it
-pub record Place : Type 0 where
+-- a reference where it occurs in a list of events: its block, and the window before it
+pub record Occurrence : Type 0 where
   pub block : ℕ
   pub window : List ℕ
 
--- the places of a list of events that comes after another one, in order
-unfoldable pub places_after : GeometryValue → List Event → List Event → List Place
-places_after g before [] = []
-places_after g before (event.Reference r ∷ es) =
-    record { block = block_of g r.addr; window = window g before } ∷ places_after g (before ++ event.Reference r ∷ []) es
-places_after g before (event.Flush ∷ es) = places_after g (before ++ event.Flush ∷ []) es
+-- the occurrences in a list of events that comes after another one, in order
+unfoldable pub occurrences_after : GeometryValue → List Event → List Event → List Occurrence
+occurrences_after g before [] = []
+occurrences_after g before (event.Reference r ∷ es) =
+    record { block = block_of g r.addr; window = window g before } ∷ occurrences_after g (before ++ event.Reference r ∷ []) es
+occurrences_after g before (event.Flush ∷ es) = occurrences_after g (before ++ event.Flush ∷ []) es
 
--- the places of a list of events, in order: one for each reference
-abbrev pub places : GeometryValue → List Event → List Place
-places g es = places_after g [] es
+-- the occurrences in a list of events, in order: one for each reference
+abbrev pub occurrences : GeometryValue → List Event → List Occurrence
+occurrences g es = occurrences_after g [] es
 
--- the different numbers of a list, each at its first place
+-- the different numbers of a list, each where it is first
 unfoldable pub distinct : List ℕ → List ℕ
 distinct [] = []
 distinct (x ∷ xs) = x ∷ filter (λ y. not (y == x)) (distinct xs)
@@ -47,36 +47,36 @@ unfoldable pub distinct_of_set : GeometryValue → ℕ → List ℕ → List ℕ
 distinct_of_set g k w = filter (λ block. set_of_block g block == k) (distinct w)
 
 -- whether the block was referenced before, since the last flush
-abbrev pub has_last : Place → Bool
+abbrev pub has_last : Occurrence → Bool
 has_last p = list_any (λ block. block == p.block) p.window
 
 -- the stack distance: how many different blocks of its set were referenced since the last reference to the block
-abbrev pub distance : GeometryValue → Place → ℕ
+abbrev pub distance : GeometryValue → Occurrence → ℕ
 distance g p = length (distinct_of_set g (set_of_block g p.block) (before_first (λ block. block == p.block) p.window))
 
 -- how many different blocks of its set were referenced before, since the last flush
-abbrev pub seen : GeometryValue → Place → ℕ
+abbrev pub seen : GeometryValue → Occurrence → ℕ
 seen g p = length (distinct_of_set g (set_of_block g p.block) p.window)
 
 -- an LRU cache of this geometry hits there
-abbrev pub is_hit : GeometryValue → Place → Bool
+abbrev pub is_hit : GeometryValue → Occurrence → Bool
 is_hit g p = has_last p && nat_lt (distance g p) g.e
 
 -- a block leaves it there
-abbrev pub is_evict : GeometryValue → Place → Bool
+abbrev pub is_evict : GeometryValue → Occurrence → Bool
 is_evict g p = not (is_hit g p) && nat_le g.e (seen g p)
 
 -- the counts of an LRU cache of this geometry
 unfoldable pub counts : GeometryValue → List Event → Counts
 counts g es = record {
-  hits = count_by (is_hit g) (places g es);
-  misses = count_by (λ p. not (is_hit g p)) (places g es);
-  evictions = count_by (is_evict g) (places g es);
+  hits = count_by (is_hit g) (occurrences g es);
+  misses = count_by (λ p. not (is_hit g p)) (occurrences g es);
+  evictions = count_by (is_evict g) (occurrences g es);
 }
 
 -- the comparisons that look for each block among the g.e most recent blocks of its set, from the most recent on
 unfoldable pub probes : GeometryValue → List Event → ℕ
-probes g es = sum_by (λ p. if is_hit g p then distance g p + 1 else min (seen g p) g.e) (places g es)
+probes g es = sum_by (λ p. if is_hit g p then distance g p + 1 else min (seen g p) g.e) (occurrences g es)
 
 -- how many blocks are in all sets, at most g.e in each
 unfoldable pub held : GeometryValue → List Event → ℕ

@@ -4,9 +4,9 @@ ghost use Rattle.std.specs.Prelude.{IfOk, All, Option, IfSome, option_to_list, c
 ghost use Rattle.std.specs.Prelude.{replicate};
 ghost use Rattle.cache_core.specs.Geometry.{address_of};
 ghost use Rattle.cache_core.specs.Outcomes.{outcome_of, on_hit, on_placing, on_passing, dirties};
-ghost use Rattle.cache_core.specs.Outcomes.{allocates, writes_through, fill_access};
-ghost use Rattle.cache_core.specs.Order.{Touches, Visits, position_of};
-ghost use Rattle.cache_core.specs.Order.{marked, Accesses, Flushes, dirty_slots, DirtiesByWrites};
+ghost use Rattle.cache_core.specs.Outcomes.{allocates, writes_through, block_load_access};
+ghost use Rattle.cache_core.specs.Order.{Touches, Visits, position_of, Accesses, FlushesCache};
+ghost use Rattle.cache_core.specs.Order.{marked, dirty_slots, DirtiesByWrites};
 ghost use Rattle.cache_core.specs.Slab.{Addressable, IsCacheSlab, slab_contents, sets_of};
 ghost use Rattle.cache_core.specs.Touched.{Covers, ListsFilled, no_sets};
 
@@ -18,268 +18,6 @@ use std::alloc::{AllocError, Global};
 use std::marker::Model;
 use std::mem;
 use trace_core::events::{Access, Ref};
-
-/// The place of a block among the slots, if it is there.
-#[inline(always)]
-fn find_block(slots: &[Slot], block: u64) -> Option<usize>
-    ensures { result ≡ position_of block slots.now }
-{
-    slots.iter().position(|slot| slot.block == block)
-}
-
-/// Whether a reference marks its line dirty: a write, in a write-back cache.
-#[inline(always)]
-fn dirties_line(write: WriteMode, access: Access) -> bool
-    ensures { result ≡ dirties write access }
-{
-    write == WriteMode::Back && access == Access::Write
-}
-
-/// Whether a miss places its block.
-#[inline(always)]
-fn allocates_line(allocate: AllocMode, access: Access) -> bool
-    ensures { result ≡ allocates allocate access }
-{
-    allocate == AllocMode::Always || access != Access::Write
-}
-
-/// What goes down for the reference itself: a write, from a write-through cache.
-#[inline(always)]
-fn written_through(write: WriteMode, reference: Ref) -> Option<Ref>
-    ensures { writes_through write reference ≡ option_to_list result }
-{
-    (write == WriteMode::Through && reference.access == Access::Write).then_some(reference)
-}
-
-/// What goes down for the block: a fetch for a fetch, and otherwise a read.
-#[inline(always)]
-fn block_load(geometry: Geometry, reference: Ref, block: u64) -> Ref
-    requires { block * 2 ^ geometry.b < 2 ^ 64 }
-    ensures access { result.access ≡ fill_access reference.access }
-    ensures addr { result.addr ≡ address_of geometry block }
-{
-    let access = match reference.access {
-        Access::Fetch => Access::Fetch,
-        Access::Read | Access::Write => Access::Read,
-    };
-    let addr = geometry.address_of(block);
-    Ref { access, addr }
-}
-
-/// The outcome of a hit.
-#[inline(always)]
-fn hit_outcome(write: WriteMode, reference: Ref) -> Outcome
-    ensures { result ≡ outcome_of (on_hit write reference) }
-{
-    Outcome {
-        hit: true,
-        evicted: None,
-        placed: false,
-        down: [written_through(write, reference), None],
-    }
-}
-
-/// The outcome of a miss that places its block, where this slot left, if any.
-#[inline(always)]
-fn placing_outcome(design: Design, reference: Ref, block: u64, evicted: Option<Slot>) -> Outcome
-    requires block { block * 2 ^ design.geometry.b < 2 ^ 64 }
-    requires victim { IfSome evicted (λ slot. slot.block * 2 ^ design.geometry.b < 2 ^ 64) }
-    ensures { result
-        ≡ outcome_of (on_placing design.geometry design.write reference block evicted) }
-{
-    let fill = block_load(design.geometry, reference, block);
-    let down = match evicted {
-        Some(victim) if victim.dirty => {
-            let access = Access::Write;
-            let addr = design.geometry.address_of(victim.block);
-            [Some(Ref { access, addr }), Some(fill)]
-        }
-        _ => [Some(fill), written_through(design.write, reference)],
-    };
-    Outcome {
-        hit: false,
-        evicted,
-        placed: true,
-        down,
-    }
-}
-
-/// The outcome of a miss that places nothing: the reference goes down as it came.
-#[inline(always)]
-fn passing_outcome(reference: Ref) -> Outcome
-    ensures { result ≡ outcome_of (on_passing reference) }
-{
-    Outcome {
-        hit: false,
-        evicted: None,
-        placed: false,
-        down: [Some(reference), None],
-    }
-}
-
-/// Uses the slot at a place, and marks it dirty where it is to be.
-#[inline(always)]
-fn use_slot<P: Replacement>(policy: &mut P, slots: &mut [Slot], at: usize, dirty: bool)
-    requires { at < length slots.old }
-    ensures order { Touches (P.rule policy.old) (marked dirty slots.old at) at slots.new }
-    ensures words { P.words policy.new ≡ P.words policy.old }
-    ensures rule { P.rule policy.new ≡ P.rule policy.old }
-    ensures addresses { (b : ℕ) → Addressable b slots.old → Addressable b slots.new }
-{
-    if dirty {
-        slots[at].dirty = true;
-    }
-    policy.touch(slots, at);
-}
-
-/// One access, in the room of its set. Also returns how many of its slots are filled then.
-#[inline(always)]
-fn visit<P: Replacement>(
-    design: Design,
-    policy: &mut P,
-    room: &mut [Slot],
-    filled: usize,
-    reference: Ref,
-) -> (Outcome, usize)
-    requires filled { filled ≤ length room.old }
-    requires room { length room.old ≡ design.geometry.e }
-    requires some { 1 ≤ design.geometry.e }
-    requires addresses { Addressable design.geometry.b (take filled room.old) }
-    ensures visit { Visits design (P.rule policy.old) (P.words policy.old) reference
-        (take filled room.old) result.0 (take result.1 room.new) (P.words policy.new) }
-    ensures rule { P.rule policy.new ≡ P.rule policy.old }
-    ensures within { result.1 ≤ design.geometry.e }
-    ensures addresses { Addressable design.geometry.b (take result.1 room.new) }
-{
-    let block = design.geometry.block_of(reference.addr);
-    let dirty = dirties_line(design.write, reference.access);
-    if let Some(at) = find_block(&room[..filled], block) {
-        use_slot(policy, &mut room[..filled], at, dirty);
-        return (hit_outcome(design.write, reference), filled);
-    }
-    if !allocates_line(design.allocate, reference.access) {
-        return (passing_outcome(reference), filled);
-    }
-    let (_, evicted) = policy.place(room, filled, Slot { block, dirty });
-    let outcome = placing_outcome(design, reference, block, evicted);
-    (outcome, (filled + 1).min(room.len()))
-}
-
-/// One access, in a slab of rooms. A set that gets its first block is listed.
-#[inline(always)]
-fn visit_slab<P: Replacement>(
-    design: Design,
-    policy: &mut P,
-    slots: &mut [Slot],
-    filled: &mut [u32],
-    touched: &mut TouchedSets,
-    reference: Ref,
-) -> Outcome
-    requires slab { IsCacheSlab design slots.old filled.old }
-    requires touched { Covers touched.old filled.old }
-    ensures touched { Covers touched.new filled.new }
-    ensures slab { IsCacheSlab design slots.new filled.new }
-    ensures access { Accesses
-        (slab_contents design (P.rule policy.old) (P.words policy.old) slots.old filled.old)
-        reference result
-        (slab_contents design (P.rule policy.new) (P.words policy.new) slots.new filled.new) }
-    ensures dirty { DirtiesByWrites
-        (sets_of design.geometry.e slots.old filled.old) reference result
-        (sets_of design.geometry.e slots.new filled.new) }
-{
-    design.geometry.limits();
-    let ways = design.geometry.e() as usize;
-    let set = design.geometry.set_of(reference.addr) as usize;
-    let start = set * ways;
-    let room = &mut slots[start..start + ways];
-    let before = filled[set];
-    let (outcome, count) = visit(design, policy, room, before as usize, reference);
-    filled[set] = count as u32;
-    touched.note_growth(set, before, count as u32);
-    outcome
-}
-
-/// How many filled slots of a slab are dirty.
-fn count_dirty(slots: &[Slot], filled: &[u32], ways: usize) -> u64
-    requires segments { length slots.now ≡ ways * length filled.now }
-    requires within { All (λ n. n ≤ ways) filled.now }
-    requires few { length slots.now ≤ 2 ^ 22 }
-    ensures { result ≡ dirty_slots (sets_of ways slots.now filled.now) }
-{
-    let mut dirty = 0;
-    let mut rest = slots;
-    for count in filled {
-        let (room, after) = rest.split_at(ways);
-        dirty += count_dirty_slots(&room[..*count as usize]);
-        rest = after;
-    }
-    dirty
-}
-
-/// How many of these slots are dirty.
-fn count_dirty_slots(slots: &[Slot]) -> u64
-    ensures value { result ≡ count_by (λ slot. slot.dirty) slots.now }
-    ensures bound { result ≤ length slots.now }
-{
-    slots.iter().filter(|slot| slot.dirty).count() as u64
-}
-
-/// Leaves no slot filled.
-fn clear(filled: &mut [u32])
-    ensures { filled.new ≡ replicate (length filled.old) 0 }
-{
-    filled.fill(0);
-}
-
-/// Leaves no slot of the listed sets filled, which are all that have any, and returns how many were
-/// dirty. A set that is listed again has none any more.
-fn empty_listed(slots: &[Slot], filled: &mut [u32], ways: usize, listed: &[u32]) -> u64
-    requires segments { length slots.now ≡ ways * length filled.old }
-    requires within { All (λ n. n ≤ ways) filled.old }
-    requires few { length slots.now ≤ 2 ^ 22 }
-    requires listed { ListsFilled listed.now filled.old }
-    ensures counted { result ≡ dirty_slots (sets_of ways slots.now filled.old) }
-    ensures empty { filled.new ≡ replicate (length filled.old) 0 }
-{
-    let mut dirty = 0;
-    for number in listed {
-        let set = *number as usize;
-        let start = set * ways;
-        let count = mem::replace(&mut filled[set], 0) as usize;
-        dirty += count_dirty_slots(&slots[start..start + count]);
-    }
-    dirty
-}
-
-/// Leaves no slot of a slab filled, and returns how many were dirty. It goes to the listed sets
-/// alone where they are listed.
-fn empty_slab(touched: &mut TouchedSets, slots: &[Slot], filled: &mut [u32], ways: usize) -> u64
-    requires segments { length slots.now ≡ ways * length filled.old }
-    requires within { All (λ n. n ≤ ways) filled.old }
-    requires few { length slots.now ≤ 2 ^ 22 }
-    requires touched { Covers touched.old filled.old }
-    ensures counted { result ≡ dirty_slots (sets_of ways slots.now filled.old) }
-    ensures empty { filled.new ≡ replicate (length filled.old) 0 }
-    ensures touched { touched.new ≡ no_sets touched.old }
-{
-    let dirty = match touched.listed() {
-        Some(listed) => empty_listed(slots, filled, ways, listed),
-        None => {
-            let dirty = count_dirty(slots, filled, ways);
-            clear(filled);
-            dirty
-        }
-    };
-    touched.clear();
-    dirty
-}
-
-/// So many sets with no filled slot.
-fn no_slots(alloc: Global, sets: usize) -> Result<Vec<u32>, AllocError>
-    ensures { IfOk result (λ filled. filled.items ≡ replicate sets 0) }
-{
-    vec![in alloc; 0; sets]
-}
 
 /// A cache under a policy. A set's slots are in the policy's order in one array, each set in a
 /// segment of its own. `touched` lists the sets with filled slots, while they are few, so that a
@@ -353,8 +91,8 @@ impl<P: Replacement> Cache<P> {
     /// by the policy. It takes no memory.
     #[inline(always)]
     pub fn access(&mut self, reference: Ref) -> Outcome
-        ensures step { Accesses (contents_of P.rule P.words self.old) reference result
-            (contents_of P.rule P.words self.new) }
+        ensures step { Accesses (contents_of P.policy P.words self.old) reference result
+            (contents_of P.policy P.words self.new) }
         ensures dirty { DirtiesByWrites self.old.sets reference result self.new.sets }
     {
         visit_slab(
@@ -368,12 +106,274 @@ impl<P: Replacement> Cache<P> {
     }
 
     /// Empties the cache, and returns how many dirty lines it held. Nothing is evicted, and a
-    /// random policy goes on with its words.
+    /// random policy goes on with its numbers.
     pub fn flush(&mut self) -> u64
-        ensures { Flushes (contents_of P.rule P.words self.old) result
-            (contents_of P.rule P.words self.new) }
+        ensures { FlushesCache (contents_of P.policy P.words self.old) result
+            (contents_of P.policy P.words self.new) }
     {
         let ways = self.design.geometry.e() as usize;
         empty_slab(&mut self.touched, &self.slots, &mut self.filled, ways)
     }
+}
+
+/// One access, in the slab of all sets. A set that gets its first block is listed.
+#[inline(always)]
+fn visit_slab<P: Replacement>(
+    design: Design,
+    policy: &mut P,
+    slots: &mut [Slot],
+    filled: &mut [u32],
+    touched: &mut TouchedSets,
+    reference: Ref,
+) -> Outcome
+    requires slab { IsCacheSlab design slots.old filled.old }
+    requires touched { Covers touched.old filled.old }
+    ensures touched { Covers touched.new filled.new }
+    ensures slab { IsCacheSlab design slots.new filled.new }
+    ensures access { Accesses
+        (slab_contents design (P.policy policy.old) (P.words policy.old) slots.old filled.old)
+        reference result
+        (slab_contents design (P.policy policy.new) (P.words policy.new) slots.new filled.new) }
+    ensures dirty { DirtiesByWrites
+        (sets_of design.geometry.e slots.old filled.old) reference result
+        (sets_of design.geometry.e slots.new filled.new) }
+{
+    design.geometry.limits();
+    let ways = design.geometry.e() as usize;
+    let number = design.geometry.set_of(reference.addr) as usize;
+    let start = number * ways;
+    let set = &mut slots[start..start + ways];
+    let before = filled[number];
+    let (outcome, count) = visit(design, policy, set, before as usize, reference);
+    filled[number] = count as u32;
+    touched.add_grown(number, before, count as u32);
+    outcome
+}
+
+/// One access, in the slots of its set. Also returns how many of them are filled then.
+#[inline(always)]
+fn visit<P: Replacement>(
+    design: Design,
+    policy: &mut P,
+    set: &mut [Slot],
+    filled: usize,
+    reference: Ref,
+) -> (Outcome, usize)
+    requires filled { filled ≤ length set.old }
+    requires ways { length set.old ≡ design.geometry.e }
+    requires some { 1 ≤ design.geometry.e }
+    requires addresses { Addressable design.geometry.b (take filled set.old) }
+    ensures visit { Visits design (P.policy policy.old) (P.words policy.old) reference
+        (take filled set.old) result.0 (take result.1 set.new) (P.words policy.new) }
+    ensures policy { P.policy policy.new ≡ P.policy policy.old }
+    ensures within { result.1 ≤ design.geometry.e }
+    ensures addresses { Addressable design.geometry.b (take result.1 set.new) }
+{
+    let block = design.geometry.block_of(reference.addr);
+    let dirty = dirties_line(design.write, reference.access);
+    if let Some(at) = find_block(&set[..filled], block) {
+        use_slot(policy, &mut set[..filled], at, dirty);
+        return (hit_outcome(design.write, reference), filled);
+    }
+    if !allocates_line(design.allocate, reference.access) {
+        return (passing_outcome(reference), filled);
+    }
+    let (_, evicted) = policy.place(set, filled, Slot { block, dirty });
+    let outcome = placing_outcome(design, reference, block, evicted);
+    (outcome, (filled + 1).min(set.len()))
+}
+
+/// The index of a block among the slots, if it is there.
+#[inline(always)]
+fn find_block(slots: &[Slot], block: u64) -> Option<usize>
+    ensures { result ≡ position_of block slots.now }
+{
+    slots.iter().position(|slot| slot.block == block)
+}
+
+/// Uses the slot at an index, and marks it dirty where it is to be.
+#[inline(always)]
+fn use_slot<P: Replacement>(policy: &mut P, slots: &mut [Slot], at: usize, dirty: bool)
+    requires { at < length slots.old }
+    ensures order { Touches (P.policy policy.old) (marked dirty slots.old at) at slots.new }
+    ensures words { P.words policy.new ≡ P.words policy.old }
+    ensures policy { P.policy policy.new ≡ P.policy policy.old }
+    ensures addresses { (b : ℕ) → Addressable b slots.old → Addressable b slots.new }
+{
+    if dirty {
+        slots[at].dirty = true;
+    }
+    policy.touch(slots, at);
+}
+
+/// Whether a reference marks its line dirty: a write, in a write-back cache.
+#[inline(always)]
+fn dirties_line(write: WriteMode, access: Access) -> bool
+    ensures { result ≡ dirties write access }
+{
+    write == WriteMode::Back && access == Access::Write
+}
+
+/// Whether a miss places its block.
+#[inline(always)]
+fn allocates_line(allocate: AllocMode, access: Access) -> bool
+    ensures { result ≡ allocates allocate access }
+{
+    allocate == AllocMode::Always || access != Access::Write
+}
+
+/// The outcome of a hit.
+#[inline(always)]
+fn hit_outcome(write: WriteMode, reference: Ref) -> Outcome
+    ensures { result ≡ outcome_of (on_hit write reference) }
+{
+    Outcome {
+        hit: true,
+        evicted: None,
+        placed: false,
+        down: [written_through(write, reference), None],
+    }
+}
+
+/// The outcome of a miss that places nothing: the reference is sent on as it came.
+#[inline(always)]
+fn passing_outcome(reference: Ref) -> Outcome
+    ensures { result ≡ outcome_of (on_passing reference) }
+{
+    Outcome {
+        hit: false,
+        evicted: None,
+        placed: false,
+        down: [Some(reference), None],
+    }
+}
+
+/// The outcome of a miss that places its block, where this slot left, if any.
+#[inline(always)]
+fn placing_outcome(design: Design, reference: Ref, block: u64, evicted: Option<Slot>) -> Outcome
+    requires block { block * 2 ^ design.geometry.b < 2 ^ 64 }
+    requires victim { IfSome evicted (λ slot. slot.block * 2 ^ design.geometry.b < 2 ^ 64) }
+    ensures { result
+        ≡ outcome_of (on_placing design.geometry design.write reference block evicted) }
+{
+    let load = block_load(design.geometry, reference, block);
+    let down = match evicted {
+        Some(victim) if victim.dirty => {
+            let access = Access::Write;
+            let addr = design.geometry.address_of(victim.block);
+            [Some(Ref { access, addr }), Some(load)]
+        }
+        _ => [Some(load), written_through(design.write, reference)],
+    };
+    Outcome {
+        hit: false,
+        evicted,
+        placed: true,
+        down,
+    }
+}
+
+/// What is sent to the next level for the block: a fetch for a fetch, and otherwise a read.
+#[inline(always)]
+fn block_load(geometry: Geometry, reference: Ref, block: u64) -> Ref
+    requires { block * 2 ^ geometry.b < 2 ^ 64 }
+    ensures access { result.access ≡ block_load_access reference.access }
+    ensures addr { result.addr ≡ address_of geometry block }
+{
+    let access = match reference.access {
+        Access::Fetch => Access::Fetch,
+        Access::Read | Access::Write => Access::Read,
+    };
+    let addr = geometry.address_of(block);
+    Ref { access, addr }
+}
+
+/// What is sent to the next level for the reference itself: a write, from a write-through cache.
+#[inline(always)]
+fn written_through(write: WriteMode, reference: Ref) -> Option<Ref>
+    ensures { writes_through write reference ≡ option_to_list result }
+{
+    (write == WriteMode::Through && reference.access == Access::Write).then_some(reference)
+}
+
+/// Leaves no slot of a slab filled, and returns how many were dirty. It goes to the listed sets
+/// alone where they are listed.
+fn empty_slab(touched: &mut TouchedSets, slots: &[Slot], filled: &mut [u32], ways: usize) -> u64
+    requires segments { length slots.now ≡ ways * length filled.old }
+    requires within { All (λ n. n ≤ ways) filled.old }
+    requires few { length slots.now ≤ 2 ^ 22 }
+    requires touched { Covers touched.old filled.old }
+    ensures counted { result ≡ dirty_slots (sets_of ways slots.now filled.old) }
+    ensures empty { filled.new ≡ replicate (length filled.old) 0 }
+    ensures touched { touched.new ≡ no_sets touched.old }
+{
+    let dirty = match touched.listed() {
+        Some(listed) => empty_listed(slots, filled, ways, listed),
+        None => {
+            let dirty = count_dirty(slots, filled, ways);
+            clear(filled);
+            dirty
+        }
+    };
+    touched.clear();
+    dirty
+}
+
+/// Leaves no slot of the listed sets filled, which are all that have any, and returns how many were
+/// dirty. A set that is listed again has none any more.
+fn empty_listed(slots: &[Slot], filled: &mut [u32], ways: usize, listed: &[u32]) -> u64
+    requires segments { length slots.now ≡ ways * length filled.old }
+    requires within { All (λ n. n ≤ ways) filled.old }
+    requires few { length slots.now ≤ 2 ^ 22 }
+    requires listed { ListsFilled listed.now filled.old }
+    ensures counted { result ≡ dirty_slots (sets_of ways slots.now filled.old) }
+    ensures empty { filled.new ≡ replicate (length filled.old) 0 }
+{
+    let mut dirty = 0;
+    for number in listed {
+        let set = *number as usize;
+        let start = set * ways;
+        let count = mem::replace(&mut filled[set], 0) as usize;
+        dirty += count_dirty_slots(&slots[start..start + count]);
+    }
+    dirty
+}
+
+/// How many filled slots of a slab are dirty.
+fn count_dirty(slots: &[Slot], filled: &[u32], ways: usize) -> u64
+    requires segments { length slots.now ≡ ways * length filled.now }
+    requires within { All (λ n. n ≤ ways) filled.now }
+    requires few { length slots.now ≤ 2 ^ 22 }
+    ensures { result ≡ dirty_slots (sets_of ways slots.now filled.now) }
+{
+    let mut dirty = 0;
+    let mut rest = slots;
+    for count in filled {
+        let (set, after) = rest.split_at(ways);
+        dirty += count_dirty_slots(&set[..*count as usize]);
+        rest = after;
+    }
+    dirty
+}
+
+/// How many of these slots are dirty.
+fn count_dirty_slots(slots: &[Slot]) -> u64
+    ensures value { result ≡ count_by (λ slot. slot.dirty) slots.now }
+    ensures bound { result ≤ length slots.now }
+{
+    slots.iter().filter(|slot| slot.dirty).count() as u64
+}
+
+/// Leaves no slot filled.
+fn clear(filled: &mut [u32])
+    ensures { filled.new ≡ replicate (length filled.old) 0 }
+{
+    filled.fill(0);
+}
+
+/// So many sets with no filled slot.
+fn no_slots(alloc: Global, sets: usize) -> Result<Vec<u32>, AllocError>
+    ensures { IfOk result (λ filled. filled.items ≡ replicate sets 0) }
+{
+    vec![in alloc; 0; sets]
 }

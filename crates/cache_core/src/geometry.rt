@@ -6,7 +6,9 @@ use std::marker::Model;
 /// The most set index bits, and the most block bits.
 pub const MAX_BITS: u64 = 20;
 
-/// The most lines in a set.
+/// The most lines in a set. Texts and tools that can't cite it name it too, as 65536 or 64k: the
+/// help of `arguments` (`options.rt`, `help.rt`), the manual, `tools/three-c`, `tests/model.py`,
+/// `tests/limits` and `tests/fuzz`.
 pub const MAX_WAYS: u64 = 65_536;
 
 /// The most lines in a cache: 2^22.
@@ -38,8 +40,8 @@ impl Geometry {
     ghost use Rattle.cache_core.specs.Geometry.{IsGeometry, geometry_of, size_of, block_of, set_of};
     ghost use Rattle.cache_core.specs.Geometry.{set_of_block, address_of};
 
-    /// `None` unless `s` and `b` are at most `MAX_BITS`, `e` is 1 to `MAX_WAYS` and `e * 2^s` at most
-    /// `MAX_CACHE_LINES`.
+    /// `None` unless `s` and `b` are at most `MAX_BITS`, `e` is 1 to `MAX_WAYS` and `e * 2^s` at
+    /// most `MAX_CACHE_LINES`.
     pub fn new(s: u64, e: u64, b: u64) -> Option<Geometry>
         ensures { result ≡ geometry_of s e b }
     {

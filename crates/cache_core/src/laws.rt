@@ -5,10 +5,11 @@ ghost use Rattle.trace_core.specs.declared.events.Ref.{Ref};
 ghost use Rattle.trace_core.specs.declared.events.Event.{Event};
 ghost use Rattle.trace_core.specs.declared.events.Event.TheVariants as event;
 ghost use Rattle.cache_core.specs.Geometry.{GeometryValue, IsGeometry, is_geometry};
-ghost use Rattle.cache_core.specs.Windows.{window, window_after, places};
+ghost use Rattle.cache_core.specs.Windows.{window, window_after, occurrences};
 ghost use Rattle.cache_core.specs.Stands.{StartLaw, AccessLaw, FlushLaw, RunLaw, OrderLaw, DownLaw};
+ghost use Rattle.cache_core.specs.AnyPolicy.{TouchKeeps, PlaceKeeps};
 ghost use Rattle.cache_core.specs.AnyPolicy.{AnyStartLaw, AnyAccessLaw, AnyFlushLaw};
-ghost use Rattle.cache_core.specs.LruLaws.{place_after, HitLaw, VictimLaw, CountLaw, NextLaw};
+ghost use Rattle.cache_core.specs.LruLaws.{occurrence_after, HitLaw, VictimLaw, CountLaw, NextLaw};
 ghost use Rattle.cache_core.specs.LruLaws.{HitInclusion, HeldInclusion};
 ghost use Rattle.cache_core.specs.Plans.{GeometryLaw};
 ghost use Rattle.cache_core.specs.SystemStands.{NewSystemLaw, StepLaw, SystemFlushLaw};
@@ -21,13 +22,14 @@ pub fn window_grows()
         window g (events ++ e ∷ []) ≡ window_after g (window g events) e }
 {}
 
-/// One more reference is one more place, with the window of the list before it; a flush is none.
-pub fn places_grow()
+/// One more reference is one more occurrence, with the window of the list before it; a flush is
+/// none.
+pub fn occurrences_grow()
     ensures reference { (g : GeometryValue) (events : List Event) (ref : Ref) →
-        places g (events ++ event.Reference ref ∷ [])
-        ≡ places g events ++ place_after g events ref ∷ [] }
+        occurrences g (events ++ event.Reference ref ∷ [])
+        ≡ occurrences g events ++ occurrence_after g events ref ∷ [] }
     ensures flush { (g : GeometryValue) (events : List Event) →
-        places g (events ++ event.Flush ∷ []) ≡ places g events }
+        occurrences g (events ++ event.Flush ∷ []) ≡ occurrences g events }
 {}
 
 /// A new cache stands for no event.
@@ -56,13 +58,20 @@ pub fn sets_in_order()
     ensures { OrderLaw }
 {}
 
+/// Under any policy a touch keeps the slots of its set. A placing puts its slot in; it takes one
+/// out exactly where the set is full, and that is one of the set's.
+pub fn slots_are_kept()
+    ensures touch { TouchKeeps }
+    ensures place { PlaceKeeps }
+{}
+
 /// Never more than two references go down.
 pub fn two_go_down_at_most()
     ensures { DownLaw }
 {}
 
-/// Under any lawful policy an access is a step of the machine in which any line of the full set may
-/// leave, and at most two references go down; the slots of a set are known up to their order then.
+/// Under any policy an access is a step of the machine in which any line of the full set may leave,
+/// and at most two references go down; the slots of a set are known up to their order then.
 pub fn any_policy()
     ensures start { AnyStartLaw }
     ensures access { AnyAccessLaw }

@@ -12,7 +12,7 @@ pub struct Slot {
 }
 
 /// Write-back, where a write stays in the cache until its block leaves, or write-through, where it
-/// goes down at once.
+/// is sent to the next level at once.
 #[derive(Clone, Copy, Debug, PartialEq, Eq)]
 pub enum WriteMode {
     Back,
@@ -43,7 +43,7 @@ pub struct Design {
 }
 
 /// What one access did: whether its block was held, the slot that left for it, whether it was
-/// placed, and what goes down to the next level, in order, from the first place on.
+/// placed, and what is sent to the next level, in order, from the first element on.
 #[derive(Clone, Copy, Debug, PartialEq, Eq)]
 pub struct Outcome {
     pub hit: bool,
@@ -58,27 +58,4 @@ pub struct Counts {
     pub hits: u64,
     pub misses: u64,
     pub evictions: u64,
-}
-
-impl Counts {
-    ghost use Rattle.std.specs.Prelude.{◌≡◌, ◌<◌, ◌^◌, ◌+◌};
-    ghost use Rattle.cache_core.specs.LruLaws.{counts_after};
-
-    /// Counts one access: a hit or a miss, and an eviction where a block left. No count may be at
-    /// its type's limit.
-    pub(crate) fn count(&mut self, outcome: &Outcome)
-        requires hits { self.old.hits + 1 < 2 ^ 64 }
-        requires misses { self.old.misses + 1 < 2 ^ 64 }
-        requires evictions { self.old.evictions + 1 < 2 ^ 64 }
-        ensures { self.new ≡ counts_after self.old outcome.now }
-    {
-        if outcome.hit {
-            self.hits += 1;
-        } else {
-            self.misses += 1;
-        }
-        if outcome.evicted.is_some() {
-            self.evictions += 1;
-        }
-    }
 }

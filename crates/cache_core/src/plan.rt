@@ -60,11 +60,11 @@ impl Display for CacheName {
     }
 }
 
-/// A cache of a plan: its design, and the rule by which slots leave.
+/// A cache of a plan: its design, and the policy by which slots leave.
 #[derive(Clone, Copy, Debug)]
 pub struct PlannedCache {
     pub design: Design,
-    pub repl: Repl,
+    pub policy: Repl,
 }
 
 /// Why a plan is refused: the first cause that applies, in this order.
@@ -147,7 +147,7 @@ fn planned_cache_for(
             };
             Ok(Some(PlannedCache {
                 design,
-                repl: spec.repl,
+                policy: spec.repl,
             }))
         }
         None => Err(PlanFault::BadGeometry { cache }),

@@ -1,7 +1,7 @@
 //! Replacement: which slot leaves a full set.
-ghost use Rattle.std.specs.Prelude.{◌≡◌, ◌≤◌, ◌<◌, ◌+◌, ℕ, length, take, slice_get, Option, Some};
-ghost use Rattle.std.specs.Prelude.{None, IsPermutation};
-ghost use Rattle.cache_core.specs.Order.{Touches, TakesIn, words_after};
+ghost use Rattle.std.specs.Prelude.{◌≡◌, ◌≤◌, ◌<◌, ◌+◌, ℕ, length, take, slice_get};
+ghost use Rattle.std.specs.Prelude.{Option, Some, None};
+ghost use Rattle.cache_core.specs.Order.{Touches, TakesIn, random_numbers_after};
 
 use crate::outcome::{Repl, Slot};
 use rand_core::utils::NextWord;
@@ -12,36 +12,38 @@ use std::marker::Model;
 const STREAM: u64 = 54;
 
 /// A replacement policy. It sees the slots of one set at a time, in an order of its own.
+///
+/// `order` says all that is said of the slots, and that a set keeps them follows from it (the law
+/// `slots_are_kept`). The indices that `touch` and `place` return are part of the interface as it
+/// was first specified; a cache doesn't read them.
 pub trait Replacement: Drop {
     ghost use Rattle.cache_core.specs.declared.outcome.Repl.{Repl};
 
-    /// Which of the three rules it keeps, if any.
-    ghost rule: { Self → Option Repl } = { λ _. None };
+    /// Which of the three named policies it is, if any.
+    ghost policy: { Self → Option Repl } = { λ _. None };
 
-    /// The random words that it still has to draw.
+    /// The random numbers that it still has to draw.
     ghost words: { Self → ℕ → ℕ } = { λ _ _. 0 };
 
-    /// The slot at a place of the filled part is used. Returns where it is then.
+    /// The slot at an index of the filled part is used. Returns its index then.
     fn touch(&mut self, set: &mut [Slot], at: usize) -> usize
         requires { at < length set.old }
-        ensures same_slots { IsPermutation set.old set.new }
-        ensures place { slice_get set.new result ≡ slice_get set.old at }
-        ensures order { Touches (rule self.old) set.old at set.new }
+        ensures index { slice_get set.new result ≡ slice_get set.old at }
+        ensures order { Touches (policy self.old) set.old at set.new }
         ensures words { words self.new ≡ words self.old }
-        ensures rule { rule self.new ≡ rule self.old };
+        ensures policy { policy self.new ≡ policy self.old };
 
-    /// Puts a slot into a set whose first `filled` places are filled. Returns where it is in the part
+    /// Puts a slot into a set whose first `filled` slots are filled. Returns its index in the part
     /// that is filled then, and the slot that left, which is one exactly if the set was full.
     fn place(&mut self, set: &mut [Slot], filled: usize, new: Slot) -> (usize, Option<Slot>)
         requires filled { filled ≤ length set.old }
-        requires room { 1 ≤ length set.old }
-        ensures lawful { TakesIn None 0 (length set.old) (take filled set.old) new
-            result.1 (take (filled + 1) set.new) }
-        ensures place { slice_get (take (filled + 1) set.new) result.0 ≡ Some new }
-        ensures order { TakesIn (rule self.old) (words self.old 0) (length set.old)
+        requires some { 1 ≤ length set.old }
+        ensures index { slice_get (take (filled + 1) set.new) result.0 ≡ Some new }
+        ensures order { TakesIn (policy self.old) (words self.old 0) (length set.old)
             (take filled set.old) new result.1 (take (filled + 1) set.new) }
-        ensures words { words self.new ≡ words_after (rule self.old) result.1 (words self.old) }
-        ensures rule { rule self.new ≡ rule self.old };
+        ensures words { words self.new
+            ≡ random_numbers_after (policy self.old) result.1 (words self.old) }
+        ensures policy { policy self.new ≡ policy self.old };
 }
 
 /// Least recently used: the most recent slot is in front.
@@ -51,16 +53,16 @@ pub struct Lru;
 impl Lru {
     /// The policy, which has no state.
     pub fn new() -> Self
-        ensures { ⟦<Lru as Replacement>⟧.rule result ≡ Some Repl.Lru }
+        ensures { ⟦<Lru as Replacement>⟧.policy result ≡ Some Repl.Lru }
     {
         Lru
     }
 }
 
 impl Replacement for Lru {
-    ghost use Rattle.cache_core.specs.declared.outcome.Repl.TheVariants.{Lru as LruRule};
+    ghost use Rattle.cache_core.specs.declared.outcome.Repl.TheVariants.{Lru as LruRepl};
 
-    ghost rule = { λ _. Some LruRule };
+    ghost policy = { λ _. Some LruRepl };
 
     fn touch(&mut self, set: &mut [Slot], at: usize) -> usize {
         set[..=at].rotate_right(1);
@@ -76,7 +78,7 @@ impl Replacement for Lru {
 /// Puts a slot in front, and takes out the last one of a full set.
 fn put_in_front(set: &mut [Slot], filled: usize, new: Slot) -> Option<Slot>
     requires filled { filled ≤ length set.old }
-    requires room { 1 ≤ length set.old }
+    requires some { 1 ≤ length set.old }
     ensures order { TakesIn (Some Repl.Lru) 0 (length set.old) (take filled set.old) new
         result (take (filled + 1) set.new) }
     ensures front { slice_get set.new 0 ≡ Some new }
@@ -95,16 +97,16 @@ pub struct Fifo;
 impl Fifo {
     /// The policy, which has no state.
     pub fn new() -> Self
-        ensures { ⟦<Fifo as Replacement>⟧.rule result ≡ Some Repl.Fifo }
+        ensures { ⟦<Fifo as Replacement>⟧.policy result ≡ Some Repl.Fifo }
     {
         Fifo
     }
 }
 
 impl Replacement for Fifo {
-    ghost use Rattle.cache_core.specs.declared.outcome.Repl.TheVariants.{Fifo as FifoRule};
+    ghost use Rattle.cache_core.specs.declared.outcome.Repl.TheVariants.{Fifo as FifoRepl};
 
-    ghost rule = { λ _. Some FifoRule };
+    ghost policy = { λ _. Some FifoRepl };
 
     fn touch(&mut self, _: &mut [Slot], at: usize) -> usize {
         at
@@ -131,14 +133,14 @@ impl Model for Random {
 }
 
 impl Random {
-    ghost use Rattle.cache_core.specs.Words.{seeded, word_of};
+    ghost use Rattle.cache_core.specs.RandomNumbers.{seeded, random_number};
 
-    /// The policy with the generator of a seed. It draws a word only where a full set has to give
-    /// up a slot.
+    /// The policy with the generator of a seed. It draws a number only where a full set has to
+    /// give up a slot.
     pub fn new(seed: u64) -> Self
         ensures value { result ≡ seeded seed }
-        ensures rule { ⟦<Random as Replacement>⟧.rule result ≡ Some Repl.Random }
-        ensures words { ⟦<Random as Replacement>⟧.words result ≡ word_of (seeded seed) }
+        ensures policy { ⟦<Random as Replacement>⟧.policy result ≡ Some Repl.Random }
+        ensures words { ⟦<Random as Replacement>⟧.words result ≡ random_number (seeded seed) }
     {
         Random {
             generator: Pcg32::new(seed, STREAM),
@@ -147,12 +149,12 @@ impl Random {
 }
 
 impl Replacement for Random {
-    ghost use Rattle.cache_core.specs.declared.outcome.Repl.TheVariants.{Random as RandomRule};
-    ghost use Rattle.cache_core.specs.Words.{word_of};
+    ghost use Rattle.cache_core.specs.declared.outcome.Repl.TheVariants.{Random as RandomRepl};
+    ghost use Rattle.cache_core.specs.RandomNumbers.{random_number};
 
-    ghost rule = { λ _. Some RandomRule };
+    ghost policy = { λ _. Some RandomRepl };
 
-    ghost words = { word_of };
+    ghost words = { random_number };
 
     fn touch(&mut self, _set: &mut [Slot], at: usize) -> usize {
         at

@@ -33,7 +33,8 @@ impl Lookup {
     }
 }
 
-/// An LRU cache, write-back and write-allocate, with its counts: the separate simulation of one configuration.
+/// An LRU cache, write-back and write-allocate, with its counts: the separate simulation of one
+/// configuration.
 #[derive(Drop)]
 pub struct Simulation {
     cache: Cache<Lru>,
@@ -41,18 +42,19 @@ pub struct Simulation {
 }
 
 impl Simulation {
-    ghost use Rattle.std.specs.Prelude.{◌≡◌, ℕ, ◌+◌, ◌^◌, List, [], ◌∷◌, ◌++◌, IfOk};
+    ghost use Rattle.std.specs.Prelude.{◌≡◌, ◌^◌, List, [], ◌∷◌, ◌++◌, IfOk};
     ghost use Rattle.cache_core.specs.Geometry.{GeometryValue};
-    ghost use Rattle.cache_core.specs.LruLaws.{place_after};
-    ghost use Rattle.cache_core.specs.Simulation.{lookup_at, AreFew, Simulates};
+    ghost use Rattle.cache_core.specs.LruLaws.{occurrence_after};
+    ghost use Rattle.cache_core.specs.Simulation.{lookup_at, counts_with};
+    ghost use Rattle.cache_core.specs.Simulation.{SimulationCountsWithin, SimulationStandsFor};
     ghost use Rattle.cache_core.specs.Windows.{counts};
     ghost use Rattle.trace_core.specs.declared.events.Event.{Event};
     ghost use Rattle.trace_core.specs.declared.events.Event.TheVariants as event;
 
-    /// An empty cache of this geometry, with nothing counted. It takes all its memory here, and that alone can fail.
+    /// An empty cache of this geometry, with nothing counted. It takes all its memory here, and that
+    /// alone can fail.
     pub fn new(alloc: Global, geometry: Geometry) -> Result<Simulation, AllocError>
-        ensures stands { IfOk result (Simulates geometry []) }
-        ensures few { IfOk result (AreFew 0) }
+        ensures { IfOk result (SimulationStandsFor geometry []) }
     {
         geometry.limits();
         let policy = Lru::new();
@@ -67,7 +69,8 @@ impl Simulation {
 
     /// The hits, misses and evictions so far.
     pub fn counts(&self) -> Counts
-        ensures { (g : GeometryValue) (events : List Event) → Simulates g events self.now → result ≡ counts g events }
+        ensures { (g : GeometryValue) (events : List Event) →
+            SimulationStandsFor g events self.now → result ≡ counts g events }
     {
         self.counts
     }
@@ -75,23 +78,32 @@ impl Simulation {
     /// Makes one reference, counts how it went, and returns that. No count may be above 2^63.
     #[inline(always)]
     pub fn access(&mut self, reference: Ref) -> Lookup
-        requires { AreFew (2 ^ 63) self.old }
-        ensures stands { (g : GeometryValue) (events : List Event) → Simulates g events self.old →
-            Simulates g (events ++ event.Reference reference ∷ []) self.new
-            × (result ≡ lookup_at g (place_after g events reference)) }
-        ensures few { (n : ℕ) → AreFew n self.old → AreFew (n + 1) self.new }
+        requires { SimulationCountsWithin (2 ^ 63) self.old.counts }
+        ensures stands { (g : GeometryValue) (events : List Event) →
+            SimulationStandsFor g events self.old →
+            SimulationStandsFor g (events ++ event.Reference reference ∷ []) self.new
+            × (result ≡ lookup_at g (occurrence_after g events reference)) }
+        ensures counted { self.new.counts ≡ counts_with self.old.counts result }
     {
         let outcome = self.cache.access(reference);
         let lookup = Lookup::of(&outcome);
-        self.counts.count(&outcome);
+        match lookup {
+            Lookup::Hit => self.counts.hits += 1,
+            Lookup::Miss => self.counts.misses += 1,
+            Lookup::MissEviction => {
+                self.counts.misses += 1;
+                self.counts.evictions += 1;
+            }
+        }
         lookup
     }
 
     /// Empties the cache. Its counts stay.
     pub fn flush(&mut self)
-        ensures stands { (g : GeometryValue) (events : List Event) → Simulates g events self.old →
-            Simulates g (events ++ event.Flush ∷ []) self.new }
-        ensures few { (n : ℕ) → AreFew n self.old → AreFew n self.new }
+        ensures stands { (g : GeometryValue) (events : List Event) →
+            SimulationStandsFor g events self.old →
+            SimulationStandsFor g (events ++ event.Flush ∷ []) self.new }
+        ensures counted { self.new.counts ≡ self.old.counts }
     {
         self.cache.flush();
     }

@@ -19,12 +19,12 @@ pub struct CacheStats {
 }
 
 impl CacheStats {
-    ghost use Rattle.cache_core.specs.SystemCaches.{tally, IsBelow};
+    ghost use Rattle.cache_core.specs.SystemCaches.{stats_after, CacheCountsWithin};
 
     /// Counts one access by its kind.
     pub(crate) fn count(&mut self, reference: Ref, outcome: &Outcome)
-        requires { IsBelow self.old (2 ^ 63) }
-        ensures { self.new ≡ tally self.old reference outcome.now }
+        requires { CacheCountsWithin (2 ^ 62) self.old }
+        ensures { self.new ≡ stats_after self.old reference outcome.now }
     {
         let missed = !outcome.hit;
         match reference.access {

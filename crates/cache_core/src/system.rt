@@ -1,11 +1,9 @@
 //! A system of caches.
-ghost use Rattle.std.specs.Prelude.{◌≡◌, ◌≤◌, ◌<◌, ◌+◌, ◌^◌, ℕ, List, length, ◌∷◌, [], IfOk};
-ghost use Rattle.cache_core.specs.SystemSteps.{listed, reaches, all_reach, Descends, AllDescend};
+ghost use Rattle.std.specs.Prelude.{◌≡◌, ◌<◌, ◌+◌, ◌^◌, ℕ, List, length, ◌∷◌, [], IfOk};
+ghost use Rattle.cache_core.specs.SystemSteps.{present_refs, all_reach, Descends, AllDescend};
 ghost use Rattle.cache_core.specs.SystemSteps.{AccessesFirst, AccessesFirstLevel, EmptiesCache};
-ghost use Rattle.cache_core.specs.SystemSteps.{copied, stats_held, IsNewCache};
-ghost use Rattle.cache_core.specs.SystemCaches.{CacheWithin};
+ghost use Rattle.cache_core.specs.SystemSteps.{counted, reached, stats_held, IsNewCache};
 
-use crate::outcome::Outcome;
 use crate::plan::{Plan, PlannedCache};
 use crate::stats::{CacheStats, Stats};
 use crate::system_cache::SystemCache;
@@ -15,167 +13,6 @@ use trace_core::events::{Access, Ref};
 
 /// The most steps of a system, flushes among them: 2^41. So no count overflows.
 pub const MAX_STEPS: u64 = 1 << 41;
-
-/// What reached memory.
-#[derive(Clone, Copy, Debug, PartialEq, Eq)]
-pub(crate) struct Memory {
-    pub(crate) reads: u64,
-    pub(crate) writes: u64,
-}
-
-impl Memory {
-    /// Counts a reference.
-    fn count(&mut self, reference: Ref)
-        requires reads { self.old.reads < 2 ^ 63 }
-        requires writes { self.old.writes < 2 ^ 63 }
-        ensures value { self.new ≡ reaches self.old reference }
-        ensures bound { self.new.reads + self.new.writes ≡ self.old.reads + self.old.writes + 1 }
-    {
-        if reference.access == Access::Write {
-            self.writes += 1;
-        } else {
-            self.reads += 1;
-        }
-    }
-
-    /// Counts what goes down from the last level.
-    fn count_all(&mut self, outcome: &Outcome)
-        requires { self.old.reads + self.old.writes < 2 ^ 62 }
-        ensures value { self.new ≡ all_reach self.old (listed outcome.now.down) }
-        ensures bound { self.new.reads + self.new.writes ≤ self.old.reads + self.old.writes + 2 }
-    {
-        let [first, second] = outcome.down;
-        if let Some(reference) = first {
-            self.count(reference);
-        }
-        if let Some(reference) = second {
-            self.count(reference);
-        }
-    }
-}
-
-/// A reference comes down to the second level, or to memory.
-#[inline(never)]
-fn descend(second: &mut Option<SystemCache>, memory: &mut Memory, reference: Ref)
-    requires cache { CacheWithin (2 ^ 62) second.old }
-    requires memory { memory.old.reads + memory.old.writes < 2 ^ 62 }
-    ensures value { Descends reference second.old memory.old second.new memory.new }
-    ensures cache { (n : ℕ) → CacheWithin n second.old → CacheWithin (n + 1) second.new }
-    ensures memory { memory.new.reads + memory.new.writes
-        ≤ memory.old.reads + memory.old.writes + 2 }
-{
-    match second {
-        Some(cache) => {
-            let outcome = cache.access(reference);
-            memory.count_all(&outcome);
-        }
-        None => memory.count(reference),
-    }
-}
-
-/// One reference at a first-level cache, if it is there: what it sends down for it.
-#[inline(never)]
-fn access_first(cache: &mut Option<SystemCache>, reference: Ref) -> Option<[Option<Ref>; 2]>
-    requires { CacheWithin (2 ^ 62) cache.old }
-    ensures value { AccessesFirst cache.old reference result cache.new }
-    ensures within { (n : ℕ) → CacheWithin n cache.old → CacheWithin (n + 1) cache.new }
-{
-    match cache {
-        Some(cache) => Some(cache.access(reference).down),
-        None => None,
-    }
-}
-
-/// A reference comes down, if there is one.
-fn descend_if(second: &mut Option<SystemCache>, memory: &mut Memory, reference: Option<Ref>)
-    requires cache { CacheWithin (2 ^ 62) second.old }
-    requires memory { memory.old.reads + memory.old.writes < 2 ^ 62 }
-    ensures value { AllDescend (listed (reference ∷ []))
-        second.old memory.old second.new memory.new }
-    ensures cache { (n : ℕ) → CacheWithin n second.old → CacheWithin (n + 1) second.new }
-    ensures memory { memory.new.reads + memory.new.writes
-        ≤ memory.old.reads + memory.old.writes + 2 }
-{
-    if let Some(reference) = reference {
-        descend(second, memory, reference);
-    }
-}
-
-/// What goes down for one reference, one after another.
-fn descend_all(second: &mut Option<SystemCache>, memory: &mut Memory, down: [Option<Ref>; 2])
-    requires cache { CacheWithin (2 ^ 61) second.old }
-    requires memory { memory.old.reads + memory.old.writes < 2 ^ 61 }
-    ensures value { AllDescend (listed down) second.old memory.old second.new memory.new }
-    ensures cache { (n : ℕ) → CacheWithin n second.old → CacheWithin (n + 1 + 1) second.new }
-    ensures memory { memory.new.reads + memory.new.writes
-        ≤ memory.old.reads + memory.old.writes + 4 }
-{
-    let [first, next] = down;
-    descend_if(second, memory, first);
-    descend_if(second, memory, next);
-}
-
-/// A reference at the first level. `None` if no cache takes it.
-fn first_level(
-    i: &mut Option<SystemCache>,
-    d: &mut Option<SystemCache>,
-    u: &mut Option<SystemCache>,
-    reference: Ref,
-) -> Option<[Option<Ref>; 2]>
-    requires i { CacheWithin (2 ^ 62) i.old }
-    requires d { CacheWithin (2 ^ 62) d.old }
-    requires u { CacheWithin (2 ^ 62) u.old }
-    ensures value { AccessesFirstLevel i.old d.old u.old reference result i.new d.new u.new }
-    ensures i { (n : ℕ) → CacheWithin n i.old → CacheWithin (n + 1) i.new }
-    ensures d { (n : ℕ) → CacheWithin n d.old → CacheWithin (n + 1) d.new }
-    ensures u { (n : ℕ) → CacheWithin n u.old → CacheWithin (n + 1) u.new }
-{
-    if u.is_some() {
-        return access_first(u, reference);
-    }
-    if reference.access == Access::Fetch {
-        return access_first(i, reference);
-    }
-    access_first(d, reference)
-}
-
-/// Empties a cache of a system, if it is there, and returns how many dirty lines it held.
-fn empty(cache: &mut Option<SystemCache>) -> u64
-    requires { CacheWithin (2 ^ 62) cache.old }
-    ensures value { EmptiesCache cache.old result cache.new }
-    ensures within { (n : ℕ) → CacheWithin n cache.old → CacheWithin n cache.new }
-    ensures copied { copied cache.new ≡ copied cache.old + result }
-{
-    match cache {
-        Some(cache) => cache.flush(),
-        None => 0,
-    }
-}
-
-/// What a cache of a system counted, if it is there.
-fn counts(cache: &Option<SystemCache>) -> Option<CacheStats>
-    ensures { result ≡ stats_held cache.now }
-{
-    match cache {
-        Some(cache) => Some(cache.stats),
-        None => None,
-    }
-}
-
-/// A cache of a system, if the plan has it.
-fn new_cache(
-    alloc: Global,
-    planned: Option<PlannedCache>,
-    seed: u64,
-) -> Result<Option<SystemCache>, AllocError>
-    ensures value { IfOk result (IsNewCache seed planned) }
-    ensures within { IfOk result (CacheWithin 0) }
-{
-    match planned {
-        Some(planned) => Ok(Some(SystemCache::new(alloc, planned, seed)?)),
-        None => Ok(None),
-    }
-}
 
 /// A system of caches.
 #[derive(Drop)]
@@ -190,38 +27,25 @@ pub struct System {
 }
 
 impl Model for System {
-    ghost use Rattle.cache_core.specs.SystemSteps.{SystemValue, IsSystem};
+    ghost use Rattle.cache_core.specs.SystemSteps.{SystemValue};
 
     ghost Value = { SystemValue };
 
-    ghost view = { λ s. record {
-      i = s.i;
-      d = s.d;
-      u = s.u;
-      second = s.second;
-      memory = s.memory;
-      bypassed = s.bypassed;
-      steps = s.steps;
-    } };
+    ghost use Rattle.cache_core.specs.SystemSteps.{IsSystem};
+    ghost use Rattle.cache_core.specs.SystemFields.{system_value};
 
-    ghost invariant = { λ s. IsSystem (record {
-      i = s.i;
-      d = s.d;
-      u = s.u;
-      second = s.second;
-      memory = s.memory;
-      bypassed = s.bypassed;
-      steps = s.steps;
-    }) };
+    ghost view = { system_value };
+
+    ghost invariant = { λ s. IsSystem (system_value s) };
 }
 
 impl System {
-    ghost use Rattle.cache_core.specs.SystemSteps.{Steps, FlushStep, stats_of, HasWritten};
-    ghost use Rattle.cache_core.specs.SystemSteps.{IsNewSystem};
+    ghost use Rattle.cache_core.specs.SystemSteps.{StepsSystem, FlushesSystem, IsNewSystem};
+    ghost use Rattle.cache_core.specs.SystemSteps.{stats_of, HasWritten};
     ghost use Rattle.trace_core.specs.declared.events.Event.{Event};
     ghost use Rattle.cache_core.specs.Plans.{PlannedCaches};
     ghost use Rattle.cache_core.specs.Systems.{system_run};
-    ghost use Rattle.cache_core.specs.SystemStands.{SystemStands};
+    ghost use Rattle.cache_core.specs.SystemStands.{SystemStandsFor};
 
     /// A system of the caches of a plan, all empty; each with random replacement has a generator of
     /// its own, of this seed. Takes the memory of all its caches; only want of memory fails.
@@ -251,7 +75,7 @@ impl System {
     pub fn steps(&self) -> u64
         ensures value { result ≡ self.now.steps }
         ensures trace { (plan : PlannedCaches) (seed : ℕ) (events : List Event) →
-            SystemStands plan seed events self.now → result ≡ length events }
+            SystemStandsFor plan seed events self.now → result ≡ length events }
     {
         self.steps
     }
@@ -261,7 +85,7 @@ impl System {
     /// steps and flushes.
     pub fn step(&mut self, reference: Ref)
         requires { self.old.steps < MAX_STEPS }
-        ensures { Steps self.old reference self.new }
+        ensures { StepsSystem self.old reference self.new }
     {
         self.steps += 1;
         let down = first_level(&mut self.i, &mut self.d, &mut self.u, reference);
@@ -275,7 +99,7 @@ impl System {
     /// second level, and nothing is an eviction. A flush is a step, too.
     pub fn flush(&mut self)
         requires { self.old.steps < MAX_STEPS }
-        ensures { FlushStep self.old self.new }
+        ensures { FlushesSystem self.old self.new }
     {
         self.steps += 1;
         let i = empty(&mut self.i);
@@ -291,7 +115,7 @@ impl System {
         ensures copybacks { HasWritten result.l1i × HasWritten result.l1d
             × HasWritten result.l1u × HasWritten result.l2u }
         ensures trace { (plan : PlannedCaches) (seed : ℕ) (events : List Event) →
-            SystemStands plan seed events self.now → result ≡ system_run plan seed events }
+            SystemStandsFor plan seed events self.now → result ≡ system_run plan seed events }
     {
         Stats {
             l1i: counts(&self.i),
@@ -302,5 +126,123 @@ impl System {
             memory_writes: self.memory.writes,
             bypassed: self.bypassed,
         }
+    }
+}
+
+/// What reached memory.
+#[derive(Clone, Copy, Debug, PartialEq, Eq)]
+pub(crate) struct Memory {
+    pub(crate) reads: u64,
+    pub(crate) writes: u64,
+}
+
+impl Memory {
+    /// Counts a reference, if there is one.
+    fn count(&mut self, reference: Option<Ref>)
+        requires { reached self.old < 2 ^ 63 }
+        ensures { self.new ≡ all_reach self.old (present_refs (reference ∷ [])) }
+    {
+        if let Some(reference) = reference {
+            if reference.access == Access::Write {
+                self.writes += 1;
+            } else {
+                self.reads += 1;
+            }
+        }
+    }
+}
+
+/// One reference at a first-level cache, if it is there: what it sends down for it.
+#[inline(never)]
+fn access_first(cache: &mut Option<SystemCache>, reference: Ref) -> Option<[Option<Ref>; 2]>
+    requires { counted cache.old < 2 ^ 62 }
+    ensures { AccessesFirst cache.old reference result cache.new }
+{
+    match cache {
+        Some(cache) => Some(cache.access(reference).down),
+        None => None,
+    }
+}
+
+/// A reference at the first level. `None` if no cache takes it.
+fn first_level(
+    i: &mut Option<SystemCache>,
+    d: &mut Option<SystemCache>,
+    u: &mut Option<SystemCache>,
+    reference: Ref,
+) -> Option<[Option<Ref>; 2]>
+    requires { counted i.old + counted d.old + counted u.old < 2 ^ 62 }
+    ensures { AccessesFirstLevel i.old d.old u.old reference result i.new d.new u.new }
+{
+    if u.is_some() {
+        return access_first(u, reference);
+    }
+    if reference.access == Access::Fetch {
+        return access_first(i, reference);
+    }
+    access_first(d, reference)
+}
+
+/// A reference comes down to the second level, or to memory.
+#[inline(never)]
+fn descend(second: &mut Option<SystemCache>, memory: &mut Memory, reference: Ref)
+    requires { counted second.old + reached memory.old < 2 ^ 62 }
+    ensures { Descends reference second.old memory.old second.new memory.new }
+{
+    match second {
+        Some(cache) => {
+            let [first, next] = cache.access(reference).down;
+            memory.count(first);
+            memory.count(next);
+        }
+        None => memory.count(Some(reference)),
+    }
+}
+
+/// What goes down for one reference, one after another.
+fn descend_all(second: &mut Option<SystemCache>, memory: &mut Memory, down: [Option<Ref>; 2])
+    requires { counted second.old + reached memory.old < 2 ^ 61 }
+    ensures { AllDescend (present_refs down) second.old memory.old second.new memory.new }
+{
+    let [first, next] = down;
+    if let Some(reference) = first {
+        descend(second, memory, reference);
+    }
+    if let Some(reference) = next {
+        descend(second, memory, reference);
+    }
+}
+
+/// Empties a cache of a system, if it is there, and returns how many dirty lines it held.
+fn empty(cache: &mut Option<SystemCache>) -> u64
+    ensures { EmptiesCache cache.old result cache.new }
+{
+    match cache {
+        Some(cache) => cache.flush(),
+        None => 0,
+    }
+}
+
+/// What a cache of a system counted, if it is there.
+fn counts(cache: &Option<SystemCache>) -> Option<CacheStats>
+    ensures { result ≡ stats_held cache.now }
+{
+    match cache {
+        Some(cache) => Some(cache.stats),
+        None => None,
+    }
+}
+
+/// A cache of a system, if the plan has it.
+fn new_cache(
+    alloc: Global,
+    planned: Option<PlannedCache>,
+    seed: u64,
+) -> Result<Option<SystemCache>, AllocError>
+    ensures { IfOk result (IsNewCache seed planned) }
+{
+    match planned {
+        Some(planned) => Ok(Some(SystemCache::new(alloc, planned, seed)?)),
+        None => Ok(None),
     }
 }

@@ -1,7 +1,8 @@
 //! A cache of a system: under a policy that is known when it runs, and with what it counted.
-ghost use Rattle.std.specs.Prelude.{◌≡◌, ◌+◌, ◌^◌, ℕ, Some, IfOk};
-ghost use Rattle.cache_core.specs.SystemCaches.{rule_of, random_words};
-ghost use Rattle.cache_core.specs.Systems.{words_for};
+ghost use Rattle.std.specs.Prelude.{◌≡◌, ◌<◌, ◌^◌, Some, IfOk};
+ghost use Rattle.cache_core.specs.Order.{dirty_slots};
+ghost use Rattle.cache_core.specs.SystemCaches.{policy_of, random_numbers_of, accesses, IsCounted};
+ghost use Rattle.cache_core.specs.Systems.{random_numbers_for};
 
 use crate::cache::Cache;
 use crate::outcome::{Outcome, Repl, Slot};
@@ -13,65 +14,67 @@ use trace_core::events::Ref;
 
 /// A policy that is chosen when the system is made.
 #[derive(Drop)]
-pub(crate) enum Policy {
+pub(crate) enum ChosenPolicy {
     Lru(Lru),
     Fifo(Fifo),
     Random(Random),
 }
 
-impl Replacement for Policy {
-    ghost use Rattle.cache_core.specs.SystemCaches.{rule_of, random_words};
+impl Replacement for ChosenPolicy {
+    ghost use Rattle.cache_core.specs.SystemCaches.{policy_of, random_numbers_of};
 
-    ghost rule = { rule_of };
+    ghost policy = { policy_of };
 
-    ghost words = { random_words };
+    ghost words = { random_numbers_of };
 
     fn touch(&mut self, set: &mut [Slot], at: usize) -> usize {
         match self {
-            Policy::Lru(policy) => policy.touch(set, at),
-            Policy::Fifo(policy) => policy.touch(set, at),
-            Policy::Random(policy) => policy.touch(set, at),
+            ChosenPolicy::Lru(policy) => policy.touch(set, at),
+            ChosenPolicy::Fifo(policy) => policy.touch(set, at),
+            ChosenPolicy::Random(policy) => policy.touch(set, at),
         }
     }
 
     fn place(&mut self, set: &mut [Slot], filled: usize, new: Slot) -> (usize, Option<Slot>) {
         match self {
-            Policy::Lru(policy) => policy.place(set, filled, new),
-            Policy::Fifo(policy) => policy.place(set, filled, new),
-            Policy::Random(policy) => policy.place(set, filled, new),
+            ChosenPolicy::Lru(policy) => policy.place(set, filled, new),
+            ChosenPolicy::Fifo(policy) => policy.place(set, filled, new),
+            ChosenPolicy::Random(policy) => policy.place(set, filled, new),
         }
     }
 }
 
-/// A cache of a system, with what it counted.
+/// A cache of a system, with what it counted. Each count comes of an access, and each copyback and
+/// each dirty line of a write.
 #[derive(Drop)]
 pub(crate) struct SystemCache {
-    pub(crate) cache: Cache<Policy>,
+    pub(crate) cache: Cache<ChosenPolicy>,
     pub(crate) stats: CacheStats,
+    ghost counted: { IsCounted stats (dirty_slots cache.sets) },
 }
 
-/// The policy of a rule, with a generator of this seed.
-fn policy_of(repl: Repl, seed: u64) -> Policy
-    ensures rule { rule_of result ≡ Some repl }
-    ensures words { random_words result ≡ words_for repl seed }
+/// The policy that is named, with a generator of this seed.
+fn chosen_policy(policy: Repl, seed: u64) -> ChosenPolicy
+    ensures policy { policy_of result ≡ Some policy }
+    ensures random_numbers { random_numbers_of result ≡ random_numbers_for policy seed }
 {
-    match repl {
-        Repl::Lru => Policy::Lru(Lru::new()),
-        Repl::Fifo => Policy::Fifo(Fifo::new()),
-        Repl::Random => Policy::Random(Random::new(seed)),
+    match policy {
+        Repl::Lru => ChosenPolicy::Lru(Lru::new()),
+        Repl::Fifo => ChosenPolicy::Fifo(Fifo::new()),
+        Repl::Random => ChosenPolicy::Random(Random::new(seed)),
     }
 }
 
 impl SystemCache {
-    ghost use Rattle.cache_core.specs.SystemCaches.{Enters, Empties, CountsWithin};
+    ghost use Rattle.cache_core.specs.CacheSteps.{Enters, Empties};
     ghost use Rattle.cache_core.specs.SystemSteps.{IsNewSystemCache};
 
     /// A new cache of a system.
     pub(crate) fn new(alloc: Global, planned: PlannedCache, seed: u64) -> Result<Self, AllocError>
         ensures { IfOk result (IsNewSystemCache seed planned) }
     {
-        let PlannedCache { design, repl } = planned;
-        let policy = policy_of(repl, seed);
+        let PlannedCache { design, policy } = planned;
+        let policy = chosen_policy(policy, seed);
         let cache = Cache::new(
             alloc,
             design.geometry,
@@ -95,9 +98,8 @@ impl SystemCache {
     /// One reference enters.
     #[inline(always)]
     pub(crate) fn access(&mut self, reference: Ref) -> Outcome
-        requires { CountsWithin (2 ^ 62) self.old }
-        ensures value { Enters self.old reference result self.new }
-        ensures within { (n : ℕ) → CountsWithin n self.old → CountsWithin (n + 1) self.new }
+        requires { accesses self.old.stats < 2 ^ 62 }
+        ensures { Enters self.old reference result self.new }
     {
         let outcome = self.cache.access(reference);
         self.stats.count(reference, &outcome);
@@ -106,10 +108,9 @@ impl SystemCache {
 
     /// Empties the cache. Its dirty lines count as copybacks.
     pub(crate) fn flush(&mut self) -> u64
-        requires { CountsWithin (2 ^ 62) self.old }
-        ensures value { Empties self.old result self.new }
-        ensures within { (n : ℕ) → CountsWithin n self.old → CountsWithin n self.new }
+        ensures { Empties self.old result self.new }
     {
+        let _writes = self.stats.writes;
         let dirty = self.cache.flush();
         self.stats.copybacks += dirty;
         dirty

@@ -7,33 +7,33 @@ ghost use Rattle.cache_core.specs.Touched.{after_count, joined, no_sets, Covers,
 use std::alloc::{AllocError, Global};
 use std::marker::Model;
 
-/// How many sets share one place of the list. The list takes a quarter of a byte for each set, and
+/// How many sets share one entry of the list. The list takes a quarter of a byte for each set, and
 /// a flush that has to walk all sets, since more were touched than are listed, walks no more than
 /// sixteen for each block that was placed.
-const SETS_A_PLACE: usize = 16;
+const SETS_PER_ENTRY: usize = 16;
 
-/// The sets that got a block since the last flush, each by its number, as long as there are places
+/// The sets that got a block since the last flush, each by its number, as long as there are entries
 /// for them.
 #[derive(Drop)]
 pub struct TouchedSets {
-    /// Room for the numbers of sets, as many as may be listed.
-    places: Vec<u32>,
-    /// How many places are used; `None` once more sets were touched than there are places.
+    /// The numbers of sets, as many as may be listed.
+    entries: Vec<u32>,
+    /// How many entries are used; `None` once more sets were touched than there are entries.
     used: Option<usize>,
 }
 
 impl Model for TouchedSets {
     ghost use Rattle.std.specs.Prelude.{◌≤◌, IfSome, length, option_map, take};
-    ghost use Rattle.cache_core.specs.Touched.{Touched};
+    ghost use Rattle.cache_core.specs.Touched.{TouchedValue};
 
-    ghost Value = { Touched };
+    ghost Value = { TouchedValue };
 
     ghost view = { λ t. record {
-      room = length t.places.items;
-      listed = option_map (λ used. take used t.places.items) t.used;
+      capacity = length t.entries.items;
+      listed = option_map (λ used. take used t.entries.items) t.used;
     } };
 
-    ghost invariant = { λ t. IfSome t.used (λ used. used ≤ length t.places.items) };
+    ghost invariant = { λ t. IfSome t.used (λ used. used ≤ length t.entries.items) };
 }
 
 /// Sets the counts of the listed sets to 0, which are all that are not 0.
@@ -47,50 +47,52 @@ fn zero_listed(counts: &mut [u32], sets: &[u32])
 }
 
 impl TouchedSets {
-    /// An empty list for a number of sets. It takes all its places, and that alone can fail.
+    /// An empty list for a number of sets. It has an entry for each sixteen of them, and takes all
+    /// of its memory here, which alone can fail.
     pub fn new(alloc: Global, sets: usize) -> Result<TouchedSets, AllocError>
         ensures { IfOk result (λ touched.
-            touched ≡ record { room = sets / SETS_A_PLACE; listed = Some [] }) }
+            touched ≡ record { capacity = sets / 16; listed = Some [] }) }
     {
         Ok(TouchedSets {
-            places: vec![in alloc; 0; sets / SETS_A_PLACE]?,
+            entries: vec![in alloc; 0; sets / SETS_PER_ENTRY]?,
             used: Some(0),
         })
     }
 
-    /// Lists a set that gets its first block, by how many blocks it held and how many it holds now.
+    /// Adds a set that gets its first block, by how many blocks it held and how many it holds now.
     #[inline(always)]
-    pub fn note_growth(&mut self, set: usize, before: u32, after: u32)
+    pub fn add_grown(&mut self, set: usize, before: u32, after: u32)
         requires { set < 2 ^ 32 }
         ensures { self.new ≡ after_count set before after self.old }
     {
         // The counts are compared first: they are the same at most references, and often known to
         // be.
         if before != after && before == 0 {
-            self.note(set as u32);
+            self.add(set as u32);
         }
     }
 
-    /// Lists a set. It stands apart, so that the path of the many references that find their set
+    /// Adds a set. It stands apart, so that the path of the many references that find their set
     /// filled stays short.
     #[inline(never)]
-    fn note(&mut self, set: u32)
-        ensures { self.new ≡ record self.old { listed = joined self.old.room set self.old.listed } }
+    fn add(&mut self, set: u32)
+        ensures { self.new
+            ≡ record self.old { listed = joined self.old.capacity set self.old.listed } }
     {
         self.used = match self.used {
-            Some(used) if used < self.places.len() => {
-                self.places[used] = set;
+            Some(used) if used < self.entries.len() => {
+                self.entries[used] = set;
                 Some(used + 1)
             }
             _ => None,
         };
     }
 
-    /// The sets that are listed, or `None` where there were more than places.
+    /// The sets that are listed, or `None` where there were more than entries.
     pub fn listed(&self) -> Option<&[u32]>
         ensures { option_map (λ sets. sets.now) result ≡ self.now.listed }
     {
-        self.used.map(|used| &self.places[..used])
+        self.used.map(|used| &self.entries[..used])
     }
 
     /// Forgets the sets.

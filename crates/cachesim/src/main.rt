@@ -26,7 +26,7 @@ const OUTPUT_BUFFER: usize = 65_536;
 fn main(rt: HostRuntime) -> ExitCode {
     match run(&rt) {
         Ok(()) => ExitCode::SUCCESS,
-        Err(fault) => tell(&rt, &fault),
+        Err(fault) => report(&rt, &fault),
     }
 }
 
@@ -90,8 +90,8 @@ fn run_on<S: Source + Drop>(rt: &HostRuntime, job: &Job, mut source: S) -> Resul
     }
 }
 
-/// Tells a fault on standard error, or help on standard output.
-fn tell(rt: &HostRuntime, fault: &ProgramFault) -> ExitCode {
+/// Reports a fault on standard error, or help on standard output.
+fn report(rt: &HostRuntime, fault: &ProgramFault) -> ExitCode {
     if let ProgramFault::Arguments(WordsFault::Usage { text, help: true }) = fault {
         let _ = println!(rt; "{text}");
         let _ = rt.stdout().flush();

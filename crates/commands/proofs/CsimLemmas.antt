@@ -1,19 +1,24 @@
 -- How far `csim` has come, and what stands written then.
-use Rattle.std.proofs.Common.{◌≡◌, ℕ, ◌+◌, ◌*◌, ◌^◌, ◌<◌, ◌≤◌, List, [], ◌∷◌, ◌++◌, Bool, true, false, cond, Option, None, Some, Result, Ok, Err}
-use Rattle.std.proofs.Common.{refl, sym, ap, ◌∙◌, subst, arith, append-nil, append_assoc}
+use Rattle.std.proofs.Common.{◌≡◌, ℕ, ◌+◌, ◌*◌, ◌<◌, ◌≤◌, List, [], ◌∷◌, ◌++◌, Bool, true, false, cond, Option, None, Some, Result, Ok, Err}
+use Rattle.std.proofs.Common.{refl, sym, ap, ◌∙◌, subst, arith, append-nil, append_assoc, length, length-append}
 use Rattle.std.proofs.lemmas.List.{map_push}
 use Rattle.std.specs.Prelude.{IfOk, IfSome}
 use Rattle.std.specs.List.{flat_map}
+use Rattle.trace_core.specs.declared.limits.TheConstants.{MAX_LINES}
+use Rattle.trace_core.specs.declared.events.Op.{Op}
+use Rattle.trace_core.specs.declared.events.Op.TheVariants.{Fetch, Load, Store, Modify}
 use Rattle.trace_core.specs.declared.events.Entry.{Entry}
+use Rattle.trace_core.specs.declared.events.Entry.TheVariants as entry
 use Rattle.trace_core.specs.declared.events.Event.{Event}
 use Rattle.trace_core.specs.declared.events.Kind.TheVariants.{DataOnly}
 use Rattle.trace_core.specs.declared.line.Format.TheVariants.{Lackey}
 use Rattle.trace_core.specs.declared.fault.TraceFault.{TraceFault}
 use Rattle.trace_core.specs.declared.line.Format.{Format}
+use Rattle.trace_core.specs.declared.limits.TheConstants.{MAX_LINES}
 use Rattle.trace_core.specs.Device.{SourceView, SinkView, Wrote, WrotePart, WroteLast, WroteLastPart}
 use Rattle.trace_core.specs.Events.{events_of}
 use Rattle.trace_core.specs.Reading.{entries}
-use Rattle.trace_core.specs.Reader.{Progress, Reached, Tells, entries_returned, begun}
+use Rattle.trace_core.specs.Reader.{Progress, Reached, Reports, entries_returned, begun}
 use Rattle.trace_core.specs.Task.{Finished, Stopped, WriteFailed, entries_of}
 use Rattle.trace_core.proofs.Collecting.{collected-more}
 use Rattle.trace_core.proofs.Runs.{Reached-start}
@@ -24,7 +29,7 @@ use Rattle.cache_core.specs.declared.outcome.Counts.{Counts}
 use Rattle.cache_core.specs.declared.simulation.Lookup.{Lookup}
 use Rattle.cache_core.specs.declared.simulation.Simulation.{Simulation}
 use Rattle.cache_core.specs.Geometry.{GeometryValue}
-use Rattle.cache_core.specs.Simulation.{AreFew, Simulates}
+use Rattle.cache_core.specs.Simulation.{SimulationStandsFor}
 use Rattle.cache_core.specs.Windows.{counts}
 use Rattle.commands.specs.CsimText.{csim_task, csim_lines, lines_after, line_of, lookups_of, summary}
 
@@ -80,24 +85,35 @@ unfolding lines_after
 no-lines g true = refl
 no-lines g false = refl
 
+-- an entry has two events at most
+two_events : (e : Entry) → length (events_of DataOnly e) ≤ 2
+two_events (entry.Item item) = by_op item.op
+  where
+    by_op : (op : Op) → length (events_of DataOnly (entry.Item (record item { op = op }))) ≤ 2
+    by_op Fetch = omega arith
+    by_op Load = omega arith
+    by_op Store = omega arith
+    by_op Modify = omega arith
+two_events entry.Flush = omega arith
+
 -- the invariant of the loop: what was read, simulated and written
 pub record Simulated (g : GeometryValue) (verbose : Bool) (limit : ℕ) (start now : SourceView) (sink sink' : SinkView) (p : Progress)
     (sim : Simulation) : Type 0 where
   pub read : List (ℕ × Entry)
   pub reached : Reached Lackey limit start now read p
   pub wrote : Wrote sink sink' (csim_lines g verbose (entries_of read))
-  pub simulates : Simulates g (data_of (entries_of read)) sim
-  pub few : AreFew (2 * p.lines) sim
-  pub limited : p.limit ≤ 2 ^ 40
+  pub simulates : SimulationStandsFor g (data_of (entries_of read)) sim
+  pub few : length (data_of (entries_of read)) ≤ 2 * p.lines
+  pub limited : p.limit ≤ MAX_LINES
 
 pub simulated_start : {g : GeometryValue} {verbose : Bool} {limit : ℕ} {source : SourceView} {sink : SinkView} {p : Progress} {sim : Simulation}
-    → p ≡ begun Lackey limit → limit ≤ 2 ^ 40 → Simulates g [] sim → AreFew 0 sim → Simulated g verbose limit source source sink sink p sim
-simulated_start {g} {verbose} {limit} {source} {sink} is few_lines stands few = record {
+    → p ≡ begun Lackey limit → limit ≤ MAX_LINES → SimulationStandsFor g [] sim → Simulated g verbose limit source source sink sink p sim
+simulated_start {g} {verbose} {limit} {source} {sink} is few_lines stands = record {
   read = [];
   reached = rw is (Reached-start Lackey limit source);
   wrote = subst (Wrote sink sink) (no-lines g verbose) (Wrote-none sink);
   simulates = stands;
-  few = rw is few;
+  few = rw is (omega arith);
   limited = rw is few_lines;
 }
 
@@ -108,7 +124,7 @@ ReadsOn mid now p q answer = (format : Format) (limit : ℕ) (start : SourceView
 
 module _ {g : GeometryValue} {verbose : Bool} {limit : ℕ} {start mid now : SourceView} {sink between : SinkView} {p q : Progress} {sim : Simulation}
     (old : Simulated g verbose limit start mid sink between p sim) {answer : Result (Option (ℕ × Entry)) TraceFault}
-    (reads_on : ReadsOn mid now p q answer) (tells : Tells q.state answer) where
+    (reads_on : ReadsOn mid now p q answer) (reports : Reports q.state answer) where
   module _ {found : Option (ℕ × Entry)} {x : ℕ × Entry} (was : answer ≡ Ok found) (is : found ≡ Some x) (lookups : List Lookup) where
     -- one entry more was read
     reached_more : Reached Lackey limit start now (old.read ++ x ∷ []) q
@@ -116,22 +132,25 @@ module _ {g : GeometryValue} {verbose : Bool} {limit : ℕ} {start mid now : Sou
 
     -- the line of one entry more
     pub simulated_more : {sink' : SinkView} {sim' : Simulation}
-        → Simulates g (data_of (entries_of old.read) ++ events_of DataOnly x.1) sim' × (lookups ≡ lookups_of g (data_of (entries_of old.read)) x.1)
-        → Wrote between sink' (cond verbose (line_of x.1 lookups) []) → AreFew (2 * p.lines + 2) sim'
+        → SimulationStandsFor g (data_of (entries_of old.read) ++ events_of DataOnly x.1) sim' × (lookups ≡ lookups_of g (data_of (entries_of old.read)) x.1)
+        → Wrote between sink' (cond verbose (line_of x.1 lookups) [])
         → IfOk answer (λ one. IfSome one (λ y. (y.0 ≡ q.lines) × (p.lines < q.lines))) → q.limit ≡ p.limit
         → Simulated g verbose limit start now sink sink' q sim'
-    simulated_more {sink' = sink'} {sim' = sim'} stands wrote few bears same =
+    simulated_more {sink' = sink'} {sim' = sim'} stands wrote bears same =
         let further : p.lines < q.lines = (rw (was ∙ ap Ok is) at bears).1 in
         record {
           read = old.read ++ x ∷ [];
           reached = reached_more;
           wrote = subst (Wrote sink sink') (sym (lines-more g verbose old.read x lookups stands.1)) (Wrote-more old.wrote wrote);
-          simulates = subst (λ es. Simulates g es sim') (sym (collected-more DataOnly old.read x)) stands.0;
-          few = record {
-            hits = omega (arith, few.hits, further);
-            misses = omega (arith, few.misses, further);
-            evictions = omega (arith, few.evictions, further);
-          };
+          simulates = subst (λ es. SimulationStandsFor g es sim') (sym (collected-more DataOnly old.read x)) stands.0;
+          few = omega (
+            arith,
+            old.few,
+            further,
+            ap length (collected-more DataOnly old.read x),
+            length-append (data_of (entries_of old.read)) (events_of DataOnly x.1),
+            two_events x.1,
+          );
           limited = omega (arith, same, old.limited);
         }
 
@@ -141,14 +160,14 @@ module _ {g : GeometryValue} {verbose : Bool} {limit : ℕ} {start mid now : Sou
     unfolding csim_task
     csim-part {sink' = sink'} stands part =
         WriteFailed-early {task = csim_task g verbose limit} refl (along g verbose limit) reached_more
-        (subst (Tells q.state) (was ∙ ap Ok is) tells)
+        (subst (Reports q.state) (was ∙ ap Ok is) reports)
         (subst (WrotePart sink sink') (sym (lines-more g verbose old.read x lookups stands)) (WrotePart-after old.wrote part))
 
   -- at a fault the lines of what was read stand written
   pub csim-stopped : {x : TraceFault} → answer ≡ Err x → Stopped (csim_task g verbose limit) x start now sink between
   unfolding csim_task
   csim-stopped {x} was =
-      Stopped-at x (subst (Tells q.state) was tells) (rw (was, append-nil old.read) at (reads_on _ _ _ old.read old.reached)) old.wrote
+      Stopped-at x (subst (Reports q.state) was reports) (rw (was, append-nil old.read) at (reads_on _ _ _ old.read old.reached)) old.wrote
 
   module _ {found : Option (ℕ × Entry)} {bytes : List ℕ} {c : Counts} (was : answer ≡ Ok found) (is : found ≡ None)
       (counted : c ≡ counts g (data_of (entries_of old.read))) (last : bytes ≡ summary c) where
@@ -159,7 +178,7 @@ module _ {g : GeometryValue} {verbose : Bool} {limit : ℕ} {start mid now : Sou
       read = old.read;
       at = q;
       reached = rw (was ∙ ap Ok is, append-nil old.read) at (reads_on _ _ _ old.read old.reached);
-      ended = subst (Tells q.state) (was ∙ ap Ok is) tells;
+      ended = subst (Reports q.state) (was ∙ ap Ok is) reports;
       output = λ text all. ap (λ es. csim_lines g verbose es ++ summary (counts g (data_of es))) (sym all)
           ∙ ap (λ x. csim_lines g verbose (entries_of old.read) ++ summary x) (sym counted)
           ∙ ap (λ l. csim_lines g verbose (entries_of old.read) ++ l) (sym last);

@@ -1,10 +1,12 @@
 -- What `din` has read, stepped through and written when it ends.
-use Rattle.std.proofs.Common.{◌≡◌, ℕ, List, [], ◌∷◌, ◌++◌, Option, None, Some, map, sym, ap, ◌∙◌, subst, append_assoc}
+use Rattle.std.proofs.Common.{◌≡◌, ℕ, List, [], ◌∷◌, ◌++◌, Option, None, Some, map, sym, ap, ◌∙◌, ◌≤◌, length, arith}
 use Rattle.std.specs.List.{filter, flat_map}
 use Rattle.std.specs.Option.{option_to_list}
 use Rattle.trace_core.specs.declared.events.Entry.{Entry}
 use Rattle.trace_core.specs.declared.events.Entry.TheVariants as entry
 use Rattle.trace_core.specs.declared.events.Item.{Item}
+use Rattle.trace_core.specs.declared.events.Op.{Op}
+use Rattle.trace_core.specs.declared.events.Op.TheVariants.{Fetch, Load, Store, Modify}
 use Rattle.trace_core.specs.declared.events.Ref.{Ref}
 use Rattle.trace_core.specs.declared.events.Event.{Event}
 use Rattle.trace_core.specs.declared.events.Event.TheVariants as event
@@ -15,7 +17,7 @@ use Rattle.trace_core.specs.declared.state.ReaderState.TheVariants as state
 use Rattle.trace_core.specs.Device.{SourceView, SinkView, WroteLast, WroteLastPart}
 use Rattle.trace_core.specs.Events.{events_of, keeps, references}
 use Rattle.trace_core.specs.Reader.{Progress, Reached, begun}
-use Rattle.trace_core.specs.Task.{Finished, Stopped, WriteFailed}
+use Rattle.trace_core.specs.Task.{Finished, Stopped, WriteFailed, entries_of}
 use Rattle.trace_core.proofs.Runs.{Reached-from}
 use Rattle.trace_core.proofs.Tasks.{ReadWhole}
 use Rattle.trace_core.proofs.Performing.{Finished-written, Stopped-at, WriteFailed-late}
@@ -23,9 +25,8 @@ use Rattle.trace_core.proofs.Written.{Wrote-none}
 use Rattle.cache_core.specs.declared.stats.Stats.{Stats}
 use Rattle.cache_core.specs.Plans.{PlannedCaches, IsPlan}
 use Rattle.cache_core.specs.Systems.{system_run}
-use Rattle.cache_core.specs.SystemSteps.{SystemValue, IsNewSystem, Steps, stats_of}
-use Rattle.cache_core.specs.SystemStands.{SystemStands}
-use Rattle.cache_core.proofs.SystemLaw.{new_law, step_law}
+use Rattle.cache_core.specs.SystemSteps.{SystemValue, IsNewSystem, stats_of}
+use Rattle.cache_core.proofs.SystemLaw.{new_law, system_runs_law}
 use Rattle.commands.specs.DinPass.{StepsThrough}
 use Rattle.commands.specs.DinText.{din_task, report_of}
 
@@ -51,7 +52,8 @@ module _ (plan : PlannedCaches) (seed : ℕ) (format : Format) (limit : ℕ) {st
       reached = reached;
       ended = ended;
       output = λ text all.
-          let stands = (run.stands plan seed [] good (new_law plan seed old fresh)).stats in
+          let es = flat_map (events_of All) (entries_of run.read) in
+          let stands = (system_runs_law plan seed [] es old new good (new_law plan seed old fresh) run.runs).stats in
           sym (is ∙ ap report_of (counted ∙ stands ∙ ap (λ es. system_run plan seed (flat_map (events_of All) es)) all));
     }
 
@@ -74,15 +76,13 @@ one_event {p = p} is refs none =
     ap (events_of All) is ∙ ap (λ q. map event.Reference (filter (λ r. keeps All r.access) (q.0 ∷ option_to_list q.1))) (sym refs)
     ∙ ap (λ q. map event.Reference (filter (λ r. keeps All r.access) (p.0 ∷ option_to_list q))) none
 
-module _ (plan : PlannedCaches) (seed : ℕ) (events : List Event) {more : List Event} {v v' : SystemValue} {first : Ref} where
-  pub stands_both : {mid : SystemValue} {second : Ref} → more ≡ event.Reference first ∷ event.Reference second ∷ []
-      → Steps v first mid → Steps mid second v' → IsPlan plan
-      → SystemStands plan seed events v → SystemStands plan seed (events ++ more) v'
-  stands_both {mid} {second} is one two p stands =
-      subst (λ es. SystemStands plan seed es v')
-      (append_assoc events (event.Reference first ∷ []) (event.Reference second ∷ []) ∙ ap (λ l. events ++ l) (sym is))
-      (step_law plan seed (events ++ event.Reference first ∷ []) mid second v' p (step_law plan seed events v first mid p stands one) two)
-
-  pub stands_one : more ≡ event.Reference first ∷ [] → Steps v first v' → IsPlan plan → SystemStands plan seed events v
-      → SystemStands plan seed (events ++ more) v'
-  stands_one is one p stands = subst (λ es. SystemStands plan seed (events ++ es) v') (sym is) (step_law plan seed events v first v' p stands one)
+-- an entry has two events at most
+pub two_steps : (e : Entry) → length (events_of All e) ≤ 2
+two_steps (entry.Item item) = by_op item.op
+  where
+    by_op : (op : Op) → length (events_of All (entry.Item (record item { op = op }))) ≤ 2
+    by_op Fetch = omega arith
+    by_op Load = omega arith
+    by_op Store = omega arith
+    by_op Modify = omega arith
+two_steps entry.Flush = omega arith

@@ -15,8 +15,8 @@ use Rattle.cache_core.specs.declared.outcome.AllocMode.TheVariants.{Always}
 use Rattle.cache_core.specs.declared.plan.PlannedCache.{PlannedCache}
 use Rattle.cache_core.specs.Plans.{PlannedCaches}
 use Rattle.cache_core.specs.Geometry.{geometry_value}
-use Rattle.cache_core.specs.Windows.{window, places_after, distinct, distinct_of_set, counts}
-use Rattle.commands.specs.CsimText.{csim_text, csim_lines, lines_after}
+use Rattle.cache_core.specs.Windows.{window, occurrences_after, distinct, distinct_of_set, counts}
+use Rattle.commands.specs.CsimText.{csim_text, csim_lines, lines_after, summary}
 use Rattle.commands.specs.DinText.{din_text, din_task}
 
 -- the handout's example
@@ -26,29 +26,29 @@ yi = codes " L 10,1\n M 20,1\n L 22,1\n S 18,1\n L 110,1\n L 210,1\n M 12,1\n"
 handout_example : csim_text (geometry_value 4 1 4) true yi
     ≡ codes "L 10,1 miss\nM 20,1 miss hit\nL 22,1 hit\nS 18,1 hit\nL 110,1 miss eviction\nL 210,1 miss eviction\n"
     ++ codes "M 12,1 miss eviction hit\nhits:4 misses:5 evictions:3\n"
-unfolding digits counts window places_after distinct distinct_of_set lines_after
+unfolding digits counts window occurrences_after distinct distinct_of_set lines_after
 handout_example = refl
 
-handout_summary : csim_text (geometry_value 4 1 4) false yi ≡ codes "hits:4 misses:5 evictions:3\n"
-unfolding digits counts window places_after distinct distinct_of_set
+handout_summary : csim_text (geometry_value 4 1 4) false yi ≡ summary (record { hits = 4; misses = 5; evictions = 3 })
+unfolding digits counts window occurrences_after distinct distinct_of_set
 handout_summary = refl
 
 abbrev bad_third : List ℕ
 bad_third = codes " L 10,1\n M 20,1\n X 22,1"
 
 lines_before_a_bad_line : csim_lines (geometry_value 4 1 4) true (entries_in (reading Lackey 9 bad_third)) ≡ codes "L 10,1 miss\nM 20,1 miss hit\n"
-unfolding digits window places_after distinct distinct_of_set lines_after
+unfolding digits window occurrences_after distinct distinct_of_set lines_after
 lines_before_a_bad_line = refl
 
 greatest_address : csim_text (geometry_value 0 1 0) true (codes " L FFFFFFFFFFFFFFFF,008") ≡ codes "L ffffffffffffffff,8 miss\nhits:0 misses:1 evictions:0\n"
-unfolding digits counts window places_after distinct distinct_of_set lines_after
+unfolding digits counts window occurrences_after distinct distinct_of_set lines_after
 greatest_address = refl
 
 longer_address_is_a_fault : (reading Lackey 9 (codes " L FFFFFFFFFFFFFFFFF,008")).fault ≡ Some (fault.Line 1 Address)
 longer_address_is_a_fault = refl
 
 zero_is_one_digit : csim_text (geometry_value 0 1 0) true (codes " S 0,0\n") ≡ codes "S 0,0 miss\nhits:0 misses:1 evictions:0\n"
-unfolding digits counts window places_after distinct distinct_of_set lines_after
+unfolding digits counts window occurrences_after distinct distinct_of_set lines_after
 zero_is_one_digit = refl
 
 -- a log of Valgrind's tool lackey, with its messages
@@ -56,12 +56,12 @@ abbrev valgrind : List ℕ
 valgrind = codes "==1234== Lackey, an example Valgrind tool\nI  0023C790,2\n S BE80199C,4\n\n--1234-- note\n M 0025747C,1\n*end\n"
 
 lackey_log : csim_text (geometry_value 0 1 4) true valgrind ≡ codes "S be80199c,4 miss\nM 25747c,1 miss eviction hit\nhits:1 misses:2 evictions:1\n"
-unfolding digits counts window places_after distinct distinct_of_set lines_after
+unfolding digits counts window occurrences_after distinct distinct_of_set lines_after
 lackey_log = refl
 
 -- one set of so many lines of 16 bytes, write-back and write-allocate
 abbrev level : ℕ → Repl → PlannedCache
-level ways repl = record { design = record { geometry = geometry_value 0 ways 4; write = Back; allocate = Always }; repl = repl }
+level ways policy = record { design = record { geometry = geometry_value 0 ways 4; write = Back; allocate = Always }; policy = policy }
 
 abbrev unified : PlannedCache → Option PlannedCache → PlannedCaches
 unified u second = record { i = None; d = None; u = Some u; second = second }

@@ -1,6 +1,6 @@
 -- What `csim` writes of a trace, in the form of the CS:APP cache lab handout: a line for each data item where lines are wanted, and
 -- a summary.
-use Rattle.std.specs.Prelude.{ℕ, Bool, true, List, [], ◌∷◌, ◌++◌, Option, None, Some, if◌then◌else◌, filter, map, flat_map, codes}
+use Rattle.std.specs.Prelude.{ℕ, Bool, true, List, [], ◌∷◌, ◌++◌, Option, None, Some, if◌then◌else◌, map, flat_map, codes}
 use Rattle.std.specs.Option.{option_to_list}
 use Rattle.std.specs.Fmt.{decimal}
 use Rattle.trace_core.specs.declared.events.Op.{Op}
@@ -8,23 +8,21 @@ use Rattle.trace_core.specs.declared.events.Op.TheVariants.{Fetch, Load, Store, 
 use Rattle.trace_core.specs.declared.events.Item.{Item}
 use Rattle.trace_core.specs.declared.events.Entry.{Entry}
 use Rattle.trace_core.specs.declared.events.Entry.TheVariants as entry
-use Rattle.trace_core.specs.declared.events.Ref.{Ref}
 use Rattle.trace_core.specs.declared.events.Event.{Event}
-use Rattle.trace_core.specs.declared.events.Event.TheVariants as event
 use Rattle.trace_core.specs.declared.events.Kind.TheVariants.{DataOnly}
 use Rattle.trace_core.specs.declared.line.Format.TheVariants.{Lackey}
-use Rattle.trace_core.specs.Events.{events_of, keeps}
+use Rattle.trace_core.specs.Events.{events_of}
 use Rattle.trace_core.specs.Reading.{entries, events}
 use Rattle.trace_core.specs.Task.{Task}
+use Rattle.trace_core.specs.Text.{hexadecimal}
 use Rattle.cache_core.specs.declared.outcome.Counts.{Counts}
 use Rattle.cache_core.specs.declared.simulation.Lookup.{Lookup}
 use Rattle.cache_core.specs.declared.simulation.Lookup.TheVariants.{Hit, Miss, MissEviction}
 use Rattle.cache_core.specs.Geometry.{GeometryValue}
 use Rattle.cache_core.specs.Simulation.{lookup_at}
-use Rattle.cache_core.specs.Windows.{places_after, counts}
-use Rattle.commands.specs.Text.{hexadecimal}
+use Rattle.cache_core.specs.Windows.{occurrences_after, counts}
 
--- the handout's words, each with a space in front
+-- the handout's words, each after a space
 abbrev pub lookup_text : Lookup → List ℕ
 lookup_text Hit = codes " hit"
 lookup_text Miss = codes " miss"
@@ -48,13 +46,9 @@ abbrev pub line_of : Entry → List Lookup → List ℕ
 line_of (entry.Item item) lookups = item_line (letter_of item.op) item lookups
 line_of entry.Flush lookups = []
 
--- how the data references of an entry go, which comes after these events
+-- the lookups of the data references of an entry that comes after these events
 abbrev pub lookups_of : GeometryValue → List Event → Entry → List Lookup
-lookups_of g before e = map (lookup_at g) (places_after g before (events_of DataOnly e))
-
--- the event of a reference, if there is one and it is no fetch
-abbrev pub data_events : Option Ref → List Event
-data_events r = map event.Reference (filter (λ x. keeps DataOnly x.access) (option_to_list r))
+lookups_of g before e = map (lookup_at g) (occurrences_after g before (events_of DataOnly e))
 
 -- the lookups of a pair, in order
 abbrev pub lookups_of_pair : Option Lookup × Option Lookup → List Lookup
@@ -77,6 +71,6 @@ summary c = codes "hits:" ++ decimal c.hits ++ codes " misses:" ++ decimal c.mis
 abbrev pub csim_text : GeometryValue → Bool → List ℕ → List ℕ
 csim_text g verbose text = csim_lines g verbose (entries Lackey text) ++ summary (counts g (events Lackey DataOnly text))
 
--- `csim` reads lackey lines. At a fault the lines of the entries before it stand written, and no summary.
+-- `csim` reads lackey lines. At a fault it has written the lines of the entries before it, and no summary.
 unfoldable pub csim_task : GeometryValue → Bool → ℕ → Task
 csim_task g verbose limit = record { format = Lackey; limit = limit; writes_early = true; whole = csim_text g verbose; partial = csim_lines g verbose }

@@ -11,7 +11,7 @@ use Rattle.cache_core.specs.declared.stats.Stats.{Stats}
 use Rattle.cache_core.specs.Plans.{PlannedCaches}
 use Rattle.cache_core.specs.Systems.{system_run}
 
--- a name, and its number behind it
+-- a name, and its number after it
 abbrev pub field : List ℕ → ℕ → List ℕ
 field name n = name ++ decimal n
 

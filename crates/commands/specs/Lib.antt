@@ -2,4 +2,3 @@ pub mod CsimText
 pub mod DinPass
 pub mod DinText
 pub mod Execute
-pub mod Text

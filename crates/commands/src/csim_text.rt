@@ -4,73 +4,18 @@ ghost use Rattle.std.specs.Option.{option_to_list};
 ghost use Rattle.trace_core.specs.Device.{Writes};
 ghost use Rattle.commands.specs.CsimText.{letter_of, lookup_text, item_line, line_of, lookups_of_pair, summary};
 
-use crate::text::{CAPACITY, push_hexadecimal};
+use crate::text::CAPACITY;
 use cache_core::outcome::Counts;
 use cache_core::simulation::Lookup;
 use trace_core::events::{Entry, Item, Op};
 use trace_core::io::{DeviceFault, Sink, write_all};
-use trace_core::text::Text;
+use trace_core::text::{DECIMAL, HEXADECIMAL, Text};
 
-/// The letter of an item's line. A fetch has no line.
-fn letter(op: Op) -> Option<u8>
-    ensures { result ≡ letter_of op }
-{
-    match op {
-        Op::Fetch => None,
-        Op::Load => Some(b'L'),
-        Op::Store => Some(b'S'),
-        Op::Modify => Some(b'M'),
-    }
-}
+/// The most bytes that a line says of a lookup.
+const LOOKUP: usize = 14;
 
-/// What a line says of a lookup, each word behind a space.
-fn lookup_text(lookup: Lookup) -> &'static [u8]
-    ensures { result.now ≡ lookup_text lookup }
-{
-    match lookup {
-        Lookup::Hit => b" hit",
-        Lookup::Miss => b" miss",
-        Lookup::MissEviction => b" miss eviction",
-    }
-}
-
-/// Adds the text of a lookup, if there is one.
-fn push_lookup(text: &mut Text<CAPACITY>, lookup: Option<Lookup>)
-    requires { length text.old + 14 ≤ CAPACITY }
-    ensures value { text.new ≡ text.old ++ flat_map lookup_text (option_to_list lookup) }
-    ensures short { length text.new ≤ length text.old + 14 }
-{
-    if let Some(lookup) = lookup {
-        text.push(lookup_text(lookup));
-    }
-}
-
-/// Adds the line of an item whose references went so.
-fn push_item(text: &mut Text<CAPACITY>, item: Item, lookups: (Option<Lookup>, Option<Lookup>))
-    requires { length text.old + 68 ≤ CAPACITY }
-    ensures { text.new ≡ text.old ++ item_line (letter_of item.op) item (lookups_of_pair lookups) }
-{
-    let Some(letter) = letter(item.op) else {
-        return;
-    };
-    text.push(&[letter, b' ']);
-    push_hexadecimal(text, item.addr);
-    text.push(b",");
-    text.push_decimal(item.size as u64);
-    push_lookup(text, lookups.0);
-    push_lookup(text, lookups.1);
-    text.push(b"\n");
-}
-
-/// Puts the line of an entry whose references went so in place of what a text held.
-fn set_line(text: &mut Text<CAPACITY>, entry: Entry, lookups: (Option<Lookup>, Option<Lookup>))
-    ensures { text.new ≡ line_of entry (lookups_of_pair lookups) }
-{
-    text.clear();
-    if let Entry::Item(item) = entry {
-        push_item(text, item, lookups);
-    }
-}
+/// The most bytes of a line: a letter and a space, the address, a comma, the size, two lookups, and an LF.
+const LINE: usize = 2 + HEXADECIMAL + 1 + DECIMAL + 2 * LOOKUP + 1;
 
 /// Writes the line of an entry, if lines are wanted.
 pub(crate) fn write_line<K: Sink>(
@@ -90,7 +35,7 @@ pub(crate) fn write_line<K: Sink>(
     write_all(sink, text.as_slice())
 }
 
-/// Puts the summary in place of what a text held.
+/// Makes a text the summary.
 pub(crate) fn set_summary(text: &mut Text<CAPACITY>, counts: Counts)
     ensures { text.new ≡ summary counts }
 {
@@ -102,4 +47,65 @@ pub(crate) fn set_summary(text: &mut Text<CAPACITY>, counts: Counts)
     text.push(b" evictions:");
     text.push_decimal(counts.evictions);
     text.push(b"\n");
+}
+
+/// Makes a text the line of an entry whose references had these lookups.
+fn set_line(text: &mut Text<CAPACITY>, entry: Entry, lookups: (Option<Lookup>, Option<Lookup>))
+    ensures { text.new ≡ line_of entry (lookups_of_pair lookups) }
+{
+    text.clear();
+    if let Entry::Item(item) = entry {
+        push_item(text, item, lookups);
+    }
+}
+
+/// Adds the line of an item whose references had these lookups.
+fn push_item(text: &mut Text<CAPACITY>, item: Item, lookups: (Option<Lookup>, Option<Lookup>))
+    requires { length text.old + LINE ≤ CAPACITY }
+    ensures { text.new ≡ text.old ++ item_line (letter_of item.op) item (lookups_of_pair lookups) }
+{
+    let Some(letter) = letter(item.op) else {
+        return;
+    };
+    text.push(&[letter, b' ']);
+    text.push_hexadecimal(item.addr);
+    text.push(b",");
+    text.push_decimal(item.size as u64);
+    push_lookup(text, lookups.0);
+    push_lookup(text, lookups.1);
+    text.push(b"\n");
+}
+
+/// The letter of an item's line. A fetch has no line.
+fn letter(op: Op) -> Option<u8>
+    ensures { result ≡ letter_of op }
+{
+    match op {
+        Op::Fetch => None,
+        Op::Load => Some(b'L'),
+        Op::Store => Some(b'S'),
+        Op::Modify => Some(b'M'),
+    }
+}
+
+/// Adds the text of a lookup, if there is one.
+fn push_lookup(text: &mut Text<CAPACITY>, lookup: Option<Lookup>)
+    requires { length text.old + LOOKUP ≤ CAPACITY }
+    ensures value { text.new ≡ text.old ++ flat_map lookup_text (option_to_list lookup) }
+    ensures short { length text.new ≤ length text.old + LOOKUP }
+{
+    if let Some(lookup) = lookup {
+        text.push(lookup_text(lookup));
+    }
+}
+
+/// What a line says of a lookup, each word after a space.
+fn lookup_text(lookup: Lookup) -> &'static [u8]
+    ensures { result.now ≡ lookup_text lookup }
+{
+    match lookup {
+        Lookup::Hit => b" hit",
+        Lookup::Miss => b" miss",
+        Lookup::MissEviction => b" miss eviction",
+    }
 }

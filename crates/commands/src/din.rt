@@ -1,12 +1,10 @@
 //! The command `din`.
-ghost use Rattle.std.specs.Prelude.{◌≡◌, ◌≤◌, ◌+◌, ◌^◌, ◌++◌, ℕ, List, IfOk, MatchResult};
+ghost use Rattle.std.specs.Prelude.{◌≡◌, ◌≤◌, ◌+◌, ◌*◌, IfOk, MatchResult};
 ghost use Rattle.trace_core.specs.Events.{events_of};
 ghost use Rattle.trace_core.specs.Reader.{begun};
 ghost use Rattle.trace_core.specs.Task.{Performs};
-ghost use Rattle.trace_core.specs.declared.events.Event.{Event};
-ghost use Rattle.cache_core.specs.Plans.{PlannedCaches, IsPlan};
 ghost use Rattle.cache_core.specs.SystemSteps.{SystemValue, stats_of};
-ghost use Rattle.cache_core.specs.SystemStands.{SystemStands};
+ghost use Rattle.cache_core.specs.SystemStands.{SystemRuns};
 ghost use Rattle.commands.specs.DinPass.{StepsThrough};
 ghost use Rattle.commands.specs.DinText.{din_task};
 
@@ -14,7 +12,7 @@ use crate::din_text::set_report;
 use crate::text::write_last;
 use cache_core::plan::Plan;
 use cache_core::stats::Stats;
-use cache_core::system::System;
+use cache_core::system::{MAX_STEPS, System};
 use std::alloc::Global;
 use trace_core::events::{Entry, Kind, refs_of};
 use trace_core::fault::{RunFault, TraceFault};
@@ -22,65 +20,6 @@ use trace_core::io::{Sink, Source};
 use trace_core::line::Format;
 use trace_core::reader::{Lines, MAX_LINES, ReaderState};
 use trace_core::text::Text;
-
-/// Steps a system through all the references of an entry, or flushes it.
-#[inline(always)]
-fn step(system: &mut System, entry: Entry)
-    requires { system.old.steps + 2 ≤ 2 ^ 41 }
-    ensures stands { (plan : PlannedCaches) (seed : ℕ) (events : List Event) → IsPlan plan → SystemStands plan seed events system.old →
-        SystemStands plan seed (events ++ events_of Kind.All entry) system.new }
-    ensures few { system.new.steps ≤ system.old.steps + 2 }
-{
-    match entry {
-        Entry::Item(item) => {
-            let (first, second) = refs_of(item);
-            system.step(first);
-            if let Some(second) = second {
-                system.step(second);
-            }
-        }
-        Entry::Flush => system.flush(),
-    }
-}
-
-/// Steps a system through a trace, up to its end or its first fault.
-fn step_through<S: Source>(
-    system: &mut System,
-    lines: &mut Lines,
-    source: &mut S,
-) -> Result<(), TraceFault>
-    requires begun { lines.old ≡ begun lines.old.format lines.old.limit }
-    requires limited { lines.old.limit ≤ 2 ^ 40 }
-    requires new { system.old.steps ≡ 0 }
-    ensures stepped { StepsThrough lines.old.format lines.old.limit
-        (S.view source.old) (S.view source.new) lines.new system.old system.new }
-    ensures tells { MatchResult result (λ _. lines.new.state ≡ ReaderState.Ended)
-        (λ fault. lines.new.state ≡ ReaderState.Failed fault) }
-{
-    while let Some((_, entry)) = lines.next(source)? {
-        step(system, entry);
-    }
-    Ok(())
-}
-
-/// Steps a new system through a trace, and returns what it counted.
-fn stats_after<S: Source>(
-    mut system: System,
-    lines: &mut Lines,
-    source: &mut S,
-) -> Result<Stats, TraceFault>
-    requires begun { lines.old ≡ begun lines.old.format lines.old.limit }
-    requires limited { lines.old.limit ≤ 2 ^ 40 }
-    requires new { system.steps ≡ 0 }
-    ensures stepped { (end : SystemValue) × StepsThrough lines.old.format lines.old.limit
-        (S.view source.old) (S.view source.new) lines.new system end
-        × IfOk result (λ stats. stats ≡ stats_of end) }
-    ensures tells { MatchResult result (λ _. lines.new.state ≡ ReaderState.Ended)
-        (λ fault. lines.new.state ≡ ReaderState.Failed fault) }
-{
-    step_through(&mut system, lines, source)?;
-    Ok(system.stats())
-}
 
 /// Runs a trace through the caches of a plan, and writes the report after its end; then the sink is flushed, once. Each cache with
 /// random replacement draws from a generator of its own, of this seed. All memory is taken before the first read. `max_lines` is the
@@ -105,9 +44,47 @@ pub fn din<S: Source, K: Sink>(
     plan.limits();
     let mut lines = Lines::new(alloc, format, max_lines)?;
     let system = System::new(alloc, plan, seed)?;
-    let stats = stats_after(system, &mut lines, source)?;
+    let stats = stats_of_trace(system, &mut lines, source)?;
     let mut text = Text::new();
     set_report(&mut text, &stats);
     write_last(&text, sink)?;
     Ok(())
+}
+
+/// Steps a system through a trace, and returns what it counted. It takes no more than two steps a line.
+fn stats_of_trace<S: Source>(
+    mut system: System,
+    lines: &mut Lines,
+    source: &mut S,
+) -> Result<Stats, TraceFault>
+    requires begun { lines.old ≡ begun lines.old.format lines.old.limit }
+    requires steps { system.steps + 2 * lines.old.limit ≤ MAX_STEPS }
+    ensures stepped { (end : SystemValue) × StepsThrough lines.old.format lines.old.limit
+        (S.view source.old) (S.view source.new) lines.new system end
+        × IfOk result (λ stats. stats ≡ stats_of end) }
+    ensures tells { MatchResult result (λ _. lines.new.state ≡ ReaderState.Ended)
+        (λ fault. lines.new.state ≡ ReaderState.Failed fault) }
+{
+    while let Some((_, entry)) = lines.next(source)? {
+        step(&mut system, entry);
+    }
+    Ok(system.stats())
+}
+
+/// Steps a system through all the references of an entry, or flushes it.
+#[inline(always)]
+fn step(system: &mut System, entry: Entry)
+    requires { system.old.steps + 2 ≤ MAX_STEPS }
+    ensures { SystemRuns system.old (events_of Kind.All entry) system.new }
+{
+    match entry {
+        Entry::Item(item) => {
+            let (first, second) = refs_of(item);
+            system.step(first);
+            if let Some(second) = second {
+                system.step(second);
+            }
+        }
+        Entry::Flush => system.flush(),
+    }
 }

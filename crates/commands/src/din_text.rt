@@ -4,24 +4,42 @@ ghost use Rattle.commands.specs.DinText.{field, cache_line, report_of};
 
 use crate::text::CAPACITY;
 use cache_core::stats::{CacheStats, Stats};
-use trace_core::text::Text;
+use trace_core::text::{DECIMAL, Text};
 
-/// Adds a name, and a number behind it.
-fn push_field(text: &mut Text<CAPACITY>, name: &[u8], number: u64)
-    requires { length text.old + length name.now + 20 ≤ CAPACITY }
-    ensures value { text.new ≡ text.old ++ field name.now number }
-    ensures short { length text.new ≤ length text.old + length name.now + 20 }
+/// The most bytes of a cache's line: its name, the names of eight numbers, these numbers, and an LF.
+const CACHE_LINE: usize = 4 + (9 + 14 + 7 + 13 + 8 + 14 + 11 + 11) + 8 * DECIMAL + 1;
+
+/// The most bytes of the line of memory.
+const MEMORY_LINE: usize = 13 + DECIMAL + 8 + DECIMAL + 1;
+
+/// The most bytes of the line of the references that no cache took.
+const BYPASSED_LINE: usize = 9 + DECIMAL + 1;
+
+/// The most bytes of a report.
+pub(crate) const REPORT: usize = 4 * CACHE_LINE + MEMORY_LINE + BYPASSED_LINE;
+
+/// Makes a text the report.
+pub(crate) fn set_report(text: &mut Text<CAPACITY>, stats: &Stats)
+    ensures { text.new ≡ report_of stats.now }
 {
-    text.push(name);
-    text.push_decimal(number);
+    text.clear();
+    push_cache(text, b"l1-i", stats.l1i);
+    push_cache(text, b"l1-d", stats.l1d);
+    push_cache(text, b"l1-u", stats.l1u);
+    push_cache(text, b"l2-u", stats.l2u);
+    push_field(text, b"memory reads=", stats.memory_reads);
+    push_field(text, b" writes=", stats.memory_writes);
+    text.push(b"\n");
+    push_field(text, b"bypassed=", stats.bypassed);
+    text.push(b"\n");
 }
 
 /// Adds the line of a cache, if there is one.
 fn push_cache(text: &mut Text<CAPACITY>, name: &[u8], stats: Option<CacheStats>)
-    requires room { length text.old + 300 ≤ CAPACITY }
+    requires fits { length text.old + CACHE_LINE ≤ CAPACITY }
     requires name { length name.now ≤ 4 }
     ensures value { text.new ≡ text.old ++ cache_line name.now stats }
-    ensures short { length text.new ≤ length text.old + 300 }
+    ensures short { length text.new ≤ length text.old + CACHE_LINE }
 {
     let Some(stats) = stats else {
         return;
@@ -38,18 +56,12 @@ fn push_cache(text: &mut Text<CAPACITY>, name: &[u8], stats: Option<CacheStats>)
     text.push(b"\n");
 }
 
-/// Puts the report in place of what a text held.
-pub(crate) fn set_report(text: &mut Text<CAPACITY>, stats: &Stats)
-    ensures { text.new ≡ report_of stats.now }
+/// Adds a name, and a number after it.
+fn push_field(text: &mut Text<CAPACITY>, name: &[u8], number: u64)
+    requires { length text.old + length name.now + DECIMAL ≤ CAPACITY }
+    ensures value { text.new ≡ text.old ++ field name.now number }
+    ensures short { length text.new ≤ length text.old + length name.now + DECIMAL }
 {
-    text.clear();
-    push_cache(text, b"l1-i", stats.l1i);
-    push_cache(text, b"l1-d", stats.l1d);
-    push_cache(text, b"l1-u", stats.l1u);
-    push_cache(text, b"l2-u", stats.l2u);
-    push_field(text, b"memory reads=", stats.memory_reads);
-    push_field(text, b" writes=", stats.memory_writes);
-    text.push(b"\n");
-    push_field(text, b"bypassed=", stats.bypassed);
-    text.push(b"\n");
+    text.push(name);
+    text.push_decimal(number);
 }

@@ -2,7 +2,7 @@
 -- that, and the row that holds the list then.
 use Rattle.std.proofs.Common.{◌≡◌, ℕ, zero, suc, ◌+◌, ◌-◌, ◌<◌, ◌≤◌, ◌⊎◌, inl, inr, Bool, true, false, not, cond, eqb, ltb}
 use Rattle.std.proofs.Common.{List, [], ◌∷◌, ◌++◌, length, take, drop, get_or, set, refl, sym, ◌∙◌, ap, arith, add-one}
-use Rattle.std.proofs.Common.{length-take, length-append, length-drop}
+use Rattle.std.proofs.Common.{◌^◌, length-take, length-append, length-drop, length-set}
 use Rattle.std.specs.List.{remove}
 use Rattle.std.proofs.lemmas.Bool.Decides.{nat_tests}
 use Rattle.std.proofs.lemmas.Bool.{ltb-true, ne_eqb}
@@ -10,13 +10,14 @@ use Rattle.std.proofs.lemmas.List.{take_all, take_at, length-take-le}
 use Rattle.cache_core.proofs.Lists.{list_any_is}
 use Rattle.profile_core.specs.declared.recency.Touch.TheVariants.{Behind, New}
 use Rattle.profile_core.specs.declared.recency.Shifted.TheVariants.{Found, Out}
-use Rattle.profile_core.specs.Moves.{place_of, is_in, is_front, is_second, move_to_front, touch_of, shifted_of}
-use Rattle.profile_core.proofs.Shifting.{other_front, place_behind, place-le, is_found, is_absent, length-remove, remove_end}
+use Rattle.profile_core.specs.Moves.{index_of, is_in, is_front, is_second, move_to_front, touch_of, shifted_of}
+use Rattle.profile_core.specs.Slab.{IsBroughtInRow}
+use Rattle.profile_core.proofs.Shifting.{other_front, index_behind, index-le, length-remove, remove_end}
 
--- what a pass tells of the place of x
-found_at : (b : Bool) (place p last : ℕ) → Found place ≡ cond b (Found p) (Out last) → (b ≡ true) × (place ≡ p)
-found_at true place p last e = (refl, cc)
-found_at false place p last e = absurd (cc)
+-- what a pass tells of x: its distance, or that it is not there and which block is the last
+found_at : (b : Bool) (distance p last : ℕ) → Found distance ≡ cond b (Found p) (Out last) → (b ≡ true) × (distance ≡ p)
+found_at true distance p last e = (refl, cc)
+found_at false distance p last e = absurd (cc)
 
 out_at : (b : Bool) (out p last : ℕ) → Out out ≡ cond b (Found p) (Out last) → (b ≡ false) × (out ≡ last)
 out_at true out p last e = absurd (cc)
@@ -25,97 +26,117 @@ out_at false out p last e = (refl, cc)
 pub absent_at : (b : Bool) (p n : ℕ) → b ≡ ltb p n → b ≡ false → p ≤ n → p ≡ n
 absent_at b p n e out le = grind (arith, nat_tests)
 
-pub shifted_place : (x y place : ℕ) (ys : List ℕ) → Found place ≡ shifted_of x y ys → (place ≡ place_of x ys) × (place < length ys)
-shifted_place x y place ys is =
-    let at = found_at (is_in x ys) place (place_of x ys) (get_or (y ∷ ys) (length ys) 0) is in
-    let lt : place_of x ys < length ys = ltb-true (place_of x ys) (length ys) (sym (list_any_is (λ z. eqb z x) ys) ∙ at.0) in
-    (at.1, omega (arith, at.1, lt))
+module _ (x : ℕ) (xs : List ℕ) where
+  pub shifted_index : (distance : ℕ) → Found distance ≡ shifted_of x xs → (distance ≡ index_of x xs) × (distance < length xs)
+  shifted_index distance is =
+      let at = found_at (is_in x xs) distance (index_of x xs) (get_or xs (length xs - 1) 0) is in
+      let lt : index_of x xs < length xs = ltb-true (index_of x xs) (length xs) (sym (list_any_is (λ z. eqb z x) xs) ∙ at.0) in
+      (at.1, omega (arith, at.1, lt))
 
-pub shifted_last : (x y last : ℕ) (ys : List ℕ) → Out last ≡ shifted_of x y ys
-    → (place_of x ys ≡ length ys) × (last ≡ get_or (y ∷ ys) (length ys) 0)
-shifted_last x y last ys is =
-    let at = out_at (is_in x ys) last (place_of x ys) (get_or (y ∷ ys) (length ys) 0) is in
-    (absent_at (is_in x ys) (place_of x ys) (length ys) (list_any_is (λ z. eqb z x) ys) at.0 (place-le x ys), at.1)
+  pub shifted_last : (last : ℕ) → Out last ≡ shifted_of x xs → (index_of x xs ≡ length xs) × (last ≡ get_or xs (length xs - 1) 0)
+  shifted_last last is =
+      let at = out_at (is_in x xs) last (index_of x xs) (get_or xs (length xs - 1) 0) is in
+      (absent_at (is_in x xs) (index_of x xs) (length xs) (list_any_is (λ z. eqb z x) xs) at.0 (index-le x xs), at.1)
 
--- where x stood, and the comparisons: one with the front, and those of the pass
-module _ (x y : ℕ) (ys : List ℕ) (ne : y ≡ x → ⊥) where
-  pub found_behind : (place : ℕ) → Found place ≡ shifted_of x y ys → Behind place ≡ touch_of x (y ∷ ys)
-  found_behind place is =
-      let at = shifted_place x y place ys is in
-      let here : place_of x (y ∷ ys) ≡ suc place = place_behind x y ys ne ∙ ap suc (sym at.0) in
-      let inside : is_in x (y ∷ ys) ≡ true = is_found x (suc place) (y ∷ ys) here (omega (arith, at.1)) in
-      let less : place ≡ place_of x (y ∷ ys) - 1 = omega (arith, here) in
-      ap (λ p. Behind p) less ∙ sym (ap (λ b. cond b (Behind (place_of x (y ∷ ys) - 1)) (New (suc (length ys)))) inside)
+  pub touch_found : (distance : ℕ) → Found distance ≡ shifted_of x xs → Behind distance ≡ touch_of x xs
+  touch_found distance is =
+      let at = found_at (is_in x xs) distance (index_of x xs) (get_or xs (length xs - 1) 0) is in
+      ap (λ p. Behind p) at.1 ∙ sym (ap (λ b. cond b (Behind (index_of x xs)) (New (length xs))) at.0)
 
-  pub new_behind : (last : ℕ) → Out last ≡ shifted_of x y ys → New (suc (length ys)) ≡ touch_of x (y ∷ ys)
-  new_behind last is =
-      let at = shifted_last x y last ys is in
-      let none : is_in x (y ∷ ys) ≡ false = is_absent x (y ∷ ys) (place_behind x y ys ne ∙ ap suc at.0) in
-      sym (ap (λ b. cond b (Behind (place_of x (y ∷ ys) - 1)) (New (suc (length ys)))) none)
+  pub touch_new : (last : ℕ) → Out last ≡ shifted_of x xs → New (length xs) ≡ touch_of x xs
+  touch_new last is =
+      let at = out_at (is_in x xs) last (index_of x xs) (get_or xs (length xs - 1) 0) is in
+      sym (ap (λ b. cond b (Behind (index_of x xs)) (New (length xs))) at.0)
 
-  moved_behind : (n : ℕ) → take (n + 1) (move_to_front x (y ∷ ys)) ≡ x ∷ take n (y ∷ remove ys (place_of x ys))
-  moved_behind n =
-      ap (λ j. take j (x ∷ remove (y ∷ ys) (place_of x (y ∷ ys)))) (add-one n)
-      ∙ ap (λ j. x ∷ take n (remove (y ∷ ys) j)) (place_behind x y ys ne)
-
--- the block that fell out, put in the next place
+-- the block that fell out, put behind the others
 put_last : (y h : ℕ) (rest : List ℕ) → h < length rest
     → take (suc h) (set (take h (y ∷ take h rest) ++ drop h rest) h (get_or (y ∷ take h rest) h 0)) ≡ y ∷ take h rest
 put_last y h [] lt = absurd (omega arith)
 put_last y zero (x ∷ xs) lt = refl
 put_last y (suc h) (x ∷ xs) lt = ap (λ zs. y ∷ zs) (put_last x h xs (omega arith))
 
--- what is known of the stretch behind a front y and not x, once its first h blocks were passed
+-- what is known of the places behind a front y, once its first h blocks were passed to bring x to the front
 pub record IsShifted (x y h : ℕ) (rest after : List ℕ) : Type 0 where
-  pub other : y ≡ x → ⊥
   pub within : h ≤ length rest
-  pub after_is : after ≡ take (length (take h rest)) (y ∷ remove (take h rest) (place_of x (take h rest)))
+  pub after_is : after ≡ take (length (take h rest)) (remove (y ∷ take h rest) (index_of x (y ∷ take h rest)))
 
-module _ (x y h : ℕ) (rest after : List ℕ) (s : IsShifted x y h rest after) where
-  abbrev ys : List ℕ
-  ys = take h rest
+module _ {x y h : ℕ} {rest after : List ℕ} (s : IsShifted x y h rest after) where
+  abbrev list : List ℕ
+  list = y ∷ take h rest
 
-  abbrev zs : List ℕ
-  zs = y ∷ remove ys (place_of x ys)
+  -- the others, once x is in front
+  abbrev others : List ℕ
+  others = remove list (index_of x list)
 
-  size : length ys ≡ h
+  size : length (take h rest) ≡ h
   size = length-take-le h rest s.within
 
-  passed : after ≡ take h zs
-  passed = s.after_is ∙ ap (λ j. take j zs) size
+  passed : after ≡ take h others
+  passed = s.after_is ∙ ap (λ j. take j others) size
 
   pub after_long : length after ≡ h
   after_long =
-      ap length passed ∙ length-take h zs
+      ap length passed ∙ length-take h others
       ∙ omega (
         arith,
-        length-append (take (place_of x ys) ys) (drop (suc (place_of x ys)) ys),
-        length-take (place_of x ys) ys,
-        length-drop (suc (place_of x ys)) ys,
+        length-append (take (index_of x list) list) (drop (suc (index_of x list)) list),
+        length-take (index_of x list) list,
+        length-drop (suc (index_of x list)) list,
         size,
       )
 
   -- as much of the row as before holds the list again
-  row_kept : take h zs ≡ take (length rest) zs → take (suc h) (x ∷ (after ++ drop h rest)) ≡ take (length rest + 1) (move_to_front x (y ∷ ys))
-  row_kept whole = ap (λ xs. x ∷ xs) (take_at after (drop h rest) h after_long ∙ passed ∙ whole) ∙ sym (moved_behind x y ys s.other (length rest))
+  row_kept : take h others ≡ take (length rest) others → take (suc h) (x ∷ (after ++ drop h rest)) ≡ take (length rest + 1) (x ∷ others)
+  row_kept whole =
+      ap (λ xs. x ∷ xs) (take_at after (drop h rest) h after_long ∙ passed ∙ whole) ∙ sym (ap (λ j. take j (x ∷ others)) (add-one (length rest)))
 
-  pub row_found : place_of x ys < h → take (suc h) (x ∷ (after ++ drop h rest)) ≡ take (length rest + 1) (move_to_front x (y ∷ ys))
-  row_found lt =
-      let short : length zs ≡ h = length-remove ys (place_of x ys) (omega (arith, size)) ∙ size in
-      row_kept (take_all h zs (omega (arith, short)) ∙ sym (take_all (length rest) zs (omega (arith, short, s.within))))
+  pub row_found : index_of x list ≤ h → take (suc h) (x ∷ (after ++ drop h rest)) ≡ take (length rest + 1) (move_to_front x list)
+  row_found le =
+      let short : length others ≡ h = omega (arith, length-remove list (index_of x list) (omega (arith, size, le)), size) in
+      row_kept (take_all h others (omega (arith, short)) ∙ sym (take_all (length rest) others (omega (arith, short, s.within))))
 
-  pub row_full : length rest ≤ h → take (suc h) (x ∷ (after ++ drop h rest)) ≡ take (length rest + 1) (move_to_front x (y ∷ ys))
-  row_full full = row_kept (ap (λ j. take j zs) (omega (arith, full, s.within)))
+  pub row_full : length rest ≤ h → take (suc h) (x ∷ (after ++ drop h rest)) ≡ take (length rest + 1) (move_to_front x list)
+  row_full full = row_kept (ap (λ j. take j others) (omega (arith, full, s.within)))
 
-  pub row_grown : (last : ℕ) → h < length rest → place_of x ys ≡ length ys → last ≡ get_or (y ∷ ys) (length ys) 0
-      → take (suc (suc h)) (x ∷ set (after ++ drop h rest) h last) ≡ take (length rest + 1) (move_to_front x (y ∷ ys))
+  pub row_grown : (last : ℕ) → h < length rest → index_of x list ≡ length list → last ≡ get_or list (length list - 1) 0
+      → take (suc (suc h)) (x ∷ set (after ++ drop h rest) h last) ≡ take (length rest + 1) (move_to_front x list)
   row_grown last lt absent out =
-      let none : remove ys (place_of x ys) ≡ ys = ap (remove ys) absent ∙ remove_end ys (length ys) (omega arith) in
-      ap (λ xs. x ∷ take (suc h) (set (xs ++ drop h rest) h last)) (passed ∙ ap (λ xs. take h (y ∷ xs)) none)
-      ∙ ap (λ v. x ∷ take (suc h) (set (take h (y ∷ ys) ++ drop h rest) h v)) (out ∙ ap (λ j. get_or (y ∷ ys) j 0) size)
-      ∙ ap (λ xs. x ∷ xs) (put_last y h rest lt ∙ sym (take_all (length rest) (y ∷ ys) (omega (arith, size)))
-      ∙ ap (λ xs. take (length rest) (y ∷ xs)) (sym none))
-      ∙ sym (moved_behind x y ys s.other (length rest))
+      let none : others ≡ list = ap (remove list) absent ∙ remove_end list (length list) (omega arith) in
+      let at : length list - 1 ≡ h = omega (arith, size) in
+      ap (λ xs. x ∷ take (suc h) (set (xs ++ drop h rest) h last)) (passed ∙ ap (take h) none)
+      ∙ ap (λ v. x ∷ take (suc h) (set (take h list ++ drop h rest) h v)) (out ∙ ap (λ j. get_or list j 0) at)
+      ∙ ap (λ xs. x ∷ xs) (put_last y h rest lt ∙ sym (take_all (length rest) list (omega (arith, size, lt))))
+      ∙ sym (ap (λ j. take j (x ∷ list)) (add-one (length rest)))
+      ∙ ap (λ xs. take (length rest + 1) (x ∷ xs)) (sym none)
+
+  kept_long : length (after ++ drop h rest) ≡ length rest
+  kept_long = omega (arith, length-append after (drop h rest), after_long, length-drop h rest, s.within)
+
+  -- the row of a list of h + 1 blocks, where x was found, and where it is new and the last block stays, one index on
+  pub brought_found : (front distance : ℕ) → front ≡ x → length rest ≤ 2 ^ 22 → Found distance ≡ shifted_of x list
+      → IsBroughtInRow x list front (after ++ drop h rest) (suc h)
+  brought_found front distance is small found =
+      let at = shifted_index x list distance found in
+      record {
+        some = omega arith;
+        row = record { small = omega (arith, kept_long, small); fits = omega (arith, kept_long, s.within) };
+        list_is =
+            ap (λ f. take (suc h) (f ∷ (after ++ drop h rest))) is ∙ row_found (omega (arith, at.0, at.1, size))
+            ∙ ap (λ n. take (n + 1) (move_to_front x list)) (sym kept_long);
+      }
+
+  pub brought_grown : (front last len : ℕ) → front ≡ x → length rest ≤ 2 ^ 22 → h < length rest → len ≡ suc (suc h) → Out last ≡ shifted_of x list
+      → IsBroughtInRow x list front (set (after ++ drop h rest) h last) len
+  brought_grown front last len is small lt two_more out =
+      let at = shifted_last x list last out in
+      let long : length (set (after ++ drop h rest) h last) ≡ length rest = length-set (after ++ drop h rest) h last ∙ kept_long in
+      record {
+        some = omega (arith, two_more);
+        row = record { small = omega (arith, long, small); fits = omega (arith, long, lt, two_more) };
+        list_is =
+            ap (λ f. take len (f ∷ set (after ++ drop h rest) h last)) is ∙ ap (λ n. take n (x ∷ set (after ++ drop h rest) h last)) two_more
+            ∙ row_grown last lt at.0 at.1 ∙ ap (λ n. take (n + 1) (move_to_front x list)) (sym long);
+      }
 
 -- Whether x is the front of a row's list: by the front f, which is 0 where the list is empty, unless both are 0.
 pub front_of_some : (x len f : ℕ) (rest : List ℕ) → (len ≡ 0 → f ≡ 0) → (x ≡ 0 → ⊥) ⊎ (len ≡ 0 → ⊥) → eqb f x ≡ is_front x (take len (f ∷ rest))
@@ -127,7 +148,7 @@ pub front_of_none : (x len f : ℕ) (rest : List ℕ) → len ≡ 0 → false �
 front_of_none x zero f rest none = refl
 front_of_none x (suc len) f rest none = absurd (omega (arith, none))
 
--- Whether x is the second of a row's list: by the first place behind the front, where the list has two blocks.
+-- Whether x is the second of a row's list: by the first entry behind the front, where the list has two blocks.
 pub second_of_some : (x len f : ℕ) (rest : List ℕ) → 1 < len → 0 < length rest → eqb (get_or rest 0 0) x ≡ is_second x (take len (f ∷ rest))
 second_of_some x zero f rest two some = absurd (omega (arith, two))
 second_of_some x (suc zero) f rest two some = absurd (omega (arith, two))
@@ -139,16 +160,16 @@ second_of_few x zero f rest few = refl
 second_of_few x (suc zero) f rest few = refl
 second_of_few x (suc (suc len)) f rest few = absurd (omega (arith, few))
 
--- The second block of a list in front: its place, and the list then.
-pub second_place : (x : ℕ) (xs : List ℕ) → is_second x xs ≡ true → 1 < length xs
-second_place x [] second = absurd (cc)
-second_place x (y ∷ []) second = absurd (cc)
-second_place x (y ∷ z ∷ zs) second = omega arith
+-- The second block of a list in front: its distance, and the list then.
+pub second_long : (x : ℕ) (xs : List ℕ) → is_second x xs ≡ true → 1 < length xs
+second_long x [] second = absurd (cc)
+second_long x (y ∷ []) second = absurd (cc)
+second_long x (y ∷ z ∷ zs) second = omega arith
 
 exchanged : (x y z : ℕ) (zs : List ℕ) → (y ≡ x → ⊥) → eqb z x ≡ true → move_to_front x (y ∷ z ∷ zs) ≡ x ∷ y ∷ zs
 exchanged x y z zs ne second =
-    let here : place_of x (z ∷ zs) ≡ 0 = ap (λ b. cond (not b) (1 + place_of x zs) 0) second in
-    ap (λ i. x ∷ remove (y ∷ z ∷ zs) i) (place_behind x y (z ∷ zs) ne ∙ ap suc here)
+    let here : index_of x (z ∷ zs) ≡ 0 = ap (λ b. cond (not b) (1 + index_of x zs) 0) second in
+    ap (λ i. x ∷ remove (y ∷ z ∷ zs) i) (index_behind x y (z ∷ zs) ne ∙ ap suc here)
 
 exchanged_long : (x : ℕ) (xs : List ℕ) → is_front x xs ≡ false → is_second x xs ≡ true → length (move_to_front x xs) ≡ length xs
 exchanged_long x [] other second = absurd (cc)
@@ -168,7 +189,7 @@ exchanged_in x (suc (suc len)) f (y ∷ ys) two some other second =
 pub row_exchanged : (x len f n : ℕ) (rest list : List ℕ) → list ≡ take len (f ∷ rest) → length list ≡ len → len ≤ n + 1 → length rest ≡ n
     → is_front x list ≡ false → is_second x list ≡ true → take len (x ∷ set rest 0 f) ≡ take (n + 1) (move_to_front x list)
 row_exchanged x len f n rest list is size short long other second =
-    let two : 1 < len = omega (arith, second_place x list second, size) in
+    let two : 1 < len = omega (arith, second_long x list second, size) in
     exchanged_in x len f rest two (omega (arith, two, short, long)) (ap (is_front x) (sym is) ∙ other) (ap (is_second x) (sym is) ∙ second)
     ∙ ap (move_to_front x) (sym is)
     ∙ sym (take_all (n + 1) (move_to_front x list) (omega (arith, exchanged_long x list other second, size, short)))

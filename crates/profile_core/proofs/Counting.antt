@@ -9,11 +9,11 @@ use Rattle.std.proofs.lemmas.List.FromFn.{fill_by_all, take-map-range_with_len}
 use Rattle.trace_core.specs.declared.events.Event.{Event}
 use Rattle.trace_core.specs.declared.events.Event.TheVariants as event
 use Rattle.cache_core.specs.Geometry.{GeometryValue, block_of}
-use Rattle.cache_core.specs.Windows.{Place, distinct_of_set, has_last, distance, seen, is_hit, window, places, probes, held, counts}
-use Rattle.cache_core.proofs.Places.{places_from, places-from}
+use Rattle.cache_core.specs.Windows.{Occurrence, distinct_of_set, has_last, distance, seen, is_hit, window, occurrences, probes, held, counts}
+use Rattle.cache_core.proofs.Occurrences.{occurrences_from, occurrences-from}
 use Rattle.cache_core.specs.declared.outcome.Counts.{Counts}
 use Rattle.profile_core.specs.State.{ProfileState, fed_of, held_of, counts_at}
-use Rattle.profile_core.specs.StandsFor.{StandsFor}
+use Rattle.profile_core.specs.ProfileStandsFor.{ProfileStandsFor}
 use Rattle.profile_core.proofs.Sums.{sum-counts}
 use Rattle.profile_core.proofs.Steps.{Finds, finds}
 
@@ -34,15 +34,15 @@ sum_by-map : {X Y : Type 0} (f : Y → ℕ) (g : X → Y) (xs : List X) → sum_
 sum_by-map f g [] = refl
 sum_by-map f g (x ∷ xs) = omega (arith, sum_by-cons f (g x) (map g xs), sum_by-cons (λ y. f (g y)) x xs, sum_by-map f g xs)
 
--- each place looks back no further than what was seen
-looks_back : (g : GeometryValue) (p : Place) → Finds g 0 p []
+-- each reference looks back no further than what was seen
+looks_back : (g : GeometryValue) (p : Occurrence) → Finds g 0 p []
 looks_back g p = finds g 0 p [] refl
 
 -- whether e lines a set are a hit there, and an eviction
-abbrev pub hit_at : GeometryValue → ℕ → Place → Bool
+abbrev pub hit_at : GeometryValue → ℕ → Occurrence → Bool
 hit_at g e p = has_last p && ltb (distance g p) e
 
-abbrev pub evict_at : GeometryValue → ℕ → Place → Bool
+abbrev pub evict_at : GeometryValue → ℕ → Occurrence → Bool
 evict_at g e p = not (hit_at g e p) && leb e (seen g p)
 
 yes_or_no : (b : Bool) → cond b 1 0 + cond (not b) 1 0 ≡ 1
@@ -58,31 +58,31 @@ always true n m = refl
 always false n m = grind (arith, nat_tests)
 
 -- the first e numbers of the two histograms
-pub distances_sum : (es : List Event) (v : ProfileState) (e : ℕ) → StandsFor es v → e ≤ v.geometry.e
-    → sum (take e v.distances) ≡ count_by (hit_at v.geometry e) (places v.geometry es)
+pub distances_sum : (es : List Event) (v : ProfileState) (e : ℕ) → ProfileStandsFor es v → e ≤ v.geometry.e
+    → sum (take e v.distances) ≡ count_by (hit_at v.geometry e) (occurrences v.geometry es)
 distances_sum es v e h le =
     let g = v.geometry in
-    let f : ℕ → ℕ = λ d. count_by (λ p. has_last p && eqb (distance g p) d) (places g es) in
+    let f : ℕ → ℕ = λ d. count_by (λ p. has_last p && eqb (distance g p) d) (occurrences g es) in
     ap (λ ns. sum (take e ns)) (fill_by_all f v.distances g.e 0 h.distance_count h.distances)
     ∙ ap sum (take-map-range_with_len f 0 g.e e le)
-    ∙ sum-counts has_last (distance g) (places g es) e
+    ∙ sum-counts has_last (distance g) (occurrences g es) e
 
-pub misses_sum : (es : List Event) (v : ProfileState) (e : ℕ) → StandsFor es v → e ≤ v.geometry.e + 1 →
-    sum (take e v.misses_by_occupancy) ≡ count_by (λ p. not (is_hit v.geometry p) && ltb (min (seen v.geometry p) v.geometry.e) e) (places v.geometry es)
+pub misses_sum : (es : List Event) (v : ProfileState) (e : ℕ) → ProfileStandsFor es v → e ≤ v.geometry.e + 1 →
+    sum (take e v.misses_by_occupancy) ≡ count_by (λ p. not (is_hit v.geometry p) && ltb (min (seen v.geometry p) v.geometry.e) e) (occurrences v.geometry es)
 misses_sum es v e h le =
     let g = v.geometry in
-    let f : ℕ → ℕ = λ n. count_by (λ p. not (is_hit g p) && eqb (min (seen g p) g.e) n) (places g es) in
+    let f : ℕ → ℕ = λ n. count_by (λ p. not (is_hit g p) && eqb (min (seen g p) g.e) n) (occurrences g es) in
     ap (λ ns. sum (take e ns)) (fill_by_all f v.misses_by_occupancy (g.e + 1) 0 h.occupancy_count (λ k lt. h.misses_by_occupancy k (omega arith)))
     ∙ ap sum (take-map-range_with_len f 0 (g.e + 1) e le)
-    ∙ sum-counts (λ p. not (is_hit g p)) (λ p. min (seen g p) g.e) (places g es) e
+    ∙ sum-counts (λ p. not (is_hit g p)) (λ p. min (seen g p) g.e) (occurrences g es) e
 
-all_of : (g : GeometryValue) (e : ℕ) (ps : List Place) → count_by (hit_at g e) ps + count_by (λ p. not (hit_at g e p)) ps ≡ length ps
+all_of : (g : GeometryValue) (e : ℕ) (ps : List Occurrence) → count_by (hit_at g e) ps + count_by (λ p. not (hit_at g e p)) ps ≡ length ps
 all_of g e ps = sum_by_parts (λ p. cond (hit_at g e p) 1 0) (λ p. cond (not (hit_at g e p)) 1 0) (λ _. 1) ps (λ p. yes_or_no (hit_at g e p)) ∙ sum_by_one ps
 
-pub fed_is : (es : List Event) (v : ProfileState) → StandsFor es v → fed_of v ≡ length (places v.geometry es)
+pub fed_is : (es : List Event) (v : ProfileState) → ProfileStandsFor es v → fed_of v ≡ length (occurrences v.geometry es)
 fed_is es v h =
     let g = v.geometry in
-    let ps : List Place = places g es in
+    let ps : List Occurrence = occurrences g es in
     let found : sum v.distances ≡ count_by (is_hit g) ps =
     ap sum (sym (take_all g.e v.distances (omega (arith, h.distance_count)))) ∙ distances_sum es v g.e h (omega arith) in
     let not_found : sum v.misses_by_occupancy ≡ count_by (λ p. not (is_hit g p)) ps =
@@ -91,7 +91,7 @@ fed_is es v h =
     (λ p. always (is_hit g p) (seen g p) g.e) in
     omega (arith, found, not_found, all_of g g.e ps)
 
-evicted : (g : GeometryValue) (m e : ℕ) (p : Place) → e ≤ m →
+evicted : (g : GeometryValue) (m e : ℕ) (p : Occurrence) → e ≤ m →
     cond (evict_at g e p) 1 0 + cond (not (hit_at g m p) && ltb (min (seen g p) m) e) 1 0 ≡ cond (not (hit_at g e p)) 1 0
 evicted g m e p le =
     let f = looks_back g p in
@@ -100,34 +100,35 @@ evicted g m e p le =
     + cond (not (b && ltb (distance g p) m) && ltb (min (seen g p) m) e) 1 0 ≡ cond (not (b && ltb (distance g p) e)) 1 0)
     (sym f.last) (in_or_out (distance g p) (seen g p) m e f.within le)
 
--- the number of lines plays no part in places
-places_from_same : (g : GeometryValue) (e : ℕ) (w : List ℕ) (es : List Event) → places_from (record g { e = e }) w es ≡ places_from g w es
-unfolding places_from
-places_from_same g e w [] = refl
-places_from_same g e w (event.Reference r ∷ es) = ap (λ ps. record { block = block_of g r.addr; window = w } ∷ ps)
-    (places_from_same g e (block_of g r.addr ∷ w) es)
-places_from_same g e w (event.Flush ∷ es) = places_from_same g e [] es
+-- the occurrences do not depend on the number of lines
+occurrences_from_same : (g : GeometryValue) (e : ℕ) (w : List ℕ) (es : List Event) → occurrences_from (record g { e = e }) w es ≡ occurrences_from g w es
+unfolding occurrences_from
+occurrences_from_same g e w [] = refl
+occurrences_from_same g e w (event.Reference r ∷ es) = ap (λ ps. record { block = block_of g r.addr; window = w } ∷ ps)
+    (occurrences_from_same g e (block_of g r.addr ∷ w) es)
+occurrences_from_same g e w (event.Flush ∷ es) = occurrences_from_same g e [] es
 
-places_same : (g : GeometryValue) (e : ℕ) (es : List Event) → places (record g { e = e }) es ≡ places g es
-places_same g e es = places-from (record g { e = e }) es ∙ places_from_same g e [] es ∙ sym (places-from g es)
+occurrences_same : (g : GeometryValue) (e : ℕ) (es : List Event) → occurrences (record g { e = e }) es ≡ occurrences g es
+occurrences_same g e es = occurrences-from (record g { e = e }) es ∙ occurrences_from_same g e [] es ∙ sym (occurrences-from g es)
 
--- the counts by places of the same geometry with another number of lines
-counts_by : (g : GeometryValue) (e : ℕ) (ps : List Place) → Counts
+-- the counts by the occurrences of the same geometry with another number of lines
+counts_by : (g : GeometryValue) (e : ℕ) (ps : List Occurrence) → Counts
 counts_by g e ps = record {
   hits = count_by (hit_at g e) ps;
   misses = count_by (λ p. not (hit_at g e p)) ps;
   evictions = count_by (evict_at g e) ps;
 }
 
-counts_same : (g : GeometryValue) (e : ℕ) (es : List Event) → counts (record g { e = e }) es ≡ counts_by g e (places g es)
+counts_same : (g : GeometryValue) (e : ℕ) (es : List Event) → counts (record g { e = e }) es ≡ counts_by g e (occurrences g es)
 unfolding counts distinct_of_set counts_by
-counts_same g e es = ap (counts_by g e) (places_same g e es)
+counts_same g e es = ap (counts_by g e) (occurrences_same g e es)
 
-pub counts_are : (es : List Event) (v : ProfileState) (e : ℕ) → StandsFor es v → e ≤ v.geometry.e → counts_at v e ≡ counts (record v.geometry { e = e }) es
+pub counts_are : (es : List Event) (v : ProfileState) (e : ℕ) → ProfileStandsFor es v → e ≤ v.geometry.e
+    → counts_at v e ≡ counts (record v.geometry { e = e }) es
 unfolding counts_by
 counts_are es v e h le =
     let g = v.geometry in
-    let ps : List Place = places g es in
+    let ps : List Occurrence = occurrences g es in
     let hits = distances_sum es v e h le in
     let fed = fed_is es v h in
     let split = sum_by-take-drop (λ n. n) v.distances e in
@@ -143,7 +144,7 @@ counts_are es v e h le =
     let same : counts_at v e ≡ counts_by g e ps = cc (hits, misses, evictions) in
     same ∙ sym (counts_same g e es)
 
-pub held_is : (es : List Event) (v : ProfileState) → StandsFor es v → held_of v ≡ held v.geometry es
+pub held_is : (es : List Event) (v : ProfileState) → ProfileStandsFor es v → held_of v ≡ held v.geometry es
 unfolding held
 held_is es v h =
     let g = v.geometry in
@@ -156,11 +157,11 @@ held_is es v h =
 few : (last near : Bool) (d n m : ℕ) → (near ≡ ltb d m) → cond (last && near) (d + 1) (min n m) ≤ m
 few last near d n m e = grind (arith, nat_tests)
 
-at_most : (g : GeometryValue) (p : Place) → cond (is_hit g p) (distance g p + 1) (min (seen g p) g.e) ≤ g.e
+at_most : (g : GeometryValue) (p : Occurrence) → cond (is_hit g p) (distance g p + 1) (min (seen g p) g.e) ≤ g.e
 at_most g p = few (has_last p) (ltb (distance g p) g.e) (distance g p) (seen g p) g.e refl
 
 -- at most g.e comparisons a reference
-pub probes_at_most : (g : GeometryValue) (es : List Event) → probes g es ≤ length (places g es) * g.e
+pub probes_at_most : (g : GeometryValue) (es : List Event) → probes g es ≤ length (occurrences g es) * g.e
 unfolding probes
 probes_at_most g es =
-    sum_by-le (λ p. cond (is_hit g p) (distance g p + 1) (min (seen g p) g.e)) g.e (places g es) (λ k p _. at_most g (get_or (places g es) k p))
+    sum_by-le (λ p. cond (is_hit g p) (distance g p + 1) (min (seen g p) g.e)) g.e (occurrences g es) (λ k p _. at_most g (get_or (occurrences g es) k p))

@@ -3,7 +3,7 @@ use Rattle.std.proofs.Common.{◌≡◌, ℕ, zero, suc, ◌+◌, ◌*◌, ◌<�
 use Rattle.std.proofs.Common.{Some, None, length, get_or, refl, sym, subst, ap, ◌∙◌, arith}
 use Rattle.std.specs.Prelude.{All, IfSome, replicate}
 use Rattle.std.proofs.lemmas.List.{length-replicate}
-use Rattle.cache_core.specs.Touched.{Touched, Covers, ListsFilled, no_sets}
+use Rattle.cache_core.specs.Touched.{TouchedValue, Covers, ListsFilled, no_sets}
 use Rattle.cache_core.proofs.TouchedSets.{covers_none}
 use Rattle.profile_core.specs.Slab.{IsListed}
 
@@ -17,7 +17,7 @@ filled_fronts (Some sets) fronts lens same blank l = record {
   others = λ k unlisted. blank k (l.others k unlisted);
 }
 
-pub covers_fronts : {n : ℕ} {fronts slab lens : List ℕ} {touched : Touched} → IsListed n fronts slab lens touched → Covers touched fronts
+pub covers_fronts : {n : ℕ} {fronts slab lens : List ℕ} {touched : TouchedValue} → IsListed n fronts slab lens touched → Covers touched fronts
 covers_fronts {n} {fronts} {slab} {lens} {touched} l =
     filled_fronts touched.listed fronts lens l.sound.fronts_len l.sound.blank l.covers
 
@@ -26,17 +26,17 @@ zero_at zero k = refl
 zero_at (suc n) zero = refl
 zero_at (suc n) (suc k) = zero_at n k
 
-pub listed_none : (n m : ℕ) (fronts slab lens : List ℕ) (before touched : Touched) → fronts ≡ replicate m 0 → lens ≡ replicate m 0
+pub listed_none : (n m : ℕ) (fronts slab lens : List ℕ) (before touched : TouchedValue) → fronts ≡ replicate m 0 → lens ≡ replicate m 0
     → length slab ≡ m * n → m * (n + 1) ≤ 2 ^ 22 → touched ≡ no_sets before → IsListed n fronts slab lens touched
-listed_none n m fronts slab lens before touched blank none room small is =
+listed_none n m fronts slab lens before touched blank none long small is =
     let count : length lens ≡ m = ap length none ∙ length-replicate m 0 in
     record {
       sound = record {
         fronts_len = ap length blank ∙ length-replicate m 0 ∙ sym count;
-        room = room ∙ ap (λ j. j * n) (sym count);
+        slab_len = long ∙ ap (λ j. j * n) (sym count);
         small = subst (λ (j : ℕ). j * (n + 1) ≤ 2 ^ 22) (sym count) small;
         short = λ k lt. omega (arith, ap (λ ls. get_or ls k 0) none, zero_at m k);
         blank = λ k _. ap (λ fs. get_or fs k 0) blank ∙ zero_at m k;
       };
-      covers = covers_none touched before.room m lens is none;
+      covers = covers_none touched before.capacity m lens is none;
     }

@@ -1,13 +1,17 @@
 -- A profile that was fed a reference whose block is not the front of its set's list: its fields are sound again, and they are those of
 -- the state after the reference.
-use Rattle.std.proofs.Common.{◌≡◌, ℕ, ◌+◌, ◌-◌, ◌<◌, ◌≤◌, ◌^◌, List, [], length, take, get_or, set, sum, refl, sym, ◌∙◌, ap, arith, length-set}
+use Rattle.std.proofs.Common.{◌≡◌, ℕ, zero, suc, ◌+◌, ◌-◌, ◌*◌, ◌<◌, ◌≤◌, true, false, List, [], ◌∷◌, length, take, get_or, set, sum, refl, sym, ◌∙◌, ap, subst}
+use Rattle.std.proofs.Common.{arith, length-set, length-take}
+use Rattle.std.proofs.Math.Nat.{suc-mul}
 use Rattle.std.proofs.lemmas.List.{get_or_read}
 use Rattle.cache_core.specs.Geometry.{GeometryValue, set_of_block}
-use Rattle.profile_core.specs.Moves.{move_to_front}
-use Rattle.profile_core.specs.Slab.{Lists}
-use Rattle.profile_core.specs.State.{ProfileState, IsSound, fed_of, after_reference, compared_behind, distances_of}
-use Rattle.profile_core.proofs.Feeding.{FoundBehind, FoundNowhere, IsFed, fed_behind, fed_nowhere, sound_after, behind_step, nowhere_step, sum-distances}
-use Rattle.profile_core.proofs.Weighing.{raised_fits, sum-raised}
+use Rattle.profile_core.specs.declared.profile.TheConstants.{MAX_REFERENCES}
+use Rattle.profile_core.specs.Moves.{is_front, move_to_front}
+use Rattle.profile_core.specs.Slab.{Lists, brought}
+use Rattle.profile_core.specs.State.{ProfileState, IsSound, IsNext, list_of, fed_of, after_reference, compared_behind, distances_of}
+use Rattle.profile_core.proofs.Feeding.{FoundAt, FoundNowhere, behind_front, first-raised, raised_behind, raised_front, sum-distances, after_fed}
+use Rattle.profile_core.proofs.Feeding.{found_step, nowhere_step, front_step}
+use Rattle.profile_core.proofs.Weighing.{raised_fits, weighed-raised}
 
 -- the value of a profile, by its fields
 abbrev pub state_of : GeometryValue → Lists → List ℕ → List ℕ → ℕ → ProfileState
@@ -19,97 +23,144 @@ state_of g lists behind missed probes = record {
   probes = probes;
 }
 
+-- a list that is set is as short as the others
+short_set : (ls : List (List ℕ)) (k e : ℕ) (ys : List ℕ) → ((i : ℕ) → length (get_or ls i []) ≤ e) → length ys ≤ e
+    → (i : ℕ) → length (get_or (set ls k ys) i []) ≤ e
+short_set [] k e ys h le i = h i
+short_set (l ∷ ls) zero e ys h le zero = le
+short_set (l ∷ ls) zero e ys h le (suc i) = h (suc i)
+short_set (l ∷ ls) (suc k) e ys h le zero = h 0
+short_set (l ∷ ls) (suc k) e ys h le (suc i) = short_set ls k e ys (λ j. h (suc j)) le i
+
+at_most : (p p' m n d : ℕ) → p ≤ n → p' ≡ p + m → m ≤ d → p' ≤ n + d
+at_most p p' m n d h e k = omega arith
+
+-- what is known of a profile's fields before a reference to block x
+module _ {g : GeometryValue} {was : Lists} {behind missed : List ℕ} {probes : ℕ} {v : ProfileState} (h : IsSound g was behind missed probes)
+    (view_is : state_of g was behind missed probes ≡ v) (x : ℕ) where
+  pub one_more : fed_of (after_reference v x) ≡ fed_of v + 1
+  one_more =
+      let s : ProfileState = state_of g was behind missed probes in
+      let k : ℕ = set_of_block g x in
+      let long : length (distances_of probes behind missed) ≡ g.e = length-set behind 0 (probes - compared_behind behind missed) ∙ h.behind_count in
+      subst (λ w. fed_of (after_reference w x) ≡ fed_of w + 1) view_is
+      (after_fed s x (omega (arith, long, h.short k)) (omega (arith, h.occupancy_count, h.short k)))
+
+  -- sound again, by the state after it
+  pub sound_after : {now : Lists} {behind' missed' : List ℕ} {probes' m : ℕ} → state_of g now behind' missed' probes' ≡ after_reference v x
+      → now.depth ≡ was.depth → length now.lists ≡ length was.lists → ((k : ℕ) → length (get_or now.lists k []) ≤ g.e)
+      → length behind' ≡ length behind → take 1 behind' ≡ take 1 behind → length missed' ≡ length missed
+      → compared_behind behind' missed' ≤ probes' → probes' ≡ probes + m → m ≤ g.e → fed_of v < MAX_REFERENCES → IsSound g now behind' missed' probes'
+  sound_after {now} {behind'} {missed'} {probes'} {m} step depth sets short long first far told more le few =
+      let n : ℕ = sum (distances_of probes behind missed) + sum missed in
+      let n' : ℕ = sum (distances_of probes' behind' missed') + sum missed' in
+      let was_fed : n ≡ fed_of v = ap fed_of view_is in
+      let fed : n' ≡ suc n = ap fed_of step ∙ one_more ∙ omega (arith, was_fed) in
+      let grown : n' * g.e ≡ n * g.e + g.e = ap (λ k. k * g.e) fed ∙ suc-mul n g.e in
+      record {
+        depth = depth ∙ h.depth;
+        set_count = sets ∙ h.set_count;
+        short = short;
+        behind_count = long ∙ h.behind_count;
+        none_in_front = first ∙ h.none_in_front;
+        occupancy_count = far ∙ h.occupancy_count;
+        told = told;
+        fed = omega (arith, fed, was_fed, few);
+        compared = subst (λ (k : ℕ). probes' ≤ k) (sym grown) (at_most probes probes' m (n * g.e) g.e h.compared more le);
+      }
+
+  -- found in front: one comparison more, and the lists stay
+  module _ {k : ℕ} (of_set : k ≡ set_of_block g x) (front : is_front x (get_or was.lists k []) ≡ true) where
+    pub front_after : state_of g was behind missed (probes + 1) ≡ after_reference v x
+    front_after =
+        front_step (state_of g was behind missed probes) x k of_set _ front (h.short k)
+        (raised_front behind (probes - compared_behind behind missed) (probes + 1 - compared_behind behind missed) (omega (arith, h.told)))
+        ∙ ap (λ w. after_reference w x) view_is
+
+    pub front_sound : 1 ≤ g.e → fed_of v < MAX_REFERENCES → IsSound g was behind missed (probes + 1)
+    front_sound some few = sound_after front_after refl refl h.short refl refl refl (omega (arith, h.told)) refl some few
+
 -- what is known where block x is brought to the front of its set's list, and the numbers are as they were
 pub record IsMoved (g : GeometryValue) (was now : Lists) (behind missed : List ℕ) (probes x k : ℕ) (v : ProfileState) : Type 0 where
   pub sound : IsSound g was behind missed probes
   pub view_is : state_of g was behind missed probes ≡ v
-  pub few : fed_of v < 2 ^ 41
-  pub of_set : k ≡ set_of_block v.geometry x
-  pub short : length (get_or was.lists k []) ≤ was.depth
-  pub moved : now ≡ record was { lists = set was.lists k (take was.depth (move_to_front x (get_or was.lists k []))) }
+  pub next : IsNext v k x
+  pub moved : now ≡ brought was k x
 
 module _ {g : GeometryValue} {was now : Lists} {behind missed : List ℕ} {probes x k : ℕ} {v : ProfileState}
     (m : IsMoved g was now behind missed probes x k v) where
   abbrev list : List ℕ
   list = get_or was.lists k []
 
-  fed : sum (distances_of probes behind missed) + sum missed < 2 ^ 41
-  fed = omega (arith, m.few, ap fed_of m.view_is)
-
   of_set : k ≡ set_of_block g x
-  of_set = m.of_set ∙ ap (λ w. set_of_block w.geometry x) (sym m.view_is)
+  of_set = m.next.of_set ∙ ap (λ w. set_of_block w.geometry x) (sym m.view_is)
+
+  other : is_front x list ≡ false
+  other = ap (λ w. is_front x (list_of w k)) m.view_is ∙ m.next.behind
+
+  fed : sum (distances_of probes behind missed) + sum missed < MAX_REFERENCES
+  fed = omega (arith, m.next.few, ap fed_of m.view_is)
 
   moved : now.lists ≡ set was.lists k (take g.e (move_to_front x list))
   moved = ap (λ l. l.lists) m.moved ∙ ap (λ d. set was.lists k (take d (move_to_front x list))) m.sound.depth
 
-  -- sound again, and one more, by the comparisons that were made
-  sound : {behind' missed' : List ℕ} {probes' n : ℕ} → IsFed behind missed behind' missed' probes probes' n → n ≤ g.e
-      → IsSound g now behind' missed' probes'
-  sound numbers le =
-      sound_after m.sound numbers (ap (λ l. l.depth) m.moved) (ap (λ l. length l.lists) m.moved ∙ length-set was.lists k _) fed le
+  short : (i : ℕ) → length (get_or now.lists i []) ≤ g.e
+  short i =
+      subst (λ (ls : List (List ℕ)). length (get_or ls i []) ≤ g.e) (sym moved)
+      (short_set was.lists k g.e _ m.sound.short (omega (arith, length-take g.e (move_to_front x list))) i)
 
-  one_more : {behind' missed' : List ℕ} {probes' n : ℕ} → IsFed behind missed behind' missed' probes probes' n
-      → sum (distances_of probes' behind' missed') + sum missed' ≡ fed_of v + 1
-  one_more numbers = omega (arith, numbers.one_more, ap fed_of m.view_is)
+  sets : length now.lists ≡ length was.lists
+  sets = ap length moved ∙ length-set was.lists k _
 
-  -- found at a place behind the front
-  module _ {place : ℕ} (f : FoundBehind x place list) where
-    pub behind_fits : place < length behind
-    behind_fits = omega (arith, f.within, m.short, m.sound.depth, m.sound.behind_count)
+  -- found at a distance behind the front
+  module _ {distance : ℕ} (f : FoundAt x distance list) where
+    pub distance_fits : distance < length behind
+    distance_fits = omega (arith, f.within, m.sound.short k, m.sound.behind_count)
 
-    pub behind_room : {n : ℕ} → n ≡ get_or behind place n → n < 2 ^ 41
-    behind_room {n} read = omega (arith, raised_fits behind place n behind_fits read, fed, sum-distances probes behind missed)
+    pub distance_few : {n : ℕ} → n ≡ get_or behind distance n → n < MAX_REFERENCES
+    distance_few {n} read = omega (arith, raised_fits behind distance n distance_fits read, fed, sum-distances probes behind missed m.sound.none_in_front)
 
-    module _ {n probes' : ℕ} (read : n ≡ get_or behind place n) (more : probes' ≡ probes + (place + 2)) where
-      behind_numbers : IsFed behind missed (set behind place (n + 1)) missed probes probes' (place + 2)
-      behind_numbers = fed_behind behind missed probes probes' place n m.sound.told behind_fits read more
+    module _ {n probes' : ℕ} (read : n ≡ get_or behind distance n) (more : probes' ≡ probes + (distance + 1)) where
+      some : 1 ≤ distance
+      some = behind_front x distance list other f
 
-      pub behind_sound : IsSound g now (set behind place (n + 1)) missed probes'
-      behind_sound = sound behind_numbers (omega (arith, f.within, m.short, m.sound.depth))
+      weight : compared_behind (set behind distance (n + 1)) missed ≡ compared_behind behind missed + (1 + distance)
+      weight = omega (arith, weighed-raised 1 behind distance n distance_fits read)
 
-      pub behind_more : sum (distances_of probes' (set behind place (n + 1)) missed) + sum missed ≡ fed_of v + 1
-      behind_more = one_more behind_numbers
+      pub found_after : state_of g now (set behind distance (n + 1)) missed probes' ≡ after_reference v x
+      found_after =
+          let h : ℕ = probes - compared_behind behind missed in
+          let same : probes' - compared_behind (set behind distance (n + 1)) missed ≡ h = omega (arith, weight, more, m.sound.told) in
+          found_step (state_of g was behind missed probes) x k of_set distance probes' now.lists _ f moved
+          (ap (set (set behind distance (n + 1)) 0) same ∙ raised_behind behind distance n h some (get_or_read behind distance n distance_fits read 0)) more
+          ∙ ap (λ w. after_reference w x) m.view_is
 
-      pub behind_after : state_of g now (set behind place (n + 1)) missed probes' ≡ after_reference v x
-      behind_after =
-          let same : probes' - compared_behind (set behind place (n + 1)) missed ≡ probes - compared_behind behind missed =
-          omega (
-            arith,
-            behind_numbers.one_more,
-            sum-raised behind place n behind_fits read,
-            sum-distances probes behind missed,
-            sum-distances probes' (set behind place (n + 1)) missed,
-          ) in
-          behind_step (state_of g was behind missed probes) x k _ _ behind of_set refl now.lists probes' n same moved place f
-          (get_or_read behind place n behind_fits read 0) more ∙ ap (λ w. after_reference w x) m.view_is
+      pub found_sound : IsSound g now (set behind distance (n + 1)) missed probes'
+      found_sound =
+          sound_after m.sound m.view_is x found_after (ap (λ l. l.depth) m.moved) sets short (length-set behind distance (n + 1))
+          (first-raised behind distance (n + 1) some) refl (omega (arith, weight, more, m.sound.told)) more
+          (omega (arith, f.within, m.sound.short k)) m.next.few
 
   -- found nowhere in a list of `len` blocks
   module _ {len : ℕ} (f : FoundNowhere x len list) where
-    pub nowhere_fits : len < length missed
-    nowhere_fits = omega (arith, f.len_is, m.short, m.sound.depth, m.sound.occupancy_count)
+    pub len_fits : len < length missed
+    len_fits = omega (arith, f.len_is, m.sound.short k, m.sound.occupancy_count)
 
-    pub nowhere_room : {n : ℕ} → n ≡ get_or missed len n → n < 2 ^ 41
-    nowhere_room {n} read = omega (arith, raised_fits missed len n nowhere_fits read, fed)
+    pub len_few : {n : ℕ} → n ≡ get_or missed len n → n < MAX_REFERENCES
+    len_few {n} read = omega (arith, raised_fits missed len n len_fits read, fed)
 
     module _ {n probes' : ℕ} (read : n ≡ get_or missed len n) (more : probes' ≡ probes + len) where
-      nowhere_numbers : IsFed behind missed behind (set missed len (n + 1)) probes probes' len
-      nowhere_numbers = fed_nowhere behind missed probes probes' len n m.sound.told nowhere_fits read more
-
-      pub nowhere_sound : IsSound g now behind (set missed len (n + 1)) probes'
-      nowhere_sound = sound nowhere_numbers (omega (arith, f.len_is, m.short, m.sound.depth))
-
-      pub nowhere_more : sum (distances_of probes' behind (set missed len (n + 1))) + sum (set missed len (n + 1)) ≡ fed_of v + 1
-      nowhere_more = one_more nowhere_numbers
+      missed_weight : compared_behind behind (set missed len (n + 1)) ≡ compared_behind behind missed + len
+      missed_weight = omega (arith, weighed-raised 0 missed len n len_fits read)
 
       pub nowhere_after : state_of g now behind (set missed len (n + 1)) probes' ≡ after_reference v x
       nowhere_after =
           let same : probes' - compared_behind behind (set missed len (n + 1)) ≡ probes - compared_behind behind missed =
-          omega (
-            arith,
-            nowhere_numbers.one_more,
-            sum-raised missed len n nowhere_fits read,
-            sum-distances probes behind missed,
-            sum-distances probes' behind (set missed len (n + 1)),
-          ) in
-          nowhere_step (state_of g was behind missed probes) x k _ _ behind of_set refl now.lists probes' n same moved len f
-          (get_or_read missed len n nowhere_fits read 0) more ∙ ap (λ w. after_reference w x) m.view_is
+          omega (arith, missed_weight, more, m.sound.told) in
+          nowhere_step (state_of g was behind missed probes) x k of_set len n probes' now.lists _ f moved (ap (set behind 0) same)
+          (get_or_read missed len n len_fits read 0) more ∙ ap (λ w. after_reference w x) m.view_is
+
+      pub nowhere_sound : IsSound g now behind (set missed len (n + 1)) probes'
+      nowhere_sound =
+          sound_after m.sound m.view_is x nowhere_after (ap (λ l. l.depth) m.moved) sets short refl refl (length-set missed len (n + 1))
+          (omega (arith, missed_weight, more, m.sound.told)) more (omega (arith, f.len_is, m.sound.short k)) m.next.few

@@ -11,5 +11,5 @@ pub mod Weighing
 pub mod Feeding
 pub mod Fed
 pub mod Runs
-pub mod Tallies
+pub mod HitSums
 mod Rows

@@ -1,6 +1,6 @@
--- A list that is passed once while each block moves one place on: what the pass finds, and the list behind it.
-use Rattle.std.proofs.Common.{◌≡◌, ℕ, zero, suc, ◌+◌, ◌<◌, ◌≤◌, true, false, not, cond, eqb, List, [], ◌∷◌, ◌++◌, length, take, drop}
-use Rattle.std.proofs.Common.{get_or, set, refl, sym, ◌∙◌, ap, arith, add-one, one-add, append-nil, eq-eqb, below_more, min}
+-- A list that is passed once while each block moves one index on: what the pass finds, and the list behind it.
+use Rattle.std.proofs.Common.{◌≡◌, ℕ, zero, suc, ◌+◌, ◌-◌, ◌<◌, ◌≤◌, true, false, not, cond, eqb, List, [], ◌∷◌, ◌++◌, length, take, drop}
+use Rattle.std.proofs.Common.{get_or, set, refl, sym, ◌∙◌, ap, arith, add-one, one-add, append-nil, eq-eqb, below_more}
 use Rattle.std.proofs.Common.{length-take, length-append, length-drop}
 use Rattle.std.specs.List.{remove}
 use Rattle.std.proofs.lemmas.Bool.{lt-ltb, le-ltb, ne_eqb, eqb-true, false≢true}
@@ -8,7 +8,7 @@ use Rattle.std.proofs.lemmas.List.{take_all, drop_all}
 use Rattle.std.proofs.lemmas.List.Sums.{position_or_len_is, prefix_len-le-length}
 use Rattle.cache_core.proofs.Lists.{list_any_is}
 use Rattle.profile_core.specs.declared.recency.Shifted.TheVariants.{Found, Out}
-use Rattle.profile_core.specs.Moves.{place_of, is_in, is_front, shifted_of}
+use Rattle.profile_core.specs.Moves.{index_of, is_in, is_front, shifted_of}
 
 -- the list as it stands when i blocks of xs were passed, y in front: the block at i, and one step
 pub passed_at : (y : ℕ) (xs : List ℕ) (i : ℕ) → i < length xs → get_or (take i (y ∷ xs) ++ drop i xs) i 0 ≡ get_or xs i 0
@@ -26,35 +26,36 @@ pub passed_more : (y : ℕ) (xs : List ℕ) (i : ℕ) → i < length xs
     → set (take i (y ∷ xs) ++ drop i xs) i (get_or (y ∷ xs) i 0) ≡ take (i + 1) (y ∷ xs) ++ drop (i + 1) xs
 passed_more y xs i lt = passed_suc y xs i lt ∙ ap (λ j. take j (y ∷ xs) ++ drop j xs) (sym (add-one i))
 
--- the place of x, found or not
-pub place_found : (x i : ℕ) (xs : List ℕ) → i < length xs → ((k : ℕ) → k < i → eqb (get_or xs k 0) x ≡ false) → get_or xs i 0 ≡ x → place_of x xs ≡ i
-place_found x i xs lt others at = position_or_len_is (λ y. eqb y x) xs i 0 (omega arith) others (λ _. eq-eqb (get_or xs i 0) x at)
+-- the index of x, found or not
+pub index_found : (x i : ℕ) (xs : List ℕ) → i < length xs → ((k : ℕ) → k < i → eqb (get_or xs k 0) x ≡ false) → get_or xs i 0 ≡ x → index_of x xs ≡ i
+index_found x i xs lt others at = position_or_len_is (λ y. eqb y x) xs i 0 (omega arith) others (λ _. eq-eqb (get_or xs i 0) x at)
 
-pub place_end : (x : ℕ) (xs : List ℕ) → ((k : ℕ) → k < length xs → eqb (get_or xs k 0) x ≡ false) → place_of x xs ≡ length xs
-place_end x xs others = position_or_len_is (λ y. eqb y x) xs (length xs) 0 (omega arith) others (λ h. absurd (omega arith))
+pub index_end : (x : ℕ) (xs : List ℕ) → ((k : ℕ) → k < length xs → eqb (get_or xs k 0) x ≡ false) → index_of x xs ≡ length xs
+index_end x xs others = position_or_len_is (λ y. eqb y x) xs (length xs) 0 (omega arith) others (λ h. absurd (omega arith))
 
-pub place-le : (x : ℕ) (xs : List ℕ) → place_of x xs ≤ length xs
-place-le x xs = prefix_len-le-length (λ y. not (eqb y x)) xs
+pub index-le : (x : ℕ) (xs : List ℕ) → index_of x xs ≤ length xs
+index-le x xs = prefix_len-le-length (λ y. not (eqb y x)) xs
 
-pub is_found : (x i : ℕ) (xs : List ℕ) → place_of x xs ≡ i → i < length xs → is_in x xs ≡ true
-is_found x i xs at lt = list_any_is (λ y. eqb y x) xs ∙ lt-ltb (place_of x xs) (length xs) (omega arith)
+pub is_found : (x i : ℕ) (xs : List ℕ) → index_of x xs ≡ i → i < length xs → is_in x xs ≡ true
+is_found x i xs at lt = list_any_is (λ y. eqb y x) xs ∙ lt-ltb (index_of x xs) (length xs) (omega arith)
 
-pub is_absent : (x : ℕ) (xs : List ℕ) → place_of x xs ≡ length xs → is_in x xs ≡ false
-is_absent x xs at = list_any_is (λ y. eqb y x) xs ∙ le-ltb (place_of x xs) (length xs) (omega arith)
+pub is_absent : (x : ℕ) (xs : List ℕ) → index_of x xs ≡ length xs → is_in x xs ≡ false
+is_absent x xs at = list_any_is (λ y. eqb y x) xs ∙ le-ltb (index_of x xs) (length xs) (omega arith)
 
-pub shifted_found : (x y i : ℕ) (xs : List ℕ) → place_of x xs ≡ i → i < length xs → Found i ≡ shifted_of x y xs
-shifted_found x y i xs at lt =
-    ap (λ p. Found p) (sym at) ∙ sym (ap (λ b. cond b (Found (place_of x xs)) (Out (get_or (y ∷ xs) (length xs) 0))) (is_found x i xs at lt))
+pub shifted_found : (x i : ℕ) (xs : List ℕ) → index_of x xs ≡ i → i < length xs → Found i ≡ shifted_of x xs
+shifted_found x i xs at lt =
+    ap (λ p. Found p) (sym at) ∙ sym (ap (λ b. cond b (Found (index_of x xs)) (Out (get_or xs (length xs - 1) 0))) (is_found x i xs at lt))
 
-pub shifted_out : (x y last : ℕ) (xs : List ℕ) → place_of x xs ≡ length xs → last ≡ get_or (y ∷ xs) (length xs) 0 → Out last ≡ shifted_of x y xs
-shifted_out x y last xs at is = ap (λ l. Out l) is ∙ sym (ap (λ b. cond b (Found (place_of x xs)) (Out (get_or (y ∷ xs) (length xs) 0))) (is_absent x xs at))
+pub shifted_out : (x last : ℕ) (xs : List ℕ) → index_of x xs ≡ length xs → last ≡ get_or xs (length xs - 1) 0 → Out last ≡ shifted_of x xs
+shifted_out x last xs at is =
+    ap (λ l. Out l) is ∙ sym (ap (λ b. cond b (Found (index_of x xs)) (Out (get_or xs (length xs - 1) 0))) (is_absent x xs at))
 
 -- the whole list after the pass
 pub length-remove : (xs : List ℕ) (i : ℕ) → i < length xs → suc (length (remove xs i)) ≡ length xs
 length-remove xs i lt = omega (arith, length-append (take i xs) (drop (suc i) xs), length-take i xs, length-drop (suc i) xs)
 
-pub moved_found : (x y i : ℕ) (xs : List ℕ) → place_of x xs ≡ i → i < length xs
-    → take (i + 1) (y ∷ xs) ++ drop (i + 1) xs ≡ take (length xs) (y ∷ remove xs (place_of x xs))
+pub moved_found : (x y i : ℕ) (xs : List ℕ) → index_of x xs ≡ i → i < length xs
+    → take (i + 1) (y ∷ xs) ++ drop (i + 1) xs ≡ take (length xs) (y ∷ remove xs (index_of x xs))
 moved_found x y i xs at lt =
     ap (λ j. take j (y ∷ xs) ++ drop j xs) (add-one i)
     ∙ sym (take_all (length xs) (y ∷ remove xs i) (omega (arith, length-remove xs i lt)))
@@ -63,8 +64,8 @@ moved_found x y i xs at lt =
 pub remove_end : (xs : List ℕ) (n : ℕ) → length xs ≤ n → remove xs n ≡ xs
 remove_end xs n le = ap (λ ys. ys ++ drop (suc n) xs) (take_all n xs le) ∙ ap (λ ys. xs ++ ys) (drop_all (suc n) xs (omega arith)) ∙ append-nil xs
 
-pub moved_out : (x y i : ℕ) (xs : List ℕ) → place_of x xs ≡ length xs → i ≡ length xs
-    → take i (y ∷ xs) ++ drop i xs ≡ take (length xs) (y ∷ remove xs (place_of x xs))
+pub moved_out : (x y i : ℕ) (xs : List ℕ) → index_of x xs ≡ length xs → i ≡ length xs
+    → take i (y ∷ xs) ++ drop i xs ≡ take (length xs) (y ∷ remove xs (index_of x xs))
 moved_out x y i xs at e =
     ap (λ ys. take i (y ∷ xs) ++ ys) (drop_all i xs (omega arith)) ∙ append-nil (take i (y ∷ xs)) ∙ ap (λ j. take j (y ∷ xs)) e
     ∙ ap (λ ys. take (length xs) (y ∷ ys)) (sym (ap (remove xs) at ∙ remove_end xs (length xs) (omega arith)))
@@ -73,13 +74,10 @@ moved_out x y i xs at e =
 pub other_front : (x y : ℕ) (ys : List ℕ) → is_front x (y ∷ ys) ≡ false → y ≡ x → ⊥
 other_front x y ys h e = absurd (false≢true (sym h ∙ eq-eqb y x e))
 
-pub place_behind : (x y : ℕ) (ys : List ℕ) → (y ≡ x → ⊥) → place_of x (y ∷ ys) ≡ suc (place_of x ys)
-place_behind x y ys ne = ap (λ b. cond (not b) (1 + place_of x ys) 0) (ne_eqb y x ne) ∙ one-add (place_of x ys)
+pub index_behind : (x y : ℕ) (ys : List ℕ) → (y ≡ x → ⊥) → index_of x (y ∷ ys) ≡ suc (index_of x ys)
+index_behind x y ys ne = ap (λ b. cond (not b) (1 + index_of x ys) 0) (ne_eqb y x ne) ∙ one-add (index_of x ys)
 
-pub counted_behind : (x y : ℕ) (ys : List ℕ) → (y ≡ x → ⊥) → min (place_of x (y ∷ ys) + 1) (length (y ∷ ys)) ≡ 1 + min (place_of x ys + 1) (length ys)
-counted_behind x y ys ne = omega (arith, place_behind x y ys ne)
-
--- what is known once i blocks of xs were passed: none is x, and each went one place on, y first
+-- what is known once i blocks of xs were passed: none is x, and each went one index on, y first
 pub record IsPassed (x y i carried : ℕ) (xs now : List ℕ) : Type 0 where
   pub within : i ≤ length xs
   pub others : (k : ℕ) → k < i → eqb (get_or xs k 0) x ≡ false
@@ -120,23 +118,32 @@ module _ {x y i carried : ℕ} {xs now : List ℕ} (p : IsPassed x y i carried x
     }
 
     -- the next is x
-    module _ (is : eqb (get_or now i 0) x ≡ true) where
-      pub found_here : place_of x xs ≡ i
-      found_here = place_found x i xs lt p.others (sym at_is ∙ eqb-true (get_or now i 0) x is)
+    module _ (is : eqb (get_or now i 0) x ≡ true) (other : is_front x (y ∷ xs) ≡ false) where
+      found_here : index_of x xs ≡ i
+      found_here = index_found x i xs lt p.others (sym at_is ∙ eqb-true (get_or now i 0) x is)
 
-      pub found_shifted : {j : ℕ} → j ≡ i → Found j ≡ shifted_of x y xs
-      found_shifted same = ap (λ j. Found j) same ∙ shifted_found x y i xs found_here lt
+      distance_is : index_of x (y ∷ xs) ≡ suc i
+      distance_is = index_behind x y xs (other_front x y xs other) ∙ ap suc found_here
 
-      pub found_moved : {put : ℕ} → put ≡ carried → set now i put ≡ take (length xs) (y ∷ remove xs (place_of x xs))
+      pub found_shifted : {distance : ℕ} → distance ≡ i + 1 → Found distance ≡ shifted_of x (y ∷ xs)
+      found_shifted {distance} next = shifted_found x distance (y ∷ xs) (omega (arith, distance_is, next)) (omega (arith, lt, next))
+
+      pub found_moved : {put : ℕ} → put ≡ carried → set now i put ≡ take (length xs) (remove (y ∷ xs) (index_of x (y ∷ xs)))
       found_moved put = stepped put ∙ moved_found x y i xs found_here lt
+          ∙ ap (λ j. take (length xs) (remove (y ∷ xs) j)) (sym (index_behind x y xs (other_front x y xs other)))
 
   -- all were passed
-  module _ (end : length xs ≤ i) where
-    pub nowhere : place_of x xs ≡ length xs
-    nowhere = place_end x xs (λ k lt. p.others k (omega (arith, end, lt)))
+  module _ (end : length xs ≤ i) (other : is_front x (y ∷ xs) ≡ false) where
+    nowhere : index_of x xs ≡ length xs
+    nowhere = index_end x xs (λ k lt. p.others k (omega (arith, end, lt)))
 
-    pub nowhere_shifted : Out carried ≡ shifted_of x y xs
-    nowhere_shifted = shifted_out x y carried xs nowhere (p.carried_is ∙ ap (λ j. get_or (y ∷ xs) j 0) (omega (arith, end, p.within)))
+    none_is : index_of x (y ∷ xs) ≡ suc (index_of x xs)
+    none_is = index_behind x y xs (other_front x y xs other)
 
-    pub nowhere_moved : now ≡ take (length xs) (y ∷ remove xs (place_of x xs))
+    pub nowhere_shifted : Out carried ≡ shifted_of x (y ∷ xs)
+    nowhere_shifted = shifted_out x carried (y ∷ xs) (none_is ∙ ap suc nowhere)
+        (p.carried_is ∙ ap (λ j. get_or (y ∷ xs) j 0) (omega (arith, end, p.within)))
+
+    pub nowhere_moved : now ≡ take (length xs) (remove (y ∷ xs) (index_of x (y ∷ xs)))
     nowhere_moved = p.now_is ∙ moved_out x y i xs nowhere (omega (arith, end, p.within))
+        ∙ ap (λ j. take (length xs) (remove (y ∷ xs) j)) (sym none_is)

@@ -7,20 +7,20 @@ use Rattle.std.proofs.lemmas.Bool.{ne_eqb, cases_eq, ltb-true}
 use Rattle.std.proofs.Math.Seq.{take-nil}
 use Rattle.std.proofs.lemmas.Nat.{mod_below, pow_pos}
 use Rattle.cache_core.proofs.Distances.{take-distinct_of_set-same, distinct_of_set-other, distinct_of_set-nil}
-use Rattle.cache_core.proofs.Places.{places-flush, window-nil, window-push, sum_by-reference}
+use Rattle.cache_core.proofs.Occurrences.{occurrences-flush, window-nil, window-push, sum_by-reference}
 use Rattle.trace_core.specs.declared.events.Ref.{Ref}
 use Rattle.trace_core.specs.declared.events.Event.{Event}
 use Rattle.trace_core.specs.declared.events.Event.TheVariants as event
 use Rattle.cache_core.specs.Geometry.{GeometryValue, IsGeometry, block_of, set_of_block}
-use Rattle.cache_core.specs.LruLaws.{place_after}
-use Rattle.cache_core.specs.Windows.{Place, distinct_of_set, has_last, distance, seen, is_hit, window, places, places_after, probes}
-use Rattle.profile_core.specs.Moves.{place_of, is_in, move_to_front}
+use Rattle.cache_core.specs.LruLaws.{occurrence_after}
+use Rattle.cache_core.specs.Windows.{Occurrence, distinct_of_set, has_last, distance, seen, is_hit, window, occurrences, occurrences_after, probes}
+use Rattle.profile_core.specs.Moves.{index_of, is_in, move_to_front}
 use Rattle.profile_core.specs.State.{ProfileState, empty, list_of, raise, referenced_in, after_reference, after_flush}
-use Rattle.profile_core.specs.StandsFor.{StandsFor}
+use Rattle.profile_core.specs.ProfileStandsFor.{ProfileStandsFor}
 use Rattle.profile_core.proofs.Steps.{raise_if, raise_unless, Finds, finds, distance_within, probes_within}
 
 -- the list of each set after a reference
-lists_step : (es : List Event) (v : ProfileState) (r : Ref) (xs : List ℕ) → StandsFor es v
+lists_step : (es : List Event) (v : ProfileState) (r : Ref) (xs : List ℕ) → ProfileStandsFor es v
     → xs ≡ take v.geometry.e (distinct_of_set v.geometry (set_of_block v.geometry (block_of v.geometry r.addr)) (window v.geometry es))
     → (k : ℕ) → k < 2 ^ v.geometry.s
     → list_of (referenced_in v (block_of v.geometry r.addr) xs) k ≡ take v.geometry.e
@@ -52,13 +52,13 @@ length-either : (b : Bool) (xs ys : List ℕ) {n : ℕ} → length xs ≡ n → 
 length-either true xs ys p q = p
 length-either false xs ys p q = q
 
-referenced_in_stands : (es : List Event) (v : ProfileState) (r : Ref) (xs : List ℕ) → StandsFor es v
+referenced_in_stands : (es : List Event) (v : ProfileState) (r : Ref) (xs : List ℕ) → ProfileStandsFor es v
     → xs ≡ take v.geometry.e (distinct_of_set v.geometry (set_of_block v.geometry (block_of v.geometry r.addr)) (window v.geometry es))
-    → StandsFor (es ++ event.Reference r ∷ []) (referenced_in v (block_of v.geometry r.addr) xs)
+    → ProfileStandsFor (es ++ event.Reference r ∷ []) (referenced_in v (block_of v.geometry r.addr) xs)
 unfolding probes
 referenced_in_stands es v r xs h e =
     let g = v.geometry in
-    let p : Place = place_after g es r in
+    let p : Occurrence = occurrence_after g es r in
     let f : Finds g g.e p xs = finds g g.e p xs e in
     let x : ℕ = p.block in
     record {
@@ -66,16 +66,16 @@ referenced_in_stands es v r xs h e =
       set_count = length-set v.lists _ _ ∙ h.set_count;
       lists = lists_step es v r xs h e;
       distance_count =
-          length-either (is_in x xs) (raise v.distances (place_of x xs)) v.distances (length-raise v.distances (place_of x xs)) refl ∙ h.distance_count;
+          length-either (is_in x xs) (raise v.distances (index_of x xs)) v.distances (length-raise v.distances (index_of x xs)) refl ∙ h.distance_count;
       distances = λ d lt.
-          let step : (is_in x xs && eqb (place_of x xs) d) ≡ (has_last p && eqb (distance g p) d) =
-          cc (distance_within (distance g p) (seen g p) v.geometry.e d lt, f.last, f.found, f.place) in
-          raise_if (is_in x xs) v.distances (place_of x xs) d
+          let step : (is_in x xs && eqb (index_of x xs) d) ≡ (has_last p && eqb (distance g p) d) =
+          cc (distance_within (distance g p) (seen g p) v.geometry.e d lt, f.last, f.found, f.index) in
+          raise_if (is_in x xs) v.distances (index_of x xs) d
           (λ found.
           let nearer : min (distance g p) v.geometry.e < min v.geometry.e (seen g p) = ltb-true _ _ (sym f.found ∙ found) in
-          omega (arith, f.place, h.distance_count, nearer))
-          ∙ ap (λ n. n + cond (is_in x xs && eqb (place_of x xs) d) 1 0) (h.distances d lt)
-          ∙ ap (λ b. count_by (λ q. has_last q && eqb (distance g q) d) (places v.geometry es) + cond b 1 0) step
+          omega (arith, f.index, h.distance_count, nearer))
+          ∙ ap (λ n. n + cond (is_in x xs && eqb (index_of x xs) d) 1 0) (h.distances d lt)
+          ∙ ap (λ b. count_by (λ q. has_last q && eqb (distance g q) d) (occurrences v.geometry es) + cond b 1 0) step
           ∙ sym (sum_by-reference (λ q. cond (has_last q && eqb (distance g q) d) 1 0) g es r);
       occupancy_count =
           length-either (is_in x xs) v.misses_by_occupancy (raise v.misses_by_occupancy (length xs)) refl (length-raise v.misses_by_occupancy (length xs))
@@ -85,28 +85,28 @@ referenced_in_stands es v r xs h e =
           let step : (not (is_in x xs) && eqb (length xs) n) ≡ (not (is_hit g p) && eqb (min (seen g p) v.geometry.e) n) = cc (f.hit, f.len, same) in
           raise_unless (is_in x xs) v.misses_by_occupancy (length xs) n (λ _. omega (arith, f.len, h.occupancy_count))
           ∙ ap (λ m. m + cond (not (is_in x xs) && eqb (length xs) n) 1 0) (h.misses_by_occupancy n le)
-          ∙ ap (λ b. count_by (λ q. not (is_hit g q) && eqb (min (seen g q) v.geometry.e) n) (places v.geometry es) + cond b 1 0) step
+          ∙ ap (λ b. count_by (λ q. not (is_hit g q) && eqb (min (seen g q) v.geometry.e) n) (occurrences v.geometry es) + cond b 1 0) step
           ∙ sym (sum_by-reference (λ q. cond (not (is_hit g q) && eqb (min (seen g q) v.geometry.e) n) 1 0) g es r);
       comparisons =
-          let more : min (place_of x xs + 1) (length xs) ≡ cond (is_hit g p) (distance g p + 1) (min (seen g p) v.geometry.e) =
-          ap (λ i. min (i + 1) (length xs)) f.place ∙ ap (λ n. min (min (distance g p) v.geometry.e + 1) n) f.len
+          let more : min (index_of x xs + 1) (length xs) ≡ cond (is_hit g p) (distance g p + 1) (min (seen g p) v.geometry.e) =
+          ap (λ i. min (i + 1) (length xs)) f.index ∙ ap (λ n. min (min (distance g p) v.geometry.e + 1) n) f.len
           ∙ sym (ap (λ b. cond (b && ltb (distance g p) v.geometry.e) (distance g p + 1) (min (seen g p) v.geometry.e)) f.last
           ∙ probes_within (distance g p) (seen g p) v.geometry.e f.within) in
-          ap (λ n. n + min (place_of x xs + 1) (length xs)) h.comparisons
+          ap (λ n. n + min (index_of x xs + 1) (length xs)) h.comparisons
           ∙ ap (λ n. probes g es + n) more
           ∙ sym (sum_by-reference (λ q. cond (is_hit g q) (distance g q + 1) (min (seen g q) v.geometry.e)) g es r);
     }
 
-pub reference_stands : (es : List Event) (v : ProfileState) (r : Ref) → StandsFor es v
-    → StandsFor (es ++ event.Reference r ∷ []) (after_reference v (block_of v.geometry r.addr))
+pub reference_stands : (es : List Event) (v : ProfileState) (r : Ref) → ProfileStandsFor es v
+    → ProfileStandsFor (es ++ event.Reference r ∷ []) (after_reference v (block_of v.geometry r.addr))
 reference_stands es v r h =
     referenced_in_stands es v r (list_of v (set_of_block v.geometry (block_of v.geometry r.addr))) h
     (h.lists (set_of_block v.geometry (block_of v.geometry r.addr)) (mod_below _ _ (pow_pos v.geometry.s)))
 
-pub flush_stands : (es : List Event) (v : ProfileState) → StandsFor es v → StandsFor (es ++ event.Flush ∷ []) (after_flush v)
+pub flush_stands : (es : List Event) (v : ProfileState) → ProfileStandsFor es v → ProfileStandsFor (es ++ event.Flush ∷ []) (after_flush v)
 unfolding probes
 flush_stands es v h =
-    let same = sym (places-flush v.geometry es) in
+    let same = sym (occurrences-flush v.geometry es) in
     record {
       geometry = h.geometry;
       set_count = length-replicate (2 ^ v.geometry.s) [];
@@ -123,8 +123,8 @@ flush_stands es v h =
       comparisons = h.comparisons ∙ ap (sum_by (λ p. cond (is_hit v.geometry p) (distance v.geometry p + 1) (min (seen v.geometry p) v.geometry.e))) same;
     }
 
-pub new_stands : (g : GeometryValue) → IsGeometry g → StandsFor [] (empty g)
-unfolding probes places_after
+pub new_stands : (g : GeometryValue) → IsGeometry g → ProfileStandsFor [] (empty g)
+unfolding probes occurrences_after
 new_stands g h =
     record {
       geometry = h;

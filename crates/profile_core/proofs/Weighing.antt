@@ -1,9 +1,9 @@
--- Histograms whose numbers count by their places: one more at a place, and the sums that a reading adds up.
+-- Histograms whose numbers count by their index: one more at an index, and the sums that a reading adds up.
 use Rattle.std.proofs.Common.{◌≡◌, ℕ, zero, suc, ◌+◌, ◌*◌, ◌<◌, ◌≤◌, List, [], ◌∷◌, length, drop, get_or, set, sum, refl, sym, ◌∙◌, ap, arith, add-one}
-use Rattle.std.proofs.Math.Nat.{suc-mul}
+use Rattle.std.proofs.Math.Nat.{suc-mul, mul-suc}
 use Rattle.std.proofs.Math.Seq.{drop-cons}
 use Rattle.std.proofs.lemmas.List.{get_or_read}
-use Rattle.std.proofs.lemmas.List.Sums.{sum_by-set, get_or-le-sum_by}
+use Rattle.std.proofs.lemmas.List.Sums.{sum_by-cons, sum_by-set, get_or-le-sum_by}
 use Rattle.std.specs.Prelude.{replicate}
 use Rattle.profile_core.specs.State.{weighed}
 
@@ -23,7 +23,7 @@ weighed_at w (n ∷ ns) (suc i) lt = let rest = weighed_at (w + 1) ns i (omega a
 pub weighed-raised : (w : ℕ) (ns : List ℕ) (i n : ℕ) → i < length ns → n ≡ get_or ns i n → weighed w (set ns i (n + 1)) ≡ weighed w ns + (w + i)
 weighed-raised w ns i n lt read = ap (λ m. weighed w (set ns i (m + 1))) (get_or_read ns i n lt read 0) ∙ weighed_at w ns i lt
 
--- what is left of a histogram from place i on
+-- what is left of a histogram from index i on
 pub weighed-next : (w : ℕ) (ns : List ℕ) (i : ℕ) → i < length ns → weighed w (drop i ns) ≡ get_or ns i 0 * w + weighed (w + 1) (drop (i + 1) ns)
 unfolding weighed
 weighed-next w ns i lt = ap (weighed w) (drop-cons ns i 0 lt) ∙ ap (λ j. get_or ns i 0 * w + weighed (w + 1) (drop j ns)) (sym (add-one i))
@@ -31,6 +31,14 @@ weighed-next w ns i lt = ap (weighed w) (drop-cons ns i 0 lt) ∙ ap (λ j. get_
 pub weighed-none : (w : ℕ) → weighed w [] ≡ 0
 unfolding weighed
 weighed-none w = refl
+
+-- indexes that are one more
+pub weighed-more : (w : ℕ) (ns : List ℕ) → weighed (w + 1) ns ≡ weighed w ns + sum ns
+unfolding weighed
+weighed-more w [] = refl
+weighed-more w (n ∷ ns) =
+    let more : n * (w + 1) ≡ n * w + n = ap (λ m. n * m) (add-one w) ∙ mul-suc n w in
+    omega (arith, more, weighed-more (w + 1) ns, sum_by-cons (λ m. m) n ns)
 
 -- numbers that are all 0
 pub weighed-zeros : (w n : ℕ) → weighed w (replicate n 0) ≡ 0

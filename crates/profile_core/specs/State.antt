@@ -1,15 +1,16 @@
 -- What a profile holds, and how a reference and a flush change it.
-use Rattle.std.specs.Prelude.{ℕ, ◌≡◌, ◌≤◌, ◌+◌, ◌-◌, ◌*◌, ◌^◌, min, if◌then◌else◌, List, [], ◌∷◌, length, take}
+use Rattle.std.specs.Prelude.{ℕ, ◌≡◌, ◌≤◌, ◌<◌, ◌+◌, ◌-◌, ◌*◌, ◌^◌, false, min, if◌then◌else◌, List, [], ◌∷◌, length, take}
 use Rattle.std.specs.Prelude.{drop, sum, sum_by, replicate, slice_set, slice_index, slice_index_or}
 use Rattle.trace_core.specs.declared.events.Event.{Event}
 use Rattle.trace_core.specs.declared.events.Event.TheVariants as event
 use Rattle.cache_core.specs.declared.outcome.Counts.{Counts}
 use Rattle.cache_core.specs.Geometry.{GeometryValue, block_of, set_of_block}
+use Rattle.profile_core.specs.declared.profile.TheConstants.{MAX_REFERENCES}
 use Rattle.profile_core.specs.Slab.{Lists}
-use Rattle.profile_core.specs.Moves.{place_of, is_in, move_to_front}
+use Rattle.profile_core.specs.Moves.{index_of, is_in, is_front, move_to_front}
 
 -- for each set a list of at most geometry.e blocks, the most recent first; how many references found their block at
--- each place of its list; how many did not find it in a list of each length; and the comparisons made
+-- each stack distance, its index in that list; how many did not find it in a list of each length; and the comparisons made
 pub record ProfileState : Type 0 where
   pub geometry : GeometryValue
   pub lists : List (List ℕ)
@@ -31,7 +32,7 @@ empty g = record {
 abbrev pub list_of : ProfileState → ℕ → List ℕ
 list_of v k = slice_index_or v.lists k []
 
--- one more at a place
+-- one more at an index
 abbrev pub raise : List ℕ → ℕ → List ℕ
 raise ns i = slice_set ns i (slice_index ns i + 1)
 
@@ -39,9 +40,9 @@ raise ns i = slice_set ns i (slice_index ns i + 1)
 abbrev pub referenced_in : ProfileState → ℕ → List ℕ → ProfileState
 referenced_in v x xs = record v {
   lists = slice_set v.lists (set_of_block v.geometry x) (take v.geometry.e (move_to_front x xs));
-  distances = if is_in x xs then raise v.distances (place_of x xs) else v.distances;
+  distances = if is_in x xs then raise v.distances (index_of x xs) else v.distances;
   misses_by_occupancy = if is_in x xs then v.misses_by_occupancy else raise v.misses_by_occupancy (length xs);
-  probes = v.probes + min (place_of x xs + 1) (length xs);
+  probes = v.probes + min (index_of x xs + 1) (length xs);
 }
 
 -- after a reference to a block
@@ -65,8 +66,8 @@ fed_of v = sum v.distances + sum v.misses_by_occupancy
 abbrev pub held_of : ProfileState → ℕ
 held_of v = sum_by length v.lists
 
--- the counts of an LRU cache of e lines a set: a reference found at a place below e hits a cache of e lines,
--- and any other misses (Mattson 1970); a miss evicts where e blocks or more had been seen
+-- the counts of an LRU cache of e lines a set: a reference found at a distance below e hits a cache of e lines, and
+-- any other misses (Mattson 1970); a miss evicts where e blocks or more had been seen
 abbrev pub counts_at : ProfileState → ℕ → Counts
 counts_at v e = record {
   hits = sum (take e v.distances);
@@ -74,37 +75,45 @@ counts_at v e = record {
   evictions = sum (drop e v.distances) + sum (drop e v.misses_by_occupancy);
 }
 
--- what a tally holds: an associativity, the sums of both histograms up to it, and the references fed
-pub record TallyState : Type 0 where
+-- the sums of both histograms up to an associativity, and the references fed
+pub record HitSumsState : Type 0 where
   pub ways : ℕ
   pub hits : ℕ
   pub free_misses : ℕ
   pub fed : ℕ
 
--- the tally of a profile at an associativity
-abbrev pub tally_at : ProfileState → ℕ → TallyState
-tally_at v e = record { ways = e; hits = sum (take e v.distances); free_misses = sum (take e v.misses_by_occupancy); fed = fed_of v }
+-- the sums of a profile's histograms up to an associativity
+abbrev pub hit_sums_at : ProfileState → ℕ → HitSumsState
+hit_sums_at v e = record { ways = e; hits = sum (take e v.distances); free_misses = sum (take e v.misses_by_occupancy); fed = fed_of v }
 
--- the sum of a histogram's numbers, each times its place, counted from n
+-- the sum of a histogram's numbers, each times its index, counted from n
 unfoldable pub weighed : ℕ → List ℕ → ℕ
 weighed n [] = 0
 weighed n (x ∷ xs) = x * n + weighed (n + 1) xs
 
--- the comparisons of the references that were not found in front: d + 1 where a block was found at place d, whose
--- numbers `behind` has from place 1 on, and n where it was not found in a list of n blocks
+-- the comparisons of the references that were not found in front: d + 1 where a block was found at distance d, and n
+-- where it was not found in a list of n blocks
 abbrev pub compared_behind : List ℕ → List ℕ → ℕ
-compared_behind behind missed = weighed 2 behind + weighed 0 missed
+compared_behind behind missed = weighed 1 behind + weighed 0 missed
 
--- the numbers for all places: a reference found in front made one comparison, so there were as many as are left
+-- the numbers for all distances: a reference found in front made one comparison, so there were as many as are left
 abbrev pub distances_of : ℕ → List ℕ → List ℕ → List ℕ
-distances_of probes behind missed = (probes - compared_behind behind missed) ∷ behind
+distances_of probes behind missed = slice_set behind 0 (probes - compared_behind behind missed)
 
--- what is true of the fields of every profile
+-- what is true of the fields of every profile: none found in front is counted by `behind`
 pub record IsSound (g : GeometryValue) (lists : Lists) (behind missed : List ℕ) (probes : ℕ) : Type 0 where
   pub depth : lists.depth ≡ g.e
   pub set_count : length lists.lists ≡ 2 ^ g.s
-  pub behind_count : length behind + 1 ≡ g.e
+  pub short : (k : ℕ) → length (slice_index_or lists.lists k []) ≤ g.e
+  pub behind_count : length behind ≡ g.e
+  pub none_in_front : take 1 behind ≡ 0 ∷ []
   pub occupancy_count : length missed ≡ g.e + 1
   pub told : compared_behind behind missed ≤ probes
-  pub fed : sum (distances_of probes behind missed) + sum missed ≤ 2 ^ 41
+  pub fed : sum (distances_of probes behind missed) + sum missed ≤ MAX_REFERENCES
   pub compared : probes ≤ (sum (distances_of probes behind missed) + sum missed) * g.e
+
+-- a profile that may be fed one reference more: to block x of set k, in whose list it is not the front
+pub record IsNext (v : ProfileState) (k x : ℕ) : Type 0 where
+  pub few : fed_of v < MAX_REFERENCES
+  pub of_set : k ≡ set_of_block v.geometry x
+  pub behind : is_front x (list_of v k) ≡ false

@@ -1,4 +1,5 @@
-//! One pass over a trace that counts for every associativity up to a depth (Mattson, Gecsei, Slutz and Traiger 1970).
+//! One pass over a trace that counts for every associativity up to a depth (Mattson, Gecsei, Slutz
+//! and Traiger 1970).
 #![tactic(auto)]
 
 pub mod laws;

@@ -1,11 +1,13 @@
 //! A profile: one pass over references that counts for every associativity up to a depth.
-ghost use Rattle.std.specs.Prelude.{◌≡◌, ◌+◌, ◌-◌, ◌*◌, ◌^◌, ◌<◌, ◌≤◌, List, [], IfOk, true, false, length, take, drop, sum, slice_index};
+ghost use Rattle.std.specs.Prelude.{◌≡◌, ◌+◌, ◌-◌, ◌*◌, ◌^◌, ◌<◌, ◌≤◌, List, IfOk, true, false};
+ghost use Rattle.std.specs.Prelude.{length, take, drop, sum};
 ghost use Rattle.trace_core.specs.declared.events.Event.{Event};
 ghost use Rattle.cache_core.specs.Geometry.{IsGeometry, geometry_value, block_of, set_of_block};
-ghost use Rattle.cache_core.specs.Windows.{places, counts, probes, held};
-ghost use Rattle.profile_core.specs.State.{empty, list_of, after_reference, after_flush, fed_of, held_of, counts_at, tally_at, weighed};
-ghost use Rattle.profile_core.specs.Moves.{is_front, is_second};
-ghost use Rattle.profile_core.specs.StandsFor.{StandsFor};
+ghost use Rattle.cache_core.specs.Windows.{occurrences, counts, probes, held};
+ghost use Rattle.profile_core.specs.State.{empty, list_of, after_reference, after_flush, fed_of};
+ghost use Rattle.profile_core.specs.State.{held_of, counts_at, hit_sums_at, weighed, IsNext};
+ghost use Rattle.profile_core.specs.Moves.{is_second};
+ghost use Rattle.profile_core.specs.ProfileStandsFor.{ProfileStandsFor};
 
 use crate::recency::{RecencyLists, Touch};
 use cache_core::geometry::Geometry;
@@ -13,11 +15,16 @@ use cache_core::outcome::Counts;
 use std::alloc::{AllocError, Global};
 use std::marker::Model;
 
-/// The recency lists of all sets (LRU stacks, Mattson 1970) and two histograms: references found behind the front of
-/// their list, by their stack distance less 1, which is the block's place behind the front; references not found, by
-/// the number of blocks in the list. Those found in front, which most are, have no counter: each made one comparison,
-/// so they are all comparisons less those that the histograms tell. What a reference in front needs stands first and
-/// side by side: with `probes` last, many profiles took a tenth more time.
+/// The most references that a profile may be fed, 2^41: two for each of 2^40 lines. So no count
+/// overflows.
+pub const MAX_REFERENCES: u64 = 1 << 41;
+
+/// The recency lists of all sets (LRU stacks, Mattson 1970) and two histograms: references found
+/// behind the front of their list, by their stack distance, which is the block's index in the list;
+/// references not found, by the number of blocks in the list. Those found in front, at distance 0,
+/// which most are, have no counter: each made one comparison, so they are all comparisons less
+/// those that the histograms tell. What a reference in front needs stands first and side by side:
+/// with `probes` last, many profiles took a tenth more time.
 #[derive(Drop)]
 pub struct Profile {
     geometry: Geometry,
@@ -40,33 +47,37 @@ impl Model for Profile {
       probes = p.probes;
     } };
 
-    ghost invariant = { λ p. IsSound p.geometry p.lists p.behind.items p.misses_by_occupancy.items p.probes };
+    ghost invariant = { λ p.
+        IsSound p.geometry p.lists p.behind.items p.misses_by_occupancy.items p.probes };
 }
 
-/// A walk over a profile's histograms towards larger associativities: `hits` of the `fed` references hit in a cache of
-/// `ways` lines a set, and `free_misses` missed while their set had a free line.
+/// The sums of a profile's histograms up to an associativity, which only rises: `hits` of the `fed`
+/// references hit in a cache of `ways` lines per set, and `free_misses` missed while their set had
+/// a free line.
 #[derive(Clone, Copy, Debug)]
-pub struct Tally {
+pub struct HitSums {
     ways: usize,
     hits: u64,
     free_misses: u64,
     fed: u64,
 }
 
-impl Model for Tally {
-    ghost use Rattle.profile_core.specs.State.{TallyState};
+impl Model for HitSums {
+    ghost use Rattle.profile_core.specs.State.{HitSumsState};
 
-    ghost Value = { TallyState };
+    ghost Value = { HitSumsState };
 
-    ghost view = { λ t. record { ways = t.ways; hits = t.hits; free_misses = t.free_misses; fed = t.fed } };
+    ghost view = { λ t.
+        record { ways = t.ways; hits = t.hits; free_misses = t.free_misses; fed = t.fed } };
 
-    ghost inverse = { λ t. record { ways = t.ways; hits = t.hits; free_misses = t.free_misses; fed = t.fed } };
+    ghost inverse = { λ t.
+        record { ways = t.ways; hits = t.hits; free_misses = t.free_misses; fed = t.fed } };
 }
 
 impl Profile {
-    /// A profile of caches of `2^s` sets of 1 to `depth` lines of `2^b` bytes. It takes all its memory here: 8 bytes
-    /// for each of `depth * 2^s` blocks, 4 and a quarter for each set, and 16 for each associativity. Where memory
-    /// is refused, nothing is kept.
+    /// A profile of caches of `2^s` sets of 1 to `depth` lines of `2^b` bytes. It takes all its
+    /// memory here: 8 bytes for each of `depth * 2^s` blocks, 4 and a quarter for each set, and 16
+    /// for each associativity and 8 more. Where memory is refused, nothing is kept.
     pub fn new(alloc: Global, b: u64, s: u64, depth: u64) -> Result<Profile, AllocError>
         requires { IsGeometry (geometry_value s depth b) }
         ensures { IfOk result (λ profile. profile ≡ empty (geometry_value s depth b)) }
@@ -78,28 +89,29 @@ impl Profile {
         Ok(Profile {
             geometry,
             lists: RecencyLists::new(alloc, 1 << s, depth)?,
-            behind: vec![in alloc; 0; depth - 1]?,
+            behind: vec![in alloc; 0; depth]?,
             misses_by_occupancy: vec![in alloc; 0; depth + 1]?,
             probes: 0,
         })
     }
 
-    /// Feeds one reference by its address; whether it reads or writes plays no part. Takes no memory and cannot fail.
-    /// At most 2^41 may be fed: two for each of 2^40 lines.
+    /// Feeds one reference by its address; whether it reads or writes plays no part. Takes no
+    /// memory and cannot fail. At most `MAX_REFERENCES` may be fed.
     #[inline(always)]
     pub fn feed(&mut self, addr: u64)
-        requires { fed_of self.old < 2 ^ 41 }
+        requires { fed_of self.old < MAX_REFERENCES }
         ensures step { self.new ≡ after_reference self.old (block_of self.old.geometry addr) }
         ensures one_more { fed_of self.new ≡ fed_of self.old + 1 }
     {
         self.feed_known(addr, false);
     }
 
-    /// The same, where a caller may say by `past_first` that the address is 2^20 or more, and so not in block 0 at any
-    /// block size. So one test serves all the profiles that an address is fed to.
+    /// The same, where a caller may say by `past_first` that the address is 2^20 or more, and so
+    /// not in block 0 at any block size. So one test serves all the profiles that an address is fed
+    /// to.
     #[inline(always)]
     pub fn feed_known(&mut self, addr: u64, past_first: bool)
-        requires few { fed_of self.old < 2 ^ 41 }
+        requires few { fed_of self.old < MAX_REFERENCES }
         requires known { past_first ≡ true → 2 ^ 20 ≤ addr }
         ensures step { self.new ≡ after_reference self.old (block_of self.old.geometry addr) }
         ensures one_more { fed_of self.new ≡ fed_of self.old + 1 }
@@ -114,56 +126,41 @@ impl Profile {
         }
     }
 
-    /// Feeds a reference to a block that is not the front of its set's list, or not in it at all. It stands apart, so
-    /// that the path of the many references that find their block in front stays short. More than a third of the others
-    /// find theirs second.
+    /// Feeds a reference to a block that is not the front of its set's list, or not in it at all.
+    /// It stands apart, so that the path of the many references that find their block in front
+    /// stays short. More than a third of the others find theirs second.
     #[inline(never)]
     fn feed_behind(&mut self, set: usize, block: u64)
-        requires few { fed_of self.old < 2 ^ 41 }
-        requires of_set { set ≡ set_of_block self.old.geometry block }
-        requires behind { is_front block (list_of self.old set) ≡ false }
-        ensures step { self.new ≡ after_reference self.old block }
-        ensures one_more { fed_of self.new ≡ fed_of self.old + 1 }
+        requires { IsNext self.old set block }
+        ensures { self.new ≡ after_reference self.old block }
     {
         if self.lists.is_second(set, block) {
             self.lists.bring_second(set, block);
             self.probes += 2;
-            self.behind[0] += 1;
+            self.behind[1] += 1;
         } else {
             self.feed_further(set, block);
         }
     }
 
-    /// Feeds a reference to a block that is neither the front nor the second of its set's list, or not in it at all.
+    /// Feeds a reference to a block that is neither the front nor the second of its set's list, or
+    /// not in it at all.
     #[inline(never)]
     fn feed_further(&mut self, set: usize, block: u64)
-        requires few { fed_of self.old < 2 ^ 41 }
-        requires of_set { set ≡ set_of_block self.old.geometry block }
-        requires behind { is_front block (list_of self.old set) ≡ false }
+        requires next { IsNext self.old set block }
         requires further { is_second block (list_of self.old set) ≡ false }
-        ensures step { self.new ≡ after_reference self.old block }
-        ensures one_more { fed_of self.new ≡ fed_of self.old + 1 }
+        ensures { self.new ≡ after_reference self.old block }
     {
-        if self.lists.is_empty(set) {
-            return self.feed_first(set, block);
+        match self.lists.bring(set, block) {
+            Touch::Behind(distance) => {
+                self.probes += distance as u64 + 1;
+                self.behind[distance] += 1;
+            }
+            Touch::New(held) => {
+                self.probes += held as u64;
+                self.misses_by_occupancy[held] += 1;
+            }
         }
-        match self.lists.bring(set, block, &mut self.probes) {
-            Touch::Behind(place) => self.behind[place] += 1,
-            Touch::New(held) => self.misses_by_occupancy[held] += 1,
-        }
-    }
-
-    /// Feeds a reference to a set whose list is empty: there is no entry to compare with.
-    #[inline(never)]
-    fn feed_first(&mut self, set: usize, block: u64)
-        requires few { fed_of self.old < 2 ^ 41 }
-        requires of_set { set ≡ set_of_block self.old.geometry block }
-        requires empty { list_of self.old set ≡ [] }
-        ensures step { self.new ≡ after_reference self.old block }
-        ensures one_more { fed_of self.new ≡ fed_of self.old + 1 }
-    {
-        self.lists.begin(set, block);
-        self.misses_by_occupancy[0] += 1;
     }
 
     /// Empties the lists, as a flush of the caches does. The counts stay.
@@ -173,20 +170,23 @@ impl Profile {
         self.lists.clear();
     }
 
-    /// How many references were fed. It goes over both histograms twice, `4 * depth` numbers: not for each reference.
+    /// How many references were fed. It goes over the histograms, `3 * depth` numbers: not for each
+    /// reference.
     pub fn fed(&self) -> u64
         ensures value { result ≡ fed_of self.now }
-        ensures trace { (es : List Event) → StandsFor es self.now
-            → result ≡ length (places self.now.geometry es) }
+        ensures trace { (es : List Event) → ProfileStandsFor es self.now
+            → result ≡ length (occurrences self.now.geometry es) }
     {
-        self.front_hits() + total(&self.behind) + total(&self.misses_by_occupancy)
+        self.hits() + total(&self.misses_by_occupancy)
     }
 
-    /// How many references found their block in front.
-    fn front_hits(&self) -> u64
-        ensures { result ≡ slice_index self.now.distances 0 }
+    /// How many references found their block. One found at distance `d` made `d + 1` comparisons,
+    /// and one not found among `n` blocks made `n`. So without `d` for each of the first and `n`
+    /// for each of the others, one is left for each that was found.
+    fn hits(&self) -> u64
+        ensures { result ≡ sum self.now.distances }
     {
-        self.probes - weighed(&self.behind, 2) - weighed(&self.misses_by_occupancy, 0)
+        self.probes - weighed(&self.behind) - weighed(&self.misses_by_occupancy)
     }
 
     /// How many references hit at a stack distance in `from..to`.
@@ -197,16 +197,16 @@ impl Profile {
         ensures { result ≡ sum (take (to - from) (drop from self.now.distances)) }
     {
         if from == 0 {
-            self.front_hits() + total(&self.behind[..to - 1])
+            self.hits() - total(&self.behind[to..])
         } else {
-            total(&self.behind[from - 1..to - 1])
+            total(&self.behind[from..to])
         }
     }
 
     /// How many comparisons of a block with an entry of its set's list were made.
     pub fn probes(&self) -> u64
         ensures value { result ≡ self.now.probes }
-        ensures trace { (es : List Event) → StandsFor es self.now
+        ensures trace { (es : List Event) → ProfileStandsFor es self.now
             → result ≡ probes self.now.geometry es }
         ensures at_most { result ≤ fed_of self.now * self.now.geometry.e }
     {
@@ -216,31 +216,33 @@ impl Profile {
     /// How many blocks the lists hold.
     pub fn held(&self) -> u64
         ensures value { result ≡ held_of self.now }
-        ensures trace { (es : List Event) → StandsFor es self.now
+        ensures trace { (es : List Event) → ProfileStandsFor es self.now
             → result ≡ held self.now.geometry es }
         ensures at_most { result ≤ self.now.geometry.e * 2 ^ self.now.geometry.s }
     {
         self.lists.held()
     }
 
-    /// The counts of an LRU cache of `e` lines a set, over all references fed. It goes over both histograms up to four
-    /// times: a caller that wants many associativities of one profile asks for rising ones by `counts_next`.
+    /// The counts of an LRU cache of `e` lines per set, over all references fed. It goes over both
+    /// histograms up to four times: a caller that wants many associativities of one profile asks
+    /// for rising ones by `counts_next`.
     pub fn counts(&self, e: u64) -> Counts
         requires some { 1 ≤ e }
         requires within { e ≤ self.now.geometry.e }
         ensures value { result ≡ counts_at self.now e }
-        ensures trace { (es : List Event) → StandsFor es self.now
+        ensures trace { (es : List Event) → ProfileStandsFor es self.now
             → result ≡ counts (record self.now.geometry { e = e }) es }
     {
-        let mut tally = self.begin_tally();
-        self.counts_next(&mut tally, e)
+        let mut sums = self.begin_sums();
+        self.counts_next(&mut sums, e)
     }
 
-    /// Begins to count for rising associativities. It goes over both histograms twice, as `fed` does.
-    pub fn begin_tally(&self) -> Tally
-        ensures { result ≡ tally_at self.now 0 }
+    /// Begins to count for rising associativities. It goes over both histograms twice, as `fed`
+    /// does.
+    pub fn begin_sums(&self) -> HitSums
+        ensures { result ≡ hit_sums_at self.now 0 }
     {
-        Tally {
+        HitSums {
             ways: 0,
             hits: 0,
             free_misses: 0,
@@ -248,32 +250,32 @@ impl Profile {
         }
     }
 
-    /// The same counts as `counts`, by a tally that this profile began, at an associativity not below the tally's,
-    /// which becomes `e`. Nothing is fed between the two. It adds up only the numbers between the two associativities,
-    /// and the first call both histograms once more: all calls for one tally together cost `4 * depth` additions at
-    /// most, beside those of `begin_tally`.
-    pub fn counts_next(&self, tally: &mut Tally, e: u64) -> Counts
+    /// The same counts as `counts`, by sums that this profile began, at an associativity not below
+    /// theirs, which becomes `e`. Nothing is fed between the two. It adds up only the numbers
+    /// between the two associativities, and the first call both histograms once more: all calls for
+    /// the same sums together cost `4 * depth` additions at most, beside those of `begin_sums`.
+    pub fn counts_next(&self, sums: &mut HitSums, e: u64) -> Counts
         requires some { 1 ≤ e }
         requires within { e ≤ self.now.geometry.e }
-        requires of_this { tally.old ≡ tally_at self.now tally.old.ways }
-        requires rising { tally.old.ways ≤ e }
+        requires of_this { sums.old ≡ hit_sums_at self.now sums.old.ways }
+        requires rising { sums.old.ways ≤ e }
         ensures value { result ≡ counts_at self.now e }
-        ensures trace { (es : List Event) → StandsFor es self.now
+        ensures trace { (es : List Event) → ProfileStandsFor es self.now
             → result ≡ counts (record self.now.geometry { e = e }) es }
-        ensures tally { tally.new ≡ tally_at self.now e }
+        ensures sums { sums.new ≡ hit_sums_at self.now e }
     {
-        let from = tally.ways;
+        let from = sums.ways;
         let to = e as usize;
         let hits = self.hits_between(from, to);
         let free = total(&self.misses_by_occupancy[from..to]);
-        tally.ways = to;
-        tally.hits += hits;
-        tally.free_misses += free;
-        let misses = tally.fed - tally.hits;
+        sums.ways = to;
+        sums.hits += hits;
+        sums.free_misses += free;
+        let misses = sums.fed - sums.hits;
         Counts {
-            hits: tally.hits,
+            hits: sums.hits,
             misses,
-            evictions: misses - tally.free_misses,
+            evictions: misses - sums.free_misses,
         }
     }
 }
@@ -286,17 +288,14 @@ fn total(numbers: &[u64]) -> u64
     numbers.iter().sum()
 }
 
-/// The sum of a histogram's numbers, each times its place, counted from `first`.
-fn weighed(numbers: &[u64], first: u64) -> u64
-    requires sum { weighed first numbers.now < 2 ^ 64 }
-    requires places { first + length numbers.now < 2 ^ 64 }
-    ensures { result ≡ weighed first numbers.now }
+/// The sum of a histogram's numbers, each times its index.
+fn weighed(numbers: &[u64]) -> u64
+    requires { weighed 0 numbers.now < 2 ^ 64 }
+    ensures { result ≡ weighed 0 numbers.now }
 {
     let mut sum = 0;
-    let mut weight = first;
-    for number in numbers {
-        sum += *number * weight;
-        weight += 1;
+    for (index, number) in numbers.iter().enumerate() {
+        sum += *number * index as u64;
     }
     sum
 }

@@ -1,35 +1,39 @@
-//! A recency list for each set, the most recent block first: all fronts in one array, the other blocks in one slab.
+//! A recency list for each set, the most recent block first: all fronts in one array, the other
+//! blocks in one slab.
 
-ghost use Rattle.std.specs.Prelude.{◌≡◌, ◌+◌, ◌*◌, ◌^◌, ◌<◌, ◌≤◌, [], ◌∷◌, true, false, nat_eq, min, length, take};
-ghost use Rattle.std.specs.Prelude.{sum, sum_by, replicate, IfOk, slice_set, slice_index_or};
+ghost use Rattle.std.specs.Prelude.{◌≡◌, ◌*◌, ◌^◌, ◌<◌, ◌≤◌, [], ◌∷◌, true, false, nat_eq, length};
+ghost use Rattle.std.specs.Prelude.{take};
+ghost use Rattle.std.specs.Prelude.{sum_by, replicate, IfOk, slice_index_or};
 ghost use Rattle.std.specs.List.{remove};
 ghost use Rattle.cache_core.specs.Touched.{Covers, ListsFilled};
-ghost use Rattle.profile_core.specs.Moves.{place_of, is_front, is_second, move_to_front, touch_of, shifted_of};
+ghost use Rattle.profile_core.specs.Moves.{index_of, is_front, is_second, touch_of, shifted_of};
+ghost use Rattle.profile_core.specs.Slab.{brought, IsRow, IsBroughtInRow};
 
 use cache_core::touched::TouchedSets;
 use std::alloc::{AllocError, Global};
 use std::marker::Model;
 use std::mem;
 
-/// Where a reference finds its block, if that is not the front of its set's list: at a place behind the front (0 is the
-/// second of the list), or nowhere in a list of so many blocks.
+/// Where a reference finds its block, if that is not the front of its set's list: behind the front,
+/// at a stack distance (its index in the list, so 1 is the second); or nowhere in a list of so many
+/// blocks.
 #[derive(Debug, Clone, Copy)]
 pub enum Touch {
     Behind(usize),
     New(usize),
 }
 
-/// How far a list is shifted: up to the place of a block, or to the end, where the last block falls out (its caller
-/// keeps it if the list may still grow).
+/// How far a list is shifted: up to a block that stood at a stack distance, or to the end, where
+/// the last block falls out (its caller keeps it if the list may still grow).
 #[derive(Debug, Clone, Copy)]
 enum Shifted {
     Found(usize),
     Out(u64),
 }
 
-/// The lists of all sets. A list of `len` blocks is the first `len` places of its row: its front, and then a stretch of
-/// `stride` places of the slab. The front of an empty list is 0. `touched` lists the sets that have a block, while they
-/// are few, so that a flush goes to these alone.
+/// The lists of all sets. A list of `len` blocks is the first `len` entries of its row: its front,
+/// and then a stretch of `stride` entries of the slab. The front of an empty list is 0. `touched`
+/// lists the sets that have a block, while they are few, so that a flush goes to these alone.
 #[derive(Drop)]
 pub struct RecencyLists {
     stride: usize,
@@ -56,7 +60,7 @@ impl Model for RecencyLists {
 impl RecencyLists {
     /// Empty lists for a number of sets.
     pub fn new(alloc: Global, sets: usize, depth: usize) -> Result<RecencyLists, AllocError>
-        requires some_room { 1 ≤ depth }
+        requires some { 1 ≤ depth }
         requires small { sets * depth ≤ 2 ^ 22 }
         ensures { IfOk result (λ r. r ≡ record { depth = depth; lists = replicate sets [] }) }
     {
@@ -70,43 +74,20 @@ impl RecencyLists {
         })
     }
 
-    /// Whether a block is the front of a set's list. Only block 0 has to look at the length. A caller that knows that
-    /// the block is not block 0 says so by `past_first`, and spares the test.
+    /// Whether a block is the front of a set's list. Only block 0 has to look at the length. A
+    /// caller that knows that the block is not block 0 says so by `past_first`, and spares the
+    /// test.
     #[inline(always)]
     pub fn is_front(&self, set: usize, block: u64, past_first: bool) -> bool
         requires within { set < length self.now.lists }
         requires known { past_first ≡ true → 0 < block }
-        ensures front { result ≡ is_front block (slice_index_or self.now.lists set []) }
-        ensures short { length (slice_index_or self.now.lists set []) ≤ self.now.depth }
+        ensures { result ≡ is_front block (slice_index_or self.now.lists set []) }
     {
         if past_first || block != 0 {
             self.fronts[set] == block
         } else {
             self.lens[set] != 0 && self.fronts[set] == block
         }
-    }
-
-    /// Whether a set's list is empty.
-    #[inline(always)]
-    pub fn is_empty(&self, set: usize) -> bool
-        requires { set < length self.now.lists }
-        ensures { result ≡ nat_eq (length (slice_index_or self.now.lists set [])) 0 }
-    {
-        self.lens[set] == 0
-    }
-
-    /// Begins a set's empty list with a block.
-    #[inline(always)]
-    pub fn begin(&mut self, set: usize, block: u64)
-        requires within { set < length self.old.lists }
-        requires empty { slice_index_or self.old.lists set [] ≡ [] }
-        ensures { self.new ≡ record self.old {
-          lists = slice_set self.old.lists set (take self.old.depth (move_to_front block []));
-        } }
-    {
-        self.fronts[set] = block;
-        self.lens[set] = 1;
-        self.touched.note_growth(set, 0, 1);
     }
 
     /// Whether a block is the second of a set's list.
@@ -124,49 +105,46 @@ impl RecencyLists {
         requires within { set < length self.old.lists }
         requires behind { is_front block (slice_index_or self.old.lists set []) ≡ false }
         requires second { is_second block (slice_index_or self.old.lists set []) ≡ true }
-        ensures short { length (slice_index_or self.old.lists set []) ≤ self.old.depth }
-        ensures moved { let list = slice_index_or self.old.lists set [] in
-            self.new ≡ record self.old {
-              lists = slice_set self.old.lists set (take self.old.depth (move_to_front block list));
-            } }
+        ensures { self.new ≡ brought self.old set block }
     {
         let second = mem::replace(&mut self.fronts[set], block);
         self.slab[set * self.stride] = second;
     }
 
-    /// Brings a block that is neither the front nor the second of a set's list to the front, wherever it is. It counts
-    /// all comparisons of the reference, those with the front and the second as well.
+    /// Brings a block that is neither the front nor the second of a set's list to the front,
+    /// wherever it is.
     #[inline(always)]
-    pub fn bring(&mut self, set: usize, block: u64, probes: &mut u64) -> Touch
+    pub fn bring(&mut self, set: usize, block: u64) -> Touch
         requires within { set < length self.old.lists }
-        requires few { probes.old < 2 ^ 63 }
-        requires some { 0 < length (slice_index_or self.old.lists set []) }
         requires behind { is_front block (slice_index_or self.old.lists set []) ≡ false }
         requires further { is_second block (slice_index_or self.old.lists set []) ≡ false }
         ensures found { result ≡ touch_of block (slice_index_or self.old.lists set []) }
-        ensures short { length (slice_index_or self.old.lists set []) ≤ self.old.depth }
-        ensures counted { let list = slice_index_or self.old.lists set [] in
-            probes.new ≡ probes.old + min (place_of block list + 1) (length list) }
-        ensures moved { let list = slice_index_or self.old.lists set [] in
-            self.new ≡ record self.old {
-              lists = slice_set self.old.lists set (take self.old.depth (move_to_front block list));
-            } }
+        ensures moved { self.new ≡ brought self.old set block }
     {
-        let held = self.lens[set] as usize;
-        let front = mem::replace(&mut self.fronts[set], block);
-        *probes += 1;
-        let start = set * self.stride;
-        let end = start + held - 1;
-        match shift_past(&mut self.slab[start..end], front, block, probes) {
-            Shifted::Found(place) => Touch::Behind(place),
-            Shifted::Out(last) => {
-                if held <= self.stride {
-                    self.slab[end] = last;
-                    self.lens[set] += 1;
-                }
-                Touch::New(held)
-            }
+        if self.lens[set] == 0 {
+            self.begin(set, block);
+            return Touch::New(0);
         }
+        let start = set * self.stride;
+        let end = start + self.stride;
+        bring_in_row(
+            &mut self.fronts[set],
+            &mut self.slab[start..end],
+            &mut self.lens[set],
+            block,
+        )
+    }
+
+    /// Begins a set's empty list with a block.
+    #[inline(never)]
+    fn begin(&mut self, set: usize, block: u64)
+        requires within { set < length self.old.lists }
+        requires empty { slice_index_or self.old.lists set [] ≡ [] }
+        ensures { self.new ≡ brought self.old set block }
+    {
+        self.fronts[set] = block;
+        self.lens[set] = 1;
+        self.touched.add_grown(set, 0, 1);
     }
 
     /// Empties the lists.
@@ -182,7 +160,11 @@ impl RecencyLists {
         ensures value { result ≡ sum_by length self.now.lists }
         ensures at_most { result ≤ length self.now.lists * self.now.depth }
     {
-        total_len(&self.lens)
+        let mut total = 0;
+        for len in &self.lens {
+            total += u64::from(*len);
+        }
+        total
     }
 }
 
@@ -207,27 +189,41 @@ fn blank_listed(fronts: &mut [u64], sets: &[u32])
     }
 }
 
-/// The sum of lengths.
-fn total_len(lens: &[u32]) -> u64
-    requires { sum lens.now < 2 ^ 64 }
-    ensures { result ≡ sum lens.now }
+/// Brings a block that is neither the front nor the second of a row's list to the front of it. The
+/// list may grow by it, if its row is longer.
+#[inline(always)]
+fn bring_in_row(front: &mut u64, rest: &mut [u64], len: &mut u32, block: u64) -> Touch
+    requires some { 0 < len.old }
+    requires row { IsRow rest.old len.old }
+    requires behind { is_front block (take len.old (front.old ∷ rest.old)) ≡ false }
+    requires further { is_second block (take len.old (front.old ∷ rest.old)) ≡ false }
+    ensures found { result ≡ touch_of block (take len.old (front.old ∷ rest.old)) }
+    ensures moved { let list = take len.old (front.old ∷ rest.old) in
+        IsBroughtInRow block list front.new rest.new len.new }
 {
-    let mut total = 0;
-    for len in lens {
-        total += u64::from(*len);
+    let held = *len as usize;
+    let first = mem::replace(front, block);
+    match shift_past(&mut rest[..held - 1], first, block) {
+        Shifted::Found(distance) => Touch::Behind(distance),
+        Shifted::Out(last) => {
+            if held <= rest.len() {
+                rest[held - 1] = last;
+                *len += 1;
+            }
+            Touch::New(held)
+        }
     }
-    total
 }
 
-/// Puts `first` in front of a list and moves each other block one place on, up to the place where `block` stood. The
-/// list's own front, if it has one, is known to be another block; that comparison is counted too.
+/// Moves each block of the list that `first` begins one index on, into `list`, up to the index of
+/// `block`. It is known to be neither the first nor the second.
 #[inline(always)]
-fn shift_past(list: &mut [u64], first: u64, block: u64, probes: &mut u64) -> Shifted
-    requires few { probes.old + length list.old < 2 ^ 64 }
-    requires behind { is_front block list.old ≡ false }
-    ensures shifted { result ≡ shifted_of block first list.old }
-    ensures counted { probes.new ≡ probes.old + min (place_of block list.old + 1) (length list.old) }
-    ensures moved { list.new ≡ take (length list.old) (first ∷ remove list.old (place_of block list.old)) }
+fn shift_past(list: &mut [u64], first: u64, block: u64) -> Shifted
+    requires behind { is_front block (first ∷ list.old) ≡ false }
+    requires further { is_second block (first ∷ list.old) ≡ false }
+    ensures shifted { result ≡ shifted_of block (first ∷ list.old) }
+    ensures moved { list.new ≡
+        take (length list.old) (remove (first ∷ list.old) (index_of block (first ∷ list.old))) }
 {
     let Some(front) = list.first_mut() else {
         return Shifted::Out(first);
@@ -239,31 +235,28 @@ fn shift_past(list: &mut [u64], first: u64, block: u64, probes: &mut u64) -> Shi
         let found = pass(&mut list[compared], &mut carried, block);
         compared += 1;
         if found {
-            *probes += compared as u64;
-            return Shifted::Found(compared - 1);
+            return Shifted::Found(compared);
         }
         let found = pass(&mut list[compared], &mut carried, block);
         compared += 1;
         if found {
-            *probes += compared as u64;
-            return Shifted::Found(compared - 1);
+            return Shifted::Found(compared);
         }
     }
     if compared == list.len() {
-        *probes += compared as u64;
         return Shifted::Out(carried);
     }
     let found = pass(&mut list[compared], &mut carried, block);
     compared += 1;
-    *probes += compared as u64;
     if found {
-        Shifted::Found(compared - 1)
+        Shifted::Found(compared)
     } else {
         Shifted::Out(carried)
     }
 }
 
-/// Puts the carried block in a place and carries on the one that stood there. Whether that one is `block`.
+/// Puts the carried block in an entry and carries on the one that stood there. Whether that one is
+/// `block`.
 #[inline(always)]
 fn pass(entry: &mut u64, carried: &mut u64, block: u64) -> bool
     ensures put { entry.new ≡ carried.old }

@@ -14,7 +14,7 @@ use Rattle.cache_core.specs.Geometry.{IsGeometry, geometry_value, size_of}
 use Rattle.sweep_core.specs.declared.space.Config.{Config}
 use Rattle.sweep_core.specs.Space.{Ranges, is_power, is_valid, bytes_of, config}
 use Rattle.sweep_core.specs.Table.{is_less, is_after, table, all_configs}
-use Rattle.sweep_core.specs.SweepText.{log2, shape_of_config}
+use Rattle.sweep_core.specs.SweepText.{log2, geometry_of_config}
 use Rattle.sweep_core.specs.Work.{depth, has_pair}
 use Rattle.sweep_core.proofs.Validity.{IsLimited, valid_of, power-exponent}
 use Rattle.sweep_core.proofs.Orders.{is_less-from, is_less-trans}
@@ -33,7 +33,7 @@ log2-pow k h =
 pub log2-is : (n : ℕ) → is_power n ≡ true → 2 ^ log2 n ≡ n
 log2-is n h = let k = power-of n h in ap (λ m. 2 ^ log2 m) k.2 ∙ ap (λ i. 2 ^ i) (log2-pow k.0 k.1) ∙ sym k.2
 
-pub geometry-of : (space : Ranges) (c : Config) → IsLimited space → is_valid space c ≡ true → IsGeometry (shape_of_config c)
+pub geometry-of : (space : Ranges) (c : Config) → IsLimited space → is_valid space c ≡ true → IsGeometry (geometry_of_config c)
 geometry-of space c l h =
     let v = valid_of space c h in
     let i = power-exponent c.bsize v.block_power (omega (arith, v.bsize.1, l.bsize.1)) in
@@ -49,7 +49,7 @@ geometry-of space c l h =
       lines = omega (arith, v.lines);
     }
 
-pub bytes-are : (space : Ranges) (c : Config) → is_valid space c ≡ true → size_of (shape_of_config c) ≡ bytes_of c
+pub bytes-are : (space : Ranges) (c : Config) → is_valid space c ≡ true → size_of (geometry_of_config c) ≡ bytes_of c
 bytes-are space c h =
     let v = valid_of space c h in
     ap (λ x. c.assoc * x) (pow-add 2 (log2 c.sets) (log2 c.bsize))

@@ -2,10 +2,13 @@
 use Rattle.std.specs.Prelude.{ℕ, ◌≡◌, Bool, true, false, List, [], ◌∷◌, ◌++◌, refl, map, Some, None, Result, Ok, Err, codes}
 use lib.Count.{count_trailing_zeros}
 use Rattle.std.specs.Fmt.{digits}
+use Rattle.trace_core.specs.Reading.{events}
 use Rattle.trace_core.specs.declared.events.Kind.{Kind}
 use Rattle.trace_core.specs.declared.events.Kind.TheVariants.{All, DataOnly, FetchOnly}
 use Rattle.trace_core.specs.declared.line.Format.TheVariants.{Din, Lackey}
-use Rattle.cache_core.specs.Windows.{window, counts, probes, places_after, distinct, distinct_of_set}
+use Rattle.trace_core.specs.declared.events.Event.{Event}
+use Rattle.cache_core.specs.declared.outcome.Counts.{Counts}
+use Rattle.cache_core.specs.Windows.{window, counts, probes, occurrences_after, distinct, distinct_of_set}
 use Rattle.sweep_core.specs.declared.space.Config.{Config}
 use Rattle.sweep_core.specs.declared.request.Request.{Request}
 use Rattle.sweep_core.specs.declared.space.SpaceFault.{SpaceFault}
@@ -15,9 +18,8 @@ use Rattle.sweep_core.specs.declared.space.Cause.{Cause}
 use Rattle.sweep_core.specs.declared.space.Cause.TheVariants.{NotPower, Limit, Reversed}
 use Rattle.sweep_core.specs.Space.{Ranges, ranges, space_of, is_power, config}
 use Rattle.sweep_core.specs.Table.{table, all_configs}
-use Rattle.sweep_core.specs.SweepText.{sweep_text, sweep_task, rows_text, configs_of, rows_of}
+use Rattle.sweep_core.specs.SweepText.{sweep_text, sweep_task, row_counts, rows_text, configs_of, rows_of}
 use Rattle.sweep_core.specs.Work.{sweep_work, work, pairs, depth}
-use Rattle.sweep_core.specs.Pass.{made_for}
 
 -- a sweep of a din text from the first configuration on
 abbrev sweep : Ranges → Request
@@ -34,7 +36,15 @@ of_kind kind r = record r { kind = kind }
 
 -- block size, set count and depth of each profile that a sweep makes
 abbrev profiles_of : Request → List (ℕ × ℕ × ℕ)
-profiles_of r = map (λ x. (x.bsize, x.sets, x.profile.geometry.e)) (made_for (configs_of r) (rows_of r))
+profiles_of r = map (λ p. (p.0, p.1, depth (configs_of r) p)) (pairs (rows_of r))
+
+-- block size, set count, associativity, hits, misses and evictions of a row
+abbrev row : List Event → Config → ℕ × ℕ × ℕ × ℕ × ℕ × ℕ
+row es c = let n : Counts = row_counts es c in (c.bsize, c.sets, c.assoc, n.hits, n.misses, n.evictions)
+
+-- those of the rows of a sweep of a text
+abbrev rows : Request → List ℕ → List (ℕ × ℕ × ℕ × ℕ × ℕ × ℕ)
+rows r text = map (row (events r.format r.kind text)) (rows_of r)
 
 abbrev header : List ℕ
 header = codes "bsize,sets,assoc,size,hits,misses,evictions\n"
@@ -47,11 +57,11 @@ abbrev small : Request
 small = sweep (ranges (16, 16) (1, 2) (1, 2) (16, 64) false)
 
 small-text : sweep_text small nine ≡ header ++ codes "16,1,1,16,3,6,5\n16,1,2,32,4,5,3\n16,2,1,32,4,5,3\n16,2,2,64,4,5,2\n"
-unfolding sweep_text table all_configs is_power count_trailing_zeros rows_text counts places_after window distinct distinct_of_set digits
+unfolding sweep_text table all_configs is_power count_trailing_zeros rows_text counts occurrences_after window distinct distinct_of_set digits
 small-text = refl
 
 small-work : sweep_work small nine ≡ 21
-unfolding sweep_work table all_configs is_power count_trailing_zeros work pairs depth probes places_after window distinct distinct_of_set
+unfolding sweep_work table all_configs is_power count_trailing_zeros work pairs depth probes occurrences_after window distinct distinct_of_set
 small-work = refl
 
 small-profiles : profiles_of small ≡ (16, 1, 2) ∷ (16, 2, 2) ∷ []
@@ -62,17 +72,17 @@ small-profiles = refl
 abbrev one_set : Bool → Request
 one_set powers = sweep (ranges (16, 16) (1, 1) (1, 4) (0, 1024) powers)
 
-one_set-text : sweep_text (one_set false) nine ≡ header ++ codes "16,1,1,16,3,6,5\n16,1,2,32,4,5,3\n16,1,3,48,5,4,1\n16,1,4,64,5,4,0\n"
-unfolding sweep_text table all_configs is_power count_trailing_zeros rows_text counts places_after window distinct distinct_of_set digits
-one_set-text = refl
+one_set-rows : rows (one_set false) nine ≡ (16, 1, 1, 3, 6, 5) ∷ (16, 1, 2, 4, 5, 3) ∷ (16, 1, 3, 5, 4, 1) ∷ (16, 1, 4, 5, 4, 0) ∷ []
+unfolding table all_configs is_power count_trailing_zeros counts occurrences_after window distinct distinct_of_set
+one_set-rows = refl
 
 one_set-work : sweep_work (one_set false) nine ≡ 14
-unfolding sweep_work table all_configs is_power count_trailing_zeros work pairs depth probes places_after window distinct distinct_of_set
+unfolding sweep_work table all_configs is_power count_trailing_zeros work pairs depth probes occurrences_after window distinct distinct_of_set
 one_set-work = refl
 
-powers-text : sweep_text (one_set true) nine ≡ header ++ codes "16,1,1,16,3,6,5\n16,1,2,32,4,5,3\n16,1,4,64,5,4,0\n"
-unfolding sweep_text table all_configs is_power count_trailing_zeros rows_text counts places_after window distinct distinct_of_set digits
-powers-text = refl
+powers-rows : rows (one_set true) nine ≡ (16, 1, 1, 3, 6, 5) ∷ (16, 1, 2, 4, 5, 3) ∷ (16, 1, 4, 5, 4, 0) ∷ []
+unfolding table all_configs is_power count_trailing_zeros counts occurrences_after window distinct distinct_of_set
+powers-rows = refl
 
 powers-profiles : profiles_of (one_set true) ≡ (16, 1, 4) ∷ []
 unfolding table all_configs is_power count_trailing_zeros pairs depth
@@ -80,28 +90,28 @@ powers-profiles = refl
 
 -- resumed after a row, after triples that are no configurations, and after the last row
 resumed-text : sweep_text (after (config 16 1 2) small) nine ≡ codes "16,2,1,32,4,5,3\n16,2,2,64,4,5,2\n"
-unfolding sweep_text table all_configs is_power count_trailing_zeros rows_text counts places_after window distinct distinct_of_set digits
+unfolding sweep_text table all_configs is_power count_trailing_zeros rows_text counts occurrences_after window distinct distinct_of_set digits
 resumed-text = refl
 
 resumed-work : sweep_work (after (config 16 1 2) small) nine ≡ 9
-unfolding sweep_work table all_configs is_power count_trailing_zeros work pairs depth probes places_after window distinct distinct_of_set
+unfolding sweep_work table all_configs is_power count_trailing_zeros work pairs depth probes occurrences_after window distinct distinct_of_set
 resumed-work = refl
 
 resumed-profiles : profiles_of (after (config 16 1 2) small) ≡ (16, 2, 2) ∷ []
 unfolding table all_configs is_power count_trailing_zeros pairs depth
 resumed-profiles = refl
 
-resumed_between-text : sweep_text (after (config 16 1 7) small) nine ≡ codes "16,2,1,32,4,5,3\n16,2,2,64,4,5,2\n"
-unfolding sweep_text table all_configs is_power count_trailing_zeros rows_text counts places_after window distinct distinct_of_set digits
-resumed_between-text = refl
+resumed_between-rows : rows (after (config 16 1 7) small) nine ≡ (16, 2, 1, 4, 5, 3) ∷ (16, 2, 2, 4, 5, 2) ∷ []
+unfolding table all_configs is_power count_trailing_zeros counts occurrences_after window distinct distinct_of_set
+resumed_between-rows = refl
 
-resumed_last-text : sweep_text (after (config 16 2 2) small) nine ≡ []
-unfolding sweep_text table all_configs is_power count_trailing_zeros rows_text counts places_after window distinct distinct_of_set digits
-resumed_last-text = refl
+resumed_last-rows : rows (after (config 16 2 2) small) nine ≡ []
+unfolding table all_configs is_power count_trailing_zeros counts occurrences_after window distinct distinct_of_set
+resumed_last-rows = refl
 
-resumed_far-text : sweep_text (after (config 18446744073709551615 0 0) small) nine ≡ []
-unfolding sweep_text table all_configs is_power count_trailing_zeros rows_text counts places_after window distinct distinct_of_set digits
-resumed_far-text = refl
+resumed_far-rows : rows (after (config 18446744073709551615 0 0) small) nine ≡ []
+unfolding table all_configs is_power count_trailing_zeros counts occurrences_after window distinct distinct_of_set
+resumed_far-rows = refl
 
 -- resumed in the middle of a pair, its profile is as deep as ever
 resumed_within-profiles : profiles_of (after (config 16 1 1) small) ≡ (16, 1, 2) ∷ (16, 2, 2) ∷ []
@@ -112,78 +122,77 @@ resumed_within-profiles = refl
 abbrev of_32_bytes : Request
 of_32_bytes = sweep (ranges (16, 16) (1, 2) (1, 2) (32, 32) false)
 
-of_32_bytes-text : sweep_text of_32_bytes nine ≡ header ++ codes "16,1,2,32,4,5,3\n16,2,1,32,4,5,3\n"
-unfolding sweep_text table all_configs is_power count_trailing_zeros rows_text counts places_after window distinct distinct_of_set digits
-of_32_bytes-text = refl
+of_32_bytes-rows : rows of_32_bytes nine ≡ (16, 1, 2, 4, 5, 3) ∷ (16, 2, 1, 4, 5, 3) ∷ []
+unfolding table all_configs is_power count_trailing_zeros counts occurrences_after window distinct distinct_of_set
+of_32_bytes-rows = refl
 
 of_32_bytes-work : sweep_work of_32_bytes nine ≡ 19
-unfolding sweep_work table all_configs is_power count_trailing_zeros work pairs depth probes places_after window distinct distinct_of_set
+unfolding sweep_work table all_configs is_power count_trailing_zeros work pairs depth probes occurrences_after window distinct distinct_of_set
 of_32_bytes-work = refl
 
 of_32_bytes-profiles : profiles_of of_32_bytes ≡ (16, 1, 2) ∷ (16, 2, 1) ∷ []
 unfolding table all_configs is_power count_trailing_zeros pairs depth
 of_32_bytes-profiles = refl
 
-no_size-text : sweep_text (sweep (ranges (16, 16) (1, 2) (1, 2) (65, 66) false)) nine ≡ header
-unfolding sweep_text table all_configs is_power count_trailing_zeros rows_text counts places_after window distinct distinct_of_set digits
-no_size-text = refl
+no_size-rows : rows (sweep (ranges (16, 16) (1, 2) (1, 2) (65, 66) false)) nine ≡ []
+unfolding table all_configs is_power count_trailing_zeros counts occurrences_after window distinct distinct_of_set
+no_size-rows = refl
 
 -- the first rows alone: the pairs are fewer, the depths the same
 one_row-work : sweep_work (with_rows 1 small) nine ≡ 12
-unfolding sweep_work table all_configs is_power count_trailing_zeros work pairs depth probes places_after window distinct distinct_of_set
+unfolding sweep_work table all_configs is_power count_trailing_zeros work pairs depth probes occurrences_after window distinct distinct_of_set
 one_row-work = refl
 
 one_row-profiles : profiles_of (with_rows 1 small) ≡ (16, 1, 2) ∷ []
 unfolding table all_configs is_power count_trailing_zeros pairs depth
 one_row-profiles = refl
 
-no_row-text : sweep_text (with_rows 0 small) nine ≡ header
-unfolding sweep_text table all_configs is_power count_trailing_zeros rows_text counts places_after window distinct distinct_of_set digits
-no_row-text = refl
+no_row-rows : rows (with_rows 0 small) nine ≡ []
+unfolding table all_configs is_power count_trailing_zeros counts occurrences_after window distinct distinct_of_set
+no_row-rows = refl
 
 no_row-work : sweep_work (with_rows 0 small) nine ≡ 0
-unfolding sweep_work table all_configs is_power count_trailing_zeros work pairs depth probes places_after window distinct distinct_of_set
+unfolding sweep_work table all_configs is_power count_trailing_zeros work pairs depth probes occurrences_after window distinct distinct_of_set
 no_row-work = refl
 
 no_row-profiles : profiles_of (with_rows 0 small) ≡ []
 unfolding table all_configs is_power count_trailing_zeros pairs depth
 no_row-profiles = refl
 
-first_page-text : sweep_text (with_rows 2 small) nine ≡ header ++ codes "16,1,1,16,3,6,5\n16,1,2,32,4,5,3\n"
-unfolding sweep_text table all_configs is_power count_trailing_zeros rows_text counts places_after window distinct distinct_of_set digits
-first_page-text = refl
+first_page-rows : rows (with_rows 2 small) nine ≡ (16, 1, 1, 3, 6, 5) ∷ (16, 1, 2, 4, 5, 3) ∷ []
+unfolding table all_configs is_power count_trailing_zeros counts occurrences_after window distinct distinct_of_set
+first_page-rows = refl
 
-second_page-text : sweep_text (with_rows 9 (after (config 16 1 2) small)) nine ≡ codes "16,2,1,32,4,5,3\n16,2,2,64,4,5,2\n"
-unfolding sweep_text table all_configs is_power count_trailing_zeros rows_text counts places_after window distinct distinct_of_set digits
-second_page-text = refl
+second_page-rows : rows (with_rows 9 (after (config 16 1 2) small)) nine ≡ (16, 2, 1, 4, 5, 3) ∷ (16, 2, 2, 4, 5, 2) ∷ []
+unfolding table all_configs is_power count_trailing_zeros counts occurrences_after window distinct distinct_of_set
+second_page-rows = refl
 
 -- a trace on which first-in first-out has more misses with more ways
-twelve-text : sweep_text (sweep (ranges (16, 16) (1, 1) (3, 5) (0, 1024) false))
-    (codes "0 10\n0 20\n0 30\n0 40\n0 10\n0 20\n0 50\n0 10\n0 20\n0 30\n0 40\n0 50\n")
-    ≡ header ++ codes "16,1,3,48,2,10,7\n16,1,4,64,4,8,4\n16,1,5,80,7,5,0\n"
-unfolding sweep_text table all_configs is_power count_trailing_zeros rows_text counts places_after window distinct distinct_of_set digits
-twelve-text = refl
+twelve-rows : rows (sweep (ranges (16, 16) (1, 1) (3, 5) (0, 1024) false))
+    (codes "0 10\n0 20\n0 30\n0 40\n0 10\n0 20\n0 50\n0 10\n0 20\n0 30\n0 40\n0 50\n") ≡ (16, 1, 3, 2, 10, 7) ∷ (16, 1, 4, 4, 8, 4) ∷ (16, 1, 5, 7, 5, 0) ∷ []
+unfolding table all_configs is_power count_trailing_zeros counts occurrences_after window distinct distinct_of_set
+twelve-rows = refl
 
 -- a single configuration
 abbrev one : ℕ → ℕ → ℕ → ℕ → Request
 one b s e z = sweep (ranges (b, b) (s, s) (e, e) (z, z) false)
 
-empty-text : sweep_text (one 1 1 1 1) [] ≡ header ++ codes "1,1,1,1,0,0,0\n"
-unfolding sweep_text table all_configs is_power count_trailing_zeros rows_text counts places_after window distinct distinct_of_set digits
-empty-text = refl
+empty-rows : rows (one 1 1 1 1) [] ≡ (1, 1, 1, 0, 0, 0) ∷ []
+unfolding table all_configs is_power count_trailing_zeros counts occurrences_after window distinct distinct_of_set
+empty-rows = refl
 
 -- a flush between references, also one whose kind is left out
-flushed-text : sweep_text (one 16 1 1 16) (codes "0 10\n4 0\n0 10\n3 0\n") ≡ header ++ codes "16,1,1,16,0,2,0\n"
-unfolding sweep_text table all_configs is_power count_trailing_zeros rows_text counts places_after window distinct distinct_of_set digits
-flushed-text = refl
+flushed-rows : rows (one 16 1 1 16) (codes "0 10\n4 0\n0 10\n3 0\n") ≡ (16, 1, 1, 0, 2, 0) ∷ []
+unfolding table all_configs is_power count_trailing_zeros counts occurrences_after window distinct distinct_of_set
+flushed-rows = refl
 
-flushed_other-text : sweep_text (one 16 1 1 16) (codes "0 10\n4 0\n0 20\n") ≡ header ++ codes "16,1,1,16,0,2,0\n"
-unfolding sweep_text table all_configs is_power count_trailing_zeros rows_text counts places_after window distinct distinct_of_set digits
-flushed_other-text = refl
+flushed_other-rows : rows (one 16 1 1 16) (codes "0 10\n4 0\n0 20\n") ≡ (16, 1, 1, 0, 2, 0) ∷ []
+unfolding table all_configs is_power count_trailing_zeros counts occurrences_after window distinct distinct_of_set
+flushed_other-rows = refl
 
-flushed_fetches-text : sweep_text (of_kind FetchOnly (one 16 1 1 16)) (codes "2 10\n4 0\n2 10\n") ≡ header ++ codes "16,1,1,16,0,2,0\n"
-unfolding sweep_text table all_configs is_power count_trailing_zeros rows_text counts places_after window distinct distinct_of_set digits
-flushed_fetches-text = refl
+flushed_fetches-rows : rows (of_kind FetchOnly (one 16 1 1 16)) (codes "2 10\n4 0\n2 10\n") ≡ (16, 1, 1, 0, 2, 0) ∷ []
+unfolding table all_configs is_power count_trailing_zeros counts occurrences_after window distinct distinct_of_set
+flushed_fetches-rows = refl
 
 -- a lackey log
 abbrev log : List ℕ
@@ -192,39 +201,38 @@ log = codes "==1234== Lackey, an example Valgrind tool\nI  0023C790,2\n S BE8019
 abbrev of_log : Kind → Request
 of_log kind = record (one 16 1 1 16) { kind = kind; format = Lackey }
 
-log-text : sweep_text (of_log All) log ≡ header ++ codes "16,1,1,16,1,3,2\n"
-unfolding sweep_text table all_configs is_power count_trailing_zeros rows_text counts places_after window distinct distinct_of_set digits
-log-text = refl
+log-rows : rows (of_log All) log ≡ (16, 1, 1, 1, 3, 2) ∷ []
+unfolding table all_configs is_power count_trailing_zeros counts occurrences_after window distinct distinct_of_set
+log-rows = refl
 
-log_data-text : sweep_text (of_log DataOnly) log ≡ header ++ codes "16,1,1,16,1,2,1\n"
-unfolding sweep_text table all_configs is_power count_trailing_zeros rows_text counts places_after window distinct distinct_of_set digits
-log_data-text = refl
+log_data-rows : rows (of_log DataOnly) log ≡ (16, 1, 1, 1, 2, 1) ∷ []
+unfolding table all_configs is_power count_trailing_zeros counts occurrences_after window distinct distinct_of_set
+log_data-rows = refl
 
-log_fetches-text : sweep_text (of_log FetchOnly) log ≡ header ++ codes "16,1,1,16,0,1,0\n"
-unfolding sweep_text table all_configs is_power count_trailing_zeros rows_text counts places_after window distinct distinct_of_set digits
-log_fetches-text = refl
+log_fetches-rows : rows (of_log FetchOnly) log ≡ (16, 1, 1, 0, 1, 0) ∷ []
+unfolding table all_configs is_power count_trailing_zeros counts occurrences_after window distinct distinct_of_set
+log_fetches-rows = refl
 
 -- at the limits
-many_sets-text : sweep_text (sweep (ranges (1, 1) (1048576, 1048576) (1, 2) (1, 4194304) false)) []
-    ≡ header ++ codes "1,1048576,1,1048576,0,0,0\n1,1048576,2,2097152,0,0,0\n"
-unfolding sweep_text table all_configs is_power count_trailing_zeros rows_text counts places_after window distinct distinct_of_set digits
-many_sets-text = refl
+many_sets-rows : rows (sweep (ranges (1, 1) (1048576, 1048576) (1, 2) (1, 4194304) false)) [] ≡ (1, 1048576, 1, 0, 0, 0) ∷ (1, 1048576, 2, 0, 0, 0) ∷ []
+unfolding table all_configs is_power count_trailing_zeros counts occurrences_after window distinct distinct_of_set
+many_sets-rows = refl
 
-many_ways-text : sweep_text (one 1 64 65536 4194304) [] ≡ header ++ codes "1,64,65536,4194304,0,0,0\n"
-unfolding sweep_text table all_configs is_power count_trailing_zeros rows_text counts places_after window distinct distinct_of_set digits
-many_ways-text = refl
+many_ways-rows : rows (one 1 64 65536 4194304) [] ≡ (1, 64, 65536, 0, 0, 0) ∷ []
+unfolding table all_configs is_power count_trailing_zeros counts occurrences_after window distinct distinct_of_set
+many_ways-rows = refl
 
-too_many_lines-text : sweep_text (one 1 128 65536 8388608) [] ≡ header
-unfolding sweep_text table all_configs is_power count_trailing_zeros rows_text counts places_after window distinct distinct_of_set digits
-too_many_lines-text = refl
+too_many_lines-rows : rows (one 1 128 65536 8388608) [] ≡ []
+unfolding table all_configs is_power count_trailing_zeros counts occurrences_after window distinct distinct_of_set
+too_many_lines-rows = refl
 
-largest-text : sweep_text (one 1048576 64 65536 4398046511104) [] ≡ header ++ codes "1048576,64,65536,4398046511104,0,0,0\n"
-unfolding sweep_text table all_configs is_power count_trailing_zeros rows_text counts places_after window distinct distinct_of_set digits
-largest-text = refl
+largest-rows : rows (one 1048576 64 65536 4398046511104) [] ≡ (1048576, 64, 65536, 0, 0, 0) ∷ []
+unfolding table all_configs is_power count_trailing_zeros counts occurrences_after window distinct distinct_of_set
+largest-rows = refl
 
-odd_ways-text : sweep_text (one 1 1 4097 4097) [] ≡ header ++ codes "1,1,4097,4097,0,0,0\n"
-unfolding sweep_text table all_configs is_power count_trailing_zeros rows_text counts places_after window distinct distinct_of_set digits
-odd_ways-text = refl
+odd_ways-rows : rows (one 1 1 4097 4097) [] ≡ (1, 1, 4097, 0, 0, 0) ∷ []
+unfolding table all_configs is_power count_trailing_zeros counts occurrences_after window distinct distinct_of_set
+odd_ways-rows = refl
 
 -- which ranges are refused, and why
 abbrev refused : Which → Cause → Result Ranges SpaceFault

@@ -12,8 +12,9 @@ pub mod Depths
 pub mod Pairs
 pub mod Passes
 pub mod Standing
+pub mod Runs
 pub mod Making
-pub mod Covering
+pub mod Serving
 pub mod Writing
 pub mod Sweeping
 pub mod WorkLaws

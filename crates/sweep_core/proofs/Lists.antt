@@ -1,8 +1,8 @@
 -- Lists: what is true of each element, what is a member, what a filter keeps, the greatest number and sums.
 use Rattle.std.proofs.Common.{◌≡◌, ℕ, suc, zero, ◌+◌, ◌*◌, ◌<◌, ◌≤◌, max, Bool, true, false, cond, List, [], ◌∷◌, ◌++◌, map, take, length, fold, get_or}
-use Rattle.std.proofs.Common.{refl, sym, ap, ◌∙◌, None, inl, inr, arith, subst, mul-add}
+use Rattle.std.proofs.Common.{refl, sym, ap, ◌∙◌, inl, inr, arith, subst, mul-add}
 use Rattle.std.specs.Prelude.{◌⊎◌, filter, flat_map, Contains, sum_by}
-use Rattle.std.specs.List.{range_with_len, slice_get, AllByRecursion as Each}
+use Rattle.std.specs.List.{range_with_len, AllByRecursion as Each}
 use Rattle.std.proofs.lemmas.Bool.{cases_Bool, cond-true, cond-false, cases_lt}
 use Rattle.std.proofs.lemmas.List.Sums.{sum_by-cons}
 
@@ -138,10 +138,6 @@ filter-agree p q (x ∷ xs) h = rw h.0 (ap (λ l. cond (q x) (x ∷ l) l) (filte
 pub filter-none : {A : Type 0} (p : A → Bool) → ((x : A) → p x ≡ false) → (xs : List A) → filter p xs ≡ []
 filter-none p h [] = refl
 filter-none p h (x ∷ xs) = cond-false _ _ _ (h x) ∙ filter-none p h xs
-
-pub none-first : {A : Type 0} (xs : List A) → slice_get xs 0 ≡ None → xs ≡ []
-none-first [] h = refl
-none-first (x ∷ xs) h = absurd cc
 
 pub max-is : (n : ℕ) (xs : List ℕ) (a : ℕ) → a ≤ n → Each (λ x. x ≤ n) xs → (a ≡ n) ⊎ Member n xs → fold max a xs ≡ n
 max-is n [] a low all (inl e) = e

@@ -1,7 +1,7 @@
 -- Profiles after some events, and then more.
-use Rattle.std.proofs.Common.{◌≡◌, ℕ, ◌+◌, ◌≤◌, ◌<◌, subst, inl, inr, List, [], ◌∷◌, ◌++◌, map, length, refl, sym, ap, ◌∙◌, arith, fold}
-use Rattle.std.proofs.Common.{Option, Some, true, false, cond}
-use Rattle.std.specs.Prelude.{filter}
+use Rattle.std.proofs.Common.{◌≡◌, ℕ, zero, suc, ◌+◌, ◌≤◌, ◌<◌, subst, inl, inr, List, [], ◌∷◌, ◌++◌, map, length, refl, sym, ap, ◌∙◌, arith, fold}
+use Rattle.std.proofs.Common.{Bool, Option, None, Some, true, false, cond, take, drop, get_or}
+use Rattle.std.specs.Prelude.{filter, sum}
 use Rattle.std.specs.Option.{option_to_list}
 use Rattle.trace_core.specs.Device.{SourceView}
 use Rattle.trace_core.specs.Events.{events_of, keeps, references}
@@ -17,13 +17,16 @@ use Rattle.trace_core.specs.declared.events.Item.{Item}
 use Rattle.trace_core.specs.declared.events.Ref.{Ref}
 use Rattle.trace_core.specs.declared.events.Kind.{Kind}
 use Rattle.trace_core.specs.declared.events.Event.{Event}
-use Rattle.profile_core.specs.State.{fed_of, after_event}
-use Rattle.std.proofs.lemmas.Bool.{cases_eq}
-use Rattle.std.proofs.lemmas.List.Sums.{fold-append}
-use Rattle.std.proofs.Math.ListN.{get_or, set}
-use Rattle.std.proofs.lemmas.List.{length-set, get_or-set_same, get_or-set_other}
+use Rattle.profile_core.specs.State.{ProfileState, fed_of, list_of, raise, after_reference, after_flush, after_event}
+use Rattle.profile_core.specs.Moves.{is_in, index_of}
+use Rattle.cache_core.specs.declared.system.TheConstants.{MAX_STEPS}
+use Rattle.cache_core.specs.Geometry.{block_of, set_of_block}
+use Rattle.std.proofs.lemmas.Bool.{cases_lt}
+use Rattle.std.proofs.lemmas.List.{set_past}
+use Rattle.std.proofs.lemmas.List.Elements.{All-map}
+use Rattle.std.proofs.lemmas.List.Sums.{fold-append, sum_by-set}
 use Rattle.sweep_core.specs.declared.profiles.PairProfile.{PairProfile}
-use Rattle.sweep_core.specs.Pass.{all_after, kept_events, Feeds}
+use Rattle.sweep_core.specs.Pass.{CanTake, pair_after_events, all_after, kept_events, Feeds}
 
 pub all_after-nil : (xs : List PairProfile) → all_after [] xs ≡ xs
 all_after-nil [] = refl
@@ -67,21 +70,63 @@ entry-two kind e item both second xs ys zs is refs two first later =
         ≡ map (λ x. event.Reference x) (cond b (r ∷ filter (λ x. keeps kind x.access) (second ∷ [])) (filter (λ x. keeps kind x.access) (second ∷ []))))
         [ true ↦ refl | false ↦ refl ]
 
--- how much was fed, when the profiles before place i have had one reference more
-abbrev pub FedBelow : List PairProfile → ℕ → ℕ → Type 0
-FedBelow ys i n = (k : ℕ) (d : PairProfile) → k < length ys → (k < i → fed_of (get_or ys k d).profile ≤ n + 1) × (i ≤ k → fed_of (get_or ys k d).profile ≤ n)
-
-pub fed-more : (ys : List PairProfile) (i n : ℕ) (v : PairProfile) → i < length ys → fed_of v.profile ≤ n + 1 → FedBelow ys i n
-    → FedBelow (set ys i v) (i + 1) n
-fed-more ys i n v inside here below k d inner =
-    elim (cases_eq k i) [
-      | inl same ↦
-          let at : get_or (set ys i v) k d ≡ v = ap (λ j. get_or (set ys i v) j d) same ∙ get_or-set_same ys i v d inside in
-          (λ _. subst (λ (x : PairProfile). fed_of x.profile ≤ n + 1) (sym at) here, λ more. absurd (omega arith))
-      | inr other ↦
-          let at : get_or (set ys i v) k d ≡ get_or ys k d = get_or-set_other ys i k v d other in
-          let old = below k d (omega (arith, length-set ys i v)) in (
-            λ less. subst (λ (x : PairProfile). fed_of x.profile ≤ n + 1) (sym at) (old.0 (omega arith)),
-            λ more. subst (λ (x : PairProfile). fed_of x.profile ≤ n) (sym at) (old.1 (omega arith)),
-          )
+-- one more in a histogram, or none where it has no such number
+sum-raise : (ns : List ℕ) (i : ℕ) → sum (raise ns i) ≤ sum ns + 1
+sum-raise ns i =
+    elim (cases_lt i (length ns)) [
+      | inl inside ↦ omega (arith, sum_by-set (λ m. m) ns i (get_or ns i 0 + 1) 0 inside)
+      | inr past ↦ omega (arith, ap sum (set_past ns i (get_or ns i 0 + 1) past))
     ]
+
+-- a reference is one more
+fed-reference : (v : ProfileState) (x : ℕ) → fed_of (after_reference v x) ≤ fed_of v + 1
+fed-reference v x = counted (is_in x xs)
+  where
+    xs : List ℕ
+    xs = list_of v (set_of_block v.geometry x)
+
+    counted : (b : Bool) → sum (cond b (raise v.distances (index_of x xs)) v.distances)
+        + sum (cond b v.misses_by_occupancy (raise v.misses_by_occupancy (length xs))) ≤ sum v.distances + sum v.misses_by_occupancy + 1
+    counted true = omega (arith, sum-raise v.distances (index_of x xs))
+    counted false = omega (arith, sum-raise v.misses_by_occupancy (length xs))
+
+-- events are at most as many more
+fed-events : (es : List Event) (v : ProfileState) → fed_of (fold after_event v es) ≤ fed_of v + length es
+fed-events [] v = omega arith
+fed-events (event.Reference r ∷ es) v =
+    omega (arith, fed-events es (after_event v (event.Reference r)), fed-reference v (block_of v.geometry r.addr))
+fed-events (event.Flush ∷ es) v = omega (arith, fed-events es (after_flush v))
+
+can-take : (n m : ℕ) (es : List Event) (xs : List PairProfile) → length es ≤ m → CanTake (n + m) xs → CanTake n (all_after es xs)
+can-take n m es xs few free =
+    All-map (λ x. fed_of x.profile + n ≤ MAX_STEPS) (pair_after_events es) xs (λ k d h. omega (arith, free k d h, fed-events es (get_or xs k d).profile))
+
+-- of some references at most all are kept
+kept-most : (kind : Kind) (rs : List Ref) → length (kept_events kind rs) ≤ length rs
+kept-most kind [] = omega arith
+kept-most kind (r ∷ rs) =
+    let more = kept-most kind rs in
+    elim (keeps kind r.access) as (λ b. length (map (λ x. event.Reference x) (cond b (r ∷ filter (λ x. keeps kind x.access) rs)
+    (filter (λ x. keeps kind x.access) rs))) ≤ length (r ∷ rs)) [ true ↦ omega (arith, more) | false ↦ omega (arith, more) ]
+
+-- an entry gives at most two events
+entry-most : (kind : Kind) (e : Entry) → length (events_of kind e) ≤ 2
+entry-most kind (entry.Item item) =
+    omega (arith, kept-most kind ((references item).0 ∷ option_to_list (references item).1), at_most_one (references item).1)
+  where
+    at_most_one : (o : Option Ref) → length (option_to_list o) ≤ 1
+    at_most_one None = omega arith
+    at_most_one (Some r) = omega arith
+entry-most kind entry.Flush = omega arith
+
+pub can-take-second : (kind : Kind) (r : Ref) (xs ys : List PairProfile) → CanTake 2 xs → ys ≡ all_after (kept_events kind (r ∷ [])) xs → CanTake 1 ys
+can-take-second kind r xs ys free fed = subst (CanTake 1) (sym fed) (can-take 1 1 (kept_events kind (r ∷ [])) xs (kept-most kind (r ∷ [])) free)
+
+pub can-take-entries : (kind : Kind) (e : Entry) (n : ℕ) (xs ys : List PairProfile) → CanTake (n + 2) xs → ys ≡ all_after (events_of kind e) xs → CanTake n ys
+can-take-entries kind e n xs ys free fed = subst (CanTake n) (sym fed) (can-take n 2 (events_of kind e) xs (entry-most kind e) free)
+
+-- a loop over profiles has not yet reached the one at its index
+pub unreached : {A : Type 0} (f : A → A) (xs : List A) (i : ℕ) (d : A) → i < length xs → get_or (map f (take i xs) ++ drop i xs) i d ≡ get_or xs i d
+unreached f [] i d inside = absurd (omega arith)
+unreached f (x ∷ xs) zero d inside = refl
+unreached f (x ∷ xs) (suc i) d inside = unreached f xs i d (omega arith)

@@ -51,7 +51,7 @@ log_of_ones (suc fuel) n h e =
       | inr odd ↦ let none = zero_from_ones (n / 2) (omega arith) in (0, omega arith)
     ]
 
-below-64 : (n k : ℕ) → n < 2 ^ 64 → n ≡ 2 ^ k → k < 64
+pub below-64 : (n k : ℕ) → n < 2 ^ 64 → n ≡ 2 ^ k → k < 64
 below-64 n k fits e =
     elim (cases_lt k 64) [ inl below ↦ below | inr above ↦ let more : 2 ^ 64 ≤ 2 ^ k = pow_mono above in absurd (omega arith) ]
 

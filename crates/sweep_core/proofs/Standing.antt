@@ -1,47 +1,42 @@
 -- Profiles stand for the trace that they were fed.
-use Rattle.std.proofs.Common.{◌≡◌, ℕ, ◌+◌, List, [], ◌∷◌, map, fold, refl, ap, ◌∙◌}
+use Rattle.std.proofs.Common.{◌≡◌, ℕ, ◌+◌, List, [], ◌∷◌, map, fold, refl, sym, ap, ◌∙◌, subst}
 use Rattle.std.specs.Prelude.{sum_by}
-use Rattle.std.proofs.lemmas.Simd.{map-map}
 use Rattle.std.specs.List.{AllByRecursion as Each}
 use Rattle.trace_core.specs.declared.events.Event.{Event}
 use Rattle.cache_core.specs.Windows.{probes}
-use Rattle.profile_core.specs.State.{empty}
-use Rattle.profile_core.specs.StandsFor.{StandsFor}
+use Rattle.profile_core.specs.State.{empty, after_event}
+use Rattle.profile_core.specs.ProfileStandsFor.{ProfileStandsFor}
 use Rattle.profile_core.proofs.Runs.{stands_after, geometry_after}
 use Rattle.sweep_core.specs.declared.space.Config.{Config}
 use Rattle.sweep_core.specs.declared.profiles.PairProfile.{PairProfile}
-use Rattle.sweep_core.specs.Work.{pairs, work, shape_of_pair}
-use Rattle.sweep_core.specs.Pass.{pair_after_events, begun_for, made_for, all_after, HasGeometry}
+use Rattle.sweep_core.specs.Work.{pair_of, pairs, work, geometry_of_pair}
+use Rattle.sweep_core.specs.Pass.{all_after, WasFed}
 
-module _ (all : List Config) (es : List Event) (p : ℕ × ℕ) where
+module _ (all : List Config) (es : List Event) (x : PairProfile) (fed : WasFed all es x) where
+  pub geometry-kept : x.profile.geometry ≡ geometry_of_pair all (pair_of x.first)
+  geometry-kept = ap (λ p. p.geometry) fed.is ∙ geometry_after es (empty (geometry_of_pair all (pair_of x.first)))
+
   -- what a profile of a sweep holds after a trace
-  pub stands : HasGeometry all p → StandsFor es (pair_after_events es (begun_for all p)).profile
-  stands g = stands_after (shape_of_pair all p) es g
+  pub stands : ProfileStandsFor es x.profile
+  stands = subst (ProfileStandsFor es) (sym fed.is) (stands_after (geometry_of_pair all (pair_of x.first)) es fed.sound)
 
-  pub geometry-kept : (pair_after_events es (begun_for all p)).profile.geometry ≡ shape_of_pair all p
-  geometry-kept = geometry_after es (empty (shape_of_pair all p))
+  probes-after : x.profile.probes ≡ probes (geometry_of_pair all (pair_of x.first)) es
+  probes-after = stands.comparisons ∙ ap (λ g. probes g es) geometry-kept
 
-  pub probes-after : HasGeometry all p → (pair_after_events es (begun_for all p)).profile.probes ≡ probes (shape_of_pair all p) es
-  probes-after g = (stands g).comparisons ∙ ap (λ h. probes h es) geometry-kept
-
-sum-go : (f : PairProfile → ℕ) (h : ℕ × ℕ → ℕ) (m : ℕ × ℕ → PairProfile) (a : ℕ) (qs : List (ℕ × ℕ)) → Each (λ p. f (m p) ≡ h p) qs
-    → fold (λ t x. t + f x) a (map m qs) ≡ fold (λ t p. t + h p) a qs
-sum-go f h m a [] e = refl
-sum-go f h m a (q ∷ qs) e = ap (λ x. fold (λ t y. t + f y) (a + x) (map m qs)) e.0 ∙ sum-go f h m (a + h q) qs e.1
-
-sum-same : (f : PairProfile → ℕ) (h : ℕ × ℕ → ℕ) (m : ℕ × ℕ → PairProfile) (ps : List (ℕ × ℕ)) → Each (λ p. f (m p) ≡ h p) ps
-    → sum_by f (map m ps) ≡ sum_by h ps
-sum-same f h m ps all = sum-go f h m 0 ps all
-
--- the comparisons of all profiles, where each pair of the rows is within the limits
-pub work-is : (all rows : List Config) (es : List Event) → Each (HasGeometry all) (pairs rows)
-    → sum_by (λ x. x.profile.probes) (all_after es (made_for all rows)) ≡ work es all rows
+-- the comparisons of all profiles are those of their pairs
+pub work-is : (all rows : List Config) (es : List Event) (xs : List PairProfile) → map (λ x. pair_of x.first) xs ≡ pairs rows → Each (WasFed all es) xs
+    → sum_by (λ x. x.profile.probes) xs ≡ work es all rows
 unfolding work
-work-is all rows es gs =
-    ap (sum_by (λ x. x.profile.probes)) (map-map (pair_after_events es) (begun_for all) (pairs rows))
-    ∙ sum-same (λ x. x.profile.probes) (λ p. probes (shape_of_pair all p) es) (λ p. pair_after_events es (begun_for all p)) (pairs rows) (each (pairs rows) gs)
+work-is all rows es xs are fed = sum-same 0 xs fed ∙ ap (sum_by (λ p. probes (geometry_of_pair all p) es)) are
   where
-    each : (ps : List (ℕ × ℕ)) → Each (HasGeometry all) ps
-        → Each (λ p. (pair_after_events es (begun_for all p)).profile.probes ≡ probes (shape_of_pair all p) es) ps
-    each [] h = tt
-    each (p ∷ ps) h = (probes-after all es p h.0, each ps h.1)
+    sum-same : (a : ℕ) (ys : List PairProfile) → Each (WasFed all es) ys
+        → fold (λ t x. t + x.profile.probes) a ys ≡ fold (λ t p. t + probes (geometry_of_pair all p) es) a (map (λ x. pair_of x.first) ys)
+    sum-same a [] h = refl
+    sum-same a (y ∷ ys) h =
+        ap (λ n. fold (λ t x. t + x.profile.probes) (a + n) ys) (probes-after all es y h.0)
+        ∙ sum-same (a + probes (geometry_of_pair all (pair_of y.first)) es) ys h.1
+
+-- new profiles, after some events
+pub fed-after : (all : List Config) (es : List Event) (xs : List PairProfile) → Each (WasFed all []) xs → Each (WasFed all es) (all_after es xs)
+fed-after all es [] h = tt
+fed-after all es (x ∷ xs) h = (record { sound = h.0.sound; is = ap (λ p. fold after_event p es) h.0.is }, fed-after all es xs h.1)

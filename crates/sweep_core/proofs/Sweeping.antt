@@ -1,8 +1,9 @@
 -- What a sweep has read, fed and written when it ends.
-use Rattle.std.proofs.Common.{◌≡◌, ℕ, ◌+◌, ◌≤◌, List, [], sym, ap, ◌∙◌, subst, arith, get_or}
+use Rattle.std.proofs.Common.{◌≡◌, ℕ, ◌+◌, List, [], ◌∷◌, ◌++◌, map, refl, sym, ap, ◌∙◌, subst, arith, get_or}
 use Rattle.std.specs.Prelude.{All, flat_map, sum_by}
 use Rattle.std.specs.Option.{IfSome}
-use Rattle.std.proofs.lemmas.List.Elements.{All-map}
+use Rattle.std.proofs.lemmas.Simd.{map-map}
+use Rattle.std.specs.List.{AllByRecursion as Each}
 use Rattle.std.proofs.lemmas.List.Folds.{sum_by-replicate}
 use Rattle.trace_core.specs.declared.events.Event.{Event}
 use Rattle.trace_core.specs.declared.fault.TraceFault.{TraceFault}
@@ -23,20 +24,21 @@ use Rattle.profile_core.specs.State.{empty, fed_of}
 use Rattle.sweep_core.specs.declared.request.Request.{Request}
 use Rattle.sweep_core.specs.declared.profiles.PairProfile.{PairProfile}
 use Rattle.sweep_core.specs.SweepText.{table_text, configs_of, rows_of, sweep_text, sweep_task}
-use Rattle.sweep_core.specs.Work.{pairs, shape_of_pair, work, sweep_work}
-use Rattle.sweep_core.specs.Pass.{Swept, Feeds, begun_for, made_for, all_after}
-use Rattle.sweep_core.proofs.Passes.{all_after-nil}
-use Rattle.sweep_core.proofs.Standing.{work-is}
+use Rattle.sweep_core.specs.Work.{pair_of, geometry_of_pair, work, sweep_work}
+use Rattle.sweep_core.specs.Runs.{rows_of_profile}
+use Rattle.sweep_core.specs.Pass.{SweepStandsFor, Feeds, WasFed, pair_after_events, all_after}
+use Rattle.sweep_core.proofs.Lists.{Each-get_or}
+use Rattle.sweep_core.proofs.Standing.{work-is, fed-after}
 
-empty-fed : (g : GeometryValue) → fed_of (empty g) ≤ 0
+empty-fed : (g : GeometryValue) → fed_of (empty g) ≡ 0
 empty-fed g = omega (arith, sum_by-replicate (λ x. x) g.e 0, sum_by-replicate (λ x. x) (g.e + 1) 0)
 
 -- new profiles were fed nothing
-pub unfed : (r : Request) (xs : List PairProfile) → Swept r [] xs → All (λ x. fed_of x.profile ≤ 0) xs
-unfed r xs swept =
-    let all = configs_of r in
-    subst (All (λ x. fed_of x.profile ≤ 0)) (sym (swept.fed ∙ all_after-nil (made_for all (rows_of r))))
-    (All-map (λ x. fed_of x.profile ≤ 0) (begun_for all) (pairs (rows_of r)) (λ k d h. empty-fed (shape_of_pair all (get_or (pairs (rows_of r)) k d))))
+pub unfed : (r : Request) (xs : List PairProfile) → SweepStandsFor r [] xs → All (λ x. fed_of x.profile ≡ 0) xs
+unfed r xs swept k d h =
+    let x = get_or xs k d in
+    let fed = Each-get_or (WasFed (configs_of r) []) xs k d h swept.fed in
+    omega (arith, ap fed_of fed.is, empty-fed (geometry_of_pair (configs_of r) (pair_of x.first)))
 
 -- the events of what was read
 abbrev pub fed_events : Request → List (ℕ × Entry) → List Event
@@ -44,12 +46,21 @@ fed_events r xs = flat_map (events_of r.kind) (entries_of xs)
 
 -- a request's new profiles, as slices, after what was read
 pub swept-after : {r : Request} {format : Format} {limit : ℕ} {start now : SourceView} {p : Progress} {made xs ys zs : List PairProfile}
-    → Swept r [] made → xs ≡ made → (run : Feeds r.kind format limit start now p xs ys) → zs ≡ ys → Swept r (fed_events r run.read) zs
-swept-after {r = r} begin same run end = record {
-  space = begin.space;
-  sound = begin.sound;
-  fed = end ∙ run.fed ∙ ap (all_after (fed_events r run.read)) (same ∙ begin.fed ∙ all_after-nil (made_for (configs_of r) (rows_of r)));
-}
+    → SweepStandsFor r [] made → xs ≡ made → (run : Feeds r.kind format limit start now p xs ys) → zs ≡ ys → SweepStandsFor r (fed_events r run.read) zs
+swept-after {r = r} {made = made} {zs = zs} begin same run end =
+    let es = fed_events r run.read in
+    let are : zs ≡ all_after es made = end ∙ run.fed ∙ ap (all_after es) same in
+    record {
+      space = begin.space;
+      pairs = ap (map (λ x. pair_of x.first)) are ∙ map-map (λ x. pair_of x.first) (pair_after_events es) made ∙ begin.pairs;
+      rows = ap (flat_map (rows_of_profile r.space.powers)) are ∙ rows-kept es made ∙ begin.rows;
+      fed = subst (Each (WasFed (configs_of r) es)) (sym are) (fed-after (configs_of r) es made begin.fed);
+    }
+  where
+    rows-kept : (es : List Event) (xs : List PairProfile)
+        → flat_map (rows_of_profile r.space.powers) (all_after es xs) ≡ flat_map (rows_of_profile r.space.powers) xs
+    rows-kept es [] = refl
+    rows-kept es (x ∷ xs) = ap (λ l. rows_of_profile r.space.powers x ++ l) (rows-kept es xs)
 
 module _ (r : Request) {start now : SourceView} {new p : Progress} {xs ys : List PairProfile} (begins : new ≡ begun r.format r.max_lines)
     (run : Feeds r.kind new.format new.limit start now p xs ys) where
@@ -74,10 +85,10 @@ module _ (r : Request) {start now : SourceView} {new p : Progress} {xs ys : List
   }
 
   -- the comparisons are those of the events that were read
-  pub sweep-works : {zs : List PairProfile} (n : ℕ) → p.state ≡ state.Ended → Swept r (fed_events r run.read) zs
+  pub sweep-works : {zs : List PairProfile} (n : ℕ) → p.state ≡ state.Ended → SweepStandsFor r (fed_events r run.read) zs
       → n ≡ sum_by (λ x. x.profile.probes) zs → IfSome start.remaining (λ text. n ≡ sweep_work r text)
   unfolding sweep_work
-  sweep-works n ended swept is = if_known start.remaining (λ text. n ≡ sweep_work r text) (λ text told.
-      let end = Reached-end r.format r.max_lines text start now run.read p told reached ended in
-      is ∙ ap (sum_by (λ x. x.profile.probes)) swept.fed ∙ work-is (configs_of r) (rows_of r) (fed_events r run.read) swept.sound
+  sweep-works {zs = zs} n ended swept is = if_known start.remaining (λ text. n ≡ sweep_work r text) (λ text known.
+      let end = Reached-end r.format r.max_lines text start now run.read p known reached ended in
+      is ∙ work-is (configs_of r) (rows_of r) (fed_events r run.read) zs swept.pairs swept.fed
       ∙ ap (λ es. work (flat_map (events_of r.kind) es) (configs_of r) (rows_of r)) (entries-reading r.format r.max_lines text run.read end))

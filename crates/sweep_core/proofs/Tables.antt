@@ -36,15 +36,15 @@ abbrev Grows : List ℕ → Type 0
 Grows [] = ⊤
 Grows (x ∷ xs) = Each (λ y. x < y) xs × Grows xs
 
--- one stretch for each number, where a number of a stretch is told by K
+-- one stretch for each number, where K says of which number a configuration is
 Rising-flat_map : (K : ℕ → Config → Type 0) (f : ℕ → List Config) → ((x : ℕ) → IsRising (f x)) → ((x : ℕ) → Each (K x) (f x))
     → ((x y : ℕ) (c d : Config) → x < y → K x c → K y d → is_less c d ≡ true)
     → (xs : List ℕ) → Grows xs → IsRising (flat_map f xs)
-Rising-flat_map K f rises told less [] g = tt
-Rising-flat_map K f rises told less (x ∷ xs) g =
-    Rising-append (f x) (flat_map f xs) (rises x) (Rising-flat_map K f rises told less xs g.1)
+Rising-flat_map K f rises known less [] g = tt
+Rising-flat_map K f rises known less (x ∷ xs) g =
+    Rising-append (f x) (flat_map f xs) (rises x) (Rising-flat_map K f rises known less xs g.1)
     (Each-weaker (K x) _ (λ c kc. Each-flat_map _ f xs
-    (Each-weaker (λ y. x < y) _ (λ y lt. Each-weaker (K y) _ (λ d kd. less x y c d lt kc kd) (f y) (told y)) xs g.0)) (f x) (told x))
+    (Each-weaker (λ y. x < y) _ (λ y lt. Each-weaker (K y) _ (λ d kd. less x y c d lt kc kd) (f y) (known y)) xs g.0)) (f x) (known x))
 
 Grows-powers : (a n : ℕ) → Grows (map (λ k. 2 ^ k) (range_with_len a n))
 Grows-powers a zero = tt
@@ -54,9 +54,9 @@ Grows-powers a (suc n) = (above a (a + 1) n (omega arith), Grows-powers (a + 1) 
     above i j zero h = tt
     above i j (suc m) h = (pow-lt h, above i (j + 1) m (omega arith))
 
-ways_told : (b s a n : ℕ) → Each (λ c. (c.bsize ≡ b) × (c.sets ≡ s)) (map (config b s) (range_with_len a n))
-ways_told b s a zero = tt
-ways_told b s a (suc n) = ((refl, refl), ways_told b s (a + 1) n)
+ways_known : (b s a n : ℕ) → Each (λ c. (c.bsize ≡ b) × (c.sets ≡ s)) (map (config b s) (range_with_len a n))
+ways_known b s a zero = tt
+ways_known b s a (suc n) = ((refl, refl), ways_known b s (a + 1) n)
 
 ways_above : (b s i j m : ℕ) → i < j → Each (λ y. is_less (config b s i) y ≡ true) (map (config b s) (range_with_len j m))
 ways_above b s i j zero h = tt
@@ -69,27 +69,27 @@ ways_rise b s a (suc n) = (ways_above b s a (a + 1) n (omega arith), ways_rise b
 abbrev of_bsize : ℕ × ℕ → ℕ → List Config
 of_bsize range b = flat_map (λ s. map (config b s) (numbers range)) powers_of_two
 
-sets_told : (range : ℕ × ℕ) (b : ℕ) (xs : List ℕ) → Each (λ s. Each (λ c. c.bsize ≡ b) (map (config b s) (numbers range))) xs
-sets_told range b [] = tt
-sets_told range b (s ∷ xs) = (
+sets_known : (range : ℕ × ℕ) (b : ℕ) (xs : List ℕ) → Each (λ s. Each (λ c. c.bsize ≡ b) (map (config b s) (numbers range))) xs
+sets_known range b [] = tt
+sets_known range b (s ∷ xs) = (
   Each-weaker (λ c. (c.bsize ≡ b) × (c.sets ≡ s)) (λ c. c.bsize ≡ b) (λ c h. h.0) (map (config b s) (numbers range))
-      (ways_told b s range.0 (range.1 + 1 - range.0)),
-  sets_told range b xs,
+      (ways_known b s range.0 (range.1 + 1 - range.0)),
+  sets_known range b xs,
 )
 
-bsize_told : (range : ℕ × ℕ) (b : ℕ) → Each (λ c. c.bsize ≡ b) (of_bsize range b)
-bsize_told range b = Each-flat_map (λ c. c.bsize ≡ b) (λ s. map (config b s) (numbers range)) powers_of_two (sets_told range b powers_of_two)
+bsize_known : (range : ℕ × ℕ) (b : ℕ) → Each (λ c. c.bsize ≡ b) (of_bsize range b)
+bsize_known range b = Each-flat_map (λ c. c.bsize ≡ b) (λ s. map (config b s) (numbers range)) powers_of_two (sets_known range b powers_of_two)
 
 bsize_rises : (range : ℕ × ℕ) (b : ℕ) → IsRising (of_bsize range b)
 bsize_rises range b =
     Rising-flat_map (λ s c. (c.bsize ≡ b) × (c.sets ≡ s)) (λ s. map (config b s) (numbers range))
-    (λ s. ways_rise b s range.0 (range.1 + 1 - range.0)) (λ s. ways_told b s range.0 (range.1 + 1 - range.0))
+    (λ s. ways_rise b s range.0 (range.1 + 1 - range.0)) (λ s. ways_known b s range.0 (range.1 + 1 - range.0))
     (λ x y c d lt kc kd. is_less-from c d (inr (kc.0 ∙ sym kd.0, inl (omega arith)))) powers_of_two (Grows-powers 0 21)
 
 pub all_configs-rise : (range : ℕ × ℕ) → IsRising (all_configs range)
 unfolding all_configs
 all_configs-rise range =
-    Rising-flat_map (λ b c. c.bsize ≡ b) (of_bsize range) (bsize_rises range) (bsize_told range)
+    Rising-flat_map (λ b c. c.bsize ≡ b) (of_bsize range) (bsize_rises range) (bsize_known range)
     (λ x y c d lt kc kd. is_less-from c d (inl (omega arith))) powers_of_two (Grows-powers 0 21)
 
 -- what stands in the list of all

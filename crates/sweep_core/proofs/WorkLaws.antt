@@ -9,9 +9,9 @@ use Rattle.trace_core.specs.declared.events.Event.{Event}
 use Rattle.trace_core.specs.declared.events.Event.TheVariants as event
 use Rattle.cache_core.specs.Geometry.{GeometryValue}
 use Rattle.cache_core.specs.Systems.{references_in}
-use Rattle.cache_core.specs.Windows.{places, places_after, probes}
+use Rattle.cache_core.specs.Windows.{occurrences, occurrences_after, probes}
 use Rattle.sweep_core.specs.declared.space.Config.{Config}
-use Rattle.sweep_core.specs.Work.{pair_of, has_pair, pairs, depth, shape_of_pair, work, total_depth}
+use Rattle.sweep_core.specs.Work.{pair_of, has_pair, pairs, depth, geometry_of_pair, work, total_depth}
 use Rattle.sweep_core.proofs.Lists.{Member, Member-mapped, contains-of, member-of, kept-of, Member-filter, max-reached, sum-times}
 use Rattle.sweep_core.proofs.Depths.{depth-above}
 use Rattle.sweep_core.proofs.Pairs.{has_pair-is, has_pair-from}
@@ -78,20 +78,20 @@ depth-reached all p m =
     lowest : {n d : ℕ} → n ≤ d → d ≡ 0 → n ≡ d
     lowest low none = omega arith
 
--- one place for each reference
-places-length : (g : GeometryValue) (before es : List Event) → length (places_after g before es) ≡ length (references_in es)
-unfolding places_after
-places-length g before [] = refl
-places-length g before (event.Reference r ∷ es) = ap suc (places-length g (before ++ event.Reference r ∷ []) es)
-places-length g before (event.Flush ∷ es) = places-length g (before ++ event.Flush ∷ []) es
+-- one for each reference
+occurrences-length : (g : GeometryValue) (before es : List Event) → length (occurrences_after g before es) ≡ length (references_in es)
+unfolding occurrences_after
+occurrences-length g before [] = refl
+occurrences-length g before (event.Reference r ∷ es) = ap suc (occurrences-length g (before ++ event.Reference r ∷ []) es)
+occurrences-length g before (event.Flush ∷ es) = occurrences-length g (before ++ event.Flush ∷ []) es
 
 -- at most so many comparisons a reference as its profile is deep
-pub work-most : (es : List Event) (all rows : List Config) → ((g : GeometryValue) → probes g es ≤ length (places g es) * g.e)
+pub work-most : (es : List Event) (all rows : List Config) → ((g : GeometryValue) → probes g es ≤ length (occurrences g es) * g.e)
     → work es all rows ≤ length (references_in es) * total_depth all rows
 unfolding work
 work-most es all rows most =
     let n = length (references_in es) in
-    let each : (p : ℕ × ℕ) → probes (shape_of_pair all p) es ≤ n * depth all p =
-    λ p. rw (sym (places-length (shape_of_pair all p) [] es)) (most (shape_of_pair all p)) in
+    let each : (p : ℕ × ℕ) → probes (geometry_of_pair all p) es ≤ n * depth all p =
+    λ p. rw (sym (occurrences-length (geometry_of_pair all p) [] es)) (most (geometry_of_pair all p)) in
     let sum : sum_by (λ p. n * depth all p) (pairs rows) ≡ n * total_depth all rows = sum-times n (depth all) (pairs rows) in
-    omega (arith, sum_by-le-sum_by (λ p. probes (shape_of_pair all p) es) (λ p. n * depth all p) (pairs rows) each, sum)
+    omega (arith, sum_by-le-sum_by (λ p. probes (geometry_of_pair all p) es) (λ p. n * depth all p) (pairs rows) each, sum)

@@ -23,12 +23,12 @@ rows-append : (es : List Event) (cs ds : List Config) → rows_text es (cs ++ ds
 unfolding rows_text
 rows-append es cs ds = flat_map-append (λ d. row_of d (row_counts es d)) cs ds
 
--- the text of some rows, and then of one more
-rows-more : (es : List Event) (cs : List Config) (c : Config) → rows_text es (cs ++ c ∷ []) ≡ rows_text es cs ++ row_of c (row_counts es c)
+-- the text of one row
+one-row : (es : List Event) (c : Config) → rows_text es (c ∷ []) ≡ row_of c (row_counts es c)
 unfolding rows_text
-rows-more es cs c = rows-append es cs (c ∷ []) ∙ ap (λ l. rows_text es cs ++ l) (append-nil (row_of c (row_counts es c)))
+one-row es c = append-nil (row_of c (row_counts es c))
 
--- Of the rows of a sweep over a trace those before some that are left were written.
+-- Of some rows over a trace those before some that are left were written.
 pub record WroteBefore (rows : List Config) (es : List Event) (old new : SinkView) (left : List Config) : Type 0 where
   pub front : List Config
   pub whole : rows ≡ front ++ left
@@ -38,22 +38,31 @@ pub rows-begin : (rows : List Config) (es : List Event) (v : SinkView) → Wrote
 unfolding rows_text
 rows-begin rows es v = record { front = []; whole = refl; wrote = Wrote-none v }
 
-pub row-written : {rows : List Config} {es : List Event} {a b d : SinkView} {c : Config} {left : List Config}
-    → WroteBefore rows es a b (c ∷ left) → Wrote b d (row_of c (row_counts es c)) → WroteBefore rows es a d left
-row-written {es = es} {a = a} {d = d} {c = c} {left = left} w more = record {
-  front = w.front ++ c ∷ [];
-  whole = w.whole ∙ sym (append_assoc w.front (c ∷ []) left);
-  wrote = subst (Wrote a d) (sym (rows-more es w.front c)) (Wrote-more w.wrote more);
+-- some more were written
+pub rows-more : {rows : List Config} {es : List Event} {a b d : SinkView} (cs left : List Config)
+    → WroteBefore rows es a b (cs ++ left) → Wrote b d (rows_text es cs) → WroteBefore rows es a d left
+rows-more {es = es} {a = a} {d = d} cs left w more = record {
+  front = w.front ++ cs;
+  whole = w.whole ∙ sym (append_assoc w.front cs left);
+  wrote = subst (Wrote a d) (sym (rows-append es w.front cs)) (Wrote-more w.wrote more);
 }
+
+pub row-more : {rows : List Config} {es : List Event} {a b d : SinkView} (c : Config) (left : List Config)
+    → WroteBefore rows es a b (c ∷ left) → Wrote b d (row_of c (row_counts es c)) → WroteBefore rows es a d left
+row-more {es = es} {b = b} {d = d} c left w more = rows-more (c ∷ []) left w (subst (Wrote b d) (sym (one-row es c)) more)
 
 pub rows-written : {rows : List Config} {es : List Event} {a b : SinkView} → WroteBefore rows es a b [] → Wrote a b (rows_text es rows)
 rows-written {es = es} {a = a} {b = b} w =
     subst (λ l. Wrote a b (rows_text es l)) (sym (w.whole ∙ append-nil w.front)) w.wrote
 
--- the sink failed while it took the row of the first that is left
-pub row-failed : {rows : List Config} {es : List Event} {a b d : SinkView} {c : Config} {left : List Config}
-    → WroteBefore rows es a b (c ∷ left) → WrotePart b d (row_of c (row_counts es c)) → WrotePart a d (rows_text es rows)
-row-failed {es = es} {a = a} {d = d} {c = c} {left = left} w part =
-    subst (WrotePart a d) (sym (ap (rows_text es) (w.whole ∙ sym (append_assoc w.front (c ∷ []) left))
-    ∙ rows-append es (w.front ++ c ∷ []) left ∙ ap (λ l. l ++ rows_text es left) (rows-more es w.front c)))
+-- the sink failed while it took the first that are left
+pub rows-failed : {rows : List Config} {es : List Event} {a b d : SinkView} (cs left : List Config)
+    → WroteBefore rows es a b (cs ++ left) → WrotePart b d (rows_text es cs) → WrotePart a d (rows_text es rows)
+rows-failed {es = es} {a = a} {d = d} cs left w part =
+    subst (WrotePart a d) (sym (ap (rows_text es) (w.whole ∙ sym (append_assoc w.front cs left))
+    ∙ rows-append es (w.front ++ cs) left ∙ ap (λ l. l ++ rows_text es left) (rows-append es w.front cs)))
     (WrotePart-more (rows_text es left) (WrotePart-after w.wrote part))
+
+pub row-failed : {rows : List Config} {es : List Event} {a b d : SinkView} (c : Config) (left : List Config)
+    → WroteBefore rows es a b (c ∷ left) → WrotePart b d (row_of c (row_counts es c)) → WrotePart a d (rows_text es rows)
+row-failed {es = es} {b = b} {d = d} c left w part = rows-failed (c ∷ []) left w (subst (WrotePart b d) (sym (one-row es c)) part)

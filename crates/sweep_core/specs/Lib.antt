@@ -3,5 +3,5 @@ pub mod Table
 pub mod Least
 pub mod SweepText
 pub mod Work
+pub mod Runs
 pub mod Pass
-pub mod Walk

@@ -1,5 +1,5 @@
 -- What the profiles of a sweep hold.
-use Rattle.std.specs.Prelude.{◌≡◌, ℕ, None, List, map, filter, flat_map, fold, Result, Ok, Err}
+use Rattle.std.specs.Prelude.{◌≡◌, ℕ, ◌+◌, ◌≤◌, All, None, List, map, filter, flat_map, fold, Result, Ok, Err}
 use Rattle.std.specs.List.{AllByRecursion}
 use Rattle.trace_core.specs.declared.events.Ref.{Ref}
 use Rattle.trace_core.specs.declared.events.Event.{Event}
@@ -14,14 +14,20 @@ use Rattle.trace_core.specs.declared.line.Format.{Format}
 use Rattle.trace_core.specs.declared.fault.TraceFault.{TraceFault}
 use Rattle.trace_core.specs.declared.state.ReaderState.{ReaderState}
 use Rattle.trace_core.specs.declared.state.ReaderState.TheVariants as state
+use Rattle.cache_core.specs.declared.system.TheConstants.{MAX_STEPS}
 use Rattle.cache_core.specs.Geometry.{IsGeometry, block_of}
-use Rattle.profile_core.specs.State.{empty, after_reference, after_flush, after_event}
+use Rattle.profile_core.specs.State.{empty, fed_of, after_reference, after_flush, after_event}
 use Rattle.sweep_core.specs.declared.space.Config.{Config}
 use Rattle.sweep_core.specs.declared.request.Request.{Request}
 use Rattle.sweep_core.specs.declared.profiles.PairProfile.{PairProfile}
 use Rattle.sweep_core.specs.Space.{space_fault}
 use Rattle.sweep_core.specs.SweepText.{configs_of, rows_of}
-use Rattle.sweep_core.specs.Work.{pairs, shape_of_pair}
+use Rattle.sweep_core.specs.Work.{pair_of, pairs, geometry_of_pair}
+use Rattle.sweep_core.specs.Runs.{rows_of_profile}
+
+-- each profile can be fed so many references more
+abbrev pub CanTake : ℕ → List PairProfile → Type 0
+CanTake n profiles = All (λ x. fed_of x.profile + n ≤ MAX_STEPS) profiles
 
 -- the profile of a pair after a reference to an address
 abbrev pub pair_after_reference : ℕ → PairProfile → PairProfile
@@ -43,23 +49,18 @@ kept_events kind refs = map event.Reference (filter (λ r. keeps kind r.access) 
 abbrev pub all_after : List Event → List PairProfile → List PairProfile
 all_after es xs = map (pair_after_events es) xs
 
--- the profile of a pair before any event, as deep as the greatest associativity of the pair in all
-abbrev pub begun_for : List Config → ℕ × ℕ → PairProfile
-begun_for all p = record { bsize = p.0; sets = p.1; profile = empty (shape_of_pair all p) }
+-- a profile was made for its pair, within the limits and as deep as the greatest associativity of the pair in all,
+-- and was fed some events
+pub record WasFed (all : List Config) (es : List Event) (x : PairProfile) : Type 0 where
+  pub sound : IsGeometry (geometry_of_pair all (pair_of x.first))
+  pub is : x.profile ≡ fold after_event (empty (geometry_of_pair all (pair_of x.first))) es
 
--- the profiles that a sweep makes: one for each pair of its rows
-abbrev pub made_for : List Config → List Config → List PairProfile
-made_for all rows = map (begun_for all) (pairs rows)
-
--- a pair is within the limits at its depth
-abbrev pub HasGeometry : List Config → ℕ × ℕ → Type 0
-HasGeometry all p = IsGeometry (shape_of_pair all p)
-
--- the profiles of a sweep after some events
-pub record Swept (r : Request) (es : List Event) (profiles : List PairProfile) : Type 0 where
+-- The profiles of a sweep after some events: one for each pair that has a row, and their rows are those of the sweep, in order.
+pub record SweepStandsFor (r : Request) (es : List Event) (profiles : List PairProfile) : Type 0 where
   pub space : space_fault r.space ≡ None
-  pub sound : AllByRecursion (HasGeometry (configs_of r)) (pairs (rows_of r))
-  pub fed : profiles ≡ all_after es (made_for (configs_of r) (rows_of r))
+  pub pairs : map (λ x. pair_of x.first) profiles ≡ pairs (rows_of r)
+  pub rows : flat_map (rows_of_profile r.space.powers) profiles ≡ rows_of r
+  pub fed : AllByRecursion (WasFed (configs_of r) es) profiles
 
 -- the state in which a reader ends that answers this
 abbrev pub state_after : Result (Unit {0}) TraceFault → ReaderState

@@ -2,6 +2,7 @@
 use Rattle.std.specs.Prelude.{ℕ, ◌*◌, ◌^◌, ◌==◌, ◌&&◌, ◌||◌, not, nat_lt, nat_le, Bool, Option, None, Some, Result, Ok, Err, List, []}
 use Rattle.std.specs.Prelude.{◌∷◌, if◌then◌else◌, codes}
 use Rattle.std.specs.List.{list_any, range_with_len}
+use Rattle.cache_core.specs.declared.geometry.TheConstants.{MAX_BITS, MAX_WAYS, MAX_CACHE_LINES}
 use Rattle.sweep_core.specs.declared.space.Config.{Config}
 use Rattle.sweep_core.specs.declared.space.Which.{Which}
 use Rattle.sweep_core.specs.declared.space.Which.TheVariants.{Bsize, Sets, Assoc, Size}
@@ -50,7 +51,7 @@ is_valid space c =
     is_in_range space.bsize c.bsize && is_in_range space.sets c.sets && is_in_range space.assoc c.assoc
     && is_in_range space.size (bytes_of c)
     && is_power c.bsize && is_power c.sets && (not space.powers || is_power c.assoc)
-    && nat_le (c.assoc * c.sets) (2 ^ 22)
+    && nat_le (c.assoc * c.sets) MAX_CACHE_LINES
 
 -- why a range is refused, if it is: a range whose lowest value is above the greatest
 abbrev pub order_cause : ℕ × ℕ → Option Cause
@@ -75,9 +76,9 @@ first_cause ((which, Some cause) ∷ more) = Some (record { which = which; cause
 -- why these ranges make no space, if they make none
 abbrev pub space_fault : Ranges → Option SpaceFault
 space_fault space = first_cause (
-    (Bsize, power_cause (2 ^ 20) space.bsize)
-    ∷ (Sets, power_cause (2 ^ 20) space.sets)
-    ∷ (Assoc, limit_cause 65536 space.assoc)
+    (Bsize, power_cause (2 ^ MAX_BITS) space.bsize)
+    ∷ (Sets, power_cause (2 ^ MAX_BITS) space.sets)
+    ∷ (Assoc, limit_cause MAX_WAYS space.assoc)
     ∷ (Size, order_cause space.size) ∷ [])
 
 -- these ranges, or why they make no space

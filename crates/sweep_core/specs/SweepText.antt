@@ -18,12 +18,12 @@ abbrev pub log2 : ℕ → ℕ
 log2 n = trailing_zeros w64 n
 
 -- the geometry of a configuration
-abbrev pub shape_of_config : Config → GeometryValue
-shape_of_config c = geometry_value (log2 c.sets) c.assoc (log2 c.bsize)
+abbrev pub geometry_of_config : Config → GeometryValue
+geometry_of_config c = geometry_value (log2 c.sets) c.assoc (log2 c.bsize)
 
 -- the counts of a configuration over a trace
 abbrev pub row_counts : List Event → Config → Counts
-row_counts es c = counts (shape_of_config c) es
+row_counts es c = counts (geometry_of_config c) es
 
 -- numbers in decimal, with commas between them, and an LF
 abbrev pub csv_line : List ℕ → List ℕ

@@ -26,12 +26,12 @@ unfoldable pub depth : List Config → ℕ × ℕ → ℕ
 depth all p = fold max 0 (map (λ c. c.assoc) (filter (has_pair p) all))
 
 -- the geometry of the deepest cache of a pair
-abbrev pub shape_of_pair : List Config → ℕ × ℕ → GeometryValue
-shape_of_pair all p = geometry_value (log2 p.1) (depth all p) (log2 p.0)
+abbrev pub geometry_of_pair : List Config → ℕ × ℕ → GeometryValue
+geometry_of_pair all p = geometry_value (log2 p.1) (depth all p) (log2 p.0)
 
 -- the comparisons of one profile for each pair of the rows, as deep as the greatest associativity of that pair in all
 unfoldable pub work : List Event → List Config → List Config → ℕ
-work es all rows = sum_by (λ p. probes (shape_of_pair all p) es) (pairs rows)
+work es all rows = sum_by (λ p. probes (geometry_of_pair all p) es) (pairs rows)
 
 -- the comparisons that a sweep of a text makes
 unfoldable pub sweep_work : Request → List ℕ → ℕ

@@ -1,6 +1,7 @@
 //! Laws over the definitions: each is the contract of a function with no code, so that the gate
 //! proves it. Proofs above may cite the lemma behind it.
-ghost use Rattle.std.specs.Prelude.{◌≡◌, ◌≢◌, ◌≤◌, ◌*◌, ◌^◌, ℕ, List, [], ◌∷◌, ◌++◌, flat_map, length};
+ghost use Rattle.std.specs.Prelude.{◌≡◌, ◌≢◌, ◌≤◌, ◌*◌, ◌^◌, ℕ};
+ghost use Rattle.std.specs.Prelude.{List, [], ◌∷◌, ◌++◌, flat_map, length};
 ghost use Rattle.std.specs.Prelude.{true, Option, None, Some, ◌↔◌, IsTrue, Contains, AllPairs};
 ghost use Rattle.trace_core.specs.Reading.{events};
 ghost use Rattle.cache_core.specs.Geometry.{IsGeometry, size_of};
@@ -9,7 +10,8 @@ ghost use Rattle.sweep_core.specs.declared.space.Config.{Config};
 ghost use Rattle.sweep_core.specs.declared.request.Request.{Request};
 ghost use Rattle.sweep_core.specs.Space.{Ranges, is_power, is_valid, space_fault, bytes_of};
 ghost use Rattle.sweep_core.specs.Table.{table, first_rows, more_rows, is_less, is_after, IsRising};
-ghost use Rattle.sweep_core.specs.SweepText.{log2, shape_of_config, sweep_text, configs_of, rows_of, ArePages};
+ghost use Rattle.sweep_core.specs.SweepText.{log2, geometry_of_config, sweep_text};
+ghost use Rattle.sweep_core.specs.SweepText.{configs_of, rows_of, ArePages};
 ghost use Rattle.sweep_core.specs.Work.{pair_of, pairs, depth, total_depth, sweep_work};
 
 use crate::space::Config;
@@ -42,10 +44,10 @@ pub fn log2_is()
 /// Each configuration of a space is a cache within the limits, and its geometry has as many bytes.
 pub fn configs_are_geometries()
     ensures limits { (space : Ranges) (c : Config) →
-        space_fault space ≡ None → is_valid space c ≡ true → IsGeometry (shape_of_config c) }
+        space_fault space ≡ None → is_valid space c ≡ true → IsGeometry (geometry_of_config c) }
     ensures bytes { (space : Ranges) (c : Config) →
         space_fault space ≡ None → is_valid space c ≡ true →
-        size_of (shape_of_config c) ≡ bytes_of c }
+        size_of (geometry_of_config c) ≡ bytes_of c }
 {}
 
 /// Pages: a sweep of `n` rows, the last of which is `c`, and then a sweep of `m` rows after `c`,

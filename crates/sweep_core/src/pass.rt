@@ -1,86 +1,43 @@
 //! One pass over a trace: what is read is fed to each profile as it comes.
-ghost use Rattle.std.specs.Prelude.{◌≡◌, ◌∷◌, [], ℕ, ◌+◌, ◌^◌, ◌<◌, ◌≤◌, true, All, map};
+ghost use Rattle.std.specs.Prelude.{◌≡◌, ◌∷◌, [], ◌^◌, ◌≤◌, true, All, map};
 ghost use Rattle.trace_core.specs.Events.{events_of};
 ghost use Rattle.trace_core.specs.Reader.{begun};
 ghost use Rattle.profile_core.specs.State.{fed_of};
-ghost use Rattle.sweep_core.specs.Pass.{pair_after_reference, pair_after_flush, kept_events, all_after, state_after, Feeds};
+ghost use Rattle.sweep_core.specs.Pass.{CanTake, pair_after_reference, pair_after_flush};
+ghost use Rattle.sweep_core.specs.Pass.{kept_events, all_after, state_after, Feeds};
 
 use crate::profiles::PairProfile;
 use cache_core::geometry::MAX_BITS;
 use trace_core::events::{Entry, Kind, Ref, refs_of};
 use trace_core::fault::TraceFault;
 use trace_core::io::Source;
-use trace_core::reader::Lines;
+use trace_core::reader::{Lines, MAX_LINES};
 
-/// Feeds a reference to an address to each profile. No address from the greatest block size on is in block 0.
-#[inline(always)]
-fn feed_reference(profiles: &mut [PairProfile], addr: u64)
-    requires { All (λ x. fed_of x.profile < 2 ^ 41) profiles.old }
-    ensures fed { profiles.new ≡ map (pair_after_reference addr) profiles.old }
-    ensures few { (n : ℕ) → All (λ x. fed_of x.profile ≤ n) profiles.old
-        → All (λ x. fed_of x.profile ≤ n + 1) profiles.new }
+/// Reads a trace up to its end or its first fault, and feeds it. No reference is kept.
+pub(crate) fn read_trace<S: Source>(
+    lines: &mut Lines,
+    kind: Kind,
+    source: &mut S,
+    profiles: &mut [PairProfile],
+) -> Result<(), TraceFault>
+    requires begun { lines.old ≡ begun lines.old.format lines.old.limit }
+    requires limited { lines.old.limit ≤ MAX_LINES }
+    requires unfed { All (λ x. fed_of x.profile ≡ 0) profiles.old }
+    ensures fed { Feeds kind lines.old.format lines.old.limit
+        (S.view source.old) (S.view source.new) lines.new profiles.old profiles.new }
+    ensures reports { lines.new.state ≡ state_after result }
 {
-    if addr >= 1 << MAX_BITS {
-        feed_each(profiles, addr, true);
-    } else {
-        feed_low(profiles, addr);
+    while let Some((_, entry)) = lines.next(source)? {
+        feed_entry(profiles, kind, entry);
     }
-}
-
-/// The same for an address that may be in block 0, which few are.
-#[inline(never)]
-fn feed_low(profiles: &mut [PairProfile], addr: u64)
-    requires { All (λ x. fed_of x.profile < 2 ^ 41) profiles.old }
-    ensures fed { profiles.new ≡ map (pair_after_reference addr) profiles.old }
-    ensures few { (n : ℕ) → All (λ x. fed_of x.profile ≤ n) profiles.old
-        → All (λ x. fed_of x.profile ≤ n + 1) profiles.new }
-{
-    feed_each(profiles, addr, false);
-}
-
-/// The same, where the caller may say that the address is not in block 0.
-#[inline(always)]
-fn feed_each(profiles: &mut [PairProfile], addr: u64, past_first: bool)
-    requires few { All (λ x. fed_of x.profile < 2 ^ 41) profiles.old }
-    requires known { past_first ≡ true → 2 ^ 20 ≤ addr }
-    ensures fed { profiles.new ≡ map (pair_after_reference addr) profiles.old }
-    ensures few { (n : ℕ) → All (λ x. fed_of x.profile ≤ n) profiles.old
-        → All (λ x. fed_of x.profile ≤ n + 1) profiles.new }
-{
-    for pair in profiles.iter_mut() {
-        pair.profile.feed_known(addr, past_first);
-    }
-}
-
-/// Flushes each profile.
-fn flush(profiles: &mut [PairProfile])
-    ensures { profiles.new ≡ map pair_after_flush profiles.old }
-{
-    for pair in profiles.iter_mut() {
-        pair.profile.flush();
-    }
-}
-
-/// Feeds a reference to each profile, where it is of a kind.
-#[inline(always)]
-fn feed_kept(profiles: &mut [PairProfile], kind: Kind, reference: Ref)
-    requires { All (λ x. fed_of x.profile < 2 ^ 41) profiles.old }
-    ensures fed { profiles.new ≡ all_after (kept_events kind (reference ∷ [])) profiles.old }
-    ensures few { (n : ℕ) → All (λ x. fed_of x.profile ≤ n) profiles.old
-        → All (λ x. fed_of x.profile ≤ n + 1) profiles.new }
-{
-    if kind.keeps(reference.access) {
-        feed_reference(profiles, reference.addr);
-    }
+    Ok(())
 }
 
 /// Feeds what an entry gives: its references of a kind, or a flush.
 #[inline(always)]
 fn feed_entry(profiles: &mut [PairProfile], kind: Kind, entry: Entry)
-    requires { All (λ x. fed_of x.profile + 1 < 2 ^ 41) profiles.old }
-    ensures fed { profiles.new ≡ all_after (events_of kind entry) profiles.old }
-    ensures few { (n : ℕ) → All (λ x. fed_of x.profile ≤ n) profiles.old
-        → All (λ x. fed_of x.profile ≤ n + 2) profiles.new }
+    requires { CanTake 2 profiles.old }
+    ensures { profiles.new ≡ all_after (events_of kind entry) profiles.old }
 {
     match entry {
         Entry::Item(item) => {
@@ -94,22 +51,48 @@ fn feed_entry(profiles: &mut [PairProfile], kind: Kind, entry: Entry)
     }
 }
 
-/// Reads a trace up to its end or its first fault, and feeds it. No reference is kept.
-pub(crate) fn read_trace<S: Source>(
-    lines: &mut Lines,
-    kind: Kind,
-    source: &mut S,
-    profiles: &mut [PairProfile],
-) -> Result<(), TraceFault>
-    requires begun { lines.old ≡ begun lines.old.format lines.old.limit }
-    requires limited { lines.old.limit ≤ 2 ^ 40 }
-    requires unfed { All (λ x. fed_of x.profile ≤ 0) profiles.old }
-    ensures fed { Feeds kind lines.old.format lines.old.limit
-        (S.view source.old) (S.view source.new) lines.new profiles.old profiles.new }
-    ensures tells { lines.new.state ≡ state_after result }
+/// Feeds a reference to each profile, where it is of a kind. No address from the greatest block
+/// size on is in block 0.
+#[inline(always)]
+fn feed_kept(profiles: &mut [PairProfile], kind: Kind, reference: Ref)
+    requires { CanTake 1 profiles.old }
+    ensures { profiles.new ≡ all_after (kept_events kind (reference ∷ [])) profiles.old }
 {
-    while let Some((_, entry)) = lines.next(source)? {
-        feed_entry(profiles, kind, entry);
+    if kind.keeps(reference.access) {
+        if reference.addr >= 1 << MAX_BITS {
+            feed_each(profiles, reference.addr, true);
+        } else {
+            feed_low(profiles, reference.addr);
+        }
     }
-    Ok(())
+}
+
+/// Feeds an address that may be in block 0, which few are.
+#[inline(never)]
+fn feed_low(profiles: &mut [PairProfile], addr: u64)
+    requires { CanTake 1 profiles.old }
+    ensures { profiles.new ≡ map (pair_after_reference addr) profiles.old }
+{
+    feed_each(profiles, addr, false);
+}
+
+/// Feeds an address, where the caller may say that it is not in block 0.
+#[inline(always)]
+fn feed_each(profiles: &mut [PairProfile], addr: u64, past_first: bool)
+    requires free { CanTake 1 profiles.old }
+    requires known { past_first ≡ true → 2 ^ 20 ≤ addr }
+    ensures { profiles.new ≡ map (pair_after_reference addr) profiles.old }
+{
+    for pair in profiles.iter_mut() {
+        pair.profile.feed_known(addr, past_first);
+    }
+}
+
+/// Flushes each profile.
+fn flush(profiles: &mut [PairProfile])
+    ensures { profiles.new ≡ map pair_after_flush profiles.old }
+{
+    for pair in profiles.iter_mut() {
+        pair.profile.flush();
+    }
 }

@@ -1,23 +1,28 @@
 //! The profiles of a sweep: one for each pair of block size and set count that has a row.
-ghost use Rattle.std.specs.Prelude.{◌≡◌, ◌<◌, ◌^◌, ◌*◌, [], true, Option, IfOk, length, sum_by};
+ghost use Rattle.std.specs.Prelude.{◌≡◌, ◌<◌, ◌^◌, [], true, Option, IfOk, MatchOption};
+ghost use Rattle.std.specs.Prelude.{length, sum_by};
 ghost use Rattle.cache_core.specs.Geometry.{IsGeometry};
+ghost use Rattle.profile_core.specs.State.{empty};
 ghost use Rattle.sweep_core.specs.Space.{is_valid};
-ghost use Rattle.sweep_core.specs.Table.{table, is_after};
-ghost use Rattle.sweep_core.specs.SweepText.{log2};
-ghost use Rattle.sweep_core.specs.Pass.{Swept, begun_for};
-ghost use Rattle.sweep_core.specs.Walk.{is_same_pair};
+ghost use Rattle.sweep_core.specs.Table.{table, first_rows, is_after};
+ghost use Rattle.sweep_core.specs.Work.{pair_of, geometry_of_pair};
+ghost use Rattle.sweep_core.specs.Runs.{BeginsWith};
+ghost use Rattle.sweep_core.specs.Pass.{SweepStandsFor};
 ghost use Rattle.sweep_core.specs.declared.space.Config.{Config};
 
 use crate::request::Request;
+use crate::space::configs::bits_of;
 use crate::space::{Config, Space};
 use profile_core::profile::Profile;
 use std::alloc::{AllocError, Global};
 
-/// The profile of a pair of block size and set count.
+/// The profile of a pair of block size and set count, with the rows of the pair.
 #[derive(Drop)]
 pub(crate) struct PairProfile {
-    pub(crate) bsize: u64,
-    pub(crate) sets: u64,
+    /// The row with the fewest lines per set.
+    pub(crate) first: Config,
+    /// How many rows there are; each has the next associativity.
+    pub(crate) rows: u64,
     pub(crate) profile: Profile,
 }
 
@@ -27,54 +32,68 @@ pub(crate) fn make_profiles(
     alloc: Global,
     request: &Request,
 ) -> Result<Vec<PairProfile>, AllocError>
-    ensures { IfOk result (λ made. Swept request.now [] made.items) }
+    ensures { IfOk result (λ made. SweepStandsFor request.now [] made.items) }
 {
     request.space.limits();
     let mut made = Vec::new(alloc);
-    let mut previous: Option<Config> = None;
-    for config in request.rows() {
-        if !is_same_pair(previous, &config) {
-            made.push(make_profile(alloc, &request.space, &config)?)?;
-        }
-        previous = Some(config);
+    let mut after = request.after;
+    let mut most = request.rows;
+    while let Some((first, rows)) = take_pair(&request.space, &mut after, &mut most) {
+        let profile = make_profile(alloc, &request.space, &first)?;
+        made.push(PairProfile {
+            first,
+            rows,
+            profile,
+        })?;
     }
     Ok(made)
 }
 
-/// Whether the last configuration and another have one block size and one set count.
-fn is_same_pair(previous: Option<Config>, config: &Config) -> bool
-    ensures { result ≡ is_same_pair previous config.now }
+/// Takes the rows of the next pair from those after `after`, of which there are to be `most`: its
+/// first row, and how many it has. What is left is after the deepest cache of the pair.
+fn take_pair(
+    space: &Space,
+    after: &mut Option<Config>,
+    most: &mut Option<u64>,
+) -> Option<(Config, u64)>
+    ensures { MatchOption result (first_rows most.old (table space.now after.old) ≡ [])
+        (λ run. BeginsWith space.now.powers (first_rows most.old (table space.now after.old)) run
+        (first_rows most.new (table space.now after.new))) }
 {
-    match previous {
-        None => false,
-        Some(other) => other.bsize == config.bsize && other.sets == config.sets,
-    }
+    space.limits();
+    let first = space.next_after(*after)?;
+    let depth = space.depth_of(&first);
+    let all = space.rows_to(&first, depth);
+    *after = Some(Config {
+        assoc: depth,
+        ..first
+    });
+    let rows = match *most {
+        None => all,
+        Some(limit) => {
+            if limit == 0 {
+                return None;
+            }
+            let rows = limit.min(all);
+            *most = Some(limit - rows);
+            rows
+        }
+    };
+    Some((first, rows))
 }
 
 /// Makes the profile of a configuration's pair.
-fn make_profile(alloc: Global, space: &Space, config: &Config) -> Result<PairProfile, AllocError>
+fn make_profile(alloc: Global, space: &Space, config: &Config) -> Result<Profile, AllocError>
     requires { is_valid space.now config.now ≡ true }
     ensures begun { (after : Option Config) → is_after after config.now ≡ true →
         IfOk result (λ made.
-        made ≡ begun_for (table space.now after) (config.now.bsize, config.now.sets)) }
-    ensures sound { IfOk result (λ made. IsGeometry made.profile.geometry) }
+        made ≡ empty (geometry_of_pair (table space.now after) (pair_of config.now))) }
+    ensures sound { IfOk result (λ made. IsGeometry made.geometry) }
 {
     space.limits();
     let Config { bsize, sets, .. } = *config;
     let depth = space.depth_of(config);
-    let profile = Profile::new(alloc, bits_of(bsize), bits_of(sets), depth)?;
-    Ok(PairProfile {
-        bsize,
-        sets,
-        profile,
-    })
-}
-
-/// The exponent of a power of two.
-fn bits_of(power: u64) -> u64
-    ensures { result ≡ log2 power }
-{
-    u64::from(power.trailing_zeros())
+    Profile::new(alloc, bits_of(bsize), bits_of(sets), depth)
 }
 
 /// The comparisons of all profiles.

@@ -2,7 +2,8 @@
 pub mod configs;
 
 ghost use Rattle.std.specs.Prelude.{◌≡◌, ◌<◌, ◌^◌, MatchResult, None, Some};
-ghost use Rattle.sweep_core.specs.Space.{is_power, is_in_range, order_cause, limit_cause, power_cause};
+ghost use Rattle.sweep_core.specs.Space.{is_power, is_in_range};
+ghost use Rattle.sweep_core.specs.Space.{order_cause, limit_cause, power_cause};
 
 use cache_core::geometry::{MAX_BITS, MAX_CACHE_LINES, MAX_WAYS};
 use std::fmt;

@@ -1,18 +1,15 @@
 //! What a sweep writes once it has read a trace.
-ghost use Rattle.std.specs.Prelude.{◌≡◌, ◌∷◌, List};
+ghost use Rattle.std.specs.Prelude.{◌≡◌, List};
 ghost use Rattle.trace_core.specs.Device.{Writes, WritesLast};
 ghost use Rattle.trace_core.specs.declared.events.Event.{Event};
-ghost use Rattle.sweep_core.specs.SweepText.{header_of, table_text, rows_text, rows_of, row_counts};
-ghost use Rattle.sweep_core.specs.Pass.{Swept};
-ghost use Rattle.sweep_core.specs.Walk.{is_of, Walks, Ready};
-ghost use Rattle.sweep_core.specs.declared.space.Config.{Config};
+ghost use Rattle.sweep_core.specs.SweepText.{header_of, table_text, rows_text, rows_of};
+ghost use Rattle.sweep_core.specs.Runs.{rows_of_profile, ServesRows};
+ghost use Rattle.sweep_core.specs.Pass.{SweepStandsFor};
 
 use crate::profiles::PairProfile;
 use crate::request::Request;
 use crate::row_text::set_row;
-use crate::space::Config;
-use cache_core::outcome::Counts;
-use profile_core::profile::Tally;
+use crate::space::{Config, Space};
 use trace_core::io::{DeviceFault, Sink, write_all};
 use trace_core::text::Text;
 
@@ -25,8 +22,8 @@ pub(crate) fn write_table<K: Sink>(
     request: &Request,
     profiles: &[PairProfile],
 ) -> Result<(), DeviceFault>
-    requires { (es : List Event) × Swept request.now es profiles.now }
-    ensures { (es : List Event) → Swept request.now es profiles.now →
+    requires { (es : List Event) × SweepStandsFor request.now es profiles.now }
+    ensures { (es : List Event) → SweepStandsFor request.now es profiles.now →
         WritesLast (K.view sink.old) (K.view sink.new) result (table_text request.now es) }
 {
     write_all(sink, header(request.after))?;
@@ -50,56 +47,31 @@ fn write_rows<K: Sink>(
     request: &Request,
     profiles: &[PairProfile],
 ) -> Result<(), DeviceFault>
-    requires { (es : List Event) × Swept request.now es profiles.now }
-    ensures { (es : List Event) → Swept request.now es profiles.now →
+    requires { (es : List Event) × SweepStandsFor request.now es profiles.now }
+    ensures { (es : List Event) → SweepStandsFor request.now es profiles.now →
         Writes (K.view sink.old) (K.view sink.new) result (rows_text es (rows_of request.now)) }
 {
-    let mut left = profiles;
-    let Some(first) = left.first() else {
-        return Ok(());
-    };
-    let mut tally = first.profile.begin_tally();
-    let mut row = Text::new();
-    for config in request.rows() {
-        left = from_pair(left, &mut tally, &config);
-        let counts = next_counts(left, &mut tally, &config);
-        set_row(&mut row, &config, config.bytes(), counts);
-        write_all(sink, row.as_slice())?;
+    for pair in profiles {
+        write_pair(sink, &request.space, pair)?;
     }
     Ok(())
 }
 
-/// The profiles from that of a configuration's pair on: it is the first of them, or the next. Where
-/// it is the next, its tally begins.
-fn from_pair<'a>(left: &'a [PairProfile], tally: &mut Tally, config: &Config) -> &'a [PairProfile]
-    requires { (es : List Event) × (later : List Config)
-        × Walks es left.now tally.old (config.now ∷ later) }
-    ensures { (es : List Event) (later : List Config) →
-        Walks es left.now tally.old (config.now ∷ later) →
-        Ready es result.now tally.new config.now later }
+/// Writes the rows of a pair, by one walk over its profile's histograms.
+fn write_pair<K: Sink>(sink: &mut K, space: &Space, pair: &PairProfile) -> Result<(), DeviceFault>
+    requires { (es : List Event) × ServesRows space.now.powers es pair.now }
+    ensures { (es : List Event) → ServesRows space.now.powers es pair.now →
+        Writes (K.view sink.old) (K.view sink.new) result
+        (rows_text es (rows_of_profile space.now.powers pair.now)) }
 {
-    if is_of(&left[0], config) {
-        return left;
+    let mut sums = pair.profile.begin_sums();
+    let mut row = Text::new();
+    let mut config = pair.first;
+    for written in 0..pair.rows {
+        let counts = pair.profile.counts_next(&mut sums, config.assoc);
+        set_row(&mut row, &config, config.bytes(), counts);
+        write_all(sink, row.as_slice())?;
+        config.assoc = space.next_ways(config.assoc);
     }
-    let (_, rest) = left.split_at(1);
-    *tally = rest[0].profile.begin_tally();
-    rest
-}
-
-/// The counts of a configuration, from the first profile, with whose tally its rows are counted.
-fn next_counts(left: &[PairProfile], tally: &mut Tally, config: &Config) -> Counts
-    requires { (es : List Event) × (later : List Config)
-        × Ready es left.now tally.old config.now later }
-    ensures { (es : List Event) (later : List Config) →
-        Ready es left.now tally.old config.now later →
-        (result ≡ row_counts es config.now) × Walks es left.now tally.new later }
-{
-    left[0].profile.counts_next(tally, config.assoc)
-}
-
-/// Whether a profile is that of a configuration's pair.
-fn is_of(pair: &PairProfile, config: &Config) -> bool
-    ensures { result ≡ is_of config.now pair.now }
-{
-    pair.bsize == config.bsize && pair.sets == config.sets
+    Ok(())
 }

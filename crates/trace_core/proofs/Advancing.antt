@@ -28,14 +28,14 @@ then_reads-ok : (n : ℕ) (o : Option Entry) (later : Reading) → then_reads n 
 then_reads-ok n None later = refl
 then_reads-ok n (Some entry) later = refl
 
-module _ (told : Option (List ℕ)) where
+module _ (reported : Option (List ℕ)) where
   -- nothing is given where nothing changed
-  pub Advances-stays : (p : Progress) → Advances told p p [] []
+  pub Advances-stays : (p : Progress) → Advances reported p p [] []
   Advances-stays p = record { gives = λ e later may. refl }
 
   -- one step after another
   pub Advances-then : (between : Option (List ℕ)) (a b c : Progress) (d₁ d₂ : List ℕ) (xs ys : List (ℕ × Entry)) → b.state ≡ state.Open
-      → Advances between a b d₁ xs → Advances told b c d₂ ys → Advances told a c (d₁ ++ d₂) (xs ++ ys)
+      → Advances between a b d₁ xs → Advances reported b c d₂ ys → Advances reported a c (d₁ ++ d₂) (xs ++ ys)
   Advances-then between a b c d₁ d₂ xs ys goes_on first second = record {
     gives = λ e later may.
         let any : MayFollow between b.state e (d₂ ++ later) = subst (λ s. MayFollow between s e (d₂ ++ later)) (sym goes_on) tt in
@@ -46,7 +46,7 @@ module _ (told : Option (List ℕ)) where
   module _ (f : Format) (limit n : ℕ) where
     -- a whole line
     pub Advances-line : (w rest : List ℕ) (o : Option Entry) → HoldsNoFeed w → judge f limit (n + 1) w ≡ Ok o
-        → Advances told (at f limit n (w ++ 10 ∷ rest) state.Open) (at f limit (n + 1) rest state.Open) [] (numbered (n + 1) o)
+        → Advances reported (at f limit n (w ++ 10 ∷ rest) state.Open) (at f limit (n + 1) rest state.Open) [] (numbered (n + 1) o)
     Advances-line w rest o none judged = record {
       gives = λ e later may.
           ap (reading_after e f limit n) (append_assoc w (10 ∷ rest) later) ∙ reading-line f limit e n w (rest ++ later) none
@@ -56,14 +56,14 @@ module _ (told : Option (List ℕ)) where
     -- a fault that the bytes settle
     pub Advances-fault : (p : Progress) (u : List ℕ) (x : TraceFault)
         → ((e : Ending) (later : List ℕ) → reading_after e f limit n (u ++ later) ≡ ends (Some x))
-        → p.state ≡ state.Failed x → Advances told (at f limit n u state.Open) p [] []
+        → p.state ≡ state.Failed x → Advances reported (at f limit n u state.Open) p [] []
     Advances-fault p u x settled failed = record {
       gives = λ e later may. settled e later ∙ sym (ap (λ s. left_in s (reading_after e p.format p.limit p.lines (p.unread ++ later))) failed);
     }
 
     pub Advances-bad_line : (p : Progress) (w rest : List ℕ) (x : TraceFault) → HoldsNoFeed w → judge f limit (n + 1) w ≡ Err x
         → p.state ≡ state.Failed x
-        → Advances told (at f limit n (w ++ 10 ∷ rest) state.Open) p [] []
+        → Advances reported (at f limit n (w ++ 10 ∷ rest) state.Open) p [] []
     Advances-bad_line p w rest x none judged failed =
         Advances-fault p (w ++ 10 ∷ rest) x
         (λ e later. ap (reading_after e f limit n) (append_assoc w (10 ∷ rest) later) ∙ reading-line f limit e n w (rest ++ later) none
@@ -73,31 +73,31 @@ module _ (told : Option (List ℕ)) where
     -- a failure of the device
     pub Advances-failed : (p : Progress) (u : List ℕ) → HoldsNoFeed u → length u ≤ MAX_LINE → (0 < length u → n < limit)
         → p.state ≡ state.Failed (fault.Read (n + 1))
-        → Advances told (at f limit n u state.Open) p [] []
+        → Advances reported (at f limit n u state.Open) p [] []
     Advances-failed p u none short within failed = record {
       gives = λ e later may.
-          let now = subst (λ s. MayFollow told s e later) failed may in
+          let now = subst (λ s. MayFollow reported s e later) failed may in
           rw (now.0, now.1, failed) (ap (reading_after at_failure f limit n) (append-nil u) ∙ reading-failed f limit n u none short within);
     }
 
     -- a last line without LF
     pub Advances-last : (p : Progress) (c : ℕ) (u : List ℕ) (o : Option Entry) → HoldsNoFeed (c ∷ u) → judge f limit (n + 1) (c ∷ u) ≡ Ok o
         → p.state ≡ state.Ended
-        → Advances told (at f limit n (c ∷ u) state.Open) p [] (numbered (n + 1) o)
+        → Advances reported (at f limit n (c ∷ u) state.Open) p [] (numbered (n + 1) o)
     Advances-last p c u o none judged ended = record {
       gives = λ e later may.
-          let now = subst (λ s. MayFollow told s e later) ended may in
+          let now = subst (λ s. MayFollow reported s e later) ended may in
           rw (now.0, now.1, ended) (ap (reading_after at_end f limit n) (append-nil (c ∷ u)) ∙ reading-last f limit n c u none
           ∙ ap (λ r. then_reads (n + 1) r (ends None)) judged ∙ then_reads-ok (n + 1) o _);
     }
 
     -- and one at fault
-    pub Advances-bad_last : (p : Progress) (c : ℕ) (u : List ℕ) (x : LineFault) → IsAtEnd told → HoldsNoFeed (c ∷ u)
+    pub Advances-bad_last : (p : Progress) (c : ℕ) (u : List ℕ) (x : LineFault) → IsAtEnd reported → HoldsNoFeed (c ∷ u)
         → judge f limit (n + 1) (c ∷ u) ≡ Err (fault.Line (n + 1) x)
-        → p.state ≡ state.Failed (fault.Line (n + 1) x) → Advances told (at f limit n (c ∷ u) state.Open) p [] []
+        → p.state ≡ state.Failed (fault.Line (n + 1) x) → Advances reported (at f limit n (c ∷ u) state.Open) p [] []
     Advances-bad_last p c u x ended none judged failed = record {
       gives = λ e later may.
-          let now = subst (λ s. MayFollow told s e later) failed may in
+          let now = subst (λ s. MayFollow reported s e later) failed may in
           let over : later ≡ [] = subst IsAtEnd now.1 ended in
           rw (now.0, over, failed) (ap (reading_after at_end f limit n) (append-nil (c ∷ u)) ∙ reading-last f limit n c u none
           ∙ ap (λ r. then_reads (n + 1) r (ends None)) judged);

@@ -231,9 +231,9 @@ lackey-front text rest more digits decimals end label addr size op begun is comm
           rw (plain_line, line-fields, is, before, number, after, number-2) refl;
     }
 
--- the place of an LF after bytes that hold none
-feed-place : (u z : List ℕ) → HoldsNoFeed u → IsFirstByte (is_byte 10) (u ++ 10 ∷ z) (Some (length u))
-feed-place u z unfed = (
+-- the index of an LF after bytes that hold none
+feed-index : (u z : List ℕ) → HoldsNoFeed u → IsFirstByte (is_byte 10) (u ++ 10 ∷ z) (Some (length u))
+feed-index u z unfed = (
   record {
     low = omega arith;
     high = omega (arith, length-append u (10 ∷ z));
@@ -262,7 +262,7 @@ line-end f text rest item k at begun found ends place =
     let long : length (take k rest) ≡ k = length-take-le k rest (omega (arith, found.0.high)) in
     let is : at ≡ length line =
     omega (arith, place, long, ap length begun.splits, length-append begun.front rest, length-append begun.front (take k rest)) in (
-      rw (is, split) (feed-place line after (unfed-append begun.front (take k rest) begun.no_line_feed (line-before rest k found))),
+      rw (is, split) (feed-index line after (unfed-append begun.front (take k rest) begun.no_line_feed (line-before rest k found))),
       ap (λ t. meaning f (take at t)) split ∙ ap (λ n. meaning f (take n (line ++ 10 ∷ after))) is
           ∙ ap (meaning f) (take-append_seam line (10 ∷ after)) ∙ begun.means (take k rest) ends,
     )

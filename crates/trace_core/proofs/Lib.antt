@@ -18,3 +18,4 @@ pub mod Tasks
 pub mod Written
 pub mod Performing
 pub mod Judging
+pub mod Hexadecimal

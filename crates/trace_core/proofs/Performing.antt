@@ -18,8 +18,8 @@ use Rattle.trace_core.proofs.Tasks.{ReadWhole, ReadWhole-read, WritesAlong, if_k
 pub Finished-written : {task : Task} {source source' : SourceView} {sink sink' : SinkView} {bytes : List ℕ}
     → ReadWhole task source source' bytes → WroteLast sink sink' bytes → Finished task source source' sink sink'
 Finished-written {task = task} {source = source} {source' = source'} {sink = sink} {sink' = sink'} whole wrote = record {
-  completes = if_known source.remaining (λ text. Completes task text source' sink sink') (λ text told.
-      let is = ReadWhole-read whole text told in
+  completes = if_known source.remaining (λ text. Completes task text source' sink sink') (λ text reported.
+      let is = ReadWhole-read whole text reported in
       record { faultless = is.faultless; read = is.left; wrote = subst (Appends sink.written sink'.written) (sym is.output) wrote.took });
   at_end = whole.reached.at_end whole.ended;
   read_failures = rw whole.ended at whole.reached.counted;
@@ -43,20 +43,20 @@ Stopped-at {task = task} {source = source} {source' = source'} {sink = sink} {si
 pub WriteFailed-late : {task : Task} {source source' : SourceView} {sink sink' : SinkView} {bytes : List ℕ}
     → ReadWhole task source source' bytes → WroteLastPart sink sink' bytes → WriteFailed task source source' sink sink'
 WriteFailed-late {task = task} {source = source} {source' = source'} {sink = sink} {sink' = sink'} whole wrote = record {
-  part = if_known source.remaining (λ text. WritesPrefix sink.written sink'.written (output task text)) (λ text told.
-      let is = ReadWhole-read whole text told in
+  part = if_known source.remaining (λ text. WritesPrefix sink.written sink'.written (output task text)) (λ text reported.
+      let is = ReadWhole-read whole text reported in
       let in_part = subst (WritesPrefix sink.written sink'.written) (sym is.output) wrote.part in
       subst (λ o. WritesPrefix sink.written sink'.written (output_for task text (entries_in (reading task.format task.limit text)) o))
       (sym is.faultless) in_part);
-  late = λ late. if_known source.remaining (λ text. BreaksOff task text source' sink sink') (λ text told.
-      let is = ReadWhole-read whole text told in
+  late = λ late. if_known source.remaining (λ text. BreaksOff task text source' sink sink') (λ text reported.
+      let is = ReadWhole-read whole text reported in
       record { faultless = is.faultless; read = is.left; wrote = subst (WritesPrefix sink.written sink'.written) (sym is.output) wrote.part });
   at_end = λ late. whole.reached.at_end whole.ended;
   read_failures = rw whole.ended at whole.reached.counted;
   write_failures = wrote.failed;
   flushes = wrote.flushes;
-  last = if_known source.remaining (λ text. FlushesAfter (task.whole text) sink sink') (λ text told.
-      subst (λ t. FlushesAfter t sink sink') (sym (ReadWhole-read whole text told).output) wrote.last);
+  last = if_known source.remaining (λ text. FlushesAfter (task.whole text) sink sink') (λ text reported.
+      subst (λ t. FlushesAfter t sink sink') (sym (ReadWhole-read whole text reported).output) wrote.last);
 }
 
 -- The sink failed while a run that writes early was reading.
@@ -72,7 +72,7 @@ WriteFailed-early {task = task} {source = source} {source' = source'} {sink = si
       read_failures = unfailed p.state refl;
       write_failures = wrote.failed;
       flushes = inl wrote.unflushed;
-      last = if_known source.remaining (λ text. FlushesAfter (task.whole text) sink sink') (λ text told. inl wrote.unflushed);
+      last = if_known source.remaining (λ text. FlushesAfter (task.whole text) sink sink') (λ text reported. inl wrote.unflushed);
     }
   where
     unfailed : (s : ReaderState) → p.state ≡ s → source'.failures ≡ source.failures

@@ -38,11 +38,11 @@ module _ (f : Format) (limit : ℕ) where
     counted = refl;
   }
 
-  -- what was delivered of a text that the source told
+  -- what was delivered of a text that the source reported
   delivered : {text : List ℕ} {start now : SourceView} {xs : List (ℕ × Entry)} {p : Progress} {failed : Bool} → start.remaining ≡ Some text
       → device_failed p.state ≡ failed → (run : Reached f limit start now xs p) → Delivers (Some text) now.remaining failed run.bytes
-  delivered {start = start} {now = now} {failed = failed} told is run =
-      subst (λ t. Delivers t now.remaining failed run.bytes) told (subst (λ b. Delivers start.remaining now.remaining b run.bytes) is run.delivers)
+  delivered {start = start} {now = now} {failed = failed} reported is run =
+      subst (λ t. Delivers t now.remaining failed run.bytes) reported (subst (λ b. Delivers start.remaining now.remaining b run.bytes) is run.delivers)
 
   -- an open reader reads on
   pub Reached-then : (start mid now : SourceView) (xs ys : List (ℕ × Entry)) (p q : Progress) → p.state ≡ state.Open → Reached f limit start mid xs p
@@ -76,8 +76,8 @@ module _ (f : Format) (limit : ℕ) where
   -- at the end, the entries are those of the whole text, which has no fault
   pub Reached-end : (text : List ℕ) (start now : SourceView) (xs : List (ℕ × Entry)) (p : Progress) → start.remaining ≡ Some text
       → Reached f limit start now xs p → p.state ≡ state.Ended → reading f limit text ≡ record { entries = xs; fault = None }
-  Reached-end text start now xs p told run ended =
-      end_of now.remaining (delivered told (ap device_failed ended) run) (run.at_end ended) run.reads
+  Reached-end text start now xs p reported run ended =
+      end_of now.remaining (delivered reported (ap device_failed ended) run) (run.at_end ended) run.reads
     where
       end_of : (t : Option (List ℕ)) → Delivers (Some text) t false run.bytes → IsAtEnd t → Advances t (begun f limit) p run.bytes xs
           → reading f limit text ≡ record { entries = xs; fault = None }
@@ -89,8 +89,8 @@ module _ (f : Format) (limit : ℕ) where
   -- at the end nothing is left to read
   pub Reached-left : (text : List ℕ) (start now : SourceView) (xs : List (ℕ × Entry)) (p : Progress) → start.remaining ≡ Some text
       → Reached f limit start now xs p → p.state ≡ state.Ended → now.remaining ≡ Some []
-  Reached-left text start now xs p told run ended =
-      left_of now.remaining (delivered told (ap device_failed ended) run) (run.at_end ended)
+  Reached-left text start now xs p reported run ended =
+      left_of now.remaining (delivered reported (ap device_failed ended) run) (run.at_end ended)
     where
       left_of : (t : Option (List ℕ)) → Delivers (Some text) t false run.bytes → IsAtEnd t → t ≡ Some []
       left_of None delivers over = absurd delivers
@@ -100,8 +100,8 @@ module _ (f : Format) (limit : ℕ) where
   pub Reached-fault : (text : List ℕ) (start now : SourceView) (xs : List (ℕ × Entry)) (p : Progress) (x : TraceFault) → start.remaining ≡ Some text
       → Reached f limit start now xs p → p.state ≡ state.Failed x → device_failed (state.Failed x) ≡ false
       → reading f limit text ≡ record { entries = xs; fault = Some x }
-  Reached-fault text start now xs p x told run failed own =
-      end_of now.remaining (delivered told (ap device_failed failed ∙ own) run) run.reads
+  Reached-fault text start now xs p x reported run failed own =
+      end_of now.remaining (delivered reported (ap device_failed failed ∙ own) run) run.reads
     where
       end_of : (t : Option (List ℕ)) → Delivers (Some text) t false run.bytes → Advances t (begun f limit) p run.bytes xs
           → reading f limit text ≡ record { entries = xs; fault = Some x }
@@ -114,9 +114,9 @@ module _ (f : Format) (limit : ℕ) where
   pub Reached-cut : (text rest : List ℕ) (start now : SourceView) (xs : List (ℕ × Entry)) (p : Progress) (n : ℕ) → start.remaining ≡ Some text
       → now.remaining ≡ Some rest → (run : Reached f limit start now xs p) → p.state ≡ state.Failed (fault.Read n)
       → (text ≡ run.bytes ++ rest) × (cut_reading f limit run.bytes ≡ record { entries = xs; fault = Some (fault.Read n) })
-  Reached-cut text rest start now xs p n told left run failed =
+  Reached-cut text rest start now xs p n reported left run failed =
       let whole : text ≡ run.bytes ++ rest =
-      subst (λ t. Delivers (Some text) t true run.bytes) left (delivered told (ap device_failed failed) run) in
+      subst (λ t. Delivers (Some text) t true run.bytes) left (delivered reported (ap device_failed failed) run) in
       let reads : Advances (Some rest) (begun f limit) p run.bytes xs = subst (λ t. Advances t (begun f limit) p run.bytes xs) left run.reads in
       let may : MayFollow (Some rest) p.state at_failure [] = subst (λ s. MayFollow (Some rest) s at_failure []) (sym failed) (refl, refl) in
       (whole, ap (cut_reading f limit) (sym (append-nil run.bytes)) ∙ reads.gives at_failure [] may ∙ (rw (failed, append-nil xs) refl))
@@ -124,8 +124,8 @@ module _ (f : Format) (limit : ℕ) where
   -- an open reader has read the first entries of the text
   pub Reached-open : (text : List ℕ) (start now : SourceView) (xs : List (ℕ × Entry)) (p : Progress) → start.remaining ≡ Some text
       → Reached f limit start now xs p → p.state ≡ state.Open → (r : Reading) × (reading f limit text ≡ entries_then xs r)
-  Reached-open text start now xs p told run opened =
-      first_of now.remaining (delivered told (ap device_failed opened) run) run.reads
+  Reached-open text start now xs p reported run opened =
+      first_of now.remaining (delivered reported (ap device_failed opened) run) run.reads
     where
       first_of : (t : Option (List ℕ)) → Delivers (Some text) t false run.bytes → Advances t (begun f limit) p run.bytes xs
           → (r : Reading) × (reading f limit text ≡ entries_then xs r)
@@ -137,12 +137,12 @@ module _ (f : Format) (limit : ℕ) where
   -- a reader that met no fault has read the first entries of the text
   pub Reached-prefix : (text : List ℕ) (start now : SourceView) (xs : List (ℕ × Entry)) (p : Progress) → start.remaining ≡ Some text
       → Reached f limit start now xs p → ((x : TraceFault) → p.state ≢ state.Failed x) → (r : Reading) × (reading f limit text ≡ entries_then xs r)
-  Reached-prefix text start now xs p told run well = by_state p.state refl
+  Reached-prefix text start now xs p reported run well = by_state p.state refl
     where
       by_state : (s : ReaderState) → p.state ≡ s → (r : Reading) × (reading f limit text ≡ entries_then xs r)
-      by_state state.Open is = Reached-open text start now xs p told run is
+      by_state state.Open is = Reached-open text start now xs p reported run is
       by_state state.Ended is =
-          (ends None, Reached-end text start now xs p told run is ∙ ap (λ ys. record { entries = ys; fault = None }) (sym (append-nil xs)))
+          (ends None, Reached-end text start now xs p reported run is ∙ ap (λ ys. record { entries = ys; fault = None }) (sym (append-nil xs)))
       by_state (state.Failed x) is = absurd (well x is)
 
 -- a reader that was just begun has read nothing

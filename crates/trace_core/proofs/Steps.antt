@@ -60,7 +60,7 @@ pub no-line : (u : List ℕ) → IsFirstByte (is_byte 10) u None → HoldsNoFeed
 no-line u none = NoFeed-from_places u (fails-all is_line_feed u none)
 
 -- an open scan
-module _ (told : Option (List ℕ)) (scan : Scan) (opened : scan.state ≡ state.Open) where
+module _ (reported : Option (List ℕ)) (scan : Scan) (opened : scan.state ≡ state.Open) where
   abbrev f : Format
   f = scan.format
 
@@ -78,45 +78,45 @@ module _ (told : Option (List ℕ)) (scan : Scan) (opened : scan.state ≡ state
   abbrev s : ReaderState
   s = scan.state
 
-  from_open : (q : Progress) (d : List ℕ) (xs : List (ℕ × Entry)) → Advances told (at f limit n u state.Open) q d xs
-      → Advances told (at f limit n u s) q d xs
-  from_open q d xs = subst (λ v. Advances told (at f limit n u v) q d xs) (sym opened)
+  from_open : (q : Progress) (d : List ℕ) (xs : List (ℕ × Entry)) → Advances reported (at f limit n u state.Open) q d xs
+      → Advances reported (at f limit n u s) q d xs
+  from_open q d xs = subst (λ v. Advances reported (at f limit n u v) q d xs) (sym opened)
 
   pub steps-line : (k : ℕ) (o : Option Entry) (q : Progress) → IsFirstByte (is_byte 10) u (Some k) → judge f limit (n + 1) (take k u) ≡ Ok o
       → q.lines ≡ n + 1 → q.unread ≡ drop (k + 1) u → (q.format ≡ f) × (q.limit ≡ limit) × (q.state ≡ s)
-      → Advances told (at f limit n u s) q [] (numbered (n + 1) o)
+      → Advances reported (at f limit n u s) q [] (numbered (n + 1) o)
   steps-line k o q found judged line rest same =
       let passed : at f limit (n + 1) (drop (k + 1) u) state.Open ≡ q =
       λ i. record { format = (sym same.0) i; limit = (sym same.1) i; lines = (sym line) i; unread = (sym rest) i; state = (sym opened ∙ sym same.2) i } in
       from_open q [] (numbered (n + 1) o)
-      (subst (λ p. Advances told (at f limit n u state.Open) p [] (numbered (n + 1) o)) passed
-      (subst (λ v. Advances told (at f limit n v state.Open) (at f limit (n + 1) (drop (k + 1) u) state.Open) [] (numbered (n + 1) o))
-      (sym (line-split u k found)) (Advances-line told f limit n (take k u) (drop (k + 1) u) o (line-before u k found) judged)))
+      (subst (λ p. Advances reported (at f limit n u state.Open) p [] (numbered (n + 1) o)) passed
+      (subst (λ v. Advances reported (at f limit n v state.Open) (at f limit (n + 1) (drop (k + 1) u) state.Open) [] (numbered (n + 1) o))
+      (sym (line-split u k found)) (Advances-line reported f limit n (take k u) (drop (k + 1) u) o (line-before u k found) judged)))
 
   -- a line whose item was read apart
   pub steps-item : (unread : List ℕ) (k : ℕ) (item : Item) (q : Progress) (number : ℕ) → unread ≡ u → IsFirstByte (is_byte 10) unread (Some k)
       → meaning f (take k unread) ≡ Ok (Some (entry.Item item)) → k ≤ MAX_LINE → n < limit
       → number ≡ q.lines → q.lines ≡ n + 1 → q.unread ≡ drop (k + 1) u → (q.format ≡ f) × (q.limit ≡ limit) × (q.state ≡ s)
-      → Advances told (at f limit n u s) q [] ((number, entry.Item item) ∷ [])
+      → Advances reported (at f limit n u s) q [] ((number, entry.Item item) ∷ [])
   steps-item unread k item q number is found means short within numbered_is line rest same =
       let own : IsFirstByte (is_byte 10) u (Some k) = subst (λ v. IsFirstByte (is_byte 10) v (Some k)) is found in
       let meant : meaning f (take k u) ≡ Ok (Some (entry.Item item)) = subst (λ v. meaning f (take k v) ≡ Ok (Some (entry.Item item))) is means in
       let fits : length (take k u) ≤ MAX_LINE = omega (arith, length-take-le k u (omega (arith, own.0.high))) in
-      subst (λ m. Advances told (at f limit n u s) q [] ((m, entry.Item item) ∷ [])) (sym (numbered_is ∙ line))
+      subst (λ m. Advances reported (at f limit n u s) q [] ((m, entry.Item item) ∷ [])) (sym (numbered_is ∙ line))
       (steps-line k (Some (entry.Item item)) q own (judge-ok f limit (n + 1) (take k u) _ (omega arith) fits meant) line rest same)
 
   pub steps-bad_line : (q : Progress) (k : ℕ) (x : TraceFault) → IsFirstByte (is_byte 10) u (Some k) → judge f limit (n + 1) (take k u) ≡ Err x
       → q.state ≡ state.Failed x
-      → Advances told (at f limit n u s) q [] []
+      → Advances reported (at f limit n u s) q [] []
   steps-bad_line q k x found judged failed =
       from_open q [] []
-      (subst (λ v. Advances told (at f limit n v state.Open) q [] []) (sym (line-split u k found))
-      (Advances-bad_line told f limit n q (take k u) (drop (k + 1) u) x (line-before u k found) judged failed))
+      (subst (λ v. Advances reported (at f limit n v state.Open) q [] []) (sym (line-split u k found))
+      (Advances-bad_line reported f limit n q (take k u) (drop (k + 1) u) x (line-before u k found) judged failed))
 
   pub steps-past : (q : Progress) → 0 < length u → limit ≤ n → q.state ≡ state.Failed (fault.TooManyLines limit)
-      → Advances told (at f limit n u s) q [] []
+      → Advances reported (at f limit n u s) q [] []
   steps-past q some past failed =
-      from_open q [] [] (Advances-fault told f limit n q u (fault.TooManyLines limit) (past_all u some) failed)
+      from_open q [] [] (Advances-fault reported f limit n q u (fault.TooManyLines limit) (past_all u some) failed)
     where
       past_all : (v : List ℕ) → 0 < length v → (e : Ending) (later : List ℕ)
           → reading_after e f limit n (v ++ later) ≡ ends (Some (fault.TooManyLines limit))
@@ -124,35 +124,35 @@ module _ (told : Option (List ℕ)) (scan : Scan) (opened : scan.state ≡ state
       past_all (c ∷ v) some e later = reading-past f limit e n c (v ++ later) past
 
   pub steps-long : (q : Progress) → HoldsNoFeed u → n < limit → MAX_LINE < length u → q.state ≡ state.Failed (fault.TooLong (n + 1))
-      → Advances told (at f limit n u s) q [] []
+      → Advances reported (at f limit n u s) q [] []
   steps-long q none within long failed =
-      from_open q [] [] (Advances-fault told f limit n q u (fault.TooLong (n + 1)) (λ e later. reading-long f limit e n u later none within long) failed)
+      from_open q [] [] (Advances-fault reported f limit n q u (fault.TooLong (n + 1)) (λ e later. reading-long f limit e n u later none within long) failed)
 
   pub steps-failed : (q : Progress) → HoldsNoFeed u → length u ≤ MAX_LINE → (0 < length u → n < limit)
-      → q.state ≡ state.Failed (fault.Read (n + 1)) → Advances told (at f limit n u s) q [] []
-  steps-failed q none short within failed = from_open q [] [] (Advances-failed told f limit n q u none short within failed)
+      → q.state ≡ state.Failed (fault.Read (n + 1)) → Advances reported (at f limit n u s) q [] []
+  steps-failed q none short within failed = from_open q [] [] (Advances-failed reported f limit n q u none short within failed)
 
   pub steps-last : (q : Progress) (o : Option Entry) → HoldsNoFeed u → 0 < length u → judge f limit (n + 1) u ≡ Ok o → q.state ≡ state.Ended
-      → Advances told (at f limit n u s) q [] (numbered (n + 1) o)
+      → Advances reported (at f limit n u s) q [] (numbered (n + 1) o)
   steps-last q o none some judged ended = from_open q [] (numbered (n + 1) o) (last_of u none some judged)
     where
       last_of : (v : List ℕ) → HoldsNoFeed v → 0 < length v → judge f limit (n + 1) v ≡ Ok o
-          → Advances told (at f limit n v state.Open) q [] (numbered (n + 1) o)
+          → Advances reported (at f limit n v state.Open) q [] (numbered (n + 1) o)
       last_of [] none some judged = absurd (omega arith)
-      last_of (c ∷ v) none some judged = Advances-last told f limit n q c v o none judged ended
+      last_of (c ∷ v) none some judged = Advances-last reported f limit n q c v o none judged ended
 
-  pub steps-bad_last : (q : Progress) (x : TraceFault) → IsAtEnd told → HoldsNoFeed u → 0 < length u → n < limit → length u ≤ MAX_LINE
+  pub steps-bad_last : (q : Progress) (x : TraceFault) → IsAtEnd reported → HoldsNoFeed u → 0 < length u → n < limit → length u ≤ MAX_LINE
       → judge f limit (n + 1) u ≡ Err x
-      → q.state ≡ state.Failed x → Advances told (at f limit n u s) q [] []
+      → q.state ≡ state.Failed x → Advances reported (at f limit n u s) q [] []
   steps-bad_last q x over none some within short judged failed =
       let own = judge-fault f limit (n + 1) u x (omega arith) short judged in
       from_open q [] [] (last_of own.0 u none some (judged ∙ ap Err own.1) (failed ∙ ap state.Failed own.1))
     where
       last_of : (y : LineFault) (v : List ℕ) → HoldsNoFeed v → 0 < length v → judge f limit (n + 1) v ≡ Err (fault.Line (n + 1) y)
           → q.state ≡ state.Failed (fault.Line (n + 1) y)
-          → Advances told (at f limit n v state.Open) q [] []
+          → Advances reported (at f limit n v state.Open) q [] []
       last_of y [] none some judged failed = absurd (omega arith)
-      last_of y (c ∷ v) none some judged failed = Advances-bad_last told f limit n q c v y over none judged failed
+      last_of y (c ∷ v) none some judged failed = Advances-bad_last reported f limit n q c v y over none judged failed
 
   -- a line is judged as the code judged the bytes that it read
   pub judged-as : (line bytes : List ℕ) (r x : Result (Option Entry) TraceFault) → bytes ≡ line

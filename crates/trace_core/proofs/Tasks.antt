@@ -34,13 +34,13 @@ pub record IsRead (task : Task) (source' : SourceView) (bytes text : List ℕ) :
   pub left : source'.remaining ≡ Some []
   pub output : task.whole text ≡ bytes
 
--- the text that the source told was read
+-- the text that the source reported was read
 pub ReadWhole-read : {task : Task} {source source' : SourceView} {bytes : List ℕ} → ReadWhole task source source' bytes
     → (text : List ℕ) → source.remaining ≡ Some text → IsRead task source' bytes text
-ReadWhole-read {task = task} {source = source} {source' = source'} whole text told =
-    let end = Reached-end task.format task.limit text source source' whole.read whole.at told whole.reached whole.ended in record {
+ReadWhole-read {task = task} {source = source} {source' = source'} whole text reported =
+    let end = Reached-end task.format task.limit text source source' whole.read whole.at reported whole.reached whole.ended in record {
       faultless = ap (λ r. r.fault) end;
-      left = Reached-left task.format task.limit text source source' whole.read whole.at told whole.reached whole.ended;
+      left = Reached-left task.format task.limit text source source' whole.read whole.at reported whole.reached whole.ended;
       output = whole.output text (entries-reading task.format task.limit text whole.read end);
     }
 
@@ -50,17 +50,17 @@ module _ (task : Task) (source source' : SourceView) (xs : List (ℕ × Entry)) 
   pub task_stops : (x : TraceFault) → p.state ≡ state.Failed x → device_failed (state.Failed x) ≡ false
       → Wrote sink sink' (task.partial (entries_of xs))
       → IfSome source.remaining (λ text. StopsAt task x text sink sink')
-  task_stops x failed own wrote = if_known source.remaining (λ text. StopsAt task x text sink sink') (λ text told.
-      let is = Reached-fault task.format task.limit text source source' xs p x told run failed own in
+  task_stops x failed own wrote = if_known source.remaining (λ text. StopsAt task x text sink sink') (λ text reported.
+      let is = Reached-fault task.format task.limit text source source' xs p x reported run failed own in
       record { first = ap (λ r. r.fault) is; wrote = subst (λ r. Appends sink.written sink'.written (task.partial (entries_in r))) (sym is) wrote.took })
 
   -- at a failure of the source, what comes of the entries of the delivered bytes was written
   pub task_cut : (x : TraceFault) → p.state ≡ state.Failed x → device_failed (state.Failed x) ≡ true → Wrote sink sink' (task.partial (entries_of xs))
       → IfSome source.remaining (λ text. IfSome source'.remaining (λ rest. CutsOff task x text rest sink sink'))
   task_cut (fault.Read n) failed own wrote =
-      if_known source.remaining (λ text. IfSome source'.remaining (λ rest. CutsOff task (fault.Read n) text rest sink sink')) (λ text told.
+      if_known source.remaining (λ text. IfSome source'.remaining (λ rest. CutsOff task (fault.Read n) text rest sink sink')) (λ text reported.
       if_known source'.remaining (λ rest. CutsOff task (fault.Read n) text rest sink sink') (λ rest left.
-      let cut = Reached-cut task.format task.limit text rest source source' xs p n told left run failed in record {
+      let cut = Reached-cut task.format task.limit text rest source source' xs p n reported left run failed in record {
         delivered = run.bytes;
         delivers = cut.0;
         first = ap (λ r. r.fault) cut.1;
@@ -106,7 +106,7 @@ module _ (task : Task) (along : WritesAlong task) where
   pub task_fails : (source source' : SourceView) (xs : List (ℕ × Entry)) (p : Progress) (w0 w : Option (List ℕ))
       → Reached task.format task.limit source source' xs p → ((x : TraceFault) → p.state ≢ state.Failed x)
       → WritesPrefix w0 w (task.partial (entries_of xs)) → IfSome source.remaining (λ text. WritesPrefix w0 w (output task text))
-  task_fails source source' xs p w0 w run well part = if_known source.remaining (λ text. WritesPrefix w0 w (output task text)) (λ text told.
-      let prefix = Reached-prefix task.format task.limit text source source' xs p told run well in
+  task_fails source source' xs p w0 w run well part = if_known source.remaining (λ text. WritesPrefix w0 w (output task text)) (λ text reported.
+      let prefix = Reached-prefix task.format task.limit text source source' xs p reported run well in
       let begins = output-begins text xs prefix.0 prefix.1 in
       subst (WritesPrefix w0 w) (sym begins.1) (part_of_first w0 w (task.partial (entries_of xs)) begins.0 part))

@@ -9,7 +9,7 @@ use Rattle.trace_core.specs.Device.{SourceView, failures_after}
 use Rattle.trace_core.specs.declared.scan.Scan.{Scan}
 use Rattle.trace_core.specs.declared.state.ReaderState.{ReaderState}
 use Rattle.trace_core.specs.declared.state.ReaderState.TheVariants as state
-use Rattle.trace_core.specs.Scan.{progress, left_to_limit, Reads, Steps}
+use Rattle.trace_core.specs.Scan.{progress, left_to_limit, Reads, StepsScan}
 use Rattle.trace_core.specs.Reader.{Advances, Delivers, device_failed}
 
 -- an open scan has a turn more than is left to its limit, and another none
@@ -63,7 +63,7 @@ module _ {a b : SourceView} (now : SourceView) {old mid : Scan} (new : Scan) (sk
       counted ∙ ap (failures_after (device_failed new.state)) same
 
   -- one turn more with no entry
-  pub Skips-more : Reads b now mid new None → Steps b now mid new None → Skips a now old new
+  pub Skips-more : Reads b now mid new None → StepsScan b now mid new None → Skips a now old new
   Skips-more reads steps =
       let next = Skips-advances None reads in record {
         bytes = next.0;

@@ -5,7 +5,7 @@ use Rattle.std.proofs.Math.Seq.{take-append-add, take-length}
 use Rattle.std.proofs.KnownBytes.{Appends-trans, Appends-nil}
 use Rattle.std.proofs.lemmas.List.{take-append-le}
 use Rattle.std.specs.Io.KnownBytes.{Appends, Keeps}
-use Rattle.trace_core.specs.Device.{SinkView, Takes, Flushes, StaysOrUntold, WritesPrefix, TookAll, FlushesAfter, FlushesAtMostOnce, one_more}
+use Rattle.trace_core.specs.Device.{SinkView, Takes, FlushesSink, StaysOrUnreported, WritesPrefix, TookAll, FlushesAfter, FlushesAtMostOnce, one_more}
 use Rattle.trace_core.specs.Device.{Wrote, WrotePart, WroteLast, WroteLastPart, WritesLast}
 
 -- nothing was written
@@ -95,7 +95,7 @@ pub WroteLastPart-unflushed : {a b : SinkView} {bytes : List ℕ} → WrotePart 
 WroteLastPart-unflushed wrote = record { part = wrote.part; failed = wrote.failed; flushes = inl wrote.unflushed; last = inl wrote.unflushed }
 
 -- all was written, and then flushed
-pub WroteLast-flushed : {T E : Type 0} {x : T} {a b c : SinkView} {bytes : List ℕ} → Wrote a b bytes → Flushes {T = T} {E = E} b c (Ok x)
+pub WroteLast-flushed : {T E : Type 0} {x : T} {a b c : SinkView} {bytes : List ℕ} → Wrote a b bytes → FlushesSink {T = T} {E = E} b c (Ok x)
     → WroteLast a c bytes
 WroteLast-flushed {a = a} {b = b} {c = c} wrote flushed = record {
   took = kept a.written b.written c.written _ wrote.took flushed.bytes;
@@ -116,7 +116,7 @@ part_of_all (Some x) None bytes took = tt
 part_of_all (Some x) (Some y) bytes took = (length bytes, omega arith, took ∙ ap (λ l. x ++ l) (sym (take-length bytes)))
 
 -- all was written, and then the flush failed
-pub WroteLastPart-flush : {T E : Type 0} {e : E} {a b c : SinkView} {bytes : List ℕ} → Wrote a b bytes → Flushes {T = T} {E = E} b c (Err e)
+pub WroteLastPart-flush : {T E : Type 0} {e : E} {a b c : SinkView} {bytes : List ℕ} → Wrote a b bytes → FlushesSink {T = T} {E = E} b c (Err e)
     → WroteLastPart a c bytes
 WroteLastPart-flush {a = a} {b = b} {c = c} {bytes = bytes} wrote flushed =
     let all : TookAll a.written c.written bytes = stays a.written b.written c.written wrote.took flushed.bytes in record {
@@ -126,14 +126,14 @@ WroteLastPart-flush {a = a} {b = b} {c = c} {bytes = bytes} wrote flushed =
       last = inr all;
     }
   where
-    stays : (a b c : Option (List ℕ)) → Appends a b bytes → StaysOrUntold b c → TookAll a c bytes
+    stays : (a b c : Option (List ℕ)) → Appends a b bytes → StaysOrUnreported b c → TookAll a c bytes
     stays None b c wrote still = tt
     stays (Some x) None c wrote still = absurd wrote
     stays (Some x) (Some y) None wrote still = tt
     stays (Some x) (Some y) (Some z) wrote still = cc
 
 -- all was written, and then flushed or not
-pub WritesLast-flushes : {T E : Type 0} {a b c : SinkView} {bytes : List ℕ} (r : Result T E) → Wrote a b bytes → Flushes b c r
+pub WritesLast-flushes : {T E : Type 0} {a b c : SinkView} {bytes : List ℕ} (r : Result T E) → Wrote a b bytes → FlushesSink b c r
     → WritesLast a c r bytes
 WritesLast-flushes (Ok x) wrote flushed = WroteLast-flushed wrote flushed
 WritesLast-flushes (Err e) wrote flushed = WroteLastPart-flush wrote flushed

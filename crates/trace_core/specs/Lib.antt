@@ -9,3 +9,4 @@ pub mod Reading
 pub mod Reader
 pub mod Scan
 pub mod Task
+pub mod Text

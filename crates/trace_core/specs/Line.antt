@@ -1,4 +1,4 @@
--- What one line stands for, or its fault.
+-- What one line means, or its fault.
 use Rattle.std.specs.Prelude.{ℕ, ◌==◌, nat_lt, ◌||◌, Bool, false, List, [], ◌∷◌, Option, None, Some, Result, Ok, Err, if◌then◌else◌}
 use Rattle.std.specs.List.{before_first, after_first}
 use Rattle.trace_core.specs.Fields.{trimmed, fields, number_written, without_0x}
@@ -20,8 +20,8 @@ abbrev pub or_fault : {T : Type 0} → LineFault → Option T → (T → Result 
 or_fault fault None next = Err fault
 or_fault fault (Some x) next = next x
 
--- what the labels `0` to `4` make of an address: a load, a store, a fetch (Dinero IV, traditional format), nothing, a flush (this
--- project's)
+-- what a line with this label, `0` to `4`, and this address means: a load, a store, a fetch (Dinero IV, traditional format),
+-- nothing, a flush (these two are this project's)
 abbrev pub din_entry : ℕ → ℕ → Option Entry
 din_entry label addr =
     if label == 48 then item Load addr 0
@@ -43,7 +43,7 @@ din_meaning ((label ∷ []) ∷ further) =
     if nat_lt label 48 || nat_lt 52 label then Err Label else or_fault Address (din_address further) (λ addr. Ok (din_entry label addr))
 din_meaning ((label ∷ more ∷ bytes) ∷ further) = Err Label
 
--- what the labels `I`, `L`, `S`, `M` stand for (valgrind's lackey, `--trace-mem=yes`)
+-- what the labels `I`, `L`, `S`, `M` mean (valgrind's lackey, `--trace-mem=yes`)
 abbrev pub lackey_op : ℕ → Option Op
 lackey_op label =
     if label == 73 then Some Fetch
@@ -75,7 +75,7 @@ abbrev pub is_message : List ℕ → Bool
 is_message [] = false
 is_message (c ∷ cs) = c == 61 || c == 45 || c == 42
 
--- What a line stands for: nothing, where it is skipped, or an entry; or the fault of its leftmost failing field.
+-- What a line means: an entry, or nothing where it is skipped; or the fault of its leftmost bad field.
 abbrev pub meaning : Format → List ℕ → Result (Option Entry) LineFault
 meaning Din line = din_meaning (fields (trimmed line))
 meaning Lackey line = if is_message line then Ok None else lackey_meaning (fields (trimmed line))

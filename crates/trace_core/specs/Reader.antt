@@ -1,4 +1,4 @@
--- How a reader stands, and what it has read of a source.
+-- The state of a reader, and what it has read of a source.
 use Rattle.std.specs.Prelude.{◌≡◌, ◌≢◌, ⊤, IfSome, Bool, true, false, ℕ, List, [], ◌++◌, Option, None, Some, Result, Ok, Err}
 use Rattle.std.specs.Io.KnownBytes.{Consumes, IsAtEnd}
 use Rattle.std.specs.Option.{option_to_list}
@@ -11,7 +11,7 @@ use Rattle.trace_core.specs.declared.fault.TraceFault.TheVariants as fault
 use Rattle.trace_core.specs.declared.state.ReaderState.{ReaderState}
 use Rattle.trace_core.specs.declared.state.ReaderState.TheVariants as state
 
--- How a reader stands: how many lines it has read, which bytes were delivered to it and not yet read, and whether it goes on.
+-- What a reader has done: how many lines it has read, which bytes were delivered to it and not yet read, and whether it goes on.
 pub record Progress : Type 0 where
   pub format : Format
   pub limit : ℕ
@@ -19,25 +19,25 @@ pub record Progress : Type 0 where
   pub unread : List ℕ
   pub state : ReaderState
 
--- what is left of a reading in a state
+-- what a reader in this state still returns, where an open one would return this reading
 abbrev pub left_in : ReaderState → Reading → Reading
 left_in state.Open r = r
 left_in state.Ended r = ends None
 left_in (state.Failed f) r = ends (Some f)
 
--- what a reader still gives, where these bytes come and then this ending
+-- what a reader will return, where these bytes come and then this ending
 abbrev pub still_gives : Ending → Progress → List ℕ → Reading
 still_gives e p later = left_in p.state (reading_after e p.format p.limit p.lines (p.unread ++ later))
 
--- What may follow the bytes that led to a state, where `told` is what the source still reports: anything while the reader is
+-- What may follow the bytes that led to a state, where `reported` is what the source still reports: anything while the reader is
 -- open, nothing after the end or a failure, and after another fault what is reported.
 abbrev pub MayFollow : Option (List ℕ) → ReaderState → Ending → List ℕ → Type 0
-MayFollow told state.Open e later = ⊤
-MayFollow told state.Ended e later = (e ≡ at_end) × (later ≡ [])
-MayFollow told (state.Failed (fault.Read n)) e later = (e ≡ at_failure) × (later ≡ [])
-MayFollow told (state.Failed (fault.TooLong n)) e later = (e ≡ at_end) × (told ≡ Some later)
-MayFollow told (state.Failed (fault.TooManyLines n)) e later = (e ≡ at_end) × (told ≡ Some later)
-MayFollow told (state.Failed (fault.Line n f)) e later = (e ≡ at_end) × (told ≡ Some later)
+MayFollow reported state.Open e later = ⊤
+MayFollow reported state.Ended e later = (e ≡ at_end) × (later ≡ [])
+MayFollow reported (state.Failed (fault.Read n)) e later = (e ≡ at_failure) × (later ≡ [])
+MayFollow reported (state.Failed (fault.TooLong n)) e later = (e ≡ at_end) × (reported ≡ Some later)
+MayFollow reported (state.Failed (fault.TooManyLines n)) e later = (e ≡ at_end) × (reported ≡ Some later)
+MayFollow reported (state.Failed (fault.Line n f)) e later = (e ≡ at_end) × (reported ≡ Some later)
 
 -- these entries, and then a reading
 abbrev pub entries_then : List (ℕ × Entry) → Reading → Reading
@@ -45,8 +45,8 @@ entries_then xs r = record { entries = xs ++ r.entries; fault = r.fault }
 
 -- A reader went from old to new over these bytes and gave these entries: whatever may follow, what old gives is these entries
 -- and then what new gives.
-pub record Advances (told : Option (List ℕ)) (old new : Progress) (bytes : List ℕ) (xs : List (ℕ × Entry)) : Type 0 where
-  pub gives : (e : Ending) (later : List ℕ) → MayFollow told new.state e later
+pub record Advances (reported : Option (List ℕ)) (old new : Progress) (bytes : List ℕ) (xs : List (ℕ × Entry)) : Type 0 where
+  pub gives : (e : Ending) (later : List ℕ) → MayFollow reported new.state e later
       → still_gives e old (bytes ++ later) ≡ entries_then xs (still_gives e new later)
 
 -- the state of a reader that began
@@ -58,11 +58,11 @@ abbrev pub entries_returned : Result (Option (ℕ × Entry)) TraceFault → List
 entries_returned (Ok x) = option_to_list x
 entries_returned (Err f) = []
 
--- the state tells what was returned: the end, a fault, or an entry
-abbrev pub Tells : ReaderState → Result (Option (ℕ × Entry)) TraceFault → Type 0
-Tells s (Ok None) = s ≡ state.Ended
-Tells s (Ok (Some x)) = (f : TraceFault) → s ≢ state.Failed f
-Tells s (Err f) = s ≡ state.Failed f
+-- the state reports what was returned: the end, a fault, or an entry
+abbrev pub Reports : ReaderState → Result (Option (ℕ × Entry)) TraceFault → Type 0
+Reports s (Ok None) = s ≡ state.Ended
+Reports s (Ok (Some x)) = (f : TraceFault) → s ≢ state.Failed f
+Reports s (Err f) = s ≡ state.Failed f
 
 -- whether a state is that of a failed device
 abbrev pub device_failed : ReaderState → Bool
@@ -79,10 +79,10 @@ Delivers old new false bytes = Consumes old new bytes
 Delivers old new true bytes = IfSome old (λ before. IfSome new (λ later. before ≡ bytes ++ later))
 
 -- what a call returns in a state that isn't open
-abbrev pub stopped_answer : ReaderState → Result (Option (ℕ × Entry)) TraceFault
-stopped_answer state.Open = Ok None
-stopped_answer state.Ended = Ok None
-stopped_answer (state.Failed f) = Err f
+abbrev pub stopped_result : ReaderState → Result (Option (ℕ × Entry)) TraceFault
+stopped_result state.Open = Ok None
+stopped_result state.Ended = Ok None
+stopped_result (state.Failed f) = Err f
 
 -- A reader was begun on a source seen as `start`, which is seen as `now`, and has read these entries since.
 pub record Reached (format : Format) (limit : ℕ) (start now : SourceView) (xs : List (ℕ × Entry)) (p : Progress) : Type 0 where

@@ -2,7 +2,7 @@
 ghost use Rattle.std.specs.Prelude.{◌≡◌, ℕ, ◌+◌, ◌-◌, ◌<◌, ◌≤◌, List, [], ◌++◌, length, take, drop};
 ghost use Rattle.std.specs.Prelude.{slice_range, vec_len, IfOk, OnErr};
 ghost use Rattle.std.specs.Io.KnownBytes.{Consumes, IsAtEnd};
-ghost use Rattle.trace_core.specs.Device.{CountsFailure, StaysOrUntold};
+ghost use Rattle.trace_core.specs.Device.{CountsFailure, StaysOrUnreported};
 ghost use Rattle.trace_core.specs.declared.buffer.TheConstants.{CAPACITY};
 
 use crate::io::{DeviceFault, Source};
@@ -15,11 +15,11 @@ pub(crate) const CAPACITY: usize = 65536;
 /// The bytes that were delivered and not yet consumed.
 #[derive(Drop)]
 pub(crate) struct Buffer {
-    /// The room, always `CAPACITY` bytes.
+    /// Always `CAPACITY` bytes.
     bytes: Vec<u8>,
-    /// Where the bytes that wait begin.
+    /// The index of the first byte that waits.
     start: usize,
-    /// Where they end.
+    /// The index after the last one.
     end: usize,
 }
 
@@ -33,7 +33,7 @@ impl Model for Buffer {
 }
 
 impl Buffer {
-    /// An empty buffer, with all its room.
+    /// An empty buffer, with all its memory.
     pub(crate) fn new(alloc: Global) -> Result<Buffer, AllocError>
         ensures { IfOk result (λ b. b ≡ []) }
     {
@@ -64,7 +64,7 @@ impl Buffer {
         self.start += count;
     }
 
-    /// Asks for as many bytes as there is room for, and returns how many came.
+    /// Reads as many bytes as still fit, and returns how many came.
     pub(crate) fn refill<S: Source>(&mut self, source: &mut S) -> Result<usize, DeviceFault>
         requires { length self.old < CAPACITY }
         ensures more { IfOk result (λ n. (more : List ℕ) × (length more ≡ n)
@@ -73,7 +73,7 @@ impl Buffer {
         ensures end { IfOk result (λ n. n ≡ 0 → IsAtEnd (S.view source.new).remaining) }
         ensures fits { length self.new ≤ CAPACITY }
         ensures fault { OnErr result ((self.new ≡ self.old)
-            × StaysOrUntold (S.view source.old).remaining (S.view source.new).remaining) }
+            × StaysOrUnreported (S.view source.old).remaining (S.view source.new).remaining) }
         ensures counted { CountsFailure
             (S.view source.old).failures (S.view source.new).failures result }
     {

@@ -1,4 +1,5 @@
-//! Devices over memory, for tests.
+//! Devices over memory, for tests. The program uses none of them. They are in this library, the
+//! lowest one, because callers of each library test their own code with them.
 ghost use Rattle.std.specs.Prelude.{◌≡◌, ◌+◌, ◌-◌, ◌<◌, ◌≤◌, [], ◌++◌, None, Some, IsOk, IsErr};
 ghost use Rattle.std.specs.Prelude.{IfOk, ◌↔◌, ◌⊎◌, length, take, drop, min};
 ghost use Rattle.trace_core.specs.Device.{CountsFailure, Gives, Takes, one_more};
@@ -16,7 +17,7 @@ struct Calls {
 }
 
 impl Calls {
-    /// Of a device that was not called yet.
+    /// The calls of a device that was not called yet.
     fn new(fails_at: u64) -> Calls
         ensures made { result.made ≡ 0 }
         ensures fails_at { result.fails_at ≡ fails_at }
@@ -116,7 +117,7 @@ impl<'a> Source for TapeSource<'a> {
         ensures one_call { self.new.calls ≡ one_more self.old.calls }
         ensures fails { IsErr result ↔ (self.old.calls + 1 ≡ self.old.fails_at) }
 
-        // The others give as much as there is, up to `most` and what `into` has room for.
+        // The others give as much as there is, up to `most` and the length of `into`.
         ensures given { IfOk result (λ n.
             n ≡ min self.old.most (min (length self.old.rest) (length into.old))) }
         ensures same { (self.new.most ≡ self.old.most) × (self.new.fails_at ≡ self.old.fails_at) }
@@ -131,7 +132,7 @@ impl<'a> Source for TapeSource<'a> {
     }
 }
 
-/// A text that is given for ever. It reports nothing, and never fails.
+/// A text that is given again and again, without end. It reports nothing, and never fails.
 #[derive(Drop)]
 pub struct LoopSource<'a> {
     text: &'a [u8],
@@ -185,14 +186,14 @@ impl<'a> Source for LoopSource<'a> {
     }
 }
 
-/// How many bytes an `ArraySink` has room for.
-pub const SINK_ROOM: usize = 1024;
+/// How many bytes an `ArraySink` holds at most.
+pub const SINK_CAPACITY: usize = 1024;
 
-/// A sink that keeps what is written to it, in pieces, and shows it. It has room for `SINK_ROOM`
-/// bytes.
+/// A sink that keeps what is written to it, in pieces, and shows it. It holds at most
+/// `SINK_CAPACITY` bytes.
 #[derive(Drop)]
 pub struct ArraySink {
-    bytes: [u8; SINK_ROOM],
+    bytes: [u8; SINK_CAPACITY],
     filled: usize,
     most: usize,
     calls: Calls,
@@ -202,7 +203,7 @@ pub struct ArraySink {
 impl Model for ArraySink {
     ghost use Rattle.std.specs.Prelude.{◌<◌, ◌≤◌, take};
     ghost use Rattle.trace_core.specs.Devices.{ArrayState};
-    ghost use Rattle.trace_core.specs.declared.devices.TheConstants.{SINK_ROOM};
+    ghost use Rattle.trace_core.specs.declared.devices.TheConstants.{SINK_CAPACITY};
 
     ghost Value = { ArrayState };
 
@@ -215,7 +216,7 @@ impl Model for ArraySink {
       flushes = s.flushes;
     } };
 
-    ghost invariant = { λ s. (s.filled ≤ SINK_ROOM) × (0 < s.most) };
+    ghost invariant = { λ s. (s.filled ≤ SINK_CAPACITY) × (0 < s.most) };
 }
 
 impl ArraySink {
@@ -230,7 +231,7 @@ impl ArraySink {
         ensures most { result.most ≡ most }
     {
         ArraySink {
-            bytes: [0; SINK_ROOM],
+            bytes: [0; SINK_CAPACITY],
             filled: 0,
             most,
             calls: Calls::new(fails_at),
@@ -267,22 +268,23 @@ impl Sink for ArraySink {
         ensures takes { let view = ⟦<ArraySink as Sink>⟧.view in
             Takes (view self.old) (view self.new) result from.now }
 
-        // Each is a call. It fails just where it has the number `fails_at`, or bytes and no room.
+        // Each is a call. It fails just where it has the number `fails_at`, or has bytes for a full
+        // sink.
         ensures one_call { self.new.calls ≡ one_more self.old.calls }
         ensures fails { IsErr result ↔ ((self.old.calls + 1 ≡ self.old.fails_at)
-            ⊎ ((length self.old.bytes ≡ SINK_ROOM) × (0 < length from.now))) }
+            ⊎ ((length self.old.bytes ≡ SINK_CAPACITY) × (0 < length from.now))) }
 
-        // The others take as much as there is, up to `most` and what the sink has room for.
+        // The others take as much as there is, up to `most` and what still fits.
         ensures taken { IfOk result (λ n.
-            n ≡ min self.old.most (min (SINK_ROOM - length self.old.bytes) (length from.now))) }
+            n ≡ min self.old.most (min (SINK_CAPACITY - length self.old.bytes) (length from.now))) }
         ensures same { (self.new.most ≡ self.old.most) × (self.new.fails_at ≡ self.old.fails_at) }
     {
         self.calls.begin()?;
-        let room = SINK_ROOM - self.filled;
-        if room == 0 && !from.is_empty() {
+        let left = SINK_CAPACITY - self.filled;
+        if left == 0 && !from.is_empty() {
             return Err(self.calls.fail());
         }
-        let count = self.most.min(room).min(from.len());
+        let count = self.most.min(left).min(from.len());
         let end = self.filled + count;
         self.bytes[self.filled..end].copy_from_slice(&from[..count]);
         self.filled = end;

@@ -4,128 +4,6 @@ ghost use Rattle.std.specs.Prelude.{length, slice_index, IfSome, if◌then◌els
 ghost use Rattle.std.specs.Char.{digit_value, is_digit};
 ghost use Rattle.trace_core.specs.Fields.{WritesNumber, number_written};
 
-/// What the table has for a byte that is no hexadecimal digit. It is above what four of them write,
-/// so one comparison tells whether four bytes are digits.
-const NO_DIGIT: u32 = 65536;
-
-/// For each byte its value as a hexadecimal digit, or `NO_DIGIT`.
-static DIGITS: [u32; 256] = [
-    NO_DIGIT, NO_DIGIT, NO_DIGIT, NO_DIGIT, NO_DIGIT, NO_DIGIT, NO_DIGIT, NO_DIGIT, NO_DIGIT,
-    NO_DIGIT, NO_DIGIT, NO_DIGIT, NO_DIGIT, NO_DIGIT, NO_DIGIT, NO_DIGIT, NO_DIGIT, NO_DIGIT,
-    NO_DIGIT, NO_DIGIT, NO_DIGIT, NO_DIGIT, NO_DIGIT, NO_DIGIT, NO_DIGIT, NO_DIGIT, NO_DIGIT,
-    NO_DIGIT, NO_DIGIT, NO_DIGIT, NO_DIGIT, NO_DIGIT, NO_DIGIT, NO_DIGIT, NO_DIGIT, NO_DIGIT,
-    NO_DIGIT, NO_DIGIT, NO_DIGIT, NO_DIGIT, NO_DIGIT, NO_DIGIT, NO_DIGIT, NO_DIGIT, NO_DIGIT,
-    NO_DIGIT, NO_DIGIT, NO_DIGIT, 0, 1, 2, 3, 4, 5, 6, 7, 8, 9, NO_DIGIT, NO_DIGIT, NO_DIGIT,
-    NO_DIGIT, NO_DIGIT, NO_DIGIT, NO_DIGIT, 10, 11, 12, 13, 14, 15, NO_DIGIT, NO_DIGIT, NO_DIGIT,
-    NO_DIGIT, NO_DIGIT, NO_DIGIT, NO_DIGIT, NO_DIGIT, NO_DIGIT, NO_DIGIT, NO_DIGIT, NO_DIGIT,
-    NO_DIGIT, NO_DIGIT, NO_DIGIT, NO_DIGIT, NO_DIGIT, NO_DIGIT, NO_DIGIT, NO_DIGIT, NO_DIGIT,
-    NO_DIGIT, NO_DIGIT, NO_DIGIT, NO_DIGIT, NO_DIGIT, 10, 11, 12, 13, 14, 15, NO_DIGIT, NO_DIGIT,
-    NO_DIGIT, NO_DIGIT, NO_DIGIT, NO_DIGIT, NO_DIGIT, NO_DIGIT, NO_DIGIT, NO_DIGIT, NO_DIGIT,
-    NO_DIGIT, NO_DIGIT, NO_DIGIT, NO_DIGIT, NO_DIGIT, NO_DIGIT, NO_DIGIT, NO_DIGIT, NO_DIGIT,
-    NO_DIGIT, NO_DIGIT, NO_DIGIT, NO_DIGIT, NO_DIGIT, NO_DIGIT, NO_DIGIT, NO_DIGIT, NO_DIGIT,
-    NO_DIGIT, NO_DIGIT, NO_DIGIT, NO_DIGIT, NO_DIGIT, NO_DIGIT, NO_DIGIT, NO_DIGIT, NO_DIGIT,
-    NO_DIGIT, NO_DIGIT, NO_DIGIT, NO_DIGIT, NO_DIGIT, NO_DIGIT, NO_DIGIT, NO_DIGIT, NO_DIGIT,
-    NO_DIGIT, NO_DIGIT, NO_DIGIT, NO_DIGIT, NO_DIGIT, NO_DIGIT, NO_DIGIT, NO_DIGIT, NO_DIGIT,
-    NO_DIGIT, NO_DIGIT, NO_DIGIT, NO_DIGIT, NO_DIGIT, NO_DIGIT, NO_DIGIT, NO_DIGIT, NO_DIGIT,
-    NO_DIGIT, NO_DIGIT, NO_DIGIT, NO_DIGIT, NO_DIGIT, NO_DIGIT, NO_DIGIT, NO_DIGIT, NO_DIGIT,
-    NO_DIGIT, NO_DIGIT, NO_DIGIT, NO_DIGIT, NO_DIGIT, NO_DIGIT, NO_DIGIT, NO_DIGIT, NO_DIGIT,
-    NO_DIGIT, NO_DIGIT, NO_DIGIT, NO_DIGIT, NO_DIGIT, NO_DIGIT, NO_DIGIT, NO_DIGIT, NO_DIGIT,
-    NO_DIGIT, NO_DIGIT, NO_DIGIT, NO_DIGIT, NO_DIGIT, NO_DIGIT, NO_DIGIT, NO_DIGIT, NO_DIGIT,
-    NO_DIGIT, NO_DIGIT, NO_DIGIT, NO_DIGIT, NO_DIGIT, NO_DIGIT, NO_DIGIT, NO_DIGIT, NO_DIGIT,
-    NO_DIGIT, NO_DIGIT, NO_DIGIT, NO_DIGIT, NO_DIGIT, NO_DIGIT, NO_DIGIT, NO_DIGIT, NO_DIGIT,
-    NO_DIGIT, NO_DIGIT, NO_DIGIT, NO_DIGIT, NO_DIGIT, NO_DIGIT, NO_DIGIT, NO_DIGIT, NO_DIGIT,
-    NO_DIGIT, NO_DIGIT, NO_DIGIT, NO_DIGIT, NO_DIGIT, NO_DIGIT, NO_DIGIT, NO_DIGIT, NO_DIGIT,
-    NO_DIGIT, NO_DIGIT, NO_DIGIT, NO_DIGIT, NO_DIGIT, NO_DIGIT, NO_DIGIT, NO_DIGIT, NO_DIGIT,
-    NO_DIGIT, NO_DIGIT, NO_DIGIT, NO_DIGIT, NO_DIGIT, NO_DIGIT, NO_DIGIT,
-];
-
-/// The value of a hexadecimal digit, or `NO_DIGIT` for another byte.
-#[inline(always)]
-fn hexadecimal_digit(c: u8) -> u32
-    ensures { result ≡ if is_digit c 16 then digit_value c else NO_DIGIT }
-{
-    DIGITS[c as usize]
-}
-
-/// Reads on from `front`, the number and the count of the digits already read, as far as digits go,
-/// but not past `end`; so many digits always write a number below 2^64.
-#[inline(always)]
-fn more_digits(radix: u8, text: &[u8], end: usize, front: (u64, usize)) -> (u64, usize)
-    requires some { 0 < radix }
-    requires known { radix ≤ 16 }
-    requires fits { radix ^ end ≤ 2 ^ 64 }
-    requires within { (front.1 ≤ end) × (end ≤ length text.now) }
-    requires begun { WritesNumber radix text.now front }
-    ensures value { WritesNumber radix text.now result }
-    ensures end { result.1 ≤ end }
-    ensures stops { result.1 < end → is_digit (slice_index text.now result.1) radix ≡ false }
-{
-    let (mut value, from) = front;
-    for at in from..end {
-        let digit = hexadecimal_digit(text[at]);
-        if digit >= radix as u32 {
-            return (value, at);
-        }
-        value = value * radix as u64 + digit as u64;
-    }
-    (value, end)
-}
-
-/// What the digits in front write, and how many they are; at most `most` are read. Where the text
-/// has `most` bytes, the loop has a constant bound, and no step of it tests for the text's end.
-#[inline(always)]
-fn read_digits(radix: u8, most: usize, text: &[u8]) -> (u64, usize)
-    requires some { 0 < radix }
-    requires known { radix ≤ 16 }
-    requires fits { radix ^ most ≤ 2 ^ 64 }
-    ensures value { WritesNumber radix text.now result }
-    ensures most { result.1 ≤ most }
-    ensures stops { result.1 < most → result.1 < length text.now →
-        is_digit (slice_index text.now result.1) radix ≡ false }
-{
-    if text.len() < most {
-        return more_digits(radix, text, text.len(), (0, 0));
-    }
-    more_digits(radix, text, most, (0, 0))
-}
-
-/// What four bytes write, from some place of a text on, or at least `NO_DIGIT`, which is 16^4, where
-/// one of them is no hexadecimal digit.
-#[inline(always)]
-fn four_digits(text: &[u8], at: usize) -> u32
-    requires { at + 4 ≤ length text.now }
-    ensures { result < NO_DIGIT → (value : ℕ) → WritesNumber 16 text.now (value, at) →
-        WritesNumber 16 text.now (value * NO_DIGIT + result, at + 4) }
-{
-    let first = hexadecimal_digit(text[at]);
-    let second = hexadecimal_digit(text[at + 1]);
-    let third = hexadecimal_digit(text[at + 2]);
-    let fourth = hexadecimal_digit(text[at + 3]);
-    ((first * 16 + second) * 16 + third) * 16 + fourth
-}
-
-/// What the hexadecimal digits in front write, and how many they are; at most 16 are read. Four at
-/// a time leave fewer branches to predict; `docs/speed.md` says what that gains.
-#[inline(always)]
-fn read_hexadecimal(text: &[u8]) -> (u64, usize)
-    ensures value { WritesNumber 16 text.now result }
-    ensures most { result.1 ≤ 16 }
-{
-    if text.len() < 16 {
-        return more_digits(16, text, text.len(), (0, 0));
-    }
-    let mut value = 0u64;
-    for group in 0..4usize {
-        let at = 4 * group;
-        let four = four_digits(text, at);
-        if four >= NO_DIGIT {
-            return more_digits(16, text, at + 4, (value, at));
-        }
-        value = value * NO_DIGIT as u64 + four as u64;
-    }
-    (value, 16)
-}
-
 /// The number that 1 to 16 hexadecimal digits in front write, and what follows them.
 #[inline(always)]
 pub(crate) fn split_hexadecimal(text: &[u8]) -> Option<(u64, &[u8])>
@@ -173,3 +51,128 @@ pub(crate) fn read_number(radix: u8, most: usize, digits: &[u8]) -> Option<u64>
     }
     Some(value)
 }
+
+/// The number that the hexadecimal digits in front write, and how many they are; at most 16 are
+/// read. Four at a time leave fewer branches to predict; `docs/speed.md` says what that gains.
+#[inline(always)]
+fn read_hexadecimal(text: &[u8]) -> (u64, usize)
+    ensures value { WritesNumber 16 text.now result }
+    ensures most { result.1 ≤ 16 }
+{
+    if text.len() < 16 {
+        return more_digits(16, text, text.len(), (0, 0));
+    }
+    let mut value = 0u64;
+    for group in 0..4usize {
+        let at = 4 * group;
+        let four = four_digits(text, at);
+        if four >= NO_DIGIT {
+            return more_digits(16, text, at + 4, (value, at));
+        }
+        value = value * GROUP as u64 + four as u64;
+    }
+    (value, 16)
+}
+
+/// The value that four bytes write, from index `at` of a text on, or at least `NO_DIGIT` where one
+/// of them is not a hexadecimal digit.
+#[inline(always)]
+fn four_digits(text: &[u8], at: usize) -> u32
+    requires { at + 4 ≤ length text.now }
+    ensures { result < NO_DIGIT → (value : ℕ) → WritesNumber 16 text.now (value, at) →
+        WritesNumber 16 text.now (value * GROUP + result, at + 4) }
+{
+    let first = hexadecimal_digit(text[at]);
+    let second = hexadecimal_digit(text[at + 1]);
+    let third = hexadecimal_digit(text[at + 2]);
+    let fourth = hexadecimal_digit(text[at + 3]);
+    ((first * 16 + second) * 16 + third) * 16 + fourth
+}
+
+/// The number that the digits in front write, and how many they are; at most `most` are read. Where
+/// the text has `most` bytes, the loop has a constant bound, and no step tests for the text's end.
+#[inline(always)]
+fn read_digits(radix: u8, most: usize, text: &[u8]) -> (u64, usize)
+    requires some { 0 < radix }
+    requires known { radix ≤ 16 }
+    requires fits { radix ^ most ≤ 2 ^ 64 }
+    ensures value { WritesNumber radix text.now result }
+    ensures most { result.1 ≤ most }
+    ensures stops { result.1 < most → result.1 < length text.now →
+        is_digit (slice_index text.now result.1) radix ≡ false }
+{
+    if text.len() < most {
+        return more_digits(radix, text, text.len(), (0, 0));
+    }
+    more_digits(radix, text, most, (0, 0))
+}
+
+/// Reads on from `front`, the number and the count of the digits already read, as far as there are
+/// digits, but not past `end`: so many digits always write a number below 2^64.
+#[inline(always)]
+fn more_digits(radix: u8, text: &[u8], end: usize, front: (u64, usize)) -> (u64, usize)
+    requires some { 0 < radix }
+    requires known { radix ≤ 16 }
+    requires fits { radix ^ end ≤ 2 ^ 64 }
+    requires within { (front.1 ≤ end) × (end ≤ length text.now) }
+    requires begun { WritesNumber radix text.now front }
+    ensures value { WritesNumber radix text.now result }
+    ensures end { result.1 ≤ end }
+    ensures stops { result.1 < end → is_digit (slice_index text.now result.1) radix ≡ false }
+{
+    let (mut value, from) = front;
+    for at in from..end {
+        let digit = hexadecimal_digit(text[at]);
+        if digit >= radix as u32 {
+            return (value, at);
+        }
+        value = value * radix as u64 + digit as u64;
+    }
+    (value, end)
+}
+
+/// The value of a hexadecimal digit, or `NO_DIGIT` for another byte.
+#[inline(always)]
+fn hexadecimal_digit(c: u8) -> u32
+    ensures { result ≡ if is_digit c 16 then digit_value c else NO_DIGIT }
+{
+    DIGITS[c as usize]
+}
+
+/// How many values four hexadecimal digits have: 16^4.
+const GROUP: u32 = 65536;
+
+/// What the table has for a byte that is not a hexadecimal digit. It is above each value of four
+/// digits, so one comparison tells whether four bytes are digits.
+const NO_DIGIT: u32 = GROUP;
+
+/// For each byte its value as a hexadecimal digit, or `NO_DIGIT`.
+static DIGITS: [u32; 256] = [
+    NO_DIGIT, NO_DIGIT, NO_DIGIT, NO_DIGIT, NO_DIGIT, NO_DIGIT, NO_DIGIT, NO_DIGIT, NO_DIGIT,
+    NO_DIGIT, NO_DIGIT, NO_DIGIT, NO_DIGIT, NO_DIGIT, NO_DIGIT, NO_DIGIT, NO_DIGIT, NO_DIGIT,
+    NO_DIGIT, NO_DIGIT, NO_DIGIT, NO_DIGIT, NO_DIGIT, NO_DIGIT, NO_DIGIT, NO_DIGIT, NO_DIGIT,
+    NO_DIGIT, NO_DIGIT, NO_DIGIT, NO_DIGIT, NO_DIGIT, NO_DIGIT, NO_DIGIT, NO_DIGIT, NO_DIGIT,
+    NO_DIGIT, NO_DIGIT, NO_DIGIT, NO_DIGIT, NO_DIGIT, NO_DIGIT, NO_DIGIT, NO_DIGIT, NO_DIGIT,
+    NO_DIGIT, NO_DIGIT, NO_DIGIT, 0, 1, 2, 3, 4, 5, 6, 7, 8, 9, NO_DIGIT, NO_DIGIT, NO_DIGIT,
+    NO_DIGIT, NO_DIGIT, NO_DIGIT, NO_DIGIT, 10, 11, 12, 13, 14, 15, NO_DIGIT, NO_DIGIT, NO_DIGIT,
+    NO_DIGIT, NO_DIGIT, NO_DIGIT, NO_DIGIT, NO_DIGIT, NO_DIGIT, NO_DIGIT, NO_DIGIT, NO_DIGIT,
+    NO_DIGIT, NO_DIGIT, NO_DIGIT, NO_DIGIT, NO_DIGIT, NO_DIGIT, NO_DIGIT, NO_DIGIT, NO_DIGIT,
+    NO_DIGIT, NO_DIGIT, NO_DIGIT, NO_DIGIT, NO_DIGIT, 10, 11, 12, 13, 14, 15, NO_DIGIT, NO_DIGIT,
+    NO_DIGIT, NO_DIGIT, NO_DIGIT, NO_DIGIT, NO_DIGIT, NO_DIGIT, NO_DIGIT, NO_DIGIT, NO_DIGIT,
+    NO_DIGIT, NO_DIGIT, NO_DIGIT, NO_DIGIT, NO_DIGIT, NO_DIGIT, NO_DIGIT, NO_DIGIT, NO_DIGIT,
+    NO_DIGIT, NO_DIGIT, NO_DIGIT, NO_DIGIT, NO_DIGIT, NO_DIGIT, NO_DIGIT, NO_DIGIT, NO_DIGIT,
+    NO_DIGIT, NO_DIGIT, NO_DIGIT, NO_DIGIT, NO_DIGIT, NO_DIGIT, NO_DIGIT, NO_DIGIT, NO_DIGIT,
+    NO_DIGIT, NO_DIGIT, NO_DIGIT, NO_DIGIT, NO_DIGIT, NO_DIGIT, NO_DIGIT, NO_DIGIT, NO_DIGIT,
+    NO_DIGIT, NO_DIGIT, NO_DIGIT, NO_DIGIT, NO_DIGIT, NO_DIGIT, NO_DIGIT, NO_DIGIT, NO_DIGIT,
+    NO_DIGIT, NO_DIGIT, NO_DIGIT, NO_DIGIT, NO_DIGIT, NO_DIGIT, NO_DIGIT, NO_DIGIT, NO_DIGIT,
+    NO_DIGIT, NO_DIGIT, NO_DIGIT, NO_DIGIT, NO_DIGIT, NO_DIGIT, NO_DIGIT, NO_DIGIT, NO_DIGIT,
+    NO_DIGIT, NO_DIGIT, NO_DIGIT, NO_DIGIT, NO_DIGIT, NO_DIGIT, NO_DIGIT, NO_DIGIT, NO_DIGIT,
+    NO_DIGIT, NO_DIGIT, NO_DIGIT, NO_DIGIT, NO_DIGIT, NO_DIGIT, NO_DIGIT, NO_DIGIT, NO_DIGIT,
+    NO_DIGIT, NO_DIGIT, NO_DIGIT, NO_DIGIT, NO_DIGIT, NO_DIGIT, NO_DIGIT, NO_DIGIT, NO_DIGIT,
+    NO_DIGIT, NO_DIGIT, NO_DIGIT, NO_DIGIT, NO_DIGIT, NO_DIGIT, NO_DIGIT, NO_DIGIT, NO_DIGIT,
+    NO_DIGIT, NO_DIGIT, NO_DIGIT, NO_DIGIT, NO_DIGIT, NO_DIGIT, NO_DIGIT, NO_DIGIT, NO_DIGIT,
+    NO_DIGIT, NO_DIGIT, NO_DIGIT, NO_DIGIT, NO_DIGIT, NO_DIGIT, NO_DIGIT, NO_DIGIT, NO_DIGIT,
+    NO_DIGIT, NO_DIGIT, NO_DIGIT, NO_DIGIT, NO_DIGIT, NO_DIGIT, NO_DIGIT, NO_DIGIT, NO_DIGIT,
+    NO_DIGIT, NO_DIGIT, NO_DIGIT, NO_DIGIT, NO_DIGIT, NO_DIGIT, NO_DIGIT, NO_DIGIT, NO_DIGIT,
+    NO_DIGIT, NO_DIGIT, NO_DIGIT, NO_DIGIT, NO_DIGIT, NO_DIGIT, NO_DIGIT,
+];

@@ -1,7 +1,7 @@
 //! Where bytes come from and go to, how often that failed, and how often a sink was flushed.
 ghost use Rattle.std.specs.Prelude.{◌≡◌, ◌<◌, ◌≤◌, ◌==◌, None, IfOk, length, if◌then◌else◌};
 ghost use Rattle.std.specs.Io.KnownBytes.{ReadConsumes, WriteAppends};
-ghost use Rattle.trace_core.specs.Device.{SourceView, SinkView, Gives, Takes, Flushes, Writes};
+ghost use Rattle.trace_core.specs.Device.{SourceView, SinkView, Gives, Takes, FlushesSink, Writes};
 
 use std::io::{Read, Write};
 
@@ -27,7 +27,8 @@ pub trait Sink {
     /// called so far.
     ghost view: { Self → SinkView };
 
-    /// Takes bytes from the front of `from`, at least one of a nonempty slice, and returns how many.
+    /// Takes bytes from the front of `from`, at least one of a nonempty slice, and returns their
+    /// number.
     fn write(&mut self, from: &[u8]) -> Result<usize, DeviceFault>
         ensures bound { IfOk result (λ n. n ≤ length from.now) }
         ensures some { IfOk result (λ n. 0 < length from.now → 0 < n) }
@@ -35,7 +36,7 @@ pub trait Sink {
 
     /// Passes on what a device below holds back. A call that fails is a flush too.
     fn flush(&mut self) -> Result<(), DeviceFault>
-        ensures { Flushes (view self.old) (view self.new) result };
+        ensures { FlushesSink (view self.old) (view self.new) result };
 }
 
 /// A source over a reader. Every error of the reader, `Interrupted` included, is one failure, and

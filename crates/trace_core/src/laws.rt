@@ -61,9 +61,11 @@ pub fn entries_come_before_the_fault()
 /// Where a source fails after some bytes, the entries are those of their whole lines before the
 /// first that is at fault, each with its line's number. The piece after their last LF gives none.
 pub fn entries_come_before_the_cut()
-    ensures { (format : Format) (limit : ℕ) (text : List ℕ) → (cut_reading format limit text).entries
+    ensures { (format : Format) (limit : ℕ) (text : List ℕ) →
+        (cut_reading format limit text).entries
         ≡ filter_map (numbered_entry format)
-        (take (prefix_len is_ok (whole_judgements format limit text)) (enumerate_from 1 (take (line_feeds text) (lines text)))) }
+        (take (prefix_len is_ok (whole_judgements format limit text))
+        (enumerate_from 1 (take (line_feeds text) (lines text)))) }
 {}
 
 /// Where a text has no fault, its reading has all its entries, and gives a cache all its events.
@@ -83,8 +85,8 @@ pub fn begun_reader_has_read_nothing()
         Reached format limit start start [] (begun format limit) }
 {}
 
-/// A reader at its end gave the entries of the whole text, which has no fault, and nothing is left
-/// of the text.
+/// A reader at its end has returned the entries of the whole text, which has no fault, and nothing
+/// is left of the text.
 pub fn ended_reader_has_read_all()
     ensures reading { (format : Format) (limit : ℕ) (text : List ℕ) (start now : SourceView)
         (given : List (ℕ × Entry)) (reader : Progress) →
@@ -97,8 +99,8 @@ pub fn ended_reader_has_read_all()
         reader.state ≡ ReaderState.Ended → now.remaining ≡ Some [] }
 {}
 
-/// A reader that met a fault of the trace met the first fault of the text, and gave the entries
-/// before it.
+/// A reader that met a fault of the trace met the first fault of the text, and has returned the
+/// entries before it.
 pub fn failed_reader_met_the_first_fault()
     ensures { (format : Format) (limit : ℕ) (text : List ℕ) (start now : SourceView)
         (given : List (ℕ × Entry)) (reader : Progress) (fault : TraceFault) →
@@ -107,8 +109,8 @@ pub fn failed_reader_met_the_first_fault()
         reading format limit text ≡ record { entries = given; fault = Some fault } }
 {}
 
-/// A reader whose source failed gave the entries of the bytes that the source delivered, and the
-/// failure is the first fault of these.
+/// A reader whose source failed has returned the entries of the bytes that the source delivered,
+/// and the failure is the first fault of these.
 pub fn cut_reader_has_read_what_was_delivered()
     ensures { (format : Format) (limit : ℕ) (text rest : List ℕ) (start now : SourceView)
         (given : List (ℕ × Entry)) (reader : Progress) (line : ℕ) →
@@ -120,7 +122,7 @@ pub fn cut_reader_has_read_what_was_delivered()
         ≡ record { entries = given; fault = Some (TraceFault.Read line) }) }
 {}
 
-/// A reader that reads on gave the first entries of the text.
+/// A reader that reads on has returned the first entries of the text.
 pub fn open_reader_has_read_the_first_entries()
     ensures { (format : Format) (limit : ℕ) (text : List ℕ) (start now : SourceView)
         (given : List (ℕ × Entry)) (reader : Progress) →

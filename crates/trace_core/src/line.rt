@@ -14,8 +14,8 @@ use thiserror::Error;
 /// How lines are written.
 #[derive(Clone, Copy, Debug, PartialEq, Eq)]
 pub enum Format {
-    /// Dinero's traditional format: a label `0` (load), `1` (store), `2` (fetch), and of this
-    /// project's own `3` (nothing) or `4` (flush), a hexadecimal address, and a comment.
+    /// Dinero's traditional format: a label `0` (load), `1` (store), `2` (fetch) or, extensions of
+    /// this project, `3` (ignored) or `4` (flush); a hexadecimal address; and a comment.
     Din,
     /// The log of valgrind's lackey with `--trace-mem=yes`: `I`, `L`, `S` or `M`, a hexadecimal
     /// address, a comma and a decimal size.
@@ -33,8 +33,8 @@ pub enum LineFault {
     Size,
 }
 
-/// What a line stands for, given without its LF: nothing, where it is skipped, or an entry. The
-/// line may have any length, and a byte 10 in it is a byte like others.
+/// What a line means, given without its LF: an entry, or nothing where it is skipped. The line may
+/// have any length, and a byte 10 in it is a byte like any other.
 pub fn read_line(format: Format, line: &[u8]) -> Result<Option<Entry>, LineFault>
     ensures { result ≡ meaning format line.now }
 {
@@ -47,7 +47,7 @@ pub fn read_line(format: Format, line: &[u8]) -> Result<Option<Entry>, LineFault
     }
 }
 
-/// What a din line stands for, given without the blanks and CRs at its end.
+/// What a din line means, given without the blanks and CRs at its end.
 fn read_din(line: &[u8]) -> Result<Option<Entry>, LineFault>
     ensures { result ≡ din_meaning (fields line.now) }
 {
@@ -63,7 +63,7 @@ fn read_din(line: &[u8]) -> Result<Option<Entry>, LineFault>
     Ok(din_entry(label, addr))
 }
 
-/// What a din line with one of the labels `0` to `4` stands for.
+/// What a din line with one of the labels `0` to `4` means.
 #[inline(always)]
 fn din_entry(label: u8, addr: u64) -> Option<Entry>
     ensures { result ≡ din_entry label addr }
@@ -78,7 +78,7 @@ fn din_entry(label: u8, addr: u64) -> Option<Entry>
     }
 }
 
-/// The address in the first field, behind a `0x` if there is one.
+/// The address in the first field, after a `0x` if there is one.
 fn read_din_address(rest: &[u8]) -> Option<u64>
     ensures { result ≡ din_address (fields rest.now) }
 {
@@ -97,8 +97,8 @@ pub(crate) fn without_0x(text: &[u8]) -> &[u8]
     }
 }
 
-/// What a lackey line stands for that is no message of Valgrind's, given without the blanks and CRs at
-/// its end.
+/// What a lackey line means that is not one of Valgrind's messages, given without the blanks and
+/// CRs at its end.
 fn read_lackey(line: &[u8]) -> Result<Option<Entry>, LineFault>
     ensures { result ≡ lackey_meaning (fields line.now) }
 {
@@ -114,7 +114,7 @@ fn read_lackey(line: &[u8]) -> Result<Option<Entry>, LineFault>
     read_lackey_access(op, rest)
 }
 
-/// What a label of a lackey line stands for.
+/// What a label of a lackey line means.
 #[inline(always)]
 pub(crate) fn lackey_op(label: u8) -> Option<Op>
     ensures { result ≡ lackey_op label }
@@ -209,7 +209,7 @@ fn blanks_len(bytes: &[u8]) -> usize
     bytes.len()
 }
 
-/// The place of the first blank, or the length.
+/// The index of the first blank, or the length.
 fn field_len(bytes: &[u8]) -> usize
     ensures value { result ≡ position_or_len is_blank bytes.now }
     ensures within { result ≤ length bytes.now }

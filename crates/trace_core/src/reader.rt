@@ -30,8 +30,8 @@ impl Model for Lines {
 }
 
 impl Lines {
-    ghost use Rattle.trace_core.specs.Reader.{Progress, Reached, Tells, entries_returned, begun};
-    ghost use Rattle.trace_core.specs.Reader.{device_failed, stopped_answer};
+    ghost use Rattle.trace_core.specs.Reader.{Progress, Reached, Reports, entries_returned, begun};
+    ghost use Rattle.trace_core.specs.Reader.{device_failed, stopped_result};
 
     /// A reader of lines in a format, of which there may be at most `max_lines`. It takes one
     /// buffer of 64 KiB, whatever the limit, and fails only where there is no memory for it.
@@ -58,20 +58,21 @@ impl Lines {
     /// was delivered. What was delivered is judged before a failure that comes after it.
     #[inline(always)]
     pub fn next<S: Source>(&mut self, source: &mut S) -> Result<Option<(u64, Entry)>, TraceFault>
-        // A reader that gave the entries `xs` of a source has then given these and what it returns.
+        // A reader that has returned the entries `xs` of a source has then returned these and this
+        // call's entry.
         ensures reached { (format : Format) (limit : ℕ) (start : SourceView)
             (xs : List (ℕ × Entry)) → Reached format limit start (S.view source.old) xs self.old →
             Reached format limit start (S.view source.new)
             (xs ++ entries_returned result) self.new }
 
-        // The state tells what was returned, and after the end and after a fault it is returned
+        // The state reports what was returned. After the end and after a fault the same is returned
         // again, without a read.
-        ensures tells { Tells self.new.state result }
+        ensures reports { Reports self.new.state result }
         ensures stopped { self.old.state ≢ ReaderState.Open →
             (source.new ≡ source.old) × (self.new ≡ self.old)
-            × (result ≡ stopped_answer self.old.state) }
+            × (result ≡ stopped_result self.old.state) }
 
-        // The source failed in just the calls that go from an open reader to a failed device.
+        // The source failed just in the calls that leave an open reader with a failed device.
         ensures counted { self.old.state ≡ ReaderState.Open → (S.view source.new).failures
             ≡ failures_after (device_failed self.new.state) (S.view source.old).failures }
 

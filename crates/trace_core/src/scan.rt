@@ -35,7 +35,7 @@ pub(crate) struct Scan {
 }
 
 impl Scan {
-    ghost use Rattle.trace_core.specs.Scan.{progress, left_to_limit, Reads, Steps, Judges};
+    ghost use Rattle.trace_core.specs.Scan.{progress, left_to_limit, Reads, StepsScan, Judges};
     ghost use Rattle.trace_core.specs.Scan.{KeepsTask, BearsLine};
     ghost use Rattle.trace_core.specs.Reader.{Advances, device_failed};
 
@@ -62,12 +62,12 @@ impl Scan {
         None
     }
 
-    /// Takes a line that was delivered, or asks for more.
+    /// Takes a line that was delivered, or asks for more. Most lines are read by the first arm.
     #[inline(always)]
     fn step<S: Source>(&mut self, source: &mut S) -> Option<(u64, Entry)>
         requires { self.old.state ≡ ReaderState.Open }
         ensures advances { Reads (S.view source.old) (S.view source.new) self.old self.new result }
-        ensures steps { Steps (S.view source.old) (S.view source.new) self.old self.new result }
+        ensures steps { StepsScan (S.view source.old) (S.view source.new) self.old self.new result }
     {
         let unread = self.buffer.as_slice();
         if self.lines == self.limit && !unread.is_empty() {
@@ -75,8 +75,8 @@ impl Scan {
             return None;
         }
         match read_plain_line(self.format, unread) {
-            Some((item, at)) if at <= MAX_LINE => Some((self.pass_line(at + 1), Entry::Item(item))),
-            _ => self
+            Some((item, at)) => Some((self.pass_line(at + 1), Entry::Item(item))),
+            None => self
                 .step_any(source)
                 .map(|(line, entry)| (line, entry.rebuilt())),
         }
@@ -88,12 +88,12 @@ impl Scan {
         requires open { self.old.state ≡ ReaderState.Open }
         requires below { 0 < length self.old.buffer → self.old.lines < self.old.limit }
         ensures advances { Reads (S.view source.old) (S.view source.new) self.old self.new result }
-        ensures steps { Steps (S.view source.old) (S.view source.new) self.old self.new result }
+        ensures steps { StepsScan (S.view source.old) (S.view source.new) self.old self.new result }
     {
         let unread = self.buffer.as_slice();
         match read_spaced_line(self.format, unread) {
-            Some((item, at)) if at <= MAX_LINE => Some((self.pass_line(at + 1), Entry::Item(item))),
-            _ => match memchr(b'\n', unread) {
+            Some((item, at)) => Some((self.pass_line(at + 1), Entry::Item(item))),
+            None => match memchr(b'\n', unread) {
                 Some(at) => self.take_line(at),
                 None => self.refill(source),
             },
@@ -122,8 +122,8 @@ impl Scan {
         requires open { self.old.state ≡ ReaderState.Open }
         requires line { IsFirstByte (is_byte 10) self.old.buffer (Some at) }
         requires below { self.old.lines < self.old.limit }
-        ensures advances { (told : Option (List ℕ)) →
-            Advances told (progress self.old) (progress self.new) [] (option_to_list result) }
+        ensures advances { (reported : Option (List ℕ)) →
+            Advances reported (progress self.old) (progress self.new) [] (option_to_list result) }
         ensures state { self.new.state ≢ ReaderState.Ended }
         ensures judges { Judges self.old self.new result }
         ensures goes_on { OnSome result (self.new.state ≡ ReaderState.Open) }
@@ -151,7 +151,7 @@ impl Scan {
         requires no_line { IsFirstByte (is_byte 10) self.old.buffer None }
         requires below { 0 < length self.old.buffer → self.old.lines < self.old.limit }
         ensures advances { Reads (S.view source.old) (S.view source.new) self.old self.new result }
-        ensures steps { Steps (S.view source.old) (S.view source.new) self.old self.new result }
+        ensures steps { StepsScan (S.view source.old) (S.view source.new) self.old self.new result }
         ensures ends { OnSome result (self.new.state ≡ ReaderState.Ended) }
     {
         let line = self.lines + 1;
@@ -177,8 +177,8 @@ impl Scan {
         requires no_line { IsFirstByte (is_byte 10) self.old.buffer None }
         requires below { 0 < length self.old.buffer → self.old.lines < self.old.limit }
         requires short { length self.old.buffer ≤ MAX_LINE }
-        ensures advances { (told : Option (List ℕ)) → IsAtEnd told →
-            Advances told (progress self.old) (progress self.new) [] (option_to_list result) }
+        ensures advances { (reported : Option (List ℕ)) → IsAtEnd reported →
+            Advances reported (progress self.old) (progress self.new) [] (option_to_list result) }
         ensures state { self.new.state ≢ ReaderState.Open }
         ensures judges { Judges self.old self.new result }
         ensures goes_on { OnSome result (self.new.state ≡ ReaderState.Ended) }

@@ -1,7 +1,7 @@
-//! How a reader stands.
+//! The state of a reader.
 use crate::fault::TraceFault;
 
-/// How a reader stands: it reads on, or it met the end or a fault.
+/// The state of a reader: it reads on, or it has met the end or a fault.
 #[derive(Clone, Copy, Debug, PartialEq, Eq)]
 pub enum ReaderState {
     Open,

@@ -133,7 +133,7 @@ fn a_write_that_misses_is_not_placed(rt: HostRuntime) -> Result<(), Fail> {
 }
 
 #[test]
-fn a_flush_answers_the_dirty_lines(rt: HostRuntime) -> Result<(), Fail> {
+fn a_flush_returns_the_dirty_lines(rt: HostRuntime) -> Result<(), Fail> {
     let geometry = Geometry::new(1, 2, 4).ok_or("no geometry")?;
     let (mode, allocate) = (WriteMode::Back, AllocMode::Always);
     let mut cache = Cache::new(rt.alloc(), geometry, Lru::new(), mode, allocate)?;

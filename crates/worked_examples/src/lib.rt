@@ -1,16 +1,11 @@
-//! Worked examples of the libraries' calls, as tests. It has no code of its own: what a user can type is a case of `tests/cases`.
+//! Worked examples of the libraries' calls, as tests: what only a call can show, such as devices that fail, what a call returns beside
+//! its text, and refused memory. What a user can type is a case of `tests/cases`. It has no code of its own.
 #![tactic(auto)]
 
 #[cfg(test)]
 mod caches;
 #[cfg(test)]
-mod command_lines;
-#[cfg(test)]
-mod csim_lines;
-#[cfg(test)]
 mod devices;
-#[cfg(test)]
-mod din_lines;
 #[cfg(test)]
 mod memory;
 #[cfg(test)]
@@ -25,8 +20,6 @@ mod reader;
 mod runs;
 #[cfg(test)]
 mod samples;
-#[cfg(test)]
-mod sweep_lines;
 #[cfg(test)]
 mod sweeps;
 #[cfg(test)]

@@ -2,7 +2,7 @@
 ghost use Rattle.std.specs.Prelude.{◌≡◌, ◌≤◌, ◌<◌, None, length};
 
 use crate::samples::NINE;
-use crate::sweeps::{TABLE, request};
+use crate::sweeps::{TABLE, TABLE_OF_ONE_SET, request};
 use std::alloc::Global;
 use std::process::Abort;
 use std::test::Fail;
@@ -92,9 +92,7 @@ fn a_sweep_of_nine_thousand_lines(rt: HostRuntime) -> Result<(), Fail> {
 #[test]
 fn a_sweep_of_four_associativities(rt: HostRuntime) -> Result<(), Fail> {
     let four = request(1, (1, 4), (0, 1024))?;
-    let written =
-        b"bsize,sets,assoc,size,hits,misses,evictions\n16,1,1,16,3,6,5\n16,1,2,32,4,5,3\n16,1,3,48,5,4,1\n16,1,4,64,5,4,0\n";
-    expect_table(&rt, rt.alloc(), &four, 1, written)
+    expect_table(&rt, rt.alloc(), &four, 1, TABLE_OF_ONE_SET)
 }
 
 #[test]

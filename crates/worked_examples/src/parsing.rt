@@ -1,15 +1,30 @@
 //! Arguments by calls: their spelling, their numbers, the jobs that they ask for, and the faults that they have.
-use crate::command_lines::{arguments_of, parsed};
 use arguments::faults::WordsFault;
 use arguments::numbers::{read_number, read_range, read_scaled, read_triple};
+use arguments::parse::{Command, parse};
 use arguments::respell::respell;
 use cache_core::plan::{CacheName, PlanFault};
-use std::alloc::Global;
+use std::alloc::{AllocError, Global};
 use std::process::Abort;
 use std::test::Fail;
 use sweep_core::space::{Cause, Config, SpaceFault, Which};
 
-/// The fault of a line that is no call, or whose values give no job.
+/// The arguments of a line, which stand apart by single spaces.
+fn arguments_of(alloc: Global, line: &str) -> Result<Vec<String>, AllocError> {
+    let mut arguments = Vec::new(alloc);
+    for argument in line.split(' ') {
+        arguments.push(String::from_str(alloc, argument)?)?;
+    }
+    Ok(arguments)
+}
+
+/// What `parse` returns for a line.
+fn parsed(alloc: Global, line: &str) -> Result<Command, WordsFault> {
+    let arguments = arguments_of(alloc, line)?;
+    parse(alloc, &arguments)
+}
+
+/// The fault of a line that is not a call, or whose values give no job.
 fn fault_of(alloc: Global, line: &str) -> Result<WordsFault, Fail> {
     match parsed(alloc, line) {
         Ok(_) => Err("a job".into()),

@@ -108,16 +108,16 @@ fn more_ways_can_hit_less(rt: HostRuntime) -> Result<(), Fail> {
 }
 
 #[test]
-fn the_generator_gives_its_first_words(rt: HostRuntime) {
+fn the_generator_gives_its_first_numbers(rt: HostRuntime) {
     let mut generator = Pcg32::new(42, 54);
-    for word in [0xA15C_02B7, 0x7B47_F409, 0xBA1D_3330, 0x83D2_F293u32] {
-        assert!(rt; generator.next_word() == word);
+    for number in [0xA15C_02B7, 0x7B47_F409, 0xBA1D_3330, 0x83D2_F293u32] {
+        assert!(rt; generator.next_word() == number);
     }
 }
 
-// The first two words are odd, so way 1 is taken out twice; the third is even. A flush draws none.
+// The first two numbers are odd, so way 1 is taken out twice; the third is even. A flush draws none.
 #[test]
-fn a_word_takes_out_its_way(rt: HostRuntime) -> Result<(), Fail> {
+fn a_random_number_takes_out_its_way(rt: HostRuntime) -> Result<(), Fail> {
     let mut cache = one_set(rt.alloc(), 2, Random::new(42))?;
     let six = [
         (1, FILL),

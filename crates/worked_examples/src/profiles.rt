@@ -70,14 +70,14 @@ fn expect_probes(rt: &impl Abort, profile: &mut Profile, steps: &[(u64, u64)]) {
     }
 }
 
-/// The counts from one way on, asked for one by one and by a tally that rises.
+/// The counts from one way on, asked for one by one and by sums that go on.
 fn expect_counts(rt: &impl Abort, profile: &Profile, wanted: &[Counts])
     requires { length wanted.now ≤ profile.now.geometry.e }
 {
-    let mut tally = profile.begin_tally();
+    let mut sums = profile.begin_sums();
     for (i, counts) in wanted.iter().enumerate() {
         let ways = i as u64 + 1;
-        let rising = profile.counts_next(&mut tally, ways);
+        let rising = profile.counts_next(&mut sums, ways);
         assert!(rt;
             rising == *counts && profile.counts(ways) == *counts,
             "{ways} ways"
@@ -116,10 +116,10 @@ fn a_cyclic_trace_in_one_set(rt: HostRuntime) -> Result<(), Fail> {
     ];
     expect_counts(&rt, &profile, &wanted);
     assert!(rt; numbers(&profile) == (12, 5, 39));
-    let mut tally = profile.begin_tally();
-    assert!(rt; profile.counts_next(&mut tally, 2) == counts(0, 12, 10));
-    assert!(rt; profile.counts_next(&mut tally, 2) == counts(0, 12, 10));
-    assert!(rt; profile.counts_next(&mut tally, 5) == counts(7, 5, 0));
+    let mut sums = profile.begin_sums();
+    assert!(rt; profile.counts_next(&mut sums, 2) == counts(0, 12, 10));
+    assert!(rt; profile.counts_next(&mut sums, 2) == counts(0, 12, 10));
+    assert!(rt; profile.counts_next(&mut sums, 5) == counts(7, 5, 0));
     Ok(())
 }
 

@@ -1,5 +1,6 @@
-//! What a reader answers, however its text is cut and wherever its source fails.
+//! What a reader returns, however its text is cut and wherever its source fails.
 ghost use Rattle.std.specs.Prelude.{◌≤◌, ◌<◌, length};
+ghost use Rattle.trace_core.specs.declared.limits.TheConstants.{MAX_LINES};
 
 use crate::samples::LACKEY;
 use std::alloc::Global;
@@ -13,7 +14,7 @@ use trace_core::reader::{Lines, MAX_LINES};
 
 type Answer = Result<Option<(u64, Entry)>, TraceFault>;
 
-/// A text, what a reader of at most `limit` lines answers for it, and how many bytes tell the fault that ends it.
+/// A text, what a reader of at most `limit` lines returns for it, and how many bytes settle the fault that ends it.
 #[derive(Drop)]
 struct Example<'a> {
     format: Format,
@@ -21,13 +22,13 @@ struct Example<'a> {
     text: &'a [u8],
     entries: &'a [(u64, Entry)],
     end: Answer,
-    told_by: usize,
+    settled_by: usize,
     ghost some: { 1 ≤ limit },
-    ghost most: { limit ≤ 1099511627776 },
+    ghost most: { limit ≤ MAX_LINES },
 }
 
-/// No number of bytes tells it: there is no fault, or the end of the text tells it.
-const UNTOLD: usize = usize::MAX;
+/// No number of bytes settles it: there is no fault, or the end of the text settles it.
+const UNSETTLED: usize = usize::MAX;
 
 fn load(addr: u64) -> Entry {
     let (op, size) = (Op::Load, 0);
@@ -77,7 +78,7 @@ fn expect_failure(
     let delivered = before.min(example.text.len());
     let lines = line_feeds(&example.text[..delivered]);
     let line = lines.saturating_add(1);
-    let end = if delivered >= example.told_by {
+    let end = if delivered >= example.settled_by {
         example.end
     } else {
         Err(TraceFault::Read { line })
@@ -118,7 +119,7 @@ fn expect_din(
     text: &[u8],
     entries: &[(u64, Entry)],
     end: Answer,
-    told_by: usize,
+    settled_by: usize,
 ) -> Result<(), Fail>
     requires some { 1 ≤ limit }
     requires most { limit ≤ MAX_LINES }
@@ -129,7 +130,7 @@ fn expect_din(
         text,
         entries,
         end,
-        told_by,
+        settled_by,
     };
     expect_however_cut(rt, alloc, &example)
 }
@@ -142,7 +143,7 @@ fn malformed(line: u64, fault: LineFault) -> Answer {
 fn a_malformed_line_is_judged_when_it_is_whole(rt: HostRuntime) -> Result<(), Fail> {
     let good = [(1, load(16))];
     let end = malformed(2, LineFault::Address);
-    expect_din(&rt, rt.alloc(), 9, b"0 10\n0 x", &good, end, UNTOLD)?;
+    expect_din(&rt, rt.alloc(), 9, b"0 10\n0 x", &good, end, UNSETTLED)?;
     expect_din(&rt, rt.alloc(), 9, b"0 10\n0 x\n", &good, end, 9)
 }
 
@@ -155,7 +156,7 @@ fn a_source_fails_after_the_first_read(rt: HostRuntime) -> Result<(), Fail> {
         text: b"0 10\n0 x",
         entries: &good,
         end: Ok(None),
-        told_by: UNTOLD,
+        settled_by: UNSETTLED,
     };
     let mut source = TapeSource::new(example.text, 100, 2);
     let end = Err(TraceFault::Read { line: 2 });
@@ -173,8 +174,16 @@ fn a_source_fails_after_the_first_read(rt: HostRuntime) -> Result<(), Fail> {
 fn a_byte_past_the_last_line_is_one_too_many(rt: HostRuntime) -> Result<(), Fail> {
     let both = [(1, load(1)), (2, load(2))];
     let many = Err(TraceFault::TooManyLines { limit: 2 });
-    expect_din(&rt, rt.alloc(), 2, b"0 1\n0 2\n", &both, Ok(None), UNTOLD)?;
-    expect_din(&rt, rt.alloc(), 2, b"0 1\n0 2", &both, Ok(None), UNTOLD)?;
+    expect_din(
+        &rt,
+        rt.alloc(),
+        2,
+        b"0 1\n0 2\n",
+        &both,
+        Ok(None),
+        UNSETTLED,
+    )?;
+    expect_din(&rt, rt.alloc(), 2, b"0 1\n0 2", &both, Ok(None), UNSETTLED)?;
     expect_din(&rt, rt.alloc(), 2, b"0 1\n0 2\n ", &both, many, 9)?;
     expect_din(&rt, rt.alloc(), 2, b"0 1\n0 2\n\n", &both, many, 9)?;
     let end = malformed(2, LineFault::Label);
@@ -184,7 +193,7 @@ fn a_byte_past_the_last_line_is_one_too_many(rt: HostRuntime) -> Result<(), Fail
 #[test]
 fn lines_end_by_lf_or_by_the_end(rt: HostRuntime) -> Result<(), Fail> {
     let first = [(1, load(16))];
-    expect_din(&rt, rt.alloc(), 9, b"0 10\r\n", &first, Ok(None), UNTOLD)?;
+    expect_din(&rt, rt.alloc(), 9, b"0 10\r\n", &first, Ok(None), UNSETTLED)?;
     let skipped = [(1, load(16)), (4, load(17))];
     expect_din(
         &rt,
@@ -193,10 +202,10 @@ fn lines_end_by_lf_or_by_the_end(rt: HostRuntime) -> Result<(), Fail> {
         b"0 10\r\n\n \t\r\n0 11",
         &skipped,
         Ok(None),
-        UNTOLD,
+        UNSETTLED,
     )?;
-    expect_din(&rt, rt.alloc(), 9, b"", &[], Ok(None), UNTOLD)?;
-    expect_din(&rt, rt.alloc(), 9, b"\n\n\n", &[], Ok(None), UNTOLD)
+    expect_din(&rt, rt.alloc(), 9, b"", &[], Ok(None), UNSETTLED)?;
+    expect_din(&rt, rt.alloc(), 9, b"\n\n\n", &[], Ok(None), UNSETTLED)
 }
 
 #[test]
@@ -204,7 +213,7 @@ fn strange_bytes_are_bad_fields(rt: HostRuntime) -> Result<(), Fail> {
     let label = malformed(1, LineFault::Label);
     let address = malformed(1, LineFault::Address);
     expect_din(&rt, rt.alloc(), 9, b"\0\n", &[], label, 2)?;
-    expect_din(&rt, rt.alloc(), 9, b"\0", &[], label, UNTOLD)?;
+    expect_din(&rt, rt.alloc(), 9, b"\0", &[], label, UNSETTLED)?;
     expect_din(&rt, rt.alloc(), 9, b"\xEF\xBB\xBF0 10\n", &[], label, 8)?;
     expect_din(&rt, rt.alloc(), 9, b"0 1\xFF\n", &[], address, 5)?;
     expect_din(&rt, rt.alloc(), 9, b"0 1\r2\n", &[], address, 6)
@@ -247,7 +256,7 @@ fn messages_of_valgrind_are_numbered_and_skipped(rt: HostRuntime) -> Result<(), 
         text: LACKEY,
         entries: &entries,
         end: Ok(None),
-        told_by: UNTOLD,
+        settled_by: UNSETTLED,
     };
     expect_however_cut(&rt, rt.alloc(), &example)
 }
@@ -270,7 +279,7 @@ fn a_line_has_4096_bytes_at_most(rt: HostRuntime) -> Result<(), Fail> {
         text: &text,
         entries: &good,
         end: Ok(None),
-        told_by: UNTOLD,
+        settled_by: UNSETTLED,
     };
     for most in [1, 2, 3, 1000, 4095, 4096, 4097, 4098] {
         expect_pieces(&rt, rt.alloc(), &example, most)?;
@@ -282,7 +291,7 @@ fn a_line_has_4096_bytes_at_most(rt: HostRuntime) -> Result<(), Fail> {
     example.text = &longer;
     example.entries = &[];
     example.end = Err(TraceFault::TooLong { line: 1 });
-    example.told_by = 4097;
+    example.settled_by = 4097;
     for most in [1, 2, 3, 1000, 4096, 4097, 4098] {
         expect_pieces(&rt, rt.alloc(), &example, most)?;
     }
@@ -292,7 +301,7 @@ fn a_line_has_4096_bytes_at_most(rt: HostRuntime) -> Result<(), Fail> {
     Ok(())
 }
 
-/// What a din reader of at most three lines answers for a text without end.
+/// What a din reader of at most three lines returns for a text without end.
 fn expect_endless(
     rt: &impl Abort,
     alloc: Global,

@@ -2,8 +2,7 @@
 ghost use Rattle.std.specs.Prelude.{◌<◌, ◌≤◌, length};
 ghost use Rattle.arguments.specs.Job.{max_lines_of};
 
-use crate::csim_lines::{HANDOUT, HANDOUT_TEXT};
-use crate::samples::NINE;
+use crate::samples::{HANDOUT, HANDOUT_TEXT, NINE};
 use crate::sweeps::{TABLE, request};
 use arguments::job::Job;
 use cache_core::geometry::Geometry;
@@ -38,7 +37,7 @@ fn one_block() -> Result<Plan, Fail> {
     Ok(Plan::new(first, None)?)
 }
 
-/// What `din` answers for a text without end, of which it takes three lines. It writes nothing.
+/// What `din` returns for a text without end, of which it takes three lines. It writes nothing.
 fn expect_endless(
     rt: &impl Abort,
     alloc: Global,
@@ -86,7 +85,7 @@ fn csim_writes_the_lines_before_a_bad_one(rt: HostRuntime) -> Result<(), Fail> {
     Ok(())
 }
 
-/// What `csim -v -s 4 -E 1 -b 4` answers over these devices. Where memory is refused, nothing was read or written, and that ends a test.
+/// What `csim -v -s 4 -E 1 -b 4` returns over these devices. Where memory is refused, nothing was read or written, and that ends a test.
 fn lines_of(
     rt: &impl Abort,
     alloc: Global,

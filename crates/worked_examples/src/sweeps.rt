@@ -1,5 +1,5 @@
-//! Sweeps: what they answer and write, row by row what a separate simulation counts, and what their devices see.
-ghost use Rattle.std.specs.Prelude.{◌≡◌, ◌≤◌, ◌^◌, IfOk};
+//! Sweeps: what they return and write, row by row what a separate simulation counts, and what their devices see.
+ghost use Rattle.std.specs.Prelude.{◌≡◌, ◌≤◌, IfOk};
 
 use crate::samples::{LACKEY, NINE, fetch, nine_references, read, write};
 use cache_core::geometry::Geometry;
@@ -25,9 +25,16 @@ pub const TABLE: &[u8] =
 /// The bytes of its first line.
 const HEADER_LEN: usize = 44;
 
+/// The bytes of each of its rows.
+const ROW_LEN: usize = 16;
+
+/// What a sweep of the nine lines over one set of up to four lines writes.
+pub const TABLE_OF_ONE_SET: &[u8] =
+    b"bsize,sets,assoc,size,hits,misses,evictions\n16,1,1,16,3,6,5\n16,1,2,32,4,5,3\n16,1,3,48,5,4,1\n16,1,4,64,5,4,0\n";
+
 /// A sweep of din texts over blocks of 16 bytes, up to so many sets of these associativities and sizes.
 pub fn request(sets: u64, assoc: (u64, u64), size: (u64, u64)) -> Result<Request, Fail>
-    ensures { IfOk result (λ request. request.max_lines ≡ 2 ^ 40) }
+    ensures { IfOk result (λ request. request.max_lines ≡ MAX_LINES) }
 {
     Ok(Request {
         space: Space::new((16, 16), (1, sets), assoc, size, false)?,
@@ -39,7 +46,7 @@ pub fn request(sets: u64, assoc: (u64, u64), size: (u64, u64)) -> Result<Request
     })
 }
 
-/// What a sweep answers, where there was enough memory. Where there was not, nothing was read or written, and that ends a test.
+/// What a sweep returns, where there was enough memory. Where there was not, nothing was read or written, and that ends a test.
 fn swept(
     rt: &impl Abort,
     alloc: Global,
@@ -58,7 +65,7 @@ fn swept(
     Ok(answer)
 }
 
-/// What a sweep answers and writes, into sinks that take different parts. It flushes once where it ends well, and else never.
+/// What a sweep returns and writes, into sinks that take different parts. It flushes once where it ends well, and else never.
 fn expect_sweep(
     rt: &impl Abort,
     alloc: Global,
@@ -85,7 +92,7 @@ fn expect_sweep(
 }
 
 #[test]
-fn a_sweep_answers_its_comparisons(rt: HostRuntime) -> Result<(), Fail> {
+fn a_sweep_returns_its_comparisons(rt: HostRuntime) -> Result<(), Fail> {
     let mut both = request(2, (1, 2), (16, 64))?;
     expect_sweep(&rt, rt.alloc(), &both, NINE, Ok(21), TABLE)?;
     both.rows = Some(1);
@@ -95,7 +102,7 @@ fn a_sweep_answers_its_comparisons(rt: HostRuntime) -> Result<(), Fail> {
         &both,
         NINE,
         Ok(12),
-        &TABLE[..HEADER_LEN + 16],
+        &TABLE[..HEADER_LEN + ROW_LEN],
     )?;
     both.rows = Some(0);
     expect_sweep(&rt, rt.alloc(), &both, NINE, Ok(0), &TABLE[..HEADER_LEN])?;
@@ -112,7 +119,7 @@ fn a_sweep_answers_its_comparisons(rt: HostRuntime) -> Result<(), Fail> {
         &both,
         NINE,
         Ok(9),
-        &TABLE[HEADER_LEN + 32..],
+        &TABLE[HEADER_LEN + 2 * ROW_LEN..],
     )?;
     let (bsize, sets) = (16, 2);
     both.after = Some(Config {
@@ -121,19 +128,18 @@ fn a_sweep_answers_its_comparisons(rt: HostRuntime) -> Result<(), Fail> {
         assoc: 2,
     });
     expect_sweep(&rt, rt.alloc(), &both, NINE, Ok(0), b"")?;
+    // the rows of 32 bytes are the second and the third
     let one_size = request(2, (1, 2), (32, 32))?;
-    let rows = b"bsize,sets,assoc,size,hits,misses,evictions\n16,1,2,32,4,5,3\n16,2,1,32,4,5,3\n";
-    expect_sweep(&rt, rt.alloc(), &one_size, NINE, Ok(19), rows)?;
+    let mut written = TABLE[..HEADER_LEN].to_vec(rt.alloc())?;
+    written.extend_from_slice(&TABLE[HEADER_LEN + ROW_LEN..HEADER_LEN + 3 * ROW_LEN])?;
+    expect_sweep(&rt, rt.alloc(), &one_size, NINE, Ok(19), &written)?;
     let one_set = request(1, (1, 4), (0, 1024))?;
-    let rows =
-        b"bsize,sets,assoc,size,hits,misses,evictions\n16,1,1,16,3,6,5\n16,1,2,32,4,5,3\n16,1,3,48,5,4,1\n16,1,4,64,5,4,0\n";
-    expect_sweep(&rt, rt.alloc(), &one_set, NINE, Ok(14), rows)?;
-    Ok(())
+    expect_sweep(&rt, rt.alloc(), &one_set, NINE, Ok(14), TABLE_OF_ONE_SET)
 }
 
 // The whole trace is read even where no row is to be written.
 #[test]
-fn a_fault_is_told_where_no_row_is_written(rt: HostRuntime) -> Result<(), Fail> {
+fn a_fault_is_reported_where_no_row_is_written(rt: HostRuntime) -> Result<(), Fail> {
     let mut text = NINE.to_vec(rt.alloc())?;
     text.extend_from_slice(b"0 12g")?;
     let fault = LineFault::Address;

@@ -8,6 +8,7 @@ use sweep_core::space::{Cause, Config, SpaceFault, Which};
 use sweep_core::sweep::SweepFault;
 use trace_core::fault::TraceFault;
 use trace_core::line::LineFault;
+use trace_core::reader::MAX_LINES;
 
 /// What a value is displayed as.
 fn expect_text<T: Display>(
@@ -22,7 +23,7 @@ fn expect_text<T: Display>(
 }
 
 #[test]
-fn faults_of_a_trace_tell_their_line(rt: HostRuntime) -> Result<(), Fail> {
+fn faults_of_a_trace_name_their_line(rt: HostRuntime) -> Result<(), Fail> {
     let line = |fault| TraceFault::Line { line: 7, fault };
     let rows = [
         (line(LineFault::Label), "line 7: bad label"),
@@ -34,9 +35,7 @@ fn faults_of_a_trace_tell_their_line(rt: HostRuntime) -> Result<(), Fail> {
             "line 10: longer than 4096 bytes",
         ),
         (
-            TraceFault::TooManyLines {
-                limit: 1_099_511_627_776,
-            },
+            TraceFault::TooManyLines { limit: MAX_LINES },
             "more than 1099511627776 lines",
         ),
     ];
@@ -48,7 +47,7 @@ fn faults_of_a_trace_tell_their_line(rt: HostRuntime) -> Result<(), Fail> {
 }
 
 #[test]
-fn faults_of_a_run_are_told(rt: HostRuntime) -> Result<(), Fail> {
+fn faults_of_a_run_have_their_texts(rt: HostRuntime) -> Result<(), Fail> {
     expect_text(&rt, rt.alloc(), &SweepFault::Memory, "out of memory")?;
     expect_text(&rt, rt.alloc(), &SweepFault::Write, "write failed")
 }

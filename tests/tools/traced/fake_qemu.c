@@ -15,7 +15,8 @@
 #include <string.h>
 #include <unistd.h>
 
-typedef void translated(uint64_t, void *), executed(unsigned, void *), accessed(unsigned, uint32_t, uint64_t, void *), ended(uint64_t, void *);
+typedef void translated(uint64_t, void *), executed(unsigned, void *), ended(uint64_t, void *);
+typedef void accessed(unsigned, uint32_t, uint64_t, void *);
 typedef void called(uint64_t, unsigned, int64_t, uint64_t, uint64_t, uint64_t, uint64_t, uint64_t, uint64_t, uint64_t, uint64_t);
 typedef int install(uint64_t, const void *, int, char **);
 
@@ -28,8 +29,14 @@ static void *fetch_word;
 static uint64_t address;
 
 void qemu_plugin_register_vcpu_tb_trans_cb(uint64_t id, translated *call) { (void)id, on_translation = call; }
-void qemu_plugin_register_vcpu_insn_exec_cb(void *at, executed *call, int flags, void *word) { (void)at, (void)flags, on_fetch = call, fetch_word = word; }
-void qemu_plugin_register_vcpu_mem_cb(void *at, accessed *call, int flags, int way, void *word) { (void)at, (void)flags, (void)way, (void)word, on_data = call; }
+void qemu_plugin_register_vcpu_insn_exec_cb(void *at, executed *call, int flags, void *word)
+{
+    (void)at, (void)flags, on_fetch = call, fetch_word = word;
+}
+void qemu_plugin_register_vcpu_mem_cb(void *at, accessed *call, int flags, int way, void *word)
+{
+    (void)at, (void)flags, (void)way, (void)word, on_data = call;
+}
 void qemu_plugin_register_vcpu_syscall_cb(uint64_t id, called *call) { (void)id, on_call = call; }
 void qemu_plugin_register_atexit_cb(uint64_t id, ended *call, void *word) { (void)id, (void)word, on_end = call; }
 size_t qemu_plugin_tb_n_insns(const void *block) { return block != NULL; }

@@ -5,6 +5,7 @@ ghost use Rattle.std.specs.Iterator.{YieldsFirst, item_count};
 ghost use Rattle.sweep_core.specs.Table.{is_less, is_after};
 ghost use Rattle.sweep_core.specs.declared.space.Config.{Config};
 ghost use Rattle.sweep_core.specs.Space.{is_power, config};
+ghost use Rattle.sweep_core.specs.SweepText.{log2};
 
 use super::{Config, Space, is_in_range};
 use cache_core::geometry::{MAX_BITS, MAX_CACHE_LINES};
@@ -45,10 +46,13 @@ impl Iterator for Configs {
 }
 
 impl Space {
-    ghost use Rattle.std.specs.Prelude.{◌≡◌, ◌≤◌, ◌∷◌, [], ℕ, true, MatchOption, None, Some};
+    ghost use Rattle.std.specs.Prelude.{◌≡◌, ◌-◌, ◌^◌, ◌<◌, ◌≤◌, ◌∷◌, [], ℕ};
+    ghost use Rattle.std.specs.Prelude.{true, MatchOption, None, Some};
     ghost use Rattle.sweep_core.specs.Space.{is_valid, is_in_range, config};
     ghost use Rattle.sweep_core.specs.Table.{table};
-    ghost use Rattle.sweep_core.specs.Least.{IsLeast, IsLeastFrom, is_from, is_from_of_bsize, is_from_pair};
+    ghost use Rattle.sweep_core.specs.Runs.{next_ways, ways_after};
+    ghost use Rattle.sweep_core.specs.Least.{IsLeast, IsLeastFrom};
+    ghost use Rattle.sweep_core.specs.Least.{is_from, is_from_of_bsize, is_from_pair};
 
     /// Its configurations that are greater than `after`, which may be any triple, rising; without
     /// it, all. What stands before `after` is not walked.
@@ -147,6 +151,30 @@ impl Space {
             most
         }
     }
+
+    /// The associativity after another: the next number, or the next power of two.
+    pub(crate) fn next_ways(&self, ways: u64) -> u64
+        requires { ways < 2 ^ 63 }
+        ensures { result ≡ next_ways self.now.powers ways }
+    {
+        if self.powers { ways * 2 } else { ways + 1 }
+    }
+
+    /// How many configurations it has of the pair of one, from that one to the one with `depth`
+    /// lines per set.
+    pub(crate) fn rows_to(&self, first: &Config, depth: u64) -> u64
+        requires first { is_valid self.now first.now ≡ true }
+        requires last { is_valid self.now (record first.now { assoc = depth }) ≡ true }
+        requires rising { first.now.assoc ≤ depth }
+        ensures some { 1 ≤ result }
+        ensures last { ways_after self.now.powers first.now.assoc (result - 1) ≡ depth }
+    {
+        if self.powers {
+            bits_of(depth) - bits_of(first.assoc) + 1
+        } else {
+            depth - first.assoc + 1
+        }
+    }
 }
 
 /// The least associativity from `lowest` on; with `powers`, the least that is a power of two.
@@ -203,4 +231,11 @@ fn power(bits: u32) -> u64
     ensures { result ≡ 2 ^ bits }
 {
     1 << bits
+}
+
+/// The exponent of a power of two.
+pub(crate) fn bits_of(power: u64) -> u64
+    ensures { result ≡ log2 power }
+{
+    u64::from(power.trailing_zeros())
 }

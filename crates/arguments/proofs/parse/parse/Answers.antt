@@ -36,5 +36,5 @@ returns-clause-refused c =
 
 pub returns-clause-help : goal.returns-clause-help
 returns-clause-help c =
-    help_told c.usage_fault.result _ (respelled (map string_bytes c.args.words.now)) c.usage_fault.ensures.memory c.usage_fault.ensures.help
+    help_told c.usage_fault.result _ (respelled (map string_bytes c.args.arguments.now)) c.usage_fault.ensures.memory c.usage_fault.ensures.help
     (refused string_bytes _ _ c.in_ok-command.ensures.app c.as_slice.ensures.value c.in_ok-respelled.ensures c.in-Err.error c.in-Err.ensures.kinds)

@@ -1,4 +1,4 @@
--- The three laws of any lawful policy.
+-- The three laws of any policy.
 use Rattle.cache_core.proofs.AnyLaw.{any_start, any_access, any_flush}
 use Rattle.cache_core.proofs.laws.any_policy.Goals as goal
 

@@ -1,5 +1,5 @@
 -- The window of a list with one event more.
-use Rattle.cache_core.proofs.Places.{window-nil, window-push}
+use Rattle.cache_core.proofs.Occurrences.{window-nil, window-push}
 use Rattle.cache_core.proofs.laws.window_grows.Goals as goal
 
 pub returns-clause-start : goal.returns-clause-start

@@ -1,16 +1,21 @@
 -- Each access takes the simulation one reference further, and in the end its counts are the windows' and so the machine's.
-use Rattle.std.proofs.Common.{map, take, List, sym, ap, subst, ◌∙◌}
+use Rattle.std.proofs.Common.{map, take, List, [], sym, ap, subst, ◌∙◌}
 use Rattle.std.proofs.lemmas.List.{take_all}
 use Rattle.trace_core.specs.declared.events.Event.{Event}
 use Rattle.trace_core.specs.declared.events.Event.TheVariants as event
 use Rattle.trace_core.specs.declared.events.Ref.{Ref}
 use Rattle.trace_core.specs.declared.events.Access.TheVariants.{Fetch}
 use Rattle.cache_core.specs.declared.outcome.WriteMode.TheVariants.{Back}
-use Rattle.cache_core.specs.Simulation.{Simulates}
+use Rattle.cache_core.specs.Simulation.{SimulationStandsFor}
 use Rattle.cache_core.specs.Windows.{counts}
 use Rattle.cache_core.proofs.LruRun.{count_law}
+use Rattle.cache_core.proofs.Simulating.{simulated_within, within_with}
 use Rattle.cache_core.proofs.Pushes.{taken_more}
 use Rattle.cache_core.proofs.simulate.simulate.Goals as goal
+
+pub loop-reference-init : goal.loop-reference-init
+loop-reference-init c =
+    let new = c.in_ok-simulation.ensures in record { simulates = new; few = simulated_within c.args.geometry.now [] c.in_ok-simulation.simulation new }
 
 pub loop-reference-preserved : goal.loop-reference-preserved
 loop-reference-preserved c =
@@ -20,8 +25,8 @@ loop-reference-preserved c =
     let step = c.access.ensures.stands g (map (λ x. event.Reference x) (take i c.args.refs.now)) c.loop-reference.invariant.simulates in
     let taken = taken_more c.args.refs.now i none c.loop-reference-test.true in
     record {
-      simulates = subst (λ (events : List Event). Simulates g events c.access.new.self) (sym taken) step.0;
-      few = c.access.ensures.few i c.loop-reference.invariant.few;
+      simulates = subst (λ (events : List Event). SimulationStandsFor g events c.access.new.self) (sym taken) step.0;
+      few = rw c.access.ensures.counted (within_with i c.loop-reference.simulation.counts c.access.result c.loop-reference.invariant.few);
     }
 
 pub returns-clause-windows : goal.returns-clause-windows

@@ -1,47 +1,57 @@
 -- What `csim` has read, simulated and written where it stands, and so what it performs at each of its ends.
-use Rattle.std.proofs.Common.{◌*◌, refl}
+use Rattle.std.proofs.Common.{◌^◌, length, arith, refl}
 use Rattle.trace_core.specs.Task.{entries_of}
 use Rattle.trace_core.proofs.Performing.{err_is, Performs-ok, Performs-trace, Performs-write}
+use Rattle.cache_core.proofs.Simulating.{simulated_within, within_above}
 use Rattle.commands.specs.CsimText.{csim_task, lookups_of_pair}
 use Rattle.commands.proofs.CsimLemmas.{csim-finished, csim-part, csim-stopped, csim-unfinished, data_of, simulated_more, simulated_start}
 use Rattle.commands.proofs.csim.csim.Goals as goal
 
 pub loop-simulation-init : goal.loop-simulation-init
-loop-simulation-init g c = simulated_start c.in_ok-lines.ensures c.requires.most c.in_ok-simulation.ensures.stands c.in_ok-simulation.ensures.few
+loop-simulation-init g c = simulated_start c.in_ok-lines.ensures c.requires.most c.in_ok-simulation.ensures
+
+pub step-lookups-requires : goal.step-lookups-requires
+step-lookups-requires g c =
+    let so_far = c.loop-simulation.invariant in
+    let before = data_of (entries_of so_far.read) in
+    let bears = rw c.in-Some.is at c.in_ok-entry.ensures.entry in
+    within_above (length before) (2 ^ 62) c.loop-simulation.simulation.counts
+    (omega (arith, so_far.few, bears.1, c.next.ensures.within, c.next.ensures.same.1, so_far.limited))
+    (simulated_within c.args.geometry before c.loop-simulation.simulation so_far.simulates)
 
 pub loop-simulation-preserved : goal.loop-simulation-preserved
 loop-simulation-preserved g c =
     let so_far = c.loop-simulation.invariant in
-    simulated_more so_far c.next.ensures.reached c.next.ensures.tells c.in_ok-entry.was c.in-Some.is
+    simulated_more so_far c.next.ensures.reached c.next.ensures.reports c.in_ok-entry.was c.in-Some.is
     (lookups_of_pair c.step-lookups.result)
-    (c.step-lookups.ensures.stands c.args.geometry (data_of (entries_of so_far.read)) so_far.simulates) c.in_ok-write_line.ensures
-    (c.step-lookups.ensures.few (2 * c.loop-simulation.lines.lines) so_far.few) c.next.ensures.entry c.next.ensures.same.1
+    (c.step-lookups.ensures c.args.geometry (data_of (entries_of so_far.read)) so_far.simulates) c.in_ok-write_line.ensures
+    c.next.ensures.entry c.next.ensures.same.1
 
 pub returns-in_err-entry : goal.returns-in_err-entry
 unfolding csim_task
 returns-in_err-entry g c =
     Performs-trace c.in_err-entry.field-0.0 (err_is c.from_residual-in_err-entry.ensures.1)
-    (csim-stopped c.loop-simulation.invariant c.next.ensures.reached c.next.ensures.tells c.in_err-entry.was)
+    (csim-stopped c.loop-simulation.invariant c.next.ensures.reached c.next.ensures.reports c.in_err-entry.was)
     (λ late. absurd cc)
 
 pub returns-in_err-write_line : goal.returns-in_err-write_line
 returns-in_err-write_line g c =
     let so_far = c.loop-simulation.invariant in
-    let stands = c.step-lookups.ensures.stands c.args.geometry (data_of (entries_of so_far.read)) so_far.simulates in
+    let stands = c.step-lookups.ensures c.args.geometry (data_of (entries_of so_far.read)) so_far.simulates in
     Performs-write (err_is c.from_residual-in_err-write_line.ensures.1)
-    (csim-part so_far c.next.ensures.reached c.next.ensures.tells c.in_ok-entry.was c.in-Some.is
+    (csim-part so_far c.next.ensures.reached c.next.ensures.reports c.in_ok-entry.was c.in-Some.is
     (lookups_of_pair c.step-lookups.result) stands.1 c.in_err-write_line.ensures)
 
 pub returns-in_err-write_last : goal.returns-in_err-write_last
 returns-in_err-write_last g c =
     let so_far = c.loop-simulation.invariant in
     Performs-write (err_is c.from_residual-in_err-write_last.ensures.1)
-    (csim-unfinished so_far c.next.ensures.reached c.next.ensures.tells c.in_ok-entry.was c.in_default.is
+    (csim-unfinished so_far c.next.ensures.reached c.next.ensures.reports c.in_ok-entry.was c.in_default.is
     (c.counts.ensures c.args.geometry (data_of (entries_of so_far.read)) so_far.simulates) c.set_summary.ensures c.in_err-write_last.ensures)
 
 pub returns : goal.returns
 returns g c =
     let so_far = c.loop-simulation.invariant in
     Performs-ok tt refl
-    (csim-finished so_far c.next.ensures.reached c.next.ensures.tells c.in_ok-entry.was c.in_default.is
+    (csim-finished so_far c.next.ensures.reached c.next.ensures.reports c.in_ok-entry.was c.in_default.is
     (c.counts.ensures c.args.geometry (data_of (entries_of so_far.read)) so_far.simulates) c.set_summary.ensures c.in_ok-write_last.ensures)

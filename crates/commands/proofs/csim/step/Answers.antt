@@ -1,26 +1,46 @@
 -- An entry leads the cache and its counts to the list with the events of its data references, or a flush, behind it.
-use Rattle.std.proofs.Common.{refl, sym, ap, ◌∙◌, subst, ◌≡◌, ◌++◌, Some}
-use Rattle.std.specs.Option.{option_to_list}
+use Rattle.std.proofs.Common.{refl, sym, ap, subst, ◌∙◌, ◌++◌, [], ◌∷◌}
 use Rattle.trace_core.specs.declared.events.Kind.TheVariants.{DataOnly}
-use Rattle.trace_core.specs.Events.{events_of}
-use Rattle.cache_core.specs.Windows.{places_after}
-use Rattle.commands.specs.CsimText.{data_events}
-use Rattle.commands.proofs.DataSteps.{Follows, follows_both, item_events}
+use Rattle.trace_core.specs.declared.events.Event.TheVariants as event
+use Rattle.trace_core.specs.Events.{events_of, keeps}
+use Rattle.cache_core.specs.Windows.{occurrences_after}
+use Rattle.commands.proofs.DataSteps.{Follows, follows_none, follows_one, follows_both, no_data, one_datum, two_data}
 use Rattle.commands.proofs.csim.step.Goals as goal
 
-pub returns-in-Item-clause-stands : goal.returns-in-Item-clause-stands
-returns-in-Item-clause-stands c = λ g events.
-    let refs = c.refs_of-second.result in
-    let one = option_to_list c.access_data-first.result in
-    let two = option_to_list c.access_data.result in
-    let is : events_of DataOnly c.args.entry ≡ data_events (Some refs.0) ++ data_events refs.1 =
-    ap (events_of DataOnly) c.in-Item.is ∙ item_events c.in-Item.item
-    ∙ ap (λ p. data_events (Some p.0) ++ data_events p.1) (sym c.refs_of-second.ensures) in
-    subst (λ es. Follows g events c.args.simulation.now es c.access_data.new.simulation (one ++ two)) (sym is)
-    (follows_both g events c.args.simulation.now c.access_data-first.new.simulation c.access_data.new.simulation
-    (data_events (Some refs.0)) (data_events refs.1) one two
-    (c.access_data-first.ensures.stands g events) (c.access_data.ensures.stands g (events ++ data_events (Some refs.0))))
+pub returns-in_default : goal.returns-in_default
+unfolding occurrences_after
+returns-in_default c = λ g events h. rw c.in_default.is (c.flush.ensures.stands g events h, refl)
 
-pub returns-in-Flush-clause-stands : goal.returns-in-Flush-clause-stands
-unfolding places_after
-returns-in-Flush-clause-stands c = λ g events h. rw c.in-Flush.is (c.flush.ensures.stands g events h, refl)
+pub returns-then-not-keeps : goal.returns-then-not-keeps
+returns-then-not-keeps c = λ g events.
+    let item = c.in-Item.item in
+    let left = ap (λ p. keeps DataOnly p.0.access) (sym c.refs_of-second.ensures) ∙ sym c.keeps.ensures ∙ c.if-not-keeps.true in
+    follows_none g events c.args.simulation.now (events_of DataOnly c.args.entry) (ap (events_of DataOnly) c.in-Item.is ∙ no_data item.addr item.op left)
+
+pub returns-in-Some : goal.returns-in-Some
+returns-in-Some c = λ g events.
+    let item = c.in-Item.item in
+    let refs = c.refs_of-second.result in
+    let first = event.Reference refs.0 ∷ [] in
+    let second = event.Reference c.in-Some.second ∷ [] in
+    let one = c.access-first.result ∷ [] in
+    let two = c.access.result ∷ [] in
+    let is = ap (events_of DataOnly) c.in-Item.is
+    ∙ two_data item.addr item.op c.in-Some.second (ap (λ p. p.1) (sym c.refs_of-second.ensures) ∙ c.in-Some.is)
+    ∙ ap (λ p. event.Reference p.0 ∷ second) (sym c.refs_of-second.ensures) in
+    subst (λ es. Follows g events c.args.simulation.now es c.access.new.self (one ++ two)) (sym is)
+    (follows_both g events c.args.simulation.now c.access-first.new.self c.access.new.self first second one two
+    (follows_one g events c.args.simulation.now c.access-first.new.self refs.0 first c.access-first.result refl (c.access-first.ensures.stands g events))
+    (follows_one g (events ++ first) c.access-first.new.self c.access.new.self c.in-Some.second second c.access.result refl
+    (c.access.ensures.stands g (events ++ first))))
+
+pub returns-in-None : goal.returns-in-None
+returns-in-None c = λ g events.
+    let item = c.in-Item.item in
+    let refs = c.refs_of-second.result in
+    let kept = ap (λ p. keeps DataOnly p.0.access) (sym c.refs_of-second.ensures) ∙ sym c.keeps.ensures ∙ c.if-not-keeps.false in
+    let none = ap (λ p. p.1) (sym c.refs_of-second.ensures) ∙ c.in-None.is in
+    let is = ap (events_of DataOnly) c.in-Item.is ∙ one_datum item.addr item.op kept none
+    ∙ ap (λ p. event.Reference p.0 ∷ []) (sym c.refs_of-second.ensures) in
+    follows_one g events c.args.simulation.now c.access-first.new.self refs.0 (events_of DataOnly c.args.entry) c.access-first.result is
+    (c.access-first.ensures.stands g events)

@@ -8,7 +8,7 @@ pub returns-in_err-stats : goal.returns-in_err-stats
 returns-in_err-stats g c =
     let a = c.args in
     let fault = c.in_err-stats.field-0.0 in
-    let stopped = din-stopped a.plan a.seed a.format a.max_lines c.in_ok-lines.ensures c.stats_after.ensures.stepped.1 (g.K.Sink.view a.sink.now) fault
+    let stopped = din-stopped a.plan a.seed a.format a.max_lines c.in_ok-lines.ensures c.stats_of_trace.ensures.stepped.1 (g.K.Sink.view a.sink.now) fault
     c.in_err-stats.ensures.tells in
     Performs-trace fault (err_is c.from_residual-in_err-stats.ensures.1) stopped (λ late. refl)
 

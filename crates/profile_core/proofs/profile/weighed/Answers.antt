@@ -4,28 +4,25 @@ use Rattle.std.proofs.lemmas.List.{drop_all}
 use Rattle.profile_core.specs.State.{weighed}
 use Rattle.profile_core.proofs.Weighing.{weighed-next, weighed-none}
 use Rattle.profile_core.proofs.profile.weighed.Goals as goal
-use Rattle.profile_core.proofs.profile.weighed.Goals.{In-loop-number}
+use Rattle.profile_core.proofs.profile.weighed.Goals.{In-loop-index}
 
 -- what was added up, with the next number
-next : (c : In-loop-number) → c.loop-number.sum + (get_or c.args.numbers.now c.loop-number.number-index 0 * c.loop-number.weight
-    + weighed (c.loop-number.weight + 1) (drop (c.loop-number.number-index + 1) c.args.numbers.now)) ≡ weighed c.args.first c.args.numbers.now
+next : (c : In-loop-index) → c.loop-index.sum + (get_or c.args.numbers.now c.loop-index.index 0 * c.loop-index.index
+    + weighed (c.loop-index.index + 1) (drop (c.loop-index.index + 1) c.args.numbers.now)) ≡ weighed 0 c.args.numbers.now
 next c =
-    ap (λ n. c.loop-number.sum + n) (sym (weighed-next c.loop-number.weight c.args.numbers.now c.loop-number.number-index c.loop-number-test.true))
-    ∙ c.loop-number.invariant.rest
+    ap (λ n. c.loop-index.sum + n) (sym (weighed-next c.loop-index.index c.args.numbers.now c.loop-index.index c.loop-index-test.true))
+    ∙ c.loop-index.invariant
 
 pub overflow_mul-sum : goal.overflow_mul-sum
-overflow_mul-sum c = omega (arith, next (goal.at.overflow_mul-sum c).In-loop-number, c.requires.sum)
+overflow_mul-sum c = omega (arith, next (goal.at.overflow_mul-sum c).In-loop-index, c.requires)
 
 pub overflow_add-sum : goal.overflow_add-sum
-overflow_add-sum c = omega (arith, next (goal.at.overflow_add-sum c).In-loop-number, c.requires.sum)
+overflow_add-sum c = omega (arith, next (goal.at.overflow_add-sum c).In-loop-index, c.requires)
 
-pub loop-number-preserved : goal.loop-number-preserved
-loop-number-preserved c = record {
-  place = omega (arith, c.loop-number.invariant.place);
-  rest = omega (arith, next (goal.at.loop-number-preserved c).In-loop-number);
-}
+pub loop-index-preserved : goal.loop-index-preserved
+loop-index-preserved c = omega (arith, next (goal.at.loop-index-preserved c).In-loop-index)
 
 pub returns : goal.returns
 returns c =
-    let none = drop_all c.loop-number.number-index c.args.numbers.now (omega arith) in
-    omega (arith, c.loop-number.invariant.rest, ap (weighed c.loop-number.weight) none, weighed-none c.loop-number.weight)
+    let none = drop_all c.loop-index.index c.args.numbers.now (omega arith) in
+    omega (arith, c.loop-index.invariant, ap (weighed c.loop-index.index) none, weighed-none c.loop-index.index)

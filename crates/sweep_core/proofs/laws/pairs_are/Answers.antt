@@ -1,4 +1,4 @@
--- The pairs of rows are told apart, and each is that of a row.
+-- The pairs of rows differ, and each is that of a row.
 use Rattle.sweep_core.proofs.WorkLaws.{pairs-distinct, pairs-members}
 use Rattle.sweep_core.proofs.laws.pairs_are.Goals as goal
 

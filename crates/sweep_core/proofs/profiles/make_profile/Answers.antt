@@ -1,7 +1,8 @@
 -- The profile of a pair is as deep as the greatest associativity of the pair, which is within the limits.
-use Rattle.std.proofs.Common.{sym, ap, ◌∙◌}
-use Rattle.profile_core.specs.State.{ProfileState, empty}
-use Rattle.sweep_core.specs.declared.profiles.PairProfile.{PairProfile}
+use Rattle.std.proofs.Common.{◌≡◌, sym, subst}
+use Rattle.std.specs.Result.{IfOk}
+use Rattle.cache_core.specs.Geometry.{GeometryValue}
+use Rattle.profile_core.specs.State.{empty}
 use Rattle.sweep_core.specs.Space.{config}
 use Rattle.sweep_core.proofs.Validity.{space-limited}
 use Rattle.sweep_core.proofs.Depths.{geometry-of, depth-is, same-geometry}
@@ -15,8 +16,6 @@ new-requires c =
 
 pub returns-clause-begun : goal.returns-clause-begun
 returns-clause-begun c after later =
-    let pair : ProfileState → PairProfile =
-    λ v. record { bsize = c.args.config.now.bsize; sets = c.args.config.now.sets; profile = v } in
     let deep = depth-is c.args.space.now after c.args.config.now c.depth_of-depth.result (space-limited c.args.space.now c.limits.ensures)
     c.requires later c.depth_of-depth.ensures.valid c.depth_of-depth.ensures.greatest in
-    ap pair (c.in_ok-profile.ensures ∙ ap empty (same-geometry c.bits_of-2.ensures (sym deep) c.bits_of.ensures))
+    subst (λ (g : GeometryValue). IfOk c.new.result (λ made. made ≡ empty g)) (same-geometry c.bits_of-2.ensures (sym deep) c.bits_of.ensures) c.new.ensures

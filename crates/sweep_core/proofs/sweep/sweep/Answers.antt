@@ -1,12 +1,12 @@
 -- A sweep does its task: it reads and feeds, writes the table of what was read, and answers the comparisons.
-use Rattle.std.proofs.Common.{◌≤◌, List, refl, sym, ap, ◌∙◌, subst, arith}
+use Rattle.std.proofs.Common.{◌≡◌, List, refl, sym, ap, ◌∙◌, subst, arith}
 use Rattle.std.specs.Prelude.{All, sum_by}
 use Rattle.std.proofs.lemmas.List.{take_at}
 use Rattle.trace_core.proofs.Performing.{err_is, Finished-written, WriteFailed-late, Performs-ok, Performs-trace, Performs-write}
 use Rattle.trace_core.proofs.Tasks.{ReadWhole}
 use Rattle.profile_core.specs.State.{fed_of}
 use Rattle.sweep_core.specs.declared.profiles.PairProfile.{PairProfile}
-use Rattle.sweep_core.specs.Pass.{Swept}
+use Rattle.sweep_core.specs.Pass.{SweepStandsFor}
 use Rattle.sweep_core.specs.SweepText.{sweep_task, table_text}
 use Rattle.sweep_core.proofs.Sweeping.{unfed, fed_events, swept-after, sweep-stopped, sweep-whole, sweep-works}
 use Rattle.sweep_core.proofs.sweep.sweep.Given as given
@@ -15,7 +15,7 @@ use Rattle.sweep_core.proofs.sweep.sweep.Goals.{After-deref}
 
 -- the profiles are those of what was read
 swept : (g : given.Over) (c : After-deref g)
-    → Swept c.args.request.now (fed_events c.args.request.now c.read_trace.ensures.fed.read) c.deref.result.now
+    → SweepStandsFor c.args.request.now (fed_events c.args.request.now c.read_trace.ensures.fed.read) c.deref.result.now
 swept g c =
     swept-after c.in_ok-profiles.ensures c.deref_mut.ensures.value c.read_trace.ensures.fed
     (c.deref.ensures.value ∙ take_at _ _ _ (omega arith))
@@ -24,18 +24,18 @@ swept g c =
 whole : (g : given.Over) (c : After-deref g)
     → ReadWhole (sweep_task c.args.request.now) (g.S.Source.view c.args.source.now) (g.S.Source.view c.read_trace.new.source)
     (table_text c.args.request.now (fed_events c.args.request.now c.read_trace.ensures.fed.read))
-whole g c = sweep-whole c.args.request.now c.in_ok-lines.ensures c.read_trace.ensures.fed c.in_ok-read_trace.ensures.tells
+whole g c = sweep-whole c.args.request.now c.in_ok-lines.ensures c.read_trace.ensures.fed c.in_ok-read_trace.ensures.reports
 
 pub read_trace-requires-clause-unfed : goal.read_trace-requires-clause-unfed
 read_trace-requires-clause-unfed g c =
-    subst (λ (l : List PairProfile). All (λ x. fed_of x.profile ≤ 0) l) (sym c.deref_mut.ensures.value)
+    subst (λ (l : List PairProfile). All (λ x. fed_of x.profile ≡ 0) l) (sym c.deref_mut.ensures.value)
     (unfed c.args.request.now c.in_ok-profiles.profiles.items c.in_ok-profiles.ensures)
 
 pub returns-in_err-read_trace-clause-performs : goal.returns-in_err-read_trace-clause-performs
 returns-in_err-read_trace-clause-performs g c =
     let fault = c.in_err-read_trace.field-0.0 in
     let stopped = sweep-stopped c.args.request.now c.in_ok-lines.ensures c.read_trace.ensures.fed (g.K.Sink.view c.args.sink.now) fault
-    c.in_err-read_trace.ensures.tells in
+    c.in_err-read_trace.ensures.reports in
     Performs-trace fault (err_is c.from_residual-in_err-read_trace.ensures.1) stopped (λ late. refl)
 
 pub write_table-requires : goal.write_table-requires
@@ -55,5 +55,5 @@ returns-clause-performs g c =
 pub returns-clause-work : goal.returns-clause-work
 returns-clause-work g c =
     let read = (goal.at.returns-clause-work g c).After-deref in
-    sweep-works c.args.request.now c.in_ok-lines.ensures c.read_trace.ensures.fed c.total_probes.result c.in_ok-read_trace.ensures.tells
+    sweep-works c.args.request.now c.in_ok-lines.ensures c.read_trace.ensures.fed c.total_probes.result c.in_ok-read_trace.ensures.reports
     (swept g read) (c.total_probes.ensures ∙ ap (sum_by (λ x. x.profile.probes)) (c.deref-2.ensures.value ∙ sym c.deref.ensures.value))

@@ -1,77 +1,55 @@
--- The rows are written one after another, each with the counts of its configuration.
-use Rattle.std.proofs.Common.{◌≡◌, List, sym, ap, ◌∙◌, subst}
-use Rattle.std.specs.Option.{option_copied}
+-- The profiles write their rows one after another.
+use Rattle.std.proofs.Common.{◌≡◌, ◌+◌, ◌<◌, ℕ, Bool, List, ◌∷◌, ◌++◌, drop, length, get_or, sym, ap, ◌∙◌, subst}
+use Rattle.std.specs.Prelude.{flat_map}
+use Rattle.std.proofs.lemmas.List.{drop_more, drop_all}
 use Rattle.std.proofs.lemmas.Result.{err_from_is_err_and}
-use Rattle.trace_core.specs.Device.{Wrote, WrotePart}
-use Rattle.sweep_core.specs.declared.space.Config.{Config}
+use Rattle.trace_core.specs.Device.{SinkView}
 use Rattle.trace_core.specs.declared.events.Event.{Event}
-use Rattle.sweep_core.specs.SweepText.{rows_of, row_of, row_counts}
-use Rattle.sweep_core.specs.Pass.{Swept}
-use Rattle.sweep_core.specs.Walk.{Ready}
-use Rattle.sweep_core.proofs.Lists.{none-first}
-use Rattle.sweep_core.proofs.Covering.{walks-start, no-rows, tally-of}
-use Rattle.sweep_core.proofs.Writing.{WroteBefore, rows-begin, row-written, rows-written, row-failed}
-use Rattle.sweep_core.proofs.table.write_rows.Given as given
+use Rattle.sweep_core.specs.declared.space.Config.{Config}
+use Rattle.sweep_core.specs.declared.profiles.PairProfile.{PairProfile}
+use Rattle.sweep_core.specs.SweepText.{rows_of}
+use Rattle.sweep_core.specs.Runs.{rows_of_profile}
+use Rattle.sweep_core.proofs.Serving.{serves-at}
+use Rattle.sweep_core.proofs.Writing.{WroteBefore, rows-begin, rows-more, rows-written, rows-failed}
 use Rattle.sweep_core.proofs.table.write_rows.Goals as goal
-use Rattle.sweep_core.proofs.table.write_rows.Goals.{After-from_pair-left, After-as_slice}
 
-pub returns-in_default : goal.returns-in_default
-returns-in_default g c = λ es swept.
-    let seen = g.K.Sink.view c.args.sink.now in
-    let rows = rows_of c.args.request.now in
-    let none = no-rows c.args.request.now es c.args.profiles.now swept
-    (none-first c.args.profiles.now (sym c.first.ensures.value ∙ ap option_copied c.in_default.is)) in
-    rows-written (subst (λ (l : List Config). WroteBefore rows es seen seen l) none (rows-begin rows es seen))
+pub loop-pair-init : goal.loop-pair-init
+loop-pair-init g c = λ es swept.
+    subst (WroteBefore (rows_of c.args.request.now) es (g.K.Sink.view c.args.sink.now) (g.K.Sink.view c.args.sink.now)) (sym swept.rows)
+    (rows-begin (rows_of c.args.request.now) es (g.K.Sink.view c.args.sink.now))
 
-pub loop-config-init : goal.loop-config-init
-loop-config-init g c = λ es swept.
-    let first = sym c.first.ensures.value ∙ ap option_copied c.in-Some.is in
-    rw (c.into_iter-config-iterator.ensures.into_iter_gives, c.rows-config-items.ensures) (
-      walks-start c.args.request.now es c.args.profiles.now c.begin_tally-tally.result swept
-          (tally-of c.args.profiles.now c.in-Some.first.now c.begin_tally-tally.result first c.begin_tally-tally.ensures)
-          (ap (λ t. t.ways) c.begin_tally-tally.ensures),
-      rows-begin (rows_of c.args.request.now) es (g.K.Sink.view c.args.sink.now),
-    )
+-- the rows that are left, of which its rows are the first
+left : (powers : Bool) {rows : List Config} {es : List Event} {a b : SinkView} (xs : List PairProfile) (i : ℕ) (x : PairProfile) → i < length xs
+    → x ≡ get_or xs i x → WroteBefore rows es a b (flat_map (rows_of_profile powers) (drop i xs))
+    → WroteBefore rows es a b (rows_of_profile powers x ++ flat_map (rows_of_profile powers) (drop (i + 1) xs))
+left powers {rows = rows} {es = es} {a = a} {b = b} xs i x inside is w =
+    subst (λ l. WroteBefore rows es a b (flat_map (rows_of_profile powers) l))
+    (drop_more xs i x inside ∙ ap (λ y. y ∷ drop (i + 1) xs) (sym is)) w
 
--- the first profile that is left serves the next configuration
-ready : (g : given.Over) (c : After-from_pair-left g) (es : List Event) → Swept c.args.request.now es c.args.profiles.now
-    → Ready es c.from_pair-left.result.now c.from_pair-left.new.tally c.in-Some-config.config c.next.new.self
-ready g c es swept = c.from_pair-left.ensures es c.next.new.self (rw c.in-Some-config.ensures.steps at (c.loop-config.invariant es swept).0)
+pub write_pair-requires : goal.write_pair-requires
+write_pair-requires g c = (
+  c.requires.0,
+  serves-at c.args.request.now c.requires.0 c.args.profiles.now c.loop-pair.pair-index c.pair-item.result c.loop-pair-test.true c.pair-item.is
+      c.requires.1,
+)
 
--- the row is that of the configuration
-row : (g : given.Over) (c : After-as_slice g) (es : List Event)
-    → Ready es c.from_pair-left.result.now c.from_pair-left.new.tally c.in-Some-config.config c.next.new.self
-    → c.as_slice.result.now ≡ row_of c.in-Some-config.config (row_counts es c.in-Some-config.config)
-row g c es first =
-    c.as_slice.ensures ∙ c.set_row.ensures ∙ ap (row_of c.in-Some-config.config) (c.next_counts-counts.ensures es c.next.new.self first).0
+pub loop-pair-preserved : goal.loop-pair-preserved
+loop-pair-preserved g c = λ es swept.
+    rows-more _ _ (left c.args.request.now.space.powers c.args.profiles.now c.loop-pair.pair-index c.pair-item.result c.loop-pair-test.true c.pair-item.is
+    (c.loop-pair.invariant es swept))
+    (c.in_ok-write_pair.ensures es
+    (serves-at c.args.request.now es c.args.profiles.now c.loop-pair.pair-index c.pair-item.result c.loop-pair-test.true c.pair-item.is swept))
 
-pub next_counts-counts-requires : goal.next_counts-counts-requires
-next_counts-counts-requires g c =
-    (c.requires.0, c.next.new.self, ready g (goal.at.next_counts-counts-requires g c).After-from_pair-left c.requires.0 c.requires.1)
-
-pub bytes-requires-clause-pair : goal.bytes-requires-clause-pair
-bytes-requires-clause-pair g c =
-    (ready g (goal.at.bytes-requires-clause-pair g c).After-from_pair-left c.requires.0 c.requires.1).first.3.fits.0
-
-pub bytes-requires-clause-all : goal.bytes-requires-clause-all
-bytes-requires-clause-all g c =
-    (ready g (goal.at.bytes-requires-clause-all g c).After-from_pair-left c.requires.0 c.requires.1).first.3.fits.1
-
-pub loop-config-preserved : goal.loop-config-preserved
-loop-config-preserved g c = λ es swept.
-    let now = rw c.in-Some-config.ensures.steps at (c.loop-config.invariant es swept) in
-    let at = goal.at.loop-config-preserved g c in
-    let first = ready g at.After-from_pair-left es swept in (
-      (c.next_counts-counts.ensures es c.next.new.self first).1,
-      row-written now.1
-          (subst (Wrote (g.K.Sink.view c.loop-config.sink) (g.K.Sink.view c.write_all.new.sink))
-          (row g at.After-as_slice es first) c.in_ok-write_all.ensures),
-    )
-
-pub returns-in_err-write_all : goal.returns-in_err-write_all
-returns-in_err-write_all g c = λ es swept.
-    let now = rw c.in-Some-config.ensures.steps at (c.loop-config.invariant es swept) in
+pub returns-in_err-write_pair : goal.returns-in_err-write_pair
+returns-in_err-write_pair g c = λ es swept.
     let p = err_from_is_err_and c.from_residual.result c.from_residual.ensures.1 in
-    let at = goal.at.returns-in_err-write_all g c in
-    rw p.1 (row-failed now.1 (subst (WrotePart (g.K.Sink.view c.loop-config.sink) (g.K.Sink.view c.write_all.new.sink))
-    (row g at.After-as_slice es (ready g at.After-from_pair-left es swept)) c.in_err-write_all.ensures))
+    rw p.1 (rows-failed _ _ (left c.args.request.now.space.powers c.args.profiles.now c.loop-pair.pair-index c.pair-item.result
+    c.loop-pair-test.true c.pair-item.is (c.loop-pair.invariant es swept))
+    (c.in_err-write_pair.ensures es
+    (serves-at c.args.request.now es c.args.profiles.now c.loop-pair.pair-index c.pair-item.result c.loop-pair-test.true c.pair-item.is swept)))
+
+pub returns : goal.returns
+returns g c = λ es swept.
+    rows-written (subst (λ l. WroteBefore (rows_of c.args.request.now) es (g.K.Sink.view c.args.sink.now) (g.K.Sink.view c.loop-pair.sink)
+    (flat_map (rows_of_profile c.args.request.now.space.powers) l)) (drop_all c.loop-pair.pair-index c.args.profiles.now c.loop-pair-test.false)
+    (c.loop-pair.invariant es swept))

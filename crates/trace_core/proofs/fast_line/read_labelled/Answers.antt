@@ -16,7 +16,7 @@ returns-clause-item c =
     let end = c.in_ok-end.ensures in
     (line-end c.args.format c.args.text.now c.in_ok-item.rest.now c.in_ok-item.item c.in_ok-end.end _ begun end.line end.ends refl).1
 
-pub overflow_sub-result : goal.overflow_sub-result
-overflow_sub-result c =
+pub overflow_sub-at : goal.overflow_sub-at
+overflow_sub-at c =
     let begun = c.in_ok-item.ensures c.args.text.now c.requires in
     omega (arith, ap length begun.splits, length-append begun.front c.in_ok-item.rest.now)

@@ -1,8 +1,8 @@
 use Rattle.std.proofs.Common.{◌≡◌}
-use Rattle.profile_core.specs.State.{tally_at}
+use Rattle.profile_core.specs.State.{hit_sums_at}
 use Rattle.worked_examples.proofs.profiles.expect_counts.Given as goal
 
 abbrev pub invariant-loop-i : goal.invariant-loop-i
 invariant-loop-i g l = record {
-  tally : l.tally ≡ tally_at l.profile l.i;
+  sums : l.sums ≡ hit_sums_at l.profile l.i;
 }

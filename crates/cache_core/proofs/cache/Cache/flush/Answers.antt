@@ -24,8 +24,8 @@ returns g c =
     let n = i.design.geometry.e in
     rw (none_left g c, ← c.self.view_is) record {
       empty = sets_of-empty n _ i.slots.items ∙ ap (λ m. replicate m []) (sym (length-sets_of n i.filled.items i.slots.items ∙ c.self.invariant.0.sets));
-      words = refl;
+      random_numbers = refl;
       counted = c.empty_slab.ensures.counted ∙ rw (c.e-ways.ensures, c.deref.ensures.value, c.deref_mut.ensures.value) refl;
       design = refl;
-      rule = refl;
+      policy = refl;
     }

@@ -2,13 +2,13 @@
 use Rattle.std.proofs.Common.{refl}
 use Rattle.cache_core.specs.declared.outcome.WriteMode.TheVariants.{Back}
 use Rattle.cache_core.specs.LruLaws.{lru_machine}
-use Rattle.cache_core.specs.Windows.{counts, places_after}
+use Rattle.cache_core.specs.Windows.{counts, occurrences_after}
 use Rattle.cache_core.proofs.RunLaw.{start_law}
 use Rattle.cache_core.proofs.simulation.Simulation.new.Goals as goal
 
-pub returns-clause-stands : goal.returns-clause-stands
-unfolding counts places_after
-returns-clause-stands c = record {
+pub returns : goal.returns
+unfolding counts occurrences_after
+returns c = record {
   some = c.limits.ensures.some;
   cache = start_law (lru_machine c.args.geometry Back) _ c.in_ok-cache.ensures.design refl refl c.in_ok-cache.ensures.empty;
   counts = refl;

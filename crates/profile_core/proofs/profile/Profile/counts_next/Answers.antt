@@ -1,37 +1,37 @@
--- The next counts of a tally: the step that the code takes, and what it leaves.
+-- The next counts of a sums: the step that the code takes, and what it leaves.
 use Rattle.std.proofs.Common.{◌-◌, ◌≤◌, ◌^◌, ◌∙◌, ap, sum, take, drop, arith}
 use Rattle.profile_core.specs.State.{fed_of}
-use Rattle.profile_core.proofs.Tallies.{IsStep, step_of, part-le, hits_after, free_after, within, counts_after}
+use Rattle.profile_core.proofs.HitSums.{IsStep, step_of, part-le, hits_after, free_after, within, counts_after}
 use Rattle.profile_core.proofs.Counting.{counts_are}
 use Rattle.profile_core.proofs.profile.Profile.counts_next.Goals as goal
 use Rattle.profile_core.proofs.profile.Profile.counts_next.Goals.{After-total-free}
 
 -- the step that the code takes
-step : (c : After-total-free) → IsStep c.args.self.now c.tally.inside.ways c.args.e c.tally.inside.hits c.tally.inside.free_misses c.tally.inside.fed
+step : (c : After-total-free) → IsStep c.args.self.now c.sums.inside.ways c.args.e c.sums.inside.hits c.sums.inside.free_misses c.sums.inside.fed
     c.hits_between-hits.result c.total-free.result
 step c =
-    let from = c.tally.inside.ways in
-    step_of c.args.self.now c.args.tally.now from c.args.e c.tally.inside.hits c.tally.inside.free_misses c.tally.inside.fed c.hits_between-hits.result
-    c.total-free.result c.tally.view_is c.requires.of_this c.requires.rising c.hits_between-hits.ensures
+    let from = c.sums.inside.ways in
+    step_of c.args.self.now c.args.sums.now from c.args.e c.sums.inside.hits c.sums.inside.free_misses c.sums.inside.fed c.hits_between-hits.result
+    c.total-free.result c.sums.view_is c.requires.of_this c.requires.rising c.hits_between-hits.ensures
     (c.total-free.ensures ∙ ap (λ ns. sum (take (c.args.e - from) (drop from ns))) (c.deref.ensures.value ∙ ap (λ v. v.misses_by_occupancy) c.self.view_is))
 
 -- all sums are within the references fed, which are few
-few : (c : After-total-free) → c.tally.inside.fed ≤ 2 ^ 41
+few : (c : After-total-free) → c.sums.inside.fed ≤ 2 ^ 41
 few c = omega (arith, (step c).fed_is, c.self.invariant.fed, ap fed_of c.self.view_is)
 
 pub total-free-requires : goal.total-free-requires
 total-free-requires c =
     omega (
       arith,
-      part-le c.deref.result.now c.self.inside.misses_by_occupancy.items (c.args.e - c.tally.inside.ways) c.tally.inside.ways c.deref.ensures.value,
+      part-le c.deref.result.now c.self.inside.misses_by_occupancy.items (c.args.e - c.sums.inside.ways) c.sums.inside.ways c.deref.ensures.value,
       c.self.invariant.fed,
     )
 
-pub overflow_add-tally : goal.overflow_add-tally
-overflow_add-tally c = let at = (goal.at.overflow_add-tally c).After-total-free in omega (arith, within (step at), few at)
+pub overflow_add-sums : goal.overflow_add-sums
+overflow_add-sums c = let at = (goal.at.overflow_add-sums c).After-total-free in omega (arith, within (step at), few at)
 
-pub overflow_add-tally-2 : goal.overflow_add-tally-2
-overflow_add-tally-2 c = let at = (goal.at.overflow_add-tally-2 c).After-total-free in omega (arith, within (step at), few at)
+pub overflow_add-sums-2 : goal.overflow_add-sums-2
+overflow_add-sums-2 c = let at = (goal.at.overflow_add-sums-2 c).After-total-free in omega (arith, within (step at), few at)
 
 pub overflow_sub-misses : goal.overflow_sub-misses
 overflow_sub-misses c = omega (arith, within (step (goal.at.overflow_sub-misses c).After-total-free))
@@ -46,7 +46,7 @@ pub returns-clause-trace : goal.returns-clause-trace
 returns-clause-trace c = λ es h.
     counts_after (step (goal.at.returns-clause-trace c).After-total-free) ∙ counts_are es c.args.self.now c.args.e h c.requires.within
 
-pub returns-clause-tally : goal.returns-clause-tally
-returns-clause-tally c =
-    let s = step (goal.at.returns-clause-tally c).After-total-free in
+pub returns-clause-sums : goal.returns-clause-sums
+returns-clause-sums c =
+    let s = step (goal.at.returns-clause-sums c).After-total-free in
     cc (hits_after s, free_after s, s.fed_is)

@@ -1,42 +1,67 @@
--- The numbers of two parts of the distances: with those found in front, or behind them.
-use Rattle.std.proofs.Common.{◌≡◌, ◌-◌, ◌∙◌, ℕ, sum, take, drop, sym, ap, arith}
-use Rattle.std.specs.List.{slice_index}
+-- The numbers of a part of the distances: all hits without those further away, or those of the histogram.
+use Rattle.std.proofs.Common.{◌≡◌, ◌+◌, ◌-◌, ◌∙◌, length, sum, take, drop, sym, ap, arith}
 use Rattle.profile_core.specs.State.{distances_of, compared_behind}
 use Rattle.profile_core.proofs.Feeding.{sum-distances}
-use Rattle.profile_core.proofs.Tallies.{part-le, sum-first, sum-later}
+use Rattle.profile_core.proofs.HitSums.{part-le, drop-later, sum-rest}
 use Rattle.profile_core.proofs.profile.Profile.hits_between.Goals as goal
-use Rattle.profile_core.proofs.profile.Profile.hits_between.Goals.{After-self}
+use Rattle.profile_core.proofs.profile.Profile.hits_between.Goals.{After-self, After-total}
 
 distances : (c : After-self) → distances_of c.self.inside.probes c.self.inside.behind.items c.self.inside.misses_by_occupancy.items ≡ c.args.self.now.distances
 distances c = ap (λ v. v.distances) c.self.view_is
+
+all : (c : After-self) → sum (distances_of c.self.inside.probes c.self.inside.behind.items c.self.inside.misses_by_occupancy.items)
+    ≡ c.self.inside.probes - compared_behind c.self.inside.behind.items c.self.inside.misses_by_occupancy.items + sum c.self.inside.behind.items
+all c = sum-distances c.self.inside.probes c.self.inside.behind.items c.self.inside.misses_by_occupancy.items c.self.invariant.none_in_front
+
+-- the hits at a distance below `to`, and the others
+split : (c : After-total) → sum (take c.args.to c.args.self.now.distances) + c.total.result ≡ c.hits.result
+split c =
+    let rows = c.self.inside in
+    let far = c.total.ensures ∙ ap (λ ns. sum (take (length ns - c.args.to) (drop c.args.to ns))) c.deref.ensures.value in
+    let is = ap (λ v. v.distances) c.self.view_is in
+    omega (
+      arith,
+      sum-rest rows.behind.items (rows.probes - compared_behind rows.behind.items rows.misses_by_occupancy.items) c.args.to c.requires.some,
+      far,
+      ap (λ ds. sum (take c.args.to ds)) is,
+      ap sum is,
+      c.hits.ensures,
+    )
+
+pub total-requires : goal.total-requires
+total-requires c =
+    let n = length c.deref.result.now - c.args.to in
+    omega (
+      arith,
+      part-le c.deref.result.now c.self.inside.behind.items n c.args.to c.deref.ensures.value,
+      c.self.invariant.fed,
+      all (goal.at.total-requires c).After-self,
+    )
+
+pub overflow_sub-result : goal.overflow_sub-result
+overflow_sub-result c = omega (arith, split (goal.at.overflow_sub-result c).After-total)
 
 pub total-requires-else-from-eq0 : goal.total-requires-else-from-eq0
 total-requires-else-from-eq0 c =
     omega (
       arith,
-      part-le c.deref-else-from-eq0.result.now c.self.inside.behind.items (c.args.to - 1 - (c.args.from - 1)) (c.args.from - 1)
-          c.deref-else-from-eq0.ensures.value,
+      part-le c.deref-else-from-eq0.result.now c.self.inside.behind.items (c.args.to - c.args.from) c.args.from c.deref-else-from-eq0.ensures.value,
       c.self.invariant.fed,
-      sum-distances c.self.inside.probes c.self.inside.behind.items c.self.inside.misses_by_occupancy.items,
+      all (goal.at.total-requires-else-from-eq0 c).After-self,
     )
 
 pub returns-then-from-eq0 : goal.returns-then-from-eq0
 returns-then-from-eq0 c =
-    let is = distances (goal.at.returns-then-from-eq0 c).After-self in
-    let front : ℕ = c.self.inside.probes - compared_behind c.self.inside.behind.items c.self.inside.misses_by_occupancy.items in
-    let hits : c.front_hits.result ≡ front = c.front_hits.ensures ∙ ap (λ ds. slice_index ds 0) (sym is) in
-    let behind = c.total.ensures ∙ ap (λ ns. sum (take (c.args.to - 1) ns)) c.deref.ensures.value in
-    let all : c.args.to - c.args.from ≡ c.args.to = omega (arith, c.if-from-eq0.true) in
-    let whole =
-    ap (λ ds. sum (take c.args.to ds)) is ∙ sym (ap (λ k. sum (take c.args.to (drop k c.args.self.now.distances))) c.if-from-eq0.true)
-    ∙ sym (ap (λ k. sum (take k (drop c.args.from c.args.self.now.distances))) all) in
-    omega (arith, hits, behind, sum-first front c.self.inside.behind.items c.args.to c.requires.some) ∙ whole
+    let to_0 : c.args.to - 0 ≡ c.args.to = omega arith in
+    let from_0 =
+    ap (λ k. sum (take (c.args.to - k) (drop k c.args.self.now.distances))) c.if-from-eq0.true
+    ∙ ap (λ k. sum (take k c.args.self.now.distances)) to_0 in
+    omega (arith, split (goal.at.returns-then-from-eq0 c).After-total, from_0)
 
 pub returns-else-from-eq0 : goal.returns-else-from-eq0
 returns-else-from-eq0 c =
     let is = distances (goal.at.returns-else-from-eq0 c).After-self in
-    let part =
-    ap (λ ns. sum (take (c.args.to - 1 - (c.args.from - 1)) (drop (c.args.from - 1) ns))) c.deref-else-from-eq0.ensures.value in
+    let part = ap (λ ns. sum (take (c.args.to - c.args.from) (drop c.args.from ns))) c.deref-else-from-eq0.ensures.value in
     c.total-else-from-eq0.ensures ∙ part
-    ∙ sum-later _ c.self.inside.behind.items c.args.from c.args.to (omega (arith, c.if-from-eq0.false)) c.requires.rising
+    ∙ ap (λ ns. sum (take (c.args.to - c.args.from) ns)) (sym (drop-later c.self.inside.behind.items _ c.args.from (omega (arith, c.if-from-eq0.false))))
     ∙ ap (λ ds. sum (take (c.args.to - c.args.from) (drop c.args.from ds))) is

@@ -1,7 +1,6 @@
 -- The numbers of a new profile are all 0.
-use Rattle.std.proofs.Common.{rules, ◌≡◌, ◌+◌, ◌-◌, ◌*◌, ◌^◌, ◌%◌, [], ◌∙◌, ℕ, Bool, true, false, cond, Some, None, sym, ap, length, arith}
+use Rattle.std.proofs.Common.{rules, ◌≡◌, ◌+◌, ◌*◌, ◌^◌, ◌%◌, [], ◌∙◌, ℕ, Bool, true, false, cond, Some, None, sym, ap, arith}
 use Rattle.std.specs.Prelude.{replicate}
-use Rattle.std.proofs.lemmas.List.{length-replicate}
 use Rattle.cache_core.specs.Geometry.{GeometryValue, geometry_value, geometry_of}
 use Rattle.profile_core.proofs.Feeding.{new_sound}
 use Rattle.profile_core.proofs.profile.Profile.new.Goals as goal
@@ -18,10 +17,9 @@ invariant_of-result c =
     let is = geometry_is c.in-Some.geometry c.args.s c.args.depth c.args.b c.in-Some.ensures in
     let lists = c.in_ok-new.ensures in
     let ways = ap (λ g. g.e) is in
-    let some : c.args.depth - 1 + 1 ≡ c.args.depth = omega (arith, c.requires.some) in
     let small : (1 * 2 ^ c.args.s) % 2 ^ 64 ≡ 2 ^ c.args.s = search rules in
-    new_sound c.in-Some.geometry c.in_ok-new.field-0 c.in_ok-vec.field-0.items c.in_ok-vec-2.field-0.items (c.args.depth - 1)
+    new_sound c.in-Some.geometry c.in_ok-new.field-0 c.in_ok-vec.field-0.items c.in_ok-vec-2.field-0.items
     (ap (λ l. l.depth) lists ∙ sym ways)
-    (ap (λ l. length l.lists) lists ∙ length-replicate _ [] ∙ small ∙ ap (λ g. 2 ^ g.s) (sym is))
-    (some ∙ sym ways) (c.in_ok-vec.ensures.items_if_clones_equal (λ y e. e))
-    (c.in_ok-vec-2.ensures.items_if_clones_equal (λ y e. e) ∙ ap (λ n. replicate (n + 1) 0) (sym some))
+    (ap (λ l. l.lists) lists ∙ ap (λ n. replicate n []) (small ∙ ap (λ g. 2 ^ g.s) (sym is)))
+    (omega (arith, ways, c.requires.some)) (c.in_ok-vec.ensures.items_if_clones_equal (λ y e. e) ∙ ap (λ n. replicate n 0) (sym ways))
+    (c.in_ok-vec-2.ensures.items_if_clones_equal (λ y e. e) ∙ ap (λ n. replicate (n + 1) 0) (sym ways))

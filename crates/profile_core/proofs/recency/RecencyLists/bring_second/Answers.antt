@@ -1,6 +1,6 @@
 -- The first two blocks of a set's list, exchanged in its row.
 use Rattle.std.proofs.Common.{◌≡◌, ◌+◌, ◌*◌, ◌<◌, ◌∙◌, [], get_or, set, sym, ap, refl, arith}
-use Rattle.profile_core.proofs.Bringing.{second_place}
+use Rattle.profile_core.proofs.Bringing.{second_long}
 use Rattle.profile_core.proofs.SlabLemmas.{RowOf, among_fronts, ends, list_short, front_read}
 use Rattle.profile_core.proofs.Writing.{IsBrought, TouchedIn, written_second, brought}
 use Rattle.profile_core.proofs.recency.RecencyLists.bring_second.Goals as goal
@@ -9,10 +9,10 @@ use Rattle.profile_core.proofs.recency.RecencyLists.bring_second.Goals.{After-se
 row : (c : After-self) → RowOf c.self.inside c.args.set c.args.self.now.lists
 row c = record { sound = c.self.invariant.sound; lists_are = ap (λ v. v.lists) c.self.view_is; is_set = c.requires.within }
 
--- the list has two blocks, so a row has a place behind the front
-some_room : (c : After-self) → 0 < c.self.inside.stride
-some_room c =
-    omega (arith, second_place c.args.block (get_or c.args.self.now.lists c.args.set []) c.requires.second, list_short (row c))
+-- the list has two blocks, so a row has an entry behind the front
+some : (c : After-self) → 0 < c.self.inside.stride
+some c =
+    omega (arith, second_long c.args.block (get_or c.args.self.now.lists c.args.set []) c.requires.second, list_short (row c))
 
 exchanged : (c : After-replace-second) → IsBrought c.self.inside.stride c.args.set c.args.block
     (set c.self.inside.fronts.items c.args.set c.replace-second.new.dest)
@@ -42,17 +42,13 @@ overflow_mul-set c = omega (arith, ends (row (goal.at.overflow_mul-set c).After-
 pub index_mut-requires-2 : goal.index_mut-requires-2
 index_mut-requires-2 c =
     let at = (goal.at.index_mut-requires-2 c).After-self in
-    omega (arith, (ends (row at)).0, some_room at, c.self.inside.slab.ok.0)
+    omega (arith, (ends (row at)).0, some at, c.self.inside.slab.ok.0)
 
 pub invariant_of-self : goal.invariant_of-self
 invariant_of-self c = (exchanged (goal.at.invariant_of-self c).After-replace-second).listed
 
-pub returns-clause-short : goal.returns-clause-short
-returns-clause-short c =
-    omega (arith, ap (λ v. v.depth) c.self.view_is, list_short (row (goal.at.returns-clause-short c).After-self))
-
-pub returns-clause-moved : goal.returns-clause-moved
-returns-clause-moved c =
+pub returns : goal.returns
+returns c =
     let depth : c.self.inside.stride + 1 ≡ c.args.self.now.depth = ap (λ v. v.depth) c.self.view_is in
-    let lists = (exchanged (goal.at.returns-clause-moved c).After-replace-second).lists_are in
+    let lists = (exchanged (goal.at.returns c).After-replace-second).lists_are in
     cc (depth, lists)

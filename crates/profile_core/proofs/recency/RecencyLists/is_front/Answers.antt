@@ -1,16 +1,13 @@
 -- The front of a set's list, read from its row.
-use Rattle.std.proofs.Common.{◌≡◌, ◌≤◌, ◌<◌, ◌⊎◌, inl, inr, Bool, true, false, ℕ, not, eqb, ◌∙◌, [], length, get_or, sym, ap, arith}
+use Rattle.std.proofs.Common.{◌≡◌, ◌<◌, ◌⊎◌, inl, inr, Bool, true, false, ℕ, not, eqb, ◌∙◌, [], get_or, sym, ap, arith}
 use Rattle.profile_core.specs.Moves.{is_front}
 use Rattle.profile_core.proofs.Bringing.{front_of_some, front_of_none}
-use Rattle.profile_core.proofs.SlabLemmas.{RowOf, within, among_fronts, list_of_row, list_short, len_read, front_read}
+use Rattle.profile_core.proofs.SlabLemmas.{RowOf, within, among_fronts, list_of_row, len_read, front_read}
 use Rattle.profile_core.proofs.recency.RecencyLists.is_front.Goals as goal
 use Rattle.profile_core.proofs.recency.RecencyLists.is_front.Goals.{After-self}
 
 row : (c : After-self) → RowOf c.self.inside c.args.set c.args.self.now.lists
 row c = record { sound = c.self.invariant.sound; lists_are = ap (λ v. v.lists) c.self.view_is; is_set = c.requires.within }
-
-short : (c : After-self) → length (get_or c.args.self.now.lists c.args.set []) ≤ c.args.self.now.depth
-short c = omega (arith, ap (λ v. v.depth) c.self.view_is, list_short (row c))
 
 -- a block that is known to be above 0, or was found to be another
 not_0 : (block : ℕ) (past_first : Bool) → (past_first ≡ true → 0 < block) → (past_first ≡ true) ⊎ ((past_first ≡ false) × (block ≡ 0 → ⊥)) → block ≡ 0 → ⊥
@@ -35,31 +32,22 @@ index-requires-else-block-ne0 c = omega (arith, within (row (goal.at.index-requi
 pub index-requires-then-index-ne0 : goal.index-requires-then-index-ne0
 index-requires-then-index-ne0 c = omega (arith, among_fronts (row (goal.at.index-requires-then-index-ne0 c).After-self), c.self.inside.fronts.ok.0)
 
-pub returns-then-block-ne0-clause-front : goal.returns-then-block-ne0-clause-front
-returns-then-block-ne0-clause-front c =
-    let at = (goal.at.returns-then-block-ne0-clause-front c).After-self in
+pub returns-then-block-ne0 : goal.returns-then-block-ne0
+returns-then-block-ne0 c =
+    let at = (goal.at.returns-then-block-ne0 c).After-self in
     front_is_list at c.index.result.now c.index.ensures (inl (not_0 c.args.block c.args.past_first c.requires.known c.if-block-ne0.either))
 
-pub returns-then-block-ne0-clause-short : goal.returns-then-block-ne0-clause-short
-returns-then-block-ne0-clause-short c = short (goal.at.returns-then-block-ne0-clause-short c).After-self
-
-pub returns-then-index-ne0-clause-front : goal.returns-then-index-ne0-clause-front
-returns-then-index-ne0-clause-front c =
-    let at = (goal.at.returns-then-index-ne0-clause-front c).After-self in
+pub returns-then-index-ne0 : goal.returns-then-index-ne0
+returns-then-index-ne0 c =
+    let at = (goal.at.returns-then-index-ne0 c).After-self in
     let len_is = len_read (row at) c.index-else-block-ne0.ensures in
     front_is_list at c.index-then-index-ne0.result.now c.index-then-index-ne0.ensures (inr (λ none. c.if-index-ne0.true (len_is ∙ none)))
 
-pub returns-then-index-ne0-clause-short : goal.returns-then-index-ne0-clause-short
-returns-then-index-ne0-clause-short c = short (goal.at.returns-then-index-ne0-clause-short c).After-self
-
-pub returns-else-index-ne0-clause-front : goal.returns-else-index-ne0-clause-front
-returns-else-index-ne0-clause-front c =
-    let at = (goal.at.returns-else-index-ne0-clause-front c).After-self in
+pub returns-else-index-ne0 : goal.returns-else-index-ne0
+returns-else-index-ne0 c =
+    let at = (goal.at.returns-else-index-ne0 c).After-self in
     let len_is = len_read (row at) c.index-else-block-ne0.ensures in
     let none : c.index-else-block-ne0.result.now ≡ 0 = omega (arith, c.if-index-ne0.false) in
     ap (λ n. not (eqb n 0)) none
     ∙ front_of_none c.args.block (get_or c.self.inside.lens.items c.args.set 0) (get_or c.self.inside.fronts.items c.args.set 0) _ (sym len_is ∙ none)
     ∙ ap (is_front c.args.block) (sym (list_of_row (row at)))
-
-pub returns-else-index-ne0-clause-short : goal.returns-else-index-ne0-clause-short
-returns-else-index-ne0-clause-short c = short (goal.at.returns-else-index-ne0-clause-short c).After-self

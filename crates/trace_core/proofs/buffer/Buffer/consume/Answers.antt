@@ -1,4 +1,4 @@
--- Fewer bytes wait, from a later place on.
+-- Fewer bytes wait, from a later index on.
 use Rattle.std.proofs.Common.{arith, ◌≤◌, ◌+◌, ◌-◌, drop, ap, ◌∙◌, length}
 use Rattle.std.proofs.lemmas.List.{length-take}
 use Rattle.trace_core.proofs.Buffers.{consumed}

@@ -1,0 +1,9 @@
+-- The options of the caches so far are added.
+use Rattle.std.proofs.Common.{◌≡◌, ◌++◌, map, take}
+use Rattle.arguments.proofs.OptionLemmas.{rules_of_caches}
+use Rattle.arguments.specs.Options.{own_rule, rule_and_global}
+use Rattle.arguments.proofs.app.din_args.Given as goal
+
+abbrev pub invariant-loop-cache : goal.invariant-loop-cache
+invariant-loop-cache l = map rule_and_global l.args.items
+    ≡ map rule_and_global l.initial.args.items ++ map own_rule (rules_of_caches (take l.cache-index l.cache-items))

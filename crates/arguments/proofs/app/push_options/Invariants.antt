@@ -1,0 +1,8 @@
+-- The options so far are added.
+use Rattle.std.proofs.Common.{◌≡◌, ◌++◌, map, take}
+use Rattle.arguments.specs.Options.{own_rule, rule_and_global, rule_of_option}
+use Rattle.arguments.proofs.app.push_options.Given as goal
+
+abbrev pub invariant-loop-option : goal.invariant-loop-option
+invariant-loop-option l = map rule_and_global l.args.items
+    ≡ map rule_and_global l.fn.args.items ++ map own_rule (map rule_of_option (take l.option-index l.options))

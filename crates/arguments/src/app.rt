@@ -1,0 +1,155 @@
+//! The commands and their options, as `clap` meets them.
+ghost use Rattle.std.specs.Prelude.{◌≡◌, ◌++◌, IfOk, OnOk, Some, codes, false, map};
+ghost use Rattle.clap.specs.Words.{app_of, new_rule, rule_of};
+ghost use Rattle.clap.specs.declared.builder.command.Command.TheViews.{out-Command as fields_of};
+ghost use Rattle.arguments.specs.Options.{app_and_global, cachesim_app, csim_rules, din_rules, leaf, own_leaf, own_rule, rule_and_global};
+ghost use Rattle.arguments.specs.Options.{rule_of_option, sweep_rules, with_spelling};
+
+use crate::cache_options::cache_options;
+use crate::help;
+use crate::options::Presence::{Flag, Optional, Required};
+use crate::options::Spelling::{Long, Short};
+use crate::options::{CSIM_OPTIONS, CommandOption, DIN_OPTIONS, SWEEP_OPTIONS};
+use cache_core::plan::CacheName;
+use clap::{Arg, ArgAction, Command};
+use std::alloc::{AllocError, Global};
+
+// A branch on whose ways a `Command` or an `Arg` lives takes the check long, so they are made in one go where no way out is left, and
+// otherwise kept in lists.
+
+/// The program's command line.
+pub fn cachesim_command<'a>(alloc: Global) -> Result<Command<'a>, AllocError>
+    ensures app { IfOk result (λ c. app_of c ≡ cachesim_app) }
+    ensures local { IfOk result (λ c. (fields_of c).has_globals ≡ false) }
+{
+    let commands = leaf_commands(alloc)?;
+    Command::new(alloc, "cachesim")
+        .about(help::ABOUT)
+        .after_help(help::PROGRAM)
+        .subcommand_required(true)
+        .disable_help_subcommand(true)
+        .subcommands(commands)
+}
+
+/// The commands `csim`, `din` and `sweep`.
+fn leaf_commands<'a>(alloc: Global) -> Result<Vec<Command<'a>>, AllocError>
+    ensures { IfOk result (λ v. map app_and_global v.items ≡ map own_leaf cachesim_app.subs) }
+{
+    let mut commands = Vec::new(alloc);
+    commands.push(csim_command(alloc)?)?;
+    commands.push(din_command(alloc)?)?;
+    commands.push(sweep_command(alloc)?)?;
+    Ok(commands)
+}
+
+/// The command `csim`.
+fn csim_command<'a>(alloc: Global) -> Result<Command<'a>, AllocError>
+    ensures { IfOk result (λ c. app_and_global c ≡ own_leaf (leaf (codes "csim") csim_rules)) }
+{
+    let mut args = Vec::new(alloc);
+    push_options(alloc, &mut args, None, &CSIM_OPTIONS)?;
+    Command::new(alloc, "csim")
+        .about(help::CSIM_ABOUT)
+        .after_help(help::CSIM)
+        .args(args)
+}
+
+/// The command `din`.
+fn din_command<'a>(alloc: Global) -> Result<Command<'a>, AllocError>
+    ensures { IfOk result (λ c. app_and_global c ≡ own_leaf (leaf (codes "din") din_rules)) }
+{
+    let args = din_args(alloc)?;
+    Command::new(alloc, "din")
+        .about(help::DIN_ABOUT)
+        .after_help(help::DIN)
+        .args(args)
+}
+
+/// The command `sweep`.
+fn sweep_command<'a>(alloc: Global) -> Result<Command<'a>, AllocError>
+    ensures { IfOk result (λ c. app_and_global c ≡ own_leaf (leaf (codes "sweep") sweep_rules)) }
+{
+    let mut args = Vec::new(alloc);
+    push_options(alloc, &mut args, None, &SWEEP_OPTIONS)?;
+    Command::new(alloc, "sweep")
+        .about(help::SWEEP_ABOUT)
+        .after_help(help::SWEEP)
+        .args(args)
+}
+
+/// The caches of `din`, each with the heading of its options in help.
+static DIN_CACHES: [(CacheName, &str); 4] = [
+    (CacheName::L1I, "First-level instruction cache"),
+    (CacheName::L1D, "First-level data cache"),
+    (CacheName::L1U, "First-level unified cache"),
+    (CacheName::L2U, "Second-level unified cache"),
+];
+
+/// The options of `din`: those of each cache stand under a heading of their own.
+fn din_args<'a>(alloc: Global) -> Result<Vec<Arg<'a>>, AllocError>
+    ensures { IfOk result (λ v. map rule_and_global v.items ≡ map own_rule din_rules) }
+{
+    let mut args = Vec::new(alloc);
+    push_options(alloc, &mut args, None, &DIN_OPTIONS)?;
+    for &(cache, heading) in &DIN_CACHES {
+        let of = cache_options(cache);
+        let options = [of.size, of.bsize, of.assoc, of.repl, of.walloc, of.wback];
+        push_options(alloc, &mut args, Some(heading), &options)?;
+    }
+    Ok(args)
+}
+
+/// Adds options, under a heading or under that of all commands.
+fn push_options<'a>(
+    alloc: Global,
+    args: &mut Vec<Arg<'a>>,
+    heading: Option<&'static str>,
+    options: &[CommandOption],
+) -> Result<(), AllocError>
+    ensures { OnOk result (map rule_and_global args.new.items ≡ map rule_and_global args.old.items
+        ++ map own_rule (map rule_of_option options.now)) }
+{
+    for option in options {
+        args.push(arg_under(alloc, heading, option))?;
+    }
+    Ok(())
+}
+
+/// The option under a heading of the help.
+fn arg_under<'a>(alloc: Global, heading: Option<&'static str>, option: &CommandOption) -> Arg<'a>
+    ensures rule { rule_and_global result ≡ own_rule (rule_of_option option.now) }
+    ensures help { result.help ≡ Some option.now.help }
+{
+    match heading {
+        Some(heading) => arg_of(alloc, option).help_heading(heading),
+        None => arg_of(alloc, option),
+    }
+}
+
+/// The option as `clap` takes it: it has to be given, may be given, or is a flag.
+fn arg_of<'a>(alloc: Global, option: &CommandOption) -> Arg<'a>
+    ensures rule { rule_and_global result ≡ own_rule (rule_of_option option.now) }
+    ensures help { result.help ≡ Some option.now.help }
+{
+    match option.presence {
+        Required(value) => spelled_arg(alloc, option)
+            .action(ArgAction::Set)
+            .value_name(value)
+            .required(true),
+        Optional(value) => spelled_arg(alloc, option)
+            .action(ArgAction::Set)
+            .value_name(value),
+        Flag => spelled_arg(alloc, option).action(ArgAction::SetTrue),
+    }
+}
+
+/// The option with its spelling and its help.
+fn spelled_arg<'a>(alloc: Global, option: &CommandOption) -> Arg<'a>
+    ensures rule { rule_and_global result ≡ own_rule (with_spelling option.now.spelling (new_rule option.now.name.now)) }
+    ensures help { result.help ≡ Some option.now.help }
+{
+    match option.spelling {
+        Long(name) => Arg::new(alloc, option.name).help(option.help).long(name),
+        Short(letter) => Arg::new(alloc, option.name).help(option.help).short(letter),
+    }
+}

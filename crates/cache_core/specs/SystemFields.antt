@@ -1,0 +1,7 @@
+-- What contracts see of a system's fields.
+use Rattle.cache_core.specs.declared.system.System.TheInside.{Inside}
+use Rattle.cache_core.specs.SystemSteps.{SystemValue}
+
+abbrev pub system_value : Inside → SystemValue
+system_value s =
+    record { i = s.i; d = s.d; u = s.u; second = s.second; memory = s.memory; bypassed = s.bypassed; steps = s.steps }

@@ -1,0 +1,86 @@
+"""What the Python tools share: their name, faults and arguments, sizes, the program, and what they write. lib.bash has the same for
+those in bash. A tool in a folder below this one reads it so:
+
+    sys.path.append(str(pathlib.Path(__file__).resolve().parents[1]))
+    tool = importlib.import_module("tool")
+"""
+
+import argparse
+import os
+import sys
+
+HERE = os.path.dirname(os.path.realpath(__file__))
+NAME = os.path.basename(sys.argv[0])
+# exit statuses beside 0; a tool with another status for its faults and for wrong arguments sets `failure` to it
+FAILED, MISUSED, READER_GONE = 1, 2, 141
+failure = None
+UNITS = {"": 0, "k": 10, "m": 20, "g": 30}
+
+
+def fail(text, status=FAILED):
+    """Ends the tool with one line on standard error."""
+    print(f"{NAME}: {text}", file=sys.stderr)
+    sys.exit(failure or status)
+
+
+def misused(text):
+    """The same for wrong arguments."""
+    fail(f"{text}; '{NAME} --help' explains the arguments", MISUSED)
+
+
+class Arguments(argparse.ArgumentParser):
+    """The arguments of a tool, whose help begins with a text of its own. A fault of them is one line."""
+
+    def __init__(self, text, **given):
+        super().__init__(prog=NAME, description=text, formatter_class=argparse.RawDescriptionHelpFormatter, **given)
+
+    def error(self, message):
+        misused(message)
+
+
+def look_for_help(arguments):
+    """Writes the tool's help where it is asked for, in place of a parser, for a tool that hands its arguments on."""
+    if "-h" in arguments or "--help" in arguments:
+        print(sys.modules["__main__"].__doc__.strip())
+        sys.exit()
+
+
+def size_of(text):
+    """The number of bytes that a scaled number as 512, 32k or 1m says."""
+    digits, unit = (text[:-1], text[-1].lower()) if text[-1:].lower() in ("k", "m", "g") else (text, "")
+    if not (digits.isascii() and digits.isdigit()):
+        raise argparse.ArgumentTypeError(f"{text!r} is no size such as 512, 32k or 1m")
+    return int(digits) << UNITS[unit]
+
+
+def size_text(size):
+    """A number of bytes in short, as 32k."""
+    for unit in ("g", "m", "k"):
+        if size and size % (1 << UNITS[unit]) == 0:
+            return f"{size >> UNITS[unit]}{unit}"
+    return str(size)
+
+
+def find_cachesim():
+    """The path of the program: $CACHESIM, else that of this checkout, else that installed with this folder, else the one on the path."""
+    named = os.environ.get("CACHESIM")
+    near = [os.path.join(HERE, folder) for folder in ("../crates/cachesim/out", "../../bin")]
+    folders = [*near, *os.environ.get("PATH", "").split(":")]
+    for path in [named] if named else [os.path.join(folder, "cachesim") for folder in folders]:
+        if os.path.isfile(path) and os.access(path, os.X_OK):
+            return os.path.join(".", path)
+    if named:
+        fail(f"{named} is no program that can be run")
+    fail("no program cachesim: build it by 'make', or set CACHESIM to its path")
+
+
+def write_lines(lines):
+    """Writes lines to standard output. Ends the tool where that fails: with a message, unless the reader of a pipe has gone."""
+    try:
+        sys.stdout.write("".join(f"{line}\n" for line in lines))
+        sys.stdout.flush()
+    except OSError as fault:
+        os.dup2(os.open(os.devnull, os.O_WRONLY), sys.stdout.fileno())  # what is still held must not fail again at the end
+        if isinstance(fault, BrokenPipeError):
+            sys.exit(READER_GONE)
+        fail(f"standard output: {fault.strerror}")
