@@ -137,7 +137,7 @@ sweep_rules = bsize_option ∷ sets_option ∷ assoc_option ∷ size_option ∷ 
 abbrev pub leaf : Text → List Rule → Shape
 leaf name rules = record (new_shape name) { rules = rules }
 
--- one of the commands is to be given, and `help` is none
+-- one of the commands has to be given, and `help` is not one of them
 abbrev pub cachesim_top : Shape
 cachesim_top = record (new_shape (codes "cachesim")) {
   subcommand_required = true;

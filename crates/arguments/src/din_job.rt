@@ -126,7 +126,7 @@ fn power_at(matches: &ArgMatches<'_>, option: &'static str) -> Result<Option<u64
     }
 }
 
-/// The rule by which blocks leave a set, which may be left out.
+/// The replacement policy, which may be left out.
 fn repl_at(matches: &ArgMatches<'_>, option: &'static str) -> Result<Option<Repl>, WordsFault>
     ensures { answer_in result ≡ Some (optional_value option.entry.now repl_named (rows_given matches.now)) }
 {

@@ -3,7 +3,7 @@
 //! The limits of a cache are those of `cache_core::geometry`, which no text here can cite: 1m, 64k and 4m are `MAX_BITS`, `MAX_WAYS` and
 //! `MAX_CACHE_LINES`.
 
-/// A text round how Valgrind writes a trace, with the exit statuses behind it: all four texts of help have both.
+/// A text with the command by which Valgrind writes a trace, and the exit statuses after it: all four texts of help have both.
 macro_rules! help_text {
     ($before:literal, $behind:literal, $end:literal) => {
         concat!(
@@ -19,7 +19,7 @@ macro_rules! help_text {
 /// What the program does.
 pub const ABOUT: &str = "Simulates processor caches over a trace of memory references";
 
-/// What stands behind the list of the commands.
+/// The text after the list of the commands.
 pub const PROGRAM: &str = help_text!(
     "\
 'cachesim COMMAND --help' explains a command and its options.
@@ -34,7 +34,7 @@ How to get a trace: Valgrind writes that of any program in the lackey format.
 pub const SWEEP_ABOUT: &str =
     "Counts hits, misses and evictions of every LRU cache in a range, in one pass over a trace";
 
-/// What stands behind the options of `sweep`.
+/// The text after the options of `sweep`.
 pub const SWEEP: &str = help_text!(
     "\
 A RANGE is one number or LOWEST-GREATEST, such as 16-64. Its numbers are decimal; k, m or g at the
@@ -67,7 +67,7 @@ Valgrind writes it: ' L 7ffe10,8'.
 /// What `csim` does.
 pub const CSIM_ABOUT: &str = "Runs the data references of a lackey trace through one LRU cache";
 
-/// What stands behind the options of `csim`.
+/// The text after the options of `csim`.
 pub const CSIM: &str = help_text!(
     "\
 It writes one line, 'hits:H misses:M evictions:E'. With -v a line for each load, store and modify
@@ -83,9 +83,9 @@ A trace of a program, and a cache of 64 sets of 8 lines of 64 bytes:
 
 /// What `din` does.
 pub const DIN_ABOUT: &str =
-    "Runs a trace through one or two levels of caches, with the options of Dinero IV";
+    "Runs a trace through one or two levels of caches, with some options of Dinero IV";
 
-/// What stands behind the options of `din`.
+/// The text after the options of `din`.
 pub const DIN: &str = help_text!(
     "\
 The options of a cache and -informat may be written with one dash, as Dinero IV has them, or with

@@ -1,8 +1,9 @@
 //! The options of the commands. Each is said once, as a constant that its table and its job cite.
 //!
-//! `tools/package/completion` reads these texts in the program's help: a text that ends in letters with their meanings, as
-//! `u all, d data`, tells it the values; a value called FILE is completed as a file; and `[default: ..]` is left out. The limits in them are
-//! those of `cache_core::geometry`: 20, 65536 and 64k, and 1m are `MAX_BITS`, `MAX_WAYS` and 2^`MAX_BITS`.
+//! `tools/package/completion` reads these texts in the program's help: a text that ends in letters with their meanings,
+//! for example `u all, d data`, tells it the values; a value called FILE is completed as a file; and `[default: ..]` is
+//! left out. The limits in them are those of `cache_core::geometry`: 20, 65536 and 64k, and 1m are `MAX_BITS`,
+//! `MAX_WAYS` and 2^`MAX_BITS`.
 
 /// Whether an option has to be given, and what its value is called in the help, if it takes one.
 #[derive(Clone, Copy)]
@@ -101,7 +102,7 @@ pub const SEED: CommandOption = long_option!(
     "--",
     "seed",
     Optional("N"),
-    "Seed of the random numbers [default: 42]"
+    "Seed of random replacement [default: 42]"
 );
 
 pub const FILE: CommandOption = short_option!(

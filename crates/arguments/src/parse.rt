@@ -1,5 +1,6 @@
 //! From the arguments of the command line to a job.
-ghost use Rattle.std.specs.Prelude.{codes, [], ◌≡◌, ◌≢◌, IfOk, IfSome, None, Some, true, is_some, map, option_and_then, option_map, string_bytes};
+ghost use Rattle.std.specs.Prelude.{codes, [], ◌≡◌, ◌≢◌, IfOk, IfSome, None, Some, true, is_some};
+ghost use Rattle.std.specs.Prelude.{map, option_and_then, option_map, string_bytes};
 ghost use Rattle.std.specs.List.{list_any};
 ghost use Rattle.clap.specs.Words.{fault_of, first_of, kind_of, subcommand_rows_of, takes};
 ghost use Rattle.arguments.specs.CommandLine.{answer_of, command_of, is_help, job_named, chosen_command, refusal_of, usage_of};
@@ -32,8 +33,8 @@ pub struct Command {
 
 /// The job that the arguments ask for. The first argument is the program's name. No file is opened.
 ///
-/// Errors, the first that applies: `Usage` for what `clap` refuses or for help; `Value` for the first bad value, in the order of the manual's
-/// tables; `Incomplete`; then `BadShape`, `Plan` or `Space`. `Memory` wherever memory is refused.
+/// Errors, the first that applies: `Usage` for what `clap` refuses or for help; `Value` for the first bad value, in the
+/// order of the manual's tables; `Incomplete`; then `BadShape`, `Plan` or `Space`. `Memory` wherever memory is refused.
 pub fn parse(alloc: Global, arguments: &[String]) -> Result<Command, WordsFault>
     // But for want of memory and for what clap refuses, the answer is what the arguments mean, and clap refuses nothing.
     ensures answer { IfSome (answer_of result) (λ answer.

@@ -82,7 +82,7 @@ first_grows : (old : Option SystemCache) (ref : Ref) (down : Option (List (Optio
 first_grows old ref None new a = rw (a.0, a.1) record { counts = omega arith; copies = omega arith }
 first_grows old ref (Some down) new (a, b, o, p, q, r, e) = rw (p, q) (entered a ref o b e)
 
--- what goes down for a visit stands in two places
+-- what is sent down for a visit stands in two places
 visit_sends : (d : Design) (policy : Option Repl) (numbers rest : ℕ → ℕ) (ref : Ref) (old : List Slot) (o : Outcome) (new : List Slot) →
     Visits d policy numbers ref old o new rest → (xs : List Ref) × (o.down ≡ two_options xs)
 visit_sends d policy numbers rest ref old o new v = by_place (position_of (block_of d.geometry ref.addr) old) v
@@ -100,7 +100,8 @@ sends : (old : SystemCache) (ref : Ref) (o : Outcome) (new : SystemCache) → En
 sends old ref o new e =
     let c = system_cache_contents old in
     let set = set_of c.design.geometry ref.addr in
-    visit_sends c.design c.policy c.random_numbers (system_cache_contents new).random_numbers ref (slots_of c.sets set) o (slots_of (system_cache_contents new).sets set)
+    let after = system_cache_contents new in
+    visit_sends c.design c.policy c.random_numbers after.random_numbers ref (slots_of c.sets set) o (slots_of after.sets set)
     e.access.visit
 
 two_most : (xs : List Ref) → length (present_refs (two_options xs)) ≤ 2
@@ -111,7 +112,7 @@ two_most (x ∷ y ∷ xs) = omega arith
 sends_two : (old : SystemCache) (ref : Ref) (o : Outcome) (new : SystemCache) → Enters old ref o new → length (present_refs o.down) ≤ 2
 sends_two old ref o new e = let (xs, is) = sends old ref o new e in rw is (two_most xs)
 
--- how many references go down from the first level, none where no cache took the reference
+-- how many references are sent down from the first level, none where no cache took the reference
 abbrev pub sent_down : Option (List (Option Ref)) → ℕ
 sent_down None = 0
 sent_down (Some down) = length (present_refs down)
@@ -160,7 +161,7 @@ reach_all : (memory : Memory) (refs : List Ref) → reached (all_reach memory re
 reach_all memory [] = omega arith
 reach_all memory (ref ∷ refs) = omega (arith, reach_one memory (is_write ref.access), reach_all (reaches memory ref) refs)
 
--- so many references come down
+-- so many references arrive below
 pub record LowerGrows (n : ℕ) (second : Option SystemCache) (memory : Memory) (next : Option SystemCache) (after : Memory) : Type 0 where
   pub cache : Grows n second next
   pub memory_counts : reached after ≤ reached memory + 2 * n

@@ -1,4 +1,4 @@
--- Never more than two references go down, whatever line leaves: a write-through cache holds no dirty line.
+-- Never more than two references are sent down, whatever line leaves: a write-through cache holds no dirty line.
 use Rattle.std.proofs.Common.{◌≡◌, ℕ, zero, suc, ◌+◌, ◌<◌, ◌≤◌, ◌||◌, Bool, true, false, cond, ltb, List, [], ◌∷◌, ◌++◌}
 use Rattle.std.proofs.Common.{length, get_or, Option, Some, None, sym, ◌∙◌, ap, refl, arith, filter, find}
 use Rattle.std.specs.Prelude.{fold, count_by}
@@ -125,7 +125,7 @@ clean_fold m st (event.Reference ref ∷ events) w h =
     (clean_step_at m ref b (leaves m st (set_of m.design.geometry ref.addr)) st (find (is_block b) st.lines) w refl h)
 clean_fold m st (event.Flush ∷ events) w h = clean_fold m (next m st event.Flush) events w tt
 
--- what goes down
+-- what is sent down
 one_at_most : (b : Bool) (x : Ref) → length (cond b (x ∷ []) []) ≤ 1
 one_at_most true x = omega arith
 one_at_most false x = omega arith

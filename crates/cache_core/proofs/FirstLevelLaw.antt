@@ -75,7 +75,7 @@ pub counts_is : (seed : ℕ) (planned : Option PlannedCache) (events : List Even
 counts_is seed None events cache k = ap stats_held k
 counts_is seed (Some planned) events cache k = ap stats_held k.1 ∙ ap Some k.2.counts
 
--- the references that went down, none where no cache took the reference
+-- the references that were sent down, none where no cache took the reference
 abbrev pub down_list : Option (List (Option Ref)) → List Ref
 down_list None = []
 down_list (Some xs) = present_refs xs

@@ -1,4 +1,4 @@
--- The second level and memory: what comes down to them, and what they count.
+-- The second level and memory: what arrives at them, and what they count.
 use Rattle.std.proofs.Common.{◌≡◌, ℕ, ◌+◌, not, Bool, true, false, cond, List, [], ◌∷◌, ◌++◌, map, Option, Some, None, refl, sym}
 use Rattle.std.proofs.Common.{◌∙◌}
 use Rattle.std.proofs.Common.{ap, subst, arith, append_assoc, append-nil}
@@ -86,7 +86,7 @@ module _ (seed flushed : ℕ) where
       let r = enters (machine_of seed planned) events low.kept.0 ref e.0 e.1 l.some low.kept.2 e.2 in
       reached (Some planned) events cache next memory after ref low (e.1, e.3, r.kept) (e.4 ∙ ap (all_reach memory) r.sends)
 
-  -- nothing comes down
+  -- nothing is sent down
   stays : (planned : Option PlannedCache) (events : List Event) (cache next : Option SystemCache) (memory after : Memory) →
       Lower seed planned events flushed cache memory → next ≡ cache → after ≡ memory → Lower seed planned (events ++ []) flushed next after
   stays planned events cache next memory after low same unread = rw (same, unread, append-nil) low

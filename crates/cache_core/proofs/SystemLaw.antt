@@ -18,7 +18,8 @@ use Rattle.cache_core.specs.Order.{one_if}
 use Rattle.cache_core.specs.Plans.{PlannedCaches, IsPlan}
 use Rattle.cache_core.specs.CacheSteps.{system_cache_contents, Empties}
 use Rattle.cache_core.specs.Systems.{machine_of, takes, events_for, sent, below, cache_stats, flushed_if_planned, references_in, to_memory, is_taken}
-use Rattle.cache_core.specs.SystemSteps.{SystemValue, present_refs, AllDescend, StepsSystem, FlushesSystem, EmptiesCache, IsNewSystemCache, IsNewCache, IsNewSystem}
+use Rattle.cache_core.specs.SystemSteps.{SystemValue, present_refs, AllDescend, StepsSystem, FlushesSystem, EmptiesCache}
+use Rattle.cache_core.specs.SystemSteps.{IsNewSystemCache, IsNewCache, IsNewSystem}
 use Rattle.cache_core.specs.SystemStands.{SystemStandsFor, SystemRuns, NewSystemLaw, StepLaw, SystemFlushLaw, SystemRunLaw}
 use Rattle.cache_core.proofs.RunLaw.{start_law, flush_run}
 use Rattle.cache_core.proofs.Pushes.{count_by_push}

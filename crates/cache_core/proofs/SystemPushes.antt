@@ -101,7 +101,7 @@ references_flush [] = refl
 references_flush (event.Reference r ∷ events) = ap (λ xs. r ∷ xs) (references_flush events)
 references_flush (event.Flush ∷ events) = references_flush events
 
--- what goes down from the first level
+-- what is sent down from the first level
 below_push_from : (plan : PlannedCaches) (seed : ℕ) (earlier events : List Event) (ref : Ref) →
     below_from plan seed earlier (events ++ event.Reference ref ∷ [])
     ≡ below_from plan seed earlier events ++ map (λ x. event.Reference x) (sent plan seed (earlier ++ events) ref)

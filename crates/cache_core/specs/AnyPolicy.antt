@@ -1,4 +1,4 @@
--- Any policy: it keeps a set's slots, and a cache under it does what the stamp machine does, where any line of a full set may leave.
+-- Any policy: it keeps a set's slots, and a cache under it does what the stamp machine does, where any line of a full set may be evicted.
 use Rattle.std.specs.Prelude.{◌≡◌, ℕ, ◌<◌, ◌≤◌, ◌^◌, Bool, true, false, ◌&&◌, List, [], Option, None, Some, is_none, find, map, length}
 use Rattle.std.specs.Prelude.{replicate, Contains, IsPermutation}
 use Rattle.trace_core.specs.declared.events.Ref.{Ref}
@@ -37,12 +37,12 @@ needs_victim m st ref =
     is_none (find (is_block (block_of m.design.geometry ref.addr)) st.lines) && allocates m.design.allocate ref.access
     && is_full m st (set_of m.design.geometry ref.addr)
 
--- A line leaves exactly where a block needs a victim, and then it is any line of the set.
+-- A line is evicted exactly where a block needs a victim, and then it is any line of the set.
 abbrev pub MayLeave : Bool → List Line → Option Line → Type 0
 MayLeave needed here None = needed ≡ false
 MayLeave needed here (Some line) = (needed ≡ true) × Contains here line
 
--- what one access is to the machine: its step, where some line leaves that may, and its effect; at most two references go down
+-- what one access is to the machine: its step, with some victim that it may have, and its effect; at most two references are sent down
 pub record AnyStep (m : Machine) (st : MachineState) (ref : Ref) (outcome : Outcome) (new : Contents) : Type 0 where
   pub gone : Option Line
   pub may : MayLeave (needs_victim m st ref) (lines_of_set m.design.geometry (set_of m.design.geometry ref.addr) st.lines) gone

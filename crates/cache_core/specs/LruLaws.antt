@@ -54,7 +54,7 @@ abbrev pub HitLaw : Type 0
 HitLaw = (g : GeometryValue) (write : WriteMode) (events : List Event) → 1 ≤ g.e
     → map (λ a. a.hit) (effects (lru_machine g write) events) ≡ map (is_hit g) (occurrences g events)
 
--- a block leaves exactly where the windows say so
+-- a block is evicted exactly where the windows say so
 abbrev pub VictimLaw : Type 0
 VictimLaw = (g : GeometryValue) (write : WriteMode) (events : List Event) → 1 ≤ g.e
     → map (λ a. is_some a.evicted) (effects (lru_machine g write) events) ≡ map (is_evict g) (occurrences g events)

@@ -72,7 +72,7 @@ abbrev pub least : List Line → Option Line
 least [] = None
 least (line ∷ lines) = Some (lesser line (least lines))
 
--- the line that leaves a full set, where number is the next random number
+-- the victim in a full set, where number is the next random number
 abbrev pub victim : Repl → ℕ → ℕ → List Line → Option Line
 victim Lru ways number lines = least lines
 victim Fifo ways number lines = least lines
@@ -90,7 +90,7 @@ with_touch Lru clock line lines = record line { key = clock } ∷ without line.b
 with_touch Fifo clock line lines = exchange line.block line lines
 with_touch Random clock line lines = exchange line.block line lines
 
--- the lines with a new block placed at this clock in a set that held so many blocks, from which this line leaves, if any
+-- the lines with a new block placed at this clock in a set that held so many blocks, in place of this line, if any
 abbrev pub with_block : Repl → ℕ → ℕ → Slot → Option Line → List Line → List Line
 with_block Random clock count new None lines = lines ++ record { block = new.block; key = count; dirty = new.dirty } ∷ []
 with_block Random clock count new (Some gone) lines =

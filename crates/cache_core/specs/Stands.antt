@@ -94,6 +94,6 @@ RunLaw = (m : Machine) (events more : List Event) (old new : Contents) →
 abbrev pub OrderLaw : Type 0
 OrderLaw = (m : Machine) (events : List Event) → 1 ≤ m.design.geometry.e → IsSoundState m (run m events)
 
--- never more than two references go down
+-- never more than two references are sent down
 abbrev pub DownLaw : Type 0
 DownLaw = (m : Machine) (events : List Event) (ref : Ref) → length (step m (run m events) ref).effect.down ≤ 2

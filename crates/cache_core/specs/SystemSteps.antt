@@ -23,7 +23,7 @@ present_refs [] = []
 present_refs (None ∷ xs) = present_refs xs
 present_refs (Some ref ∷ xs) = ref ∷ present_refs xs
 
--- the memory's counts after a reference comes down to it
+-- the memory's counts after a reference arrives at it
 abbrev pub reaches : Memory → Ref → Memory
 reaches memory ref = if is_write ref.access then record memory { writes = memory.writes + 1 } else record memory { reads = memory.reads + 1 }
 
@@ -32,13 +32,13 @@ abbrev pub all_reach : Memory → List Ref → Memory
 all_reach memory [] = memory
 all_reach memory (ref ∷ refs) = all_reach (reaches memory ref) refs
 
--- a reference comes down to the second level, or to memory where there is none
+-- a reference arrives at the second level, or at memory where there is no second level
 abbrev pub Descends : Ref → Option SystemCache → Memory → Option SystemCache → Memory → Type 0
 Descends ref None memory second after = (second ≡ None) × (after ≡ reaches memory ref)
 Descends ref (Some cache) memory second after =
     (outcome : Outcome) × (next : SystemCache) × Enters cache ref outcome next × (second ≡ Some next) × (after ≡ all_reach memory (present_refs outcome.down))
 
--- a list of references comes down, one after another
+-- references arrive one after another
 abbrev pub AllDescend : List Ref → Option SystemCache → Memory → Option SystemCache → Memory → Type 0
 AllDescend [] second memory lower after = (lower ≡ second) × (after ≡ memory)
 AllDescend (ref ∷ refs) second memory lower after =

@@ -65,20 +65,20 @@ pub fn slots_are_kept()
     ensures place { PlaceKeeps }
 {}
 
-/// Never more than two references go down.
+/// Never more than two references are sent down.
 pub fn two_go_down_at_most()
     ensures { DownLaw }
 {}
 
-/// Under any policy an access is a step of the machine in which any line of the full set may leave,
-/// and at most two references go down; the slots of a set are known up to their order then.
+/// Under any policy an access is a step of the machine in which any line of the full set may be
+/// evicted, and at most two references are sent down; the slots of a set are known up to order.
 pub fn any_policy()
     ensures start { AnyStartLaw }
     ensures access { AnyAccessLaw }
     ensures flush { AnyFlushLaw }
 {}
 
-/// The LRU machine hits, and a block leaves, exactly where the windows say so; so the counts agree.
+/// The LRU machine hits, and evicts, exactly where the windows say so; so the counts agree.
 pub fn window_is_machine()
     ensures hits { HitLaw }
     ensures victims { VictimLaw }

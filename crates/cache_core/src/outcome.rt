@@ -11,8 +11,8 @@ pub struct Slot {
     pub dirty: bool,
 }
 
-/// Write-back, where a write stays in the cache until its block leaves, or write-through, where it
-/// is sent to the next level at once.
+/// Write-back, where a write stays in the cache until its block is evicted; or write-through,
+/// where it is sent to the next level at once.
 #[derive(Clone, Copy, Debug, PartialEq, Eq)]
 pub enum WriteMode {
     Back,
@@ -52,7 +52,7 @@ pub struct Outcome {
     pub down: [Option<Ref>; 2],
 }
 
-/// How the references of a trace went. An eviction is a miss at which a block left.
+/// How the references of a trace went. An eviction is a miss that evicted a block.
 #[derive(Clone, Copy, Debug, PartialEq, Eq)]
 pub struct Counts {
     pub hits: u64,

@@ -60,7 +60,7 @@ impl Display for CacheName {
     }
 }
 
-/// A cache of a plan: its design, and the policy by which slots leave.
+/// A cache of a plan: its design, and its replacement policy.
 #[derive(Clone, Copy, Debug)]
 pub struct PlannedCache {
     pub design: Design,

@@ -1,4 +1,4 @@
-//! Replacement: which slot leaves a full set.
+//! Replacement: which slot of a full set is evicted.
 ghost use Rattle.std.specs.Prelude.{◌≡◌, ◌≤◌, ◌<◌, ◌+◌, ℕ, length, take, slice_get};
 ghost use Rattle.std.specs.Prelude.{Option, Some, None};
 ghost use Rattle.cache_core.specs.Order.{Touches, TakesIn, random_numbers_after};

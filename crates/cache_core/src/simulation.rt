@@ -6,7 +6,7 @@ use crate::replacement::Lru;
 use std::alloc::{AllocError, Global};
 use trace_core::events::Ref;
 
-/// How a reference went. At a miss with an eviction a block left its set.
+/// How a reference went. A miss with an eviction evicted a block from its set.
 #[derive(Clone, Copy, Debug, PartialEq, Eq)]
 pub enum Lookup {
     Hit,
@@ -51,8 +51,8 @@ impl Simulation {
     ghost use Rattle.trace_core.specs.declared.events.Event.{Event};
     ghost use Rattle.trace_core.specs.declared.events.Event.TheVariants as event;
 
-    /// An empty cache of this geometry, with nothing counted. It takes all its memory here, and that
-    /// alone can fail.
+    /// An empty cache of this geometry, with nothing counted. It takes all its memory here, and
+    /// that alone can fail.
     pub fn new(alloc: Global, geometry: Geometry) -> Result<Simulation, AllocError>
         ensures { IfOk result (SimulationStandsFor geometry []) }
     {

@@ -183,7 +183,7 @@ fn first_level(
     access_first(d, reference)
 }
 
-/// A reference comes down to the second level, or to memory.
+/// A reference arrives at the second level, or at memory.
 #[inline(never)]
 fn descend(second: &mut Option<SystemCache>, memory: &mut Memory, reference: Ref)
     requires { counted second.old + reached memory.old < 2 ^ 62 }
@@ -199,7 +199,7 @@ fn descend(second: &mut Option<SystemCache>, memory: &mut Memory, reference: Ref
     }
 }
 
-/// What goes down for one reference, one after another.
+/// What is sent down for one reference, one after another.
 fn descend_all(second: &mut Option<SystemCache>, memory: &mut Memory, down: [Option<Ref>; 2])
     requires { counted second.old + reached memory.old < 2 ^ 61 }
     ensures { AllDescend (present_refs down) second.old memory.old second.new memory.new }

@@ -62,7 +62,7 @@ fn stats_of_trace<S: Source>(
     ensures stepped { (end : SystemValue) × StepsThrough lines.old.format lines.old.limit
         (S.view source.old) (S.view source.new) lines.new system end
         × IfOk result (λ stats. stats ≡ stats_of end) }
-    ensures tells { MatchResult result (λ _. lines.new.state ≡ ReaderState.Ended)
+    ensures reports { MatchResult result (λ _. lines.new.state ≡ ReaderState.Ended)
         (λ fault. lines.new.state ≡ ReaderState.Failed fault) }
 {
     while let Some((_, entry)) = lines.next(source)? {

@@ -66,7 +66,7 @@ fed_of v = sum v.distances + sum v.misses_by_occupancy
 abbrev pub held_of : ProfileState → ℕ
 held_of v = sum_by length v.lists
 
--- the counts of an LRU cache of e lines a set: a reference found at a distance below e hits a cache of e lines, and
+-- the counts of an LRU cache of e lines per set: a reference found at a distance below e hits a cache of e lines, and
 -- any other misses (Mattson 1970); a miss evicts where e blocks or more had been seen
 abbrev pub counts_at : ProfileState → ℕ → Counts
 counts_at v e = record {

@@ -95,7 +95,7 @@ impl Profile {
         })
     }
 
-    /// Feeds one reference by its address; whether it reads or writes plays no part. Takes no
+    /// Feeds one reference by its address; whether it reads or writes is ignored. Takes no
     /// memory and cannot fail. At most `MAX_REFERENCES` may be fed.
     #[inline(always)]
     pub fn feed(&mut self, addr: u64)

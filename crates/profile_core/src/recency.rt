@@ -230,7 +230,7 @@ fn shift_past(list: &mut [u64], first: u64, block: u64) -> Shifted
     };
     let mut carried = mem::replace(front, first);
     let mut compared: usize = 1;
-    // Two at a turn: a sweep of one set of up to 4,096 ways takes an eighth less time.
+    // Two per turn: a sweep of one set of up to 4,096 ways takes an eighth less time.
     while compared + 1 < list.len() {
         let found = pass(&mut list[compared], &mut carried, block);
         compared += 1;

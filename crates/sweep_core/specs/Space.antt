@@ -33,7 +33,7 @@ pub record Ranges : Type 0 where
 abbrev pub ranges : ℕ × ℕ → ℕ × ℕ → ℕ × ℕ → ℕ × ℕ → Bool → Ranges
 ranges bsize sets assoc size powers = record { bsize = bsize; sets = sets; assoc = assoc; size = size; powers = powers }
 
--- whether a number is none below the lowest and none above the greatest of a range
+-- whether a number is in a range, ends included
 abbrev pub is_in_range : ℕ × ℕ → ℕ → Bool
 is_in_range range n = nat_le range.0 n && nat_le n range.1
 

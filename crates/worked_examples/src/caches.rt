@@ -51,7 +51,7 @@ fn placed(evicted: Option<Slot>, down: [Option<Ref>; 2]) -> Outcome {
     }
 }
 
-/// A reference that misses and goes down.
+/// A reference that misses and is sent down.
 fn passed(reference: Ref) -> Outcome {
     Outcome {
         hit: false,

@@ -1,4 +1,4 @@
-//! Replacement: which blocks leave under each policy, and under a policy of another crate.
+//! Replacement: which blocks each policy evicts, and a policy of another crate.
 ghost use Rattle.std.specs.Prelude.{◌≤◌};
 
 use cache_core::cache::Cache;
@@ -19,7 +19,7 @@ fn one_set<P: Replacement>(alloc: Global, ways: u64, policy: P) -> Result<Cache<
     Ok(Cache::new(alloc, geometry, policy, write, allocate)?)
 }
 
-/// What a read of a block does: whether it hits, and which block leaves.
+/// What a read of a block does: whether it hits, and which block it evicts.
 type Step = (bool, Option<u64>);
 
 const HIT: Step = (true, None);
@@ -133,7 +133,7 @@ fn a_random_number_takes_out_its_way(rt: HostRuntime) -> Result<(), Fail> {
     Ok(())
 }
 
-/// Most recently used: the slot of the last use or placing leaves. It stands in front.
+/// Most recently used: the slot of the last use or placing is evicted. It stands in front.
 #[derive(Clone, Copy, Debug)]
 struct Mru;
 

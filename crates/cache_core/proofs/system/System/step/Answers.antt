@@ -1,4 +1,4 @@
--- A step keeps the bounds on the counts, and is one reference at the first level and what goes down from it.
+-- A step keeps the bounds on the counts, and is one reference at the first level and what is sent down from it.
 use Rattle.std.proofs.Common.{◌≡◌, Some, arith, refl, ap}
 use Rattle.cache_core.specs.SystemSteps.{SystemValue, present_refs}
 use Rattle.cache_core.proofs.Counters.{first_level_grows, all_grow}
