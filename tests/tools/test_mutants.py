@@ -33,6 +33,7 @@ RT = """\
 #!/bin/sh
 echo "$PWD $*" >> "$STAND_IN/calls"
 grep -q 'number / 3' src/lib.rt && said=mutant || said=whole
+[ $said = whole ] || [ -e proofs/lib/Half/of/Answers.antt ] || said=alone
 cat -- "$STAND_IN/$said"
 ! grep -q '^logic=not' "$STAND_IN/$said"
 """
@@ -53,6 +54,9 @@ class Mutants(ToolTest):
         (self.folder / "rt").write_text(RT)
         (self.folder / "rt").chmod(0o755)
         (self.folder / "whole").write_text(PROVED)
+        self.stored = self.top / "crates/low/proofs/lib/Half/of/Answers.antt"
+        self.stored.parent.mkdir(parents=True)
+        self.stored.write_text("an answer\n")
         self.run_command("git", "init", "-q", self.top)
         self.run_command("git", "-C", self.top, "add", "crates", "crates.txt")
 
@@ -102,9 +106,15 @@ class Mutants(ToolTest):
         self.assertEqual(self.mutant.read_text(), f"goal: Half::of value\n{EDIT}")
 
     def test_a_goal_with_a_stored_proof(self):
+        """It is tried again without that proof."""
         self.mutant.write_text(f"goal: Half::of invariant_of-self\n{EDIT}")
+        own = self.folder / "alone"
+        own.write_text(IN_CODE.replace("returns-in-Some-clause-value", "invariant_of-self") + REFUSED)
         lines, _ = self.tried(IN_ANSWER + REFUSED)
-        self.assertRegex(lines[0], r"^ok low a_third \(\d+ s\) at Half::of invariant_of-self, by its stored proof alone$")
+        self.assertRegex(lines[0], r"^ok low a_third \(\d+ s\) at Half::of invariant_of-self, without its stored proof too$")
+        for said, told in ((PROVED, "it is proved"), (IN_CODE + REFUSED, "not at Half::of invariant_of-self, but at Half::of value")):
+            own.write_text(said)
+            self.refused(IN_ANSWER + REFUSED, f"by its stored proof alone, and without it: {told}")
 
     def test_a_crate_that_is_not_proved(self):
         (self.folder / "whole").write_text(IN_CODE + REFUSED)
@@ -115,6 +125,7 @@ class Mutants(ToolTest):
     def test_goals_are_written(self):
         for said, goal in ((IN_CODE, "value"), (IN_CODE + FALSE, "small"), (IN_ANSWER, "invariant_of-self")):
             self.mutant.write_text(EDIT)
+            (self.folder / "alone").write_text(said + REFUSED)
             self.tried(said + REFUSED)
             self.assertEqual(self.mutant.read_text(), EDIT)
             self.tried(said + REFUSED, "--write-goals")
