@@ -1,7 +1,7 @@
 -- What one reference adds to the counts of a system.
 use Rattle.std.proofs.Common.{◌≡◌, ℕ, ◌+◌, ◌*◌, ◌≤◌, ◌&&◌, not, Bool, true, false, cond, get_or, List, [], ◌∷◌, length}
 use Rattle.std.proofs.Common.{Option, Some, None, arith, ap, sym, subst, refl}
-use Rattle.std.specs.Prelude.{MatchBool, MatchOption, is_some, is_none}
+use Rattle.std.specs.Prelude.{MatchBool, is_some, is_none}
 use Rattle.trace_core.specs.declared.events.Ref.{Ref}
 use Rattle.trace_core.specs.declared.events.Access.{Access}
 use Rattle.trace_core.specs.declared.events.Access.TheVariants.{Fetch, Read, Write}
@@ -13,7 +13,7 @@ use Rattle.cache_core.specs.declared.stats.CacheStats.{CacheStats}
 use Rattle.cache_core.specs.declared.system_cache.SystemCache.{SystemCache}
 use Rattle.cache_core.specs.declared.system.Memory.{Memory}
 use Rattle.cache_core.specs.Geometry.{block_of, set_of}
-use Rattle.cache_core.specs.Order.{Accesses, Visits, VisitsAt, Fills, PassesOn, position_of, slots_of, is_dirty, one_if}
+use Rattle.cache_core.specs.Order.{Visits, VisitsAt, Fills, PassesOn, position_of, slots_of, is_dirty, one_if}
 use Rattle.cache_core.specs.Outcomes.{is_write, allocates, on_hit, on_placing, on_passing, two_options}
 use Rattle.cache_core.specs.CacheSteps.{Enters, system_cache_contents}
 use Rattle.cache_core.specs.SystemCaches.{stats_after, accesses, CacheCountsWithin}

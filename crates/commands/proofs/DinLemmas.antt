@@ -1,5 +1,5 @@
 -- What `din` has read, stepped through and written when it ends.
-use Rattle.std.proofs.Common.{◌≡◌, ℕ, List, [], ◌∷◌, ◌++◌, Option, None, Some, map, sym, ap, ◌∙◌, ◌≤◌, length, arith}
+use Rattle.std.proofs.Common.{◌≡◌, ℕ, List, [], ◌∷◌, Option, None, Some, map, sym, ap, ◌∙◌, ◌≤◌, length, arith}
 use Rattle.std.specs.List.{filter, flat_map}
 use Rattle.std.specs.Option.{option_to_list}
 use Rattle.trace_core.specs.declared.events.Entry.{Entry}
@@ -8,7 +8,6 @@ use Rattle.trace_core.specs.declared.events.Item.{Item}
 use Rattle.trace_core.specs.declared.events.Op.{Op}
 use Rattle.trace_core.specs.declared.events.Op.TheVariants.{Fetch, Load, Store, Modify}
 use Rattle.trace_core.specs.declared.events.Ref.{Ref}
-use Rattle.trace_core.specs.declared.events.Event.{Event}
 use Rattle.trace_core.specs.declared.events.Event.TheVariants as event
 use Rattle.trace_core.specs.declared.events.Kind.TheVariants.{All}
 use Rattle.trace_core.specs.declared.line.Format.{Format}

@@ -30,7 +30,6 @@ pub fn stands_after()
 
 /// A list of events makes at most `g.e` times as many comparisons as it has references.
 pub fn probes_bounded()
-    ensures {
-        (g : GeometryValue) (es : List Event) → probes g es ≤ length (occurrences g es) * g.e
-    }
+    ensures { (g : GeometryValue) (es : List Event)
+        → probes g es ≤ length (occurrences g es) * g.e }
 {}

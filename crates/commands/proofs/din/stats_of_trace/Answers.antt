@@ -1,5 +1,5 @@
 -- An entry that was read is one that the system was stepped through.
-use Rattle.std.proofs.Common.{[], ◌++◌, Ok, refl, sym, ap, length, ◌∙◌, subst, arith, append-nil}
+use Rattle.std.proofs.Common.{[], ◌++◌, Ok, refl, sym, ap, ◌∙◌, subst, arith, append-nil}
 use Rattle.std.specs.List.{flat_map}
 use Rattle.std.proofs.lemmas.Result.{err_from_is_err_and}
 use Rattle.trace_core.specs.declared.events.Kind.TheVariants.{All}
