@@ -4,7 +4,7 @@
 It follows the definitions in docs/definitions.md and docs/manual.md alone, and shares nothing with the program. Where
 the program is quick, the model is plain: a text is cut into lines first, a reference looks back over all that came before it, a
 cache is a map of stamps, a table is a filter of all triples. tests/fuzz compares the two on random input, and
-'tests/run --program tests/model.py' runs the model on the cases, but for the texts of the library that reads the words.
+'tests/run --program tests/model.py' runs the model on the cases, except for the texts of the library that reads the arguments.
 
     tests/model.py WORD..       writes what the program would write
 """
@@ -25,7 +25,7 @@ class Fault(Exception):
 
 
 class Usage(Exception):
-    """Words that are refused before any value is read, or for help."""
+    """Arguments that are refused before any value is read, or ask for help."""
 
     def __init__(self, help=False):
         self.help = help
@@ -41,7 +41,7 @@ class Item:
 
 
 def lines_of(text):
-    """The pieces between LFs; an empty last piece is no line."""
+    """The pieces between LFs; an empty last piece is not a line."""
     pieces = text.split(b"\n")
     return pieces[:-1] if pieces[-1] == b"" else pieces
 
@@ -144,7 +144,7 @@ def windows(events, s, b):
 
 
 def lookups(places, ways):
-    """How each reference goes in a cache of so many ways."""
+    """Whether each reference hits, misses or evicts in a cache of this many ways."""
     hits = [distance is not None and distance < ways for distance, _ in places]
     return ["hit" if hit else "miss eviction" if seen >= ways else "miss" for hit, (_, seen) in zip(hits, places)]
 
@@ -206,7 +206,7 @@ class Machine:
     stats: dict = field(default_factory=lambda: dict.fromkeys(STATISTICS, 0))
 
     def step(self, ref):
-        """Takes a reference, and answers what goes down."""
+        """Takes a reference, and returns what is sent to the next level."""
         self.clock += 1
         block, down = ref.addr >> self.b, []
         hit = block in self.held

@@ -59,7 +59,7 @@ static void make_profile(uint64_t bsize, uint64_t sets) {
     };
 }
 
-// Brings a block to the front of its set's list: each entry goes one place on, up to where the block stood.
+// Brings a block to the front of its set's list: each entry moves one index on, up to where the block was.
 static inline void feed(profile *p, uint64_t address) {
     uint64_t block = address >> p->block_bits, set = block & (p->sets - 1), carried = block;
     uint64_t *list = p->lists + set * p->depth;

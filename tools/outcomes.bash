@@ -13,9 +13,8 @@ export LC_ALL=C # numbers with a point, and sorting by bytes
 # help_caches: what the help of each of these tools says of the trace and the caches. Behind it stand the tool's own options
 help_caches() {
     cat << 'END'
-TRACE is a file, which may end in .gz, .xz or .zst, or - for standard input. The caches are those of a first level, and replace
-the block least recently used. A CACHE is written as the first three numbers of its row in a table: block size, sets, lines per
-set, as 64,128,4.
+TRACE is a file, which may end in .gz, .xz or .zst, or - for standard input. The caches are LRU caches of a first level. A CACHE is
+written as the first three numbers of its row in a table: block size, sets, lines per set, for example 64,128,4.
 
   --unified CACHE   one cache that takes all references
   --fetches CACHE   a cache that takes instruction fetches

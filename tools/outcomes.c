@@ -2,12 +2,12 @@
 //
 //     outcomes NAME lackey d|l LETTERS      writes a trace of that format as lackey: with these letters for a read, a write, a
 //                                           fetch and a modify, and the label of din in place of the size
-//     outcomes NAME JOB - BITS SETS WAYS    reads what the simulator writes of one cache, with so many bits of block and set
+//     outcomes NAME JOB - BITS SETS WAYS    reads what the simulator writes of one cache, with these bits of block and set
 //     outcomes NAME JOB FETCHES BITS SETS WAYS DATA BITS SETS WAYS
 //                                           the same of two caches, in the order of the lackey on standard input
 //
-// The jobs: `lines` writes a line for each reference; `back` and `through` write what goes down from a cache that writes back or
-// through. NAME is that of the tool, for messages.
+// The jobs: `lines` writes a line for each reference; `back` and `through` write what a write-back or write-through cache sends to
+// the next level. NAME is that of the tool, for messages.
 #define _GNU_SOURCE
 #include <stdbool.h>
 #include <stdint.h>
@@ -134,9 +134,9 @@ static bool next(struct cache *cache) {
     return *cache->text != 'h';
 }
 
-static void put_down(enum label label, uint64_t address) { printf("%d %jx\n", (int)label, (uintmax_t)address); }
+static void send_down(enum label label, uint64_t address) { printf("%d %jx\n", (int)label, (uintmax_t)address); }
 
-// What the cache holds after a reference, and what goes down. The outcome is the simulator's, and must be that of this cache.
+// What the cache holds after a reference, and what it sends to the next level. The simulator's outcome must be that of this cache.
 static void follow(struct cache *cache, enum job job, enum label label, uint64_t address, bool hits, bool evicts) {
     size_t sets = (size_t)1 << cache->set_bits;
     if (!cache->lines) cache->lines = calloc(sets * cache->ways, sizeof *cache->lines);
@@ -151,9 +151,9 @@ static void follow(struct cache *cache, enum job job, enum label label, uint64_t
     if (is_held != hits || is_full != evicts) fail("the blocks that are followed here are not those of the simulator");
     if (is_held) used = lines[place];
     else if (!evicts) cache->held[set]++;
-    else if (lines[--place].is_dirty) put_down(WRITE, lines[place].block << cache->bits);
-    if (!is_held) put_down(label == FETCH ? FETCH : READ, block << cache->bits);
-    if (label == WRITE && job == THROUGH) put_down(WRITE, address);
+    else if (lines[--place].is_dirty) send_down(WRITE, lines[place].block << cache->bits);
+    if (!is_held) send_down(label == FETCH ? FETCH : READ, block << cache->bits);
+    if (label == WRITE && job == THROUGH) send_down(WRITE, address);
     used.is_dirty |= label == WRITE && job == BACK;
     memmove(lines + 1, lines, place * sizeof *lines);
     *lines = used;

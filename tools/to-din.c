@@ -34,7 +34,7 @@ static void drain(void) {
     used = 0;
 }
 
-// Ends with a line on standard error. The output ends in the same line: it is none of din, so that a program which reads the
+// Ends with a line on standard error. The output ends in the same line: it is not a din line, so that a program which reads the
 // output from a pipe fails too, and doesn't take what came before for the whole trace.
 static _Noreturn void fail(const char *form, ...) {
     char line[256];

@@ -1,4 +1,4 @@
-"""Misses in steps of so many references."""
+"""Misses over time, in steps of N references."""
 
 import base
 

@@ -1,4 +1,4 @@
-"""What goes down from a first level."""
+"""What a first level sends to the next level."""
 
 import random
 import re
@@ -23,13 +23,13 @@ def machine(cache, through):
 
 class SecondLevel(base.ToolTest):
     def down(self, text, format, through, caches):
-        """What goes down by the tool."""
+        """What is sent to the next level, by the tool."""
         (self.folder / "trace").write_bytes(text)
         arguments = [word for name, cache in caches.items() for word in (f"--{name}", cache)]
         return self.good(self.run_tool("second-level", "trace", *arguments, "--format", format, *["--write-through"] * through))
 
     def judge(self, text, format="d", through=False, **caches):
-        """Compares with what goes down from the machines of the model."""
+        """Compares with what the machines of the model send to the next level."""
         made = {name: machine(cache, through) for name, cache in caches.items()}
         lines = []
         for event in base.references(text, format):

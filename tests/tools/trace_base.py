@@ -74,7 +74,7 @@ class TraceTest(ToolTest):
         return [(label, name, at - place[0]) for label, at in data for name, place in places if within(place, at)]
 
     def fault(self, ran, status, *texts):
-        """A fault of the tool: one message, and a trace that ends in a line which is none."""
+        """A fault of the tool: one message, and a trace whose last line is not a valid one."""
         message = ran.stderr.decode()
         self.assertEqual((ran.returncode, message.count("\n")), (status, 1), message)
         self.assertTrue(ran.stdout.splitlines()[-1].startswith(b"trace: "), ran.stdout)
