@@ -2,8 +2,8 @@
 #   make demo                   sweeps a real trace within a minute, by the program as yet unproved where none is built; tests/run takes it
 #   make test                   proves everything and tests the program; the last line is 'N passed, M failed'
 #   make test-tools             builds the program and tests the tools and the package with it
-#   make strain                 what takes longer: more random cases, refused memory in the libraries too, Cachegrind, C code
-#   make refusals               of these, refused memory alone, for the program and for each call of the libraries
+#   make strain                 tests that take longer: refusals, 100,000 random cases, against Cachegrind, against C code
+#   make refusals               of these, only refused memory, for the program and for each call of the libraries
 #   make mutants                small changes that make the code wrong, each of which the prover must refuse at the goal that it names
 #   make tools                  compiles the C parts of the tools, which else are compiled at their first use
 #   make install PREFIX=/usr    builds the program and puts it, tools, manual, completion and documents below PREFIX (/usr/local)
