@@ -3,7 +3,7 @@
 #
 # A program is built without position independence, so that the addresses of its code and of its static data are the same at
 # each run (those of its stack depend on the environment), and traced by lackey. Of the trace the lines between the two stores to
-# `mark` are kept: without them it would begin with the some hundred thousand accesses by which any program starts.
+# `mark` are kept: without them it would begin with the accesses of the program's start, about a hundred thousand.
 set -eu
 cd "$(dirname "$0")"
 work=$(mktemp -d)

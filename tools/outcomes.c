@@ -128,7 +128,7 @@ struct cache {
 
 enum job { LINES, BACK, THROUGH };
 
-// Reads the next of the simulator's lines; false at its summary. Where there is none, it has failed, and tells so itself.
+// Reads the next of the simulator's lines; false at its summary. If there is no line, it has failed, and says so itself.
 static bool next(struct cache *cache) {
     if (!fgets(cache->text, sizeof cache->text, cache->from)) exit(1);
     return *cache->text != 'h';

@@ -40,7 +40,7 @@ class BadTable(Exception):
 
 def read_table(lines, name):
     """The rows of a table, given its lines. A page without a header will do; `name` is for the fault. A header may name more
-    columns behind those of a sweep, as the tools that write some add them: these are not read."""
+    columns after those of a sweep, which some tools add: these are not read."""
     rows = []
     own = width = len(Row._fields)
     for number, line in enumerate(lines, 1):

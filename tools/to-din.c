@@ -3,7 +3,7 @@
 //     to-din FORMAT < TRACE > TRACE.din
 //
 // To add a format, write a function that reads one of its lines and puts the accesses that it tells of, give it a row in
-// `formats`, and say in the help of to-din how such a trace is made and which lines are passed over.
+// `formats`, and say in the help of to-din how such a trace is made and which lines are skipped.
 #include <errno.h>
 #include <stdarg.h>
 #include <stdbool.h>
@@ -380,7 +380,7 @@ static int convert(const struct format *format) {
         got = read(STDIN_FILENO, input + held, LONGEST - held < PIECE ? LONGEST - held : PIECE);
         if (got < 0) fail("%s %ju: read failed: %s", binary ? "record" : "line", number + 1, strerror(errno));
         held += (size_t)got;
-        if (!got && held && !binary) input[held++] = '\n';  // the last line may lack it
+        if (!got && held && !binary) input[held++] = '\n';  // the last line may be without it
         size_t taken = binary ? records(format, held) : lines(format, held);
         memmove(input, input + taken, held -= taken);
     } while (got);

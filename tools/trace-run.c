@@ -3,9 +3,10 @@
 //     trace-run FD NAME KIND SKIP COUNT qemu PLUGIN QEMU WORD..                 takes them from trace-plugin.c, by a memory that both share
 //     trace-run FD NAME KIND SKIP COUNT lines IN OUT CONVERTER TRACER WORD..    takes them as din lines from the descriptor IN
 //
-// The trace goes to the descriptor FD; NAME is for messages. SKIP references of the KIND are left out, and the program is ended after
-// COUNT more; a COUNT of 0 is none. OUT is a descriptor that only the tracer is to keep, for the child CONVERTER of this process, which
-// writes the lines. trace-run ends with the program's status, 128 and the number of the signal that ended it, or 125 or 126 for a fault.
+// The trace goes to the descriptor FD; NAME is for messages. SKIP references of the KIND are omitted, and the program is ended after
+// COUNT more; a COUNT of 0 means no limit. OUT is a descriptor that only the tracer is to keep, for the child CONVERTER of this
+// process, which writes the lines. trace-run ends with the program's status, 128 and the number of the signal that ended it, or 125 or
+// 126 for a fault.
 #define _GNU_SOURCE
 #include <err.h>
 #include <errno.h>

@@ -149,7 +149,7 @@ BAD = {
     "|core   x: 3 0x44 (0x53)|core   0: 33 0x44 (0x53)|core   0: 3|(spike) ",
 }
 
-# The same conversion by regular expressions: lines that are passed over, and whole lines with what their accesses come from
+# The same conversion by regular expressions: lines that are skipped, and whole lines with what their accesses come from
 HEX = "(?:0[xX])?([0-9a-fA-F]{1,16})"
 CORE = r"(?:core[ \t]*\d+: [ \t]*)?(?!\d \()"
 NAME = r"(?:mf|[xfvcelm])[ \t]*\d"

@@ -26,7 +26,7 @@ class Both:
         self.assertEqual(self.own_data(lines, program, *places), expected)
 
         main = symbols_of(program)["main"]
-        before = None  # each access stands behind the fetch of its instruction, or behind another access of the same
+        before = None  # each access follows the fetch of its instruction, or another access of the same
         for label, at in lines:
             if label != "2" and any(within(symbols_of(program)[name], at) for name in places):
                 self.assertTrue(within(main, before), f"{label} {at:x} behind {before:x}")

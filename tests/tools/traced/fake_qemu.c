@@ -1,4 +1,4 @@
-// Stands for QEMU in tests where there is none: loads a plugin, and calls it for what the words behind the program say.
+// Replaces QEMU in tests without it: loads a plugin, and calls it for what the arguments after the program say.
 //
 //     fake_qemu -plugin FILE,memory=FD .. -0 NAME PROGRAM STEP..
 //     fake_qemu --version     fake_qemu -h
