@@ -14,6 +14,10 @@ class Reading(unittest.TestCase):
     def test_a_page_has_no_header(self):
         self.assertEqual(len(table.read_table(["16,1,2,32,4,5,3\n", "16,2,1,32,4,5,3\n"], "t")), 2)
 
+    def test_lines_that_end_in_cr_lf(self):
+        text = [table.HEADER + "\r\n", "16,1,2,32,4,5,3\r\n"]
+        self.assertEqual(table.read_table(text, "t"), [table.Row(16, 1, 2, 32, 4, 5, 3)])
+
     def test_further_columns(self):
         text = [table.HEADER + ",percent,note\n", "16,1,2,32,4,5,3,55.556,\n"]
         self.assertEqual(table.read_table(text, "t"), [table.Row(16, 1, 2, 32, 4, 5, 3)])
