@@ -39,6 +39,14 @@ cat -- "$STAND_IN/$said"
 """
 
 
+class AllMutants(ToolTest):
+    def test_each_can_be_tried(self):
+        """Each changes code that is there, and names a goal that is a promise."""
+        ran = self.run_command(TOP / "tests/try-mutants", "--list")
+        self.assertEqual([line for line in ran.stdout.decode().splitlines() if "FAILED" in line], [])
+        self.assertEqual((ran.stderr, ran.returncode), (b"", 0))
+
+
 class Mutants(ToolTest):
     def setUp(self):
         super().setUp()
@@ -130,6 +138,12 @@ class Mutants(ToolTest):
             self.assertEqual(self.mutant.read_text(), EDIT)
             self.tried(said + REFUSED, "--write-goals")
             self.assertEqual(self.mutant.read_text(), f"goal: Half::of {goal}\n{EDIT}")
+
+    def test_code_that_is_gone(self):
+        self.mutant.write_text(EDIT.replace("number / 2", "number / 4"))
+        lines, status = self.tried("", "--list")
+        self.assertRegex(lines[-1], r"\(FAILED: an 'old:' text is in src/lib.rt 0 times, and not once\)$")
+        self.assertEqual(status, 1)
 
     def test_names_and_list(self):
         gate = self.top / "crates/low/must-fail/no_half.edit"
