@@ -1,19 +1,14 @@
 """The tools for the cache lab of CS:APP. What they must say is from the handout, or worked out by hand."""
 
-import contextlib
 import os
-import pathlib
 import re
 import shutil
 import signal
 import subprocess
-import tempfile
-import time
 
-from base import EXAMPLES, PROGRAM, TOOLS, TOP, ToolTest, needs
+from base import EXAMPLES, PROGRAM, TOOLS, TOP, needs
+from lab_base import LAB, STUDENTS, LabTest, StudentTest, comes, is_running
 
-LAB = TOOLS / "lab"
-STUDENTS = TOP / "tests/tools/lab"
 YI = TOP / "tests/cases/inputs/handout.lackey"
 YI_LINES = ["L 10,1 miss", "M 20,1 miss hit", "L 22,1 hit", "S 18,1 hit", "L 110,1 miss eviction", "L 210,1 miss eviction",
             "M 12,1 miss eviction hit"]
@@ -24,59 +19,6 @@ TRACES = {
     "wide.trace": " L 10,1\n L 100000010,1\n",
 }
 LAB_LINE = re.compile(r"(I  | [LSM] )[0-9a-f]+,[0-9]+")
-
-
-def is_running(program):
-    """Whether a process runs a program."""
-    for link in pathlib.Path("/proc").glob("[0-9]*/exe"):
-        with contextlib.suppress(OSError):
-            if os.readlink(link) == str(program):
-                return True
-    return False
-
-
-def comes(condition, seconds=20):
-    """Whether a condition comes true within some time."""
-    until = time.monotonic() + seconds
-    while not condition() and time.monotonic() < until:
-        time.sleep(0.01)
-    return condition()
-
-
-class LabTest(ToolTest):
-    """A test with a folder for a tool's private files."""
-
-    def setUp(self):
-        super().setUp()
-        self.private = self.folder / "private"
-        self.private.mkdir()
-
-    def leaves_nothing(self, *arguments, stdin=b""):
-        """Runs a tool, and interrupts it as the keyboard does once it has begun to write. Its files are removed."""
-        given = {"env": {**os.environ, "TMPDIR": str(self.private)}, "cwd": self.folder, "start_new_session": True}
-        pipes = {"stdin": subprocess.PIPE, "stdout": subprocess.PIPE, "stderr": subprocess.DEVNULL}
-        for number in (signal.SIGINT, signal.SIGTERM):
-            tool = subprocess.Popen(arguments, **given, **pipes)
-            try:
-                tool.stdin.write(stdin)
-                tool.stdin.flush()
-                self.assertTrue(tool.stdout.read(1))
-                self.assertTrue(list(self.private.iterdir()))
-                os.killpg(tool.pid, number)
-                self.assertEqual(tool.wait(20), 128 + number)
-            finally:
-                with contextlib.suppress(ProcessLookupError):
-                    os.killpg(tool.pid, signal.SIGKILL)
-                tool.communicate()
-            self.assertEqual(list(self.private.iterdir()), [])
-
-    def without_a_reader(self, *arguments):
-        """The message and the status of a tool whose output goes to a pipe that nobody reads."""
-        reader, writer = os.pipe()
-        os.close(reader)
-        ran = subprocess.run(arguments, stdout=writer, stderr=subprocess.PIPE, cwd=self.folder, text=True, timeout=60)
-        os.close(writer)
-        return ran.stderr, ran.returncode
 
 
 class Csim(LabTest):
@@ -149,26 +91,13 @@ def mistakes():
         yield lines[0].split(), arguments.split(), "".join(f"{line[2:]}\n" for line in lines if line.startswith("> "))
 
 
-class Grade(LabTest):
+class Grade(StudentTest):
     """What is said of programs that are right, and of those that are not."""
-
-    @classmethod
-    def setUpClass(cls):
-        cls.programs = pathlib.Path(tempfile.mkdtemp(prefix="cachesim-students-"))
-        cls.addClassCleanup(shutil.rmtree, cls.programs)
 
     def setUp(self):
         super().setUp()
         for name, text in TRACES.items():
             (self.folder / name).write_text(text)
-
-    def student(self, *mistakes):
-        """A student's program with these mistakes, compiled once."""
-        program = self.programs / ("-".join(mistakes) or "right")
-        if not program.exists():
-            flags = ["-O1", "-Wall", "-Wextra", "-Werror", *(f"-D{mistake}" for mistake in mistakes)]
-            subprocess.run(["cc", *flags, "-o", program, STUDENTS / "student.c"], check=True)
-        return program
 
     def grade(self, *arguments, env=None):
         return self.run_tool("lab/grade", *arguments, env={"TMPDIR": str(self.private), **(env or {})}, seconds=40)
@@ -201,7 +130,7 @@ class Grade(LabTest):
 
     def test_what_plays_no_part(self):
         """Other output, files and folders that are left behind, an emptied copy of the trace, a process that goes on."""
-        for mistake in ("CHATTY", "JUNK", "LEAVES_CHILD"):
+        for mistake in ("CHATTY", "JUNK", "LEAVES_CHILD", "LEAVES_DAEMON"):
             self.says(self.grade(self.student(mistake), "order.trace"), "13 of 13 right\n", 0)
             self.assertTrue(comes(lambda: not is_running(self.student(mistake))))
         self.assertEqual({path.name: path.read_text() for path in self.folder.glob("*.trace")}, TRACES)
@@ -240,7 +169,7 @@ class Grade(LabTest):
             (["--geometry", "4,1", right, "yi.trace"], f"{option} --geometry: invalid geometry value: '4,1'; "),
             (["--seconds", "0", right, "yi.trace"], f"{option} --seconds: invalid seconds value: '0'; "),
             (["--verbose-lines", "some", right, "yi.trace"], f"{option} --verbose-lines: invalid choice"),
-            ([right], "grade: the following arguments are required: TRACE; 'grade --help' explains the arguments\n"),
+            ([], "grade: the following arguments are required: CSIM; 'grade --help' explains the arguments\n"),
         ):
             self.refused(self.grade(*arguments), 2, message)
         self.refused(self.grade(right, "yi.trace", env={"CACHESIM": "/absent"}), 2, "grade: /absent is no program that can be run\n")

@@ -1,5 +1,6 @@
 /* A simulator of the kind that students write for the cache lab, for the tests of `grade`. It is right as it stands; each name that
  * is defined puts a mistake in, as `cc -DFIFO`. */
+#include <fcntl.h>
 #include <getopt.h>
 #include <signal.h>
 #include <stdio.h>
@@ -8,16 +9,19 @@
 #include <sys/stat.h>
 #include <unistd.h>
 
-#ifdef NARROW
-typedef unsigned int address_t; /* the upper half of an address is lost */
-#else
+/* HAS(NAME) is 1 where NAME is defined by -DNAME, and else 0. It is how Linux has its IS_ENABLED. */
+#define COMMA_1 0,
+#define SECOND(first, second, ...) second
+#define IS(text) SECOND(text 1, 0, )
+#define JOINED(value) IS(COMMA_##value)
+#define HAS(name) JOINED(name)
+
 typedef unsigned long long address_t;
-#endif
 
 struct line {
     int valid;
     address_t tag;
-    unsigned long used;
+    unsigned long used, uses;
 };
 
 static struct line *lines;
@@ -31,13 +35,11 @@ static void say(const char *word)
         printf(" %s", word);
 }
 
-static void hit(struct line *line)
+static void hit(struct line *line, char kind)
 {
-#ifndef FIFO
-    line->used = now;
-#else
-    (void)line;
-#endif
+    if (!HAS(FIFO) && !(HAS(STORES_NO_USE) && kind == 'S'))
+        line->used = now;
+    line->uses++;
     hits++;
     say("hit");
 }
@@ -46,51 +48,81 @@ static void miss(struct line *victim, address_t tag)
 {
     misses++;
     say("miss");
-#ifdef EVICTS_ALWAYS
-    evictions++;
-    say("eviction");
-#else
-    if (victim->valid) {
+    if (victim->valid || HAS(EVICTS_ALWAYS)) {
         evictions++;
         say("eviction");
+        hits += HAS(EVICTION_HITS);
+        misses -= HAS(EVICTION_NO_MISS);
     }
-#endif
-    *victim = (struct line){1, tag, now};
+    *victim = (struct line){1, tag, HAS(NEW_IS_OLD) ? 0 : now, 1};
 }
 
-static void touch(address_t address)
+/* The number of a block's set. */
+static address_t place(address_t address)
 {
-    address_t block = address >> block_bits, tag = block >> set_bits;
-    struct line *set = lines + (block & ((1ull << set_bits) - 1)) * ways, *victim = set;
-    now++;
-    for (struct line *line = set; line < set + ways; line++)
-        if (line->valid && line->tag == tag) {
-            hit(line);
+    address_t block = address >> block_bits, sets = 1ull << set_bits;
+    if (HAS(HIGH_SETS))
+        return address >> (32 - set_bits) & (sets - 1);
+    if (HAS(TWICE_SETS))
+        return set_bits ? block % (2 * set_bits) : 0;
+    if (HAS(FEW_SETS))
+        return block % sets % 1024;
+    if (HAS(OFFSET_KEPT))
+        return address % sets;
+    return block % sets;
+}
+
+/* Whether a line rather than another is the victim, both of which hold a block. */
+static int is_victim(struct line *line, struct line *other)
+{
+    if (HAS(MRU))
+        return line->used > other->used;
+    if (HAS(LFU))
+        return line->uses < other->uses;
+    if (HAS(FIRST_WAY))
+        return line < other;
+    if (HAS(AT_RANDOM))
+        return rand() & 1;
+    return line->used < other->used;
+}
+
+static void touch(address_t address, char kind)
+{
+    address &= HAS(NARROW) ? 0xffffffff : ~0ull;
+    address_t tag = address >> block_bits >> set_bits;
+    tag &= HAS(NARROW_TAG) ? 0xffffffff : ~0ull;
+    struct line *set = lines + place(address) * ways, *victim = set, *end = set + (HAS(ONE_WAY) ? 1 : ways);
+    now = HAS(SHORT_CLOCK) ? (now + 1) & 0xffff : now + 1;
+    for (struct line *line = set; line < end; line++)
+        if ((line->valid || HAS(NO_VALID)) && line->tag == tag) {
+            hit(line, kind);
             return;
         }
-    for (struct line *line = set + 1; line < set + ways; line++)
-        if (victim->valid && (!line->valid || line->used < victim->used))
+    if (HAS(STORES_PASS) && kind == 'S') {
+        misses++;
+        say("miss");
+        return;
+    }
+    for (struct line *line = set + 1; line < end; line++)
+        if (victim->valid && (!line->valid || is_victim(line, victim)))
             victim = line;
     miss(victim, tag);
 }
 
-static void step(char kind, unsigned long long address, int size)
+static void step(char kind, address_t address, int size)
 {
-#ifdef CRASHES
-    if (kind == 'S')
+    if (HAS(CRASHES) && kind == 'S')
         abort();
-#endif
-#ifdef LOOPS
-    while (kind == 'S')
-        now++;
-#endif
+    if (HAS(LOOPS) && kind == 'S')
+        for (;;)
+            now++;
     if (verbose)
         printf("%c %llx,%d", kind, address, size);
-    touch((address_t)address);
-#ifndef FORGETS_STORE
-    if (kind == 'M')
-        touch((address_t)address);
-#endif
+    touch(address, kind);
+    if (kind == 'M' && !HAS(FORGETS_STORE))
+        touch(address, 'S');
+    if (HAS(CROSSES) && (address + size - 1) >> block_bits != address >> block_bits)
+        touch(address + size - 1, kind);
     if (verbose)
         printf(" \n");
 }
@@ -98,69 +130,123 @@ static void step(char kind, unsigned long long address, int size)
 /* What the lab's function of this name does, as its handout describes it. */
 static void printSummary(int hits, int misses, int evictions)
 {
-    printf("hits:%d misses:%d evictions:%d\n", hits, misses, evictions);
-#ifndef NO_RESULTS
+    const char *form = HAS(OWN_WORDS) ? "Hits: %d, Misses: %d, Evictions: %d\n" : "hits:%d misses:%d evictions:%d\n";
+    if (!HAS(NEEDS_VERBOSE) || verbose)
+        fprintf(HAS(TO_STDERR) ? stderr : stdout, form, hits, misses, evictions);
+    if (HAS(NO_RESULTS))
+        return;
     FILE *results = fopen(".csim_results", "w");
     fprintf(results, "%d %d %d\n", hits, misses, evictions);
     fclose(results);
-#endif
+}
+
+/* Goes on for long after the program, in its session or in one of its own. */
+static void leave_child(int is_daemon)
+{
+    if (fork())
+        return;
+    signal(SIGHUP, SIG_IGN);
+    if (is_daemon && daemon(1, 1))
+        exit(1);
+    sleep(1000);
+}
+
+/* Has cachesim do the work. */
+static void call_cachesim(char **argv)
+{
+    char *words[20] = {"cachesim", "csim"};
+    for (int at = 1; at < 17 && argv[at]; at++)
+        words[at + 1] = argv[at];
+    execvp(*words, words);
+    exit(1);
 }
 
 /* What a program does before its work. */
-static void begin(const char *trace)
+static void begin(const char *trace, char **argv)
 {
-    (void)trace;
-#ifdef FLOODS
-    for (;;)
+    while (HAS(FLOODS))
         puts("still looking for the mistake");
-#endif
-#ifdef STOPS_GRADE
-    kill(getppid(), SIGTERM);
-    pause();
-#endif
-#ifdef LEAVES_CHILD
-    if (!fork()) {
-        signal(SIGHUP, SIG_IGN);
-        sleep(1000);
+    while (HAS(LOOPS_VERBOSE) && verbose)
+        sleep(1);
+    if (HAS(STOPS_GRADE)) {
+        kill(getppid(), SIGTERM);
+        pause();
     }
-#endif
-#ifdef CHATTY
-    printf("\033[2Jopening %s\nhits:0 misses:0 evictions:0\nstart ", trace);
-#endif
+    if (HAS(LEAVES_CHILD) || HAS(LEAVES_DAEMON))
+        leave_child(HAS(LEAVES_DAEMON));
+    if (HAS(CHATTY))
+        printf("\033[2Jopening %s\nhits:0 misses:0 evictions:0\nstart ", trace);
+    if (HAS(CALLS_CACHESIM))
+        call_cachesim(argv);
 }
 
-/* What it does after its work. */
-static void end(const char *trace)
+static void leave_junk(const char *trace)
 {
-    (void)trace;
-#ifdef COUNTS
-    hits++;
-#endif
-#ifdef SILENT
-    exit(0);
-#endif
-    printSummary(hits, misses, evictions);
-#ifdef RESULTS
-    FILE *results = fopen(".csim_results", "w");
-    fprintf(results, "%d %d %d\n", evictions, misses, hits);
-    fclose(results);
-#endif
-#ifdef RESULTS_PIPE
-    remove(".csim_results");
-    mkfifo(".csim_results", 0600);
-#endif
-#ifdef JUNK
     mkdir("locked", 0700);
     fclose(fopen("locked/file", "w"));
     mkfifo("pipe", 0600);
     chmod("locked", 0);
     fclose(fopen(trace, "w")); /* the trace is empty from now on */
-#endif
-#ifdef CRASHES_LATE
-    fflush(stdout);
-    fputs("free(): \033[31minvalid pointer\n", stderr);
-    raise(SIGSEGV);
-#endif
+}
+
+/* What it does after its work. */
+static void end(const char *trace)
+{
+    hits += HAS(COUNTS);
+    if (HAS(SHORT_COUNTS))
+        hits &= 0xffff, misses &= 0xffff, evictions &= 0xffff;
+    if (HAS(SILENT))
+        exit(0);
+    if (HAS(SWAPS_COUNTS))
+        printSummary(misses, hits, evictions);
+    else
+        printSummary(hits, misses, evictions);
+    if (HAS(RESULTS)) {
+        FILE *results = fopen(".csim_results", "w");
+        fprintf(results, "%d %d %d\n", evictions, misses, hits);
+        fclose(results);
+    }
+    if (HAS(RESULTS_PIPE)) {
+        remove(".csim_results");
+        mkfifo(".csim_results", 0600);
+    }
+    if (HAS(JUNK))
+        leave_junk(trace);
+    if (HAS(FLUSHES_LATE))
+        raise(SIGKILL); /* what it has printed is still held */
+    if (HAS(CRASHES_LATE)) {
+        fflush(stdout);
+        fputs("free(): \033[31minvalid pointer\n", stderr);
+        raise(SIGSEGV);
+    }
+}
+
+/* Takes an access from a line. Answers whether there is one. */
+static int reads(const char *text, char *kind, address_t *address, int *size)
+{
+    int found = sscanf(text, " %c %llx,%d", kind, address, size);
+    if (HAS(SIGNED_ADDRESS) && found == 3)
+        *address = strtoll(text + 3, NULL, 16);
+    return found == 3 && strchr(HAS(FETCHES) ? "LSMI" : "LSM", *kind);
+}
+
+/* Runs the trace, keeping one line back, so that a mistake can be made with the last one. */
+static void run(FILE *file)
+{
+    char text[100] = "", next[100], kind;
+    address_t address;
+    int number = 0, size;
+    while (fgets(next, HAS(SHORT_LINES) ? 16 : 100, file)) {
+        if (reads(text, &kind, &address, &size))
+            step(kind, address, size);
+        number++;
+        strcpy(text, next);
+        if ((HAS(FIRST_LOST) && number == 1) || (HAS(FEW_LINES) && number > 65536))
+            *text = 0;
+    }
+    for (int times = HAS(LAST_LOST) ? 0 : HAS(LAST_TWICE) ? 2 : 1; times > 0; times--)
+        if (reads(text, &kind, &address, &size))
+            step(kind, address, size);
 }
 
 int main(int argc, char **argv)
@@ -168,25 +254,16 @@ int main(int argc, char **argv)
     const char *trace = "";
     for (int option; (option = getopt(argc, argv, "vs:E:b:t:")) != -1;)
         switch (option) {
-#ifndef NO_VERBOSE
-        case 'v': verbose = 1; break;
-#endif
-        case 's': set_bits = atoi(optarg); break;
+        case 'v': verbose = !HAS(NO_VERBOSE); break;
+        case 's': *(HAS(SWAPS_BITS) ? &block_bits : &set_bits) = atoi(optarg); break;
         case 'E': ways = atoi(optarg); break;
-        case 'b': block_bits = atoi(optarg); break;
+        case 'b': *(HAS(SWAPS_BITS) ? &set_bits : &block_bits) = atoi(optarg); break;
         case 't': trace = optarg; break;
         }
     FILE *file = fopen(trace, "r");
-    begin(trace);
+    begin(trace, argv);
     lines = calloc((size_t)ways << set_bits, sizeof *lines);
-    char text[100], kind;
-    unsigned long long address;
-    for (int size; fgets(text, sizeof text, file);)
-        if (sscanf(text, " %c %llx,%d", &kind, &address, &size) == 3 && strchr("LSM", kind))
-            step(kind, address, size);
+    run(file);
     end(trace);
-#ifdef STATUS
-    return 3;
-#endif
-    return 0;
+    return HAS(STATUS) ? 3 : 0;
 }

@@ -1,0 +1,85 @@
+"""What the tests of the tools for the cache lab share."""
+
+import contextlib
+import os
+import pathlib
+import shutil
+import signal
+import subprocess
+import tempfile
+import time
+
+from base import TOOLS, TOP, ToolTest
+
+LAB = TOOLS / "lab"
+STUDENTS = TOP / "tests/tools/lab"
+
+
+def is_running(program):
+    """Whether a process runs a program."""
+    for link in pathlib.Path("/proc").glob("[0-9]*/exe"):
+        with contextlib.suppress(OSError):
+            if os.readlink(link) == str(program):
+                return True
+    return False
+
+
+def comes(condition, seconds=20):
+    """Whether a condition comes true within some time."""
+    until = time.monotonic() + seconds
+    while not condition() and time.monotonic() < until:
+        time.sleep(0.01)
+    return condition()
+
+
+class LabTest(ToolTest):
+    """A test with a folder for a tool's private files."""
+
+    def setUp(self):
+        super().setUp()
+        self.private = self.folder / "private"
+        self.private.mkdir()
+
+    def leaves_nothing(self, *arguments, stdin=b""):
+        """Runs a tool, and interrupts it as the keyboard does once it has begun to write. Its files are removed."""
+        given = {"env": {**os.environ, "TMPDIR": str(self.private)}, "cwd": self.folder, "start_new_session": True}
+        pipes = {"stdin": subprocess.PIPE, "stdout": subprocess.PIPE, "stderr": subprocess.DEVNULL}
+        for number in (signal.SIGINT, signal.SIGTERM):
+            tool = subprocess.Popen(arguments, **given, **pipes)
+            try:
+                tool.stdin.write(stdin)
+                tool.stdin.flush()
+                self.assertTrue(tool.stdout.read(1))
+                self.assertTrue(list(self.private.iterdir()))
+                os.killpg(tool.pid, number)
+                self.assertEqual(tool.wait(20), 128 + number)
+            finally:
+                with contextlib.suppress(ProcessLookupError):
+                    os.killpg(tool.pid, signal.SIGKILL)
+                tool.communicate()
+            self.assertEqual(list(self.private.iterdir()), [])
+
+    def without_a_reader(self, *arguments):
+        """The message and the status of a tool whose output goes to a pipe that nobody reads."""
+        reader, writer = os.pipe()
+        os.close(reader)
+        ran = subprocess.run(arguments, stdout=writer, stderr=subprocess.PIPE, cwd=self.folder, text=True, timeout=60)
+        os.close(writer)
+        return ran.stderr, ran.returncode
+
+
+class StudentTest(LabTest):
+    """A test with students' programs."""
+
+    @classmethod
+    def setUpClass(cls):
+        cls.programs = pathlib.Path(tempfile.mkdtemp(prefix="cachesim-students-"))
+        cls.addClassCleanup(shutil.rmtree, cls.programs)
+
+    def student(self, *mistakes, source="student.c"):
+        """A student's program with these mistakes, compiled once."""
+        program = self.programs / ("-".join(mistakes) or "right")
+        if not program.exists():
+            flags = ["-O1", "-Wall", "-Wextra", "-Werror", *(f"-D{mistake}" for mistake in mistakes)]
+            subprocess.run(["cc", *flags, "-o", program, STUDENTS / source], check=True)
+        return program

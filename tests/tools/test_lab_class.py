@@ -1,0 +1,280 @@
+"""A class judged by grade-class, and the traces by which it judges: planted mistakes are found, and programs in other styles pass."""
+
+import csv
+import os
+import pathlib
+import re
+import shutil
+import signal
+import subprocess
+
+from base import EXAMPLES, PROGRAM, TOOLS, Lru, needs
+from lab_base import LAB, STUDENTS, StudentTest, comes, is_running
+
+CACHES = "1,1,1 4,2,4 2,1,4 2,1,3 2,2,3 2,4,3 5,1,5 4,1,4 0,1,0 0,2,4 3,3,6 6,8,6 14,2,2".split()
+TRACES = "order mixed wide rows blocks long".split()
+# Mistakes of student.c, by a trace that must find them
+MISTAKES = {
+    "order": "FIFO MRU LFU FIRST_WAY AT_RANDOM NEW_IS_OLD STORES_NO_USE ONE_WAY NO_VALID EVICTS_ALWAYS EVICTION_HITS EVICTION_NO_MISS "
+    "FIRST_LOST LAST_LOST LAST_TWICE COUNTS SWAPS_COUNTS",
+    "mixed": "FORGETS_STORE STORES_PASS FETCHES TWICE_SETS OFFSET_KEPT SWAPS_BITS CROSSES",
+    "wide": "NARROW NARROW_TAG SIGNED_ADDRESS SHORT_LINES",
+    "rows": "HIGH_SETS FEW_SETS",
+    "blocks": "CRASHES CRASHES_LATE STATUS SILENT FLUSHES_LATE NEEDS_VERBOSE OWN_WORDS TO_STDERR RESULTS RESULTS_PIPE CALLS_CACHESIM",
+    "long": "SHORT_CLOCK SHORT_COUNTS FEW_LINES",
+}
+RIGHT = {"stamps": "", "list": "STYLE=LIST", "ages": "STYLE=AGES", "shift": "STYLE=SHIFT", "python": "csim.py"}
+FIRST, FINE = "wrong: -s 1 -E 1 -b 1 -t order.trace", "with -v the line of each access is right"
+HEADER = "name,right,of,points,reason"
+
+
+class ClassTest(StudentTest):
+    """A test with folders of students."""
+
+    def enrol(self, name, program):
+        folder = self.folder / "students" / name
+        folder.mkdir(parents=True)
+        shutil.copy(program, folder / "csim")
+        return folder
+
+    def grade_class(self, *arguments, env=None, seconds=600):
+        return self.run_tool("lab/grade-class", *arguments, env={"TMPDIR": str(self.private), **(env or {})}, seconds=seconds)
+
+    def table(self, ran):
+        """The rows of a table, by name."""
+        text = self.good(ran)
+        self.assertTrue(text.startswith(f"{HEADER}\n"), text)
+        self.assertEqual(list(self.private.iterdir()), [])
+        return {row["name"]: row for row in csv.DictReader(text.splitlines())}
+
+    def text_of(self, name):
+        return (self.folder / "students" / name / "grade.txt").read_text()
+
+    def traces_in(self, name):
+        """The traces at which a program is wrong, by its text."""
+        return set(re.findall(r"^wrong: .* -t (\w+)\.trace$", self.text_of(name), re.M))
+
+
+class Planted(ClassTest):
+    """By the traces of hard-traces, with all caches."""
+
+    def test_each_mistake_is_found_and_each_style_is_right(self):
+        mistakes = {mistake: trace for trace, names in MISTAKES.items() for mistake in names.split()}
+        self.assertGreater(len(mistakes), 40)
+        for mistake in mistakes:
+            self.enrol(mistake, self.student(mistake))
+        for name, given in RIGHT.items():
+            source = "styles.c" if "STYLE" in given else "student.c"
+            self.enrol(name, STUDENTS / given if given == "csim.py" else self.student(*given.split(), source=source))
+        env = {"PATH": f"{PROGRAM.parent}:{os.environ['PATH']}"}
+        rows = self.table(self.grade_class(*sorted((self.folder / "students").iterdir()), env=env))
+        self.assertEqual(sorted(rows), sorted([*mistakes, *RIGHT]))
+        for name in RIGHT:
+            self.assertEqual(rows[name], dict(zip(HEADER.split(","), [name, "78", "78", "234", ""])))
+        for mistake, trace in mistakes.items():
+            with self.subTest(mistake):
+                self.assertLess(int(rows[mistake]["right"]), 78)
+                self.assertLess(int(rows[mistake]["points"]), 234)
+                self.assertRegex(rows[mistake]["reason"], r"^wrong: -s \d+ -E \d+ -b \d+ -t \w+\.trace; ")
+                self.assertIn(trace, self.traces_in(mistake))
+        self.figures(rows)
+
+    def figures(self, rows):
+        """What some mistakes cost, by hand."""
+        self.assertEqual((rows["EVICTS_ALWAYS"]["right"], rows["EVICTS_ALWAYS"]["points"]), ("0", "156"), "two numbers of three are right")
+        self.assertEqual((rows["CRASHES_LATE"]["right"], rows["CRASHES_LATE"]["points"]), ("0", "0"))
+        self.assertGreaterEqual(int(rows["FIFO"]["right"]), 36, "six caches of thirteen have one way")
+        self.assertEqual(rows["STATUS"]["reason"], f"{FIRST}; ended with status 3; {FINE}")
+        for mistake in ("FORGETS_STORE", "NARROW", "NARROW_TAG", "SHORT_CLOCK"):
+            self.assertEqual(self.traces_in(mistake) & {"rows", "blocks"}, set(), "that is why there are others")
+
+
+class HardTraces(StudentTest):
+    def setUp(self):
+        super().setUp()
+        self.assertEqual(self.good(self.run_tool("lab/hard-traces", "new/hard")).split(), [f"{name}.trace" for name in TRACES])
+        self.hard = self.folder / "new/hard"
+
+    def test_they_are_the_same_again_and_of_the_labs_form(self):
+        self.good(self.run_tool("lab/hard-traces", "again"))
+        for name in TRACES:
+            text = (self.hard / f"{name}.trace").read_text()
+            self.assertEqual((self.folder / f"again/{name}.trace").read_text(), text)
+            for line in text.splitlines():
+                found = re.fullmatch(r"(I  | [LSM] )([0-9a-f]{8,16}),([1248])", line)
+                self.assertTrue(found and int(found[2], 16) % 8 + int(found[3]) <= 8, line)
+        self.assertGreater((self.hard / "long.trace").read_text().count("\n"), 1 << 16)
+
+    def test_two_are_those_of_the_examples(self):
+        self.assertEqual((self.hard / "blocks.trace").read_text(), (EXAMPLES / "blocks.lackey").read_text())
+        data = [line for line in (EXAMPLES / "transpose.lackey").read_text().splitlines() if line[0] == " "]
+        self.assertEqual((self.hard / "rows.trace").read_text().splitlines(), data)
+
+    def test_the_numbers_that_are_wanted(self):
+        """Those of a simulator that is as plain as can be; for each cache a trace has hits, misses and evictions."""
+        for cache in CACHES:
+            set_bits, ways, block_bits = map(int, cache.split(","))
+            is_tried = False
+            for name in TRACES:
+                plain = Lru(1 << block_bits, 1 << set_bits, ways)
+                for kind, operand in map(str.split, (self.hard / f"{name}.trace").read_text().splitlines()):
+                    for _ in range("ILM".find(kind) if kind != "S" else 1):
+                        plain.access(int(operand.partition(",")[0], 16))
+                options = ["-s", set_bits, "-E", ways, "-b", block_bits, "-t", self.hard / f"{name}.trace"]
+                wanted = "hits:{} misses:{} evictions:{}\n".format(*plain.counts)
+                self.assertEqual(self.good(self.run_command(PROGRAM, "csim", *options)), wanted)
+                is_tried |= min(plain.counts) > 0
+            self.assertTrue(is_tried, cache)
+
+    def test_a_place_that_cannot_be_written(self):
+        (self.folder / "file").touch()
+        self.refused(self.run_tool("lab/hard-traces", "file"), 1, "hard-traces: file: File exists\n")
+        self.refused(self.run_tool("lab/hard-traces"), 2, "hard-traces: the following arguments are required: FOLDER; ")
+
+
+class GradeClass(ClassTest):
+    SHORT = ["--geometry", "4,1,4"]
+
+    def test_names_order_and_texts(self):
+        """Names are without what is common; the order is that of the folders; what stands in place of a text is not followed."""
+        folders = [self.enrol("zoe/lab", self.student()), self.enrol("ann/lab", self.student("COUNTS"))]
+        (self.folder / "mine").write_text("kept\n")
+        (folders[0] / "grade.txt").symlink_to(self.folder / "mine")
+        ran = self.grade_class(*self.SHORT, "--trace", EXAMPLES / "blocks.lackey", *folders, f"{folders[0]}/", "--jobs", 1)
+        said = "wanted hits:720 misses:1328 evictions:1312; got hits:721 misses:1328 evictions:1312"
+        row = f"ann/lab,0,1,2,wrong: -s 4 -E 1 -b 4 -t {EXAMPLES}/blocks.lackey; {said}; {FINE}"
+        self.assertEqual(self.good(ran), f"{HEADER}\nzoe/lab,1,1,3,\n{row}\n")
+        self.assertEqual((self.folder / "mine").read_text(), "kept\n")
+        self.assertEqual(self.text_of("zoe/lab"), "1 of 1 right, 3 of 3 points\n")
+        self.assertIn("\n0 of 1 right, 2 of 3 points\n", self.text_of("ann/lab"))
+        self.assertEqual(sorted(path.name for path in folders[0].iterdir()), ["csim", "grade.txt"])
+
+    def test_programs_that_cannot_be_run(self):
+        for name, text, mode in (("none", None, 0), ("plain", "#!/bin/sh\n", 0o644), ("text", "no program\n", 0o755)):
+            folder = self.folder / "students" / name
+            folder.mkdir(parents=True)
+            if text:
+                (folder / "csim").write_text(text)
+                (folder / "csim").chmod(mode)
+        rows = self.table(self.grade_class(*self.SHORT, *sorted((self.folder / "students").iterdir())))
+        said = {"none": "csim: no such file", "plain": "csim: Permission denied", "text": "csim: Exec format error"}
+        for name, reason in said.items():
+            self.assertEqual(list(rows[name].values()), [name, "0", "6", "0", reason])
+            self.assertEqual(self.text_of(name), f"{reason}\n")
+
+    def test_a_program_that_hangs_costs_its_time_once(self):
+        """And a second for each other trace, and for the line at which it hangs."""
+        self.enrol("ann", self.student("LOOPS"))
+        self.enrol("bob", self.student("COUNTS", "LOOPS_VERBOSE"))
+        rows = self.table(self.grade_class("--seconds", 2.5, "students/ann", "students/bob"))
+        self.assertEqual(self.text_of("bob").count("with -v it writes no line for an access"), 1)
+        text = self.text_of("ann")
+        self.assertEqual((rows["ann"]["right"], rows["ann"]["points"]), ("0", "0"))
+        said = [text.count(f"no end within {seconds} s") for seconds in ("2.5", "1")]
+        self.assertEqual((said, text.count("not run: ")), ([1, 6], 72))
+        self.assertIn("line 3 with -v is the first that is wrong; line 3 of the trace is ' S 00000010,4'", text)
+
+    def test_nobody_can_be_judged(self):
+        self.enrol("ann", self.student())
+        (self.folder / "bad.trace").write_text(" X 10,1\n")
+        bare = self.folder / "bare"
+        bare.mkdir()
+        for name in ("python3", "stdbuf"):
+            (bare / name).symlink_to(shutil.which(name))
+        for arguments, env, message in (
+            (["--trace", "bad.trace"], {}, "grade-class: -s 1 -E 1 -b 1 -t bad.trace: line 1: bad label\n"),
+            (["--trace", "absent"], {}, "grade-class: absent: no such file\n"),
+            (["absent"], {}, "grade-class: absent: no such folder\n"),
+            (["--geometry", "21,1,1"], {}, "bad geometry\n"),
+            (["--jobs", "0"], {}, "grade-class: argument --jobs: invalid jobs value: '0'; "),
+            ([], {"CACHESIM": "/absent"}, "grade-class: /absent is no program that can be run\n"),
+            (["--confine"], {"PATH": str(bare)}, "grade-class: bwrap is missing: apt-get install bubblewrap\n"),
+        ):
+            self.refused(self.grade_class("students/ann", *arguments, env=env), 2, message)
+        self.assertFalse((self.folder / "students/ann/grade.txt").exists())
+
+    def test_a_text_that_cannot_be_written(self):
+        (self.enrol("ann", self.student()) / "grade.txt").mkdir()
+        ran = self.grade_class(*self.SHORT, "students/ann")
+        message = f"grade-class: {self.folder}/students/ann: grade.txt can't be written: Is a directory\n"
+        self.assertEqual((ran.stdout.decode(), ran.stderr.decode(), ran.returncode), (f"{HEADER}\nann,6,6,18,\n", message, 1))
+
+    def test_outputs_that_fail(self):
+        self.enrol("ann", self.student())
+        command = f"'{LAB}/grade-class' --geometry 4,1,4 students/ann"
+        for place, message, status in (("> /dev/full", "grade-class: standard output: No space left on device\n", 2), ("| true", "", 141)):
+            ran = self.run_command("bash", "-c", f"set -o pipefail; {command} {place}")
+            self.assertEqual((ran.stderr.decode(), ran.returncode), (message, status))
+
+    def test_an_interrupt(self):
+        """Nothing goes on, and no file is left."""
+        folders = [self.enrol(name, self.student("LOOPS")) for name in ("ann", "bob", "eve")]
+        env, quiet = {**os.environ, "TMPDIR": str(self.private)}, {"stdout": subprocess.DEVNULL}
+        for number in (signal.SIGINT, signal.SIGTERM):
+            with subprocess.Popen([LAB / "grade-class", "--seconds", "60", "--jobs", "2", *folders], env=env, **quiet) as tool:
+                self.assertTrue(comes(lambda: sum(is_running(folder / "csim") for folder in folders) == 2))
+                tool.send_signal(number)
+                self.assertEqual(tool.wait(20), 128 + number)
+            self.assertEqual([folder for folder in folders if is_running(folder / "csim")], [])
+            self.assertEqual(list(self.private.iterdir()), [])
+
+
+class Confined(ClassTest):
+    def script(self, name, *lines):
+        """A student whose program does something first, and then is right."""
+        program = self.folder / "program"
+        program.write_text("\n".join(["#!/bin/bash", "here=$(dirname \"$0\")", *lines, "exec \"$here/right\" \"$@\"", ""]))
+        program.chmod(0o755)
+        shutil.copy(self.student(), self.enrol(name, program) / "right")
+
+    def points(self, *arguments, env=None):
+        rows = self.table(self.grade_class("--geometry", "4,1,4", *arguments, *sorted((self.folder / "students").iterdir()), env=env))
+        return {name: int(row["points"]) for name, row in rows.items()}
+
+    def test_cachesim_is_not_on_the_path(self):
+        self.enrol("ann", self.student("CALLS_CACHESIM"))
+        self.assertEqual(self.points(env={"PATH": f"{PROGRAM.parent}:{os.environ['PATH']}"}), {"ann": 0})
+
+    @needs("bubblewrap")
+    def test_what_cannot_be_done(self):
+        """Each program that is not refused what it tries is wrong, but for those that try to have cachesim do the work."""
+        self.script("plain")
+        self.script("writes", f"! echo > '{self.folder}/there' || exit 1", "! echo > \"$here/new\" || exit 1", "echo > here")
+        self.script("reads", f"[ ! -e '{self.folder}/students/plain' ] && [ ! -e '{TOOLS}' ] && [ ! -e /etc/passwd ] || exit 1")
+        self.script("processes", f"[ ! -e /proc/{os.getpid()} ] || exit 1")
+        self.script("network", "[ \"$(grep -o '[a-z0-9]*:' /proc/net/dev)\" = lo: ] || exit 1")
+        self.script("inside", f"exec '{self.folder}/students/inside/cachesim' csim \"$@\"")
+        shutil.copy(PROGRAM, self.folder / "students/inside/cachesim")
+        self.script("path", f"exec '{PROGRAM}' csim \"$@\"")
+        named = {"CACHESIM": str(self.folder / "students/inside/cachesim")}
+        self.assertEqual(self.points("--confine", env=named),
+                         {"inside": 0, "network": 18, "path": 0, "plain": 18, "processes": 18, "reads": 18, "writes": 18})
+
+    @needs("bubblewrap")
+    def test_what_is_left_behind_is_ended(self):
+        for name in ("LEAVES_CHILD", "LEAVES_DAEMON"):
+            self.enrol(name, self.student(name))
+        for confine in ([], ["--confine"]):
+            self.assertEqual(self.points(*confine), {"LEAVES_CHILD": 18, "LEAVES_DAEMON": 18})
+            for name in ("LEAVES_CHILD", "LEAVES_DAEMON"):
+                self.assertFalse(is_running(self.folder / "students" / name / "csim"))
+
+    @needs("bubblewrap")
+    def test_faults_are_told_as_without(self):
+        """A crash, a status, a file that grows, and a hang."""
+        for mistake, seconds in (("CRASHES_LATE", 60), ("STATUS", 60), ("FLOODS", 60), ("LOOPS", 2)):
+            self.enrol(mistake, self.student(mistake))
+            texts = []
+            for confine in ([], ["--confine"]):
+                self.good(self.grade_class("--geometry", "4,1,4", "--seconds", seconds, *confine, f"students/{mistake}"))
+                texts.append(self.text_of(mistake))
+            self.assertEqual(texts[0], texts[1])
+            self.assertIn("\n0 of 6 right, 0 of 18 points\n", texts[0])
+
+    def test_bubblewrap_that_does_not_work(self):
+        self.enrol("ann", self.student())
+        stand_in = pathlib.Path(self.folder / "bwrap")
+        stand_in.write_text("#!/bin/sh\necho 'bwrap: No permissions to create a new namespace' >&2\nexit 1\n")
+        stand_in.chmod(0o755)
+        ran = self.grade_class("--confine", "students/ann", env={"PATH": f"{self.folder}:{os.environ['PATH']}"})
+        self.refused(ran, 2, "grade-class: bubblewrap doesn't work here: bwrap: No permissions to create a new namespace\n")
