@@ -135,6 +135,7 @@ class Installing(MakeTest):
             (("bin/cachesim-sweep-parallel", 2, din, *space), self.run_command(PROGRAM, "sweep", *space, "-t", din).stdout.decode()),
             (("bin/cachesim-pages", 1, "--pow2", "--bsize", 16, "--sets", 1, "--assoc", "1-4", "--size", "0-1k"), pages),
             (("lib/cachesim/lab/grade", lab / "lab-csim", lackey), "13 of 13 right\n"),
+            (("lib/cachesim/lab/grade", lab / "lab-csim"), "78 of 78 right\n"),
         ):
             ran = self.run_command(self.to / "usr" / arguments[0], *arguments[1:], env=env)
             self.assertEqual((ran.returncode, ran.stdout.decode(), ran.stderr), (0, text, b""))

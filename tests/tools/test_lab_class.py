@@ -251,6 +251,19 @@ class Confined(ClassTest):
                          {"inside": 0, "network": 18, "path": 0, "plain": 18, "processes": 18, "reads": 18, "writes": 18})
 
     @needs("bubblewrap")
+    def test_tools_below_the_folder_of_the_program_are_hidden(self):
+        """Some of them simulate caches too. The grader is a copy, so that it stands there."""
+        shutil.copytree(LAB, self.folder / "students/ann/lib/lab")
+        shutil.copy(TOOLS / "tool.py", self.folder / "students/ann/lib")
+        program = self.folder / "students/ann/csim"
+        program.write_text(f"#!/bin/bash\n[ -z \"$(ls '{program.parent}/lib')\" ] && exec '{program.parent}/right' \"$@\"\n")
+        program.chmod(0o755)
+        shutil.copy(self.student(), program.parent / "right")
+        for confine, right in (([], 0), (["--confine"], 6)):
+            ran = self.run_command(program.parent / "lib/lab/grade", "--geometry", "4,1,4", "--verbose-lines=no", *confine, program)
+            self.assertEqual(ran.stdout.decode().splitlines()[-1], f"{right} of 6 right")
+
+    @needs("bubblewrap")
     def test_what_is_left_behind_is_ended(self):
         for name in ("LEAVES_CHILD", "LEAVES_DAEMON"):
             self.enrol(name, self.student(name))
