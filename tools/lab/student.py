@@ -56,13 +56,14 @@ class Student:
     """A student's program, the private folder and the time that its runs have, and what stands before it on its command line."""
 
     def __init__(self, program, folder, seconds, around=None):
-        self.program, self.folder, self.seconds = without_links(program), pathlib.Path(folder), seconds
-        self.around, self.slow_runs = around or (lambda room: []), 0
+        self.program, self.folder, self.around = without_links(program), pathlib.Path(folder), around or (lambda room: [])
+        self.seconds, self.few_seconds, self.slow_runs = seconds, min(seconds, max(1, seconds / 10)), 0
         ctypes.CDLL(None).prctl(PR_SET_CHILD_SUBREAPER, 1, 0, 0, 0)  # what it leaves behind becomes a child of this process
 
     def run(self, case, *flags, by_line=False):
         """Runs the program on a case; by line, so that a crash loses none. After a run that was too slow there is less time, so that a
-        program that hangs costs its time once."""
+        program that hangs costs its time once; one that hangs only with flags keeps its time for runs without them."""
+        seconds = self.few_seconds if flags and self.slow_runs else self.seconds
         output, messages = self.folder / "output", self.folder / "messages"
         trace = os.path.join("traces", os.path.basename(case.trace))
         with tempfile.TemporaryDirectory(dir=self.folder, ignore_cleanup_errors=True) as room:
@@ -72,40 +73,42 @@ class Student:
             command = [*self.around(room), *lines, self.program, *flags, *case.arguments(trace)]
             limit = max(LEAST_LIMIT, 16 * os.path.getsize(case.trace))
             with open(output, "wb") as out, open(messages, "wb") as err:
-                status = self.status_of(command, limit, cwd=room, stdout=out, stderr=err)
-            ran = Run(self.fault_of(status, messages), status is None, output, results_in(room))
+                status = status_of(command, limit, seconds, cwd=room, stdout=out, stderr=err)
+            ran = Run(fault_of(status, messages, seconds), status is None, output, results_in(room))
         if ran.is_slow:
             self.slow_runs += 1
-            self.seconds = min(self.seconds, max(1, self.seconds / 10))
+            self.seconds = self.seconds if flags else self.few_seconds
         return ran
 
-    def status_of(self, command, limit, **given):
-        """The status of a run, or None where its time ran out. What it started and left behind is ended too."""
-        given.update(stdin=subprocess.DEVNULL, start_new_session=True, preexec_fn=lambda: bound(limit), env=environment())
-        signal.pthread_sigmask(signal.SIG_BLOCK, STOPS)  # else a signal could come before the process is known
-        process = subprocess.Popen(command, **given)
-        watch = os.pidfd_open(process.pid)  # process.wait(seconds) looks from time to time, and can keep its lock at a signal
-        try:
-            signal.pthread_sigmask(signal.SIG_UNBLOCK, STOPS)
-            has_ended = select.select([watch], [], [], self.seconds)[0]
-        finally:
-            os.close(watch)
-            with contextlib.suppress(ProcessLookupError):
-                os.killpg(process.pid, signal.SIGKILL)
-            process.wait()
-            end_orphans()
-        return process.returncode if has_ended else None
 
-    def fault_of(self, status, messages):
-        """A status in words, with the last message that came before."""
-        if not status:
-            return "" if status == 0 else f"no end within {self.seconds:g} s"
-        # bubblewrap and shells tell a signal by a status above 128
-        number = -status if status < 0 else status - 128
-        is_signal = status < 0 or number in list(signal.Signals)
-        text = f"ended by signal {number}: {signal.strsignal(number)}" if is_signal else f"ended with status {status}"
-        last = last_line(messages)
-        return f"{text}; its last message is '{shown(last)}'" if last else text
+def status_of(command, limit, seconds, **given):
+    """The status of a run, or None where its time ran out. What it started and left behind is ended too."""
+    given.update(stdin=subprocess.DEVNULL, start_new_session=True, preexec_fn=lambda: bound(limit), env=environment())
+    signal.pthread_sigmask(signal.SIG_BLOCK, STOPS)  # else a signal could come before the process is known
+    process = subprocess.Popen(command, **given)
+    watch = os.pidfd_open(process.pid)  # process.wait(seconds) looks from time to time, and can keep its lock at a signal
+    try:
+        signal.pthread_sigmask(signal.SIG_UNBLOCK, STOPS)
+        has_ended = select.select([watch], [], [], seconds)[0]
+    finally:
+        os.close(watch)
+        with contextlib.suppress(ProcessLookupError):
+            os.killpg(process.pid, signal.SIGKILL)
+        process.wait()
+        end_orphans()
+    return process.returncode if has_ended else None
+
+
+def fault_of(status, messages, seconds):
+    """A status in words, with the last message that came before."""
+    if not status:
+        return "" if status == 0 else f"no end within {seconds:g} s"
+    # bubblewrap and shells tell a signal by a status above 128
+    number = -status if status < 0 else status - 128
+    is_signal = status < 0 or number in list(signal.Signals)
+    text = f"ended by signal {number}: {signal.strsignal(number)}" if is_signal else f"ended with status {status}"
+    last = last_line(messages)
+    return f"{text}; its last message is '{shown(last)}'" if last else text
 
 
 def bound(limit):
