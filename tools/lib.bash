@@ -12,6 +12,7 @@ name=${0##*/}
 # help_NAME writes
 explain() {
     local line
+    unfinished=''
     while IFS= read -r line; do
         if [[ $line = '{'*'}' ]]; then "help_${line:1:-1}"; else printf '%s\n' "$line"; fi
     done < <(sed -n '2,/^[^#]/ { /^#/ { s/^# \{0,1\}//; p } }' "$0")
@@ -37,11 +38,12 @@ misused() {
     exit "${failure:-2}"
 }
 
-# size_of TEXT: sets `bytes` to the number of bytes that a scaled number as 512, 32k or 1m says, or answers 1
+# size_of TEXT: sets `bytes` to the number of bytes that a scaled number such as 512, 32k or 1m says, or answers 1. It is below 2^62
 size_of() {
     local unit
-    [[ $1 =~ ^([0-9]{1,9})([kKmMgG]?)$ ]] || return 1
+    [[ $1 =~ ^0*([0-9]{1,18})([kKmMgG]?)$ ]] || return 1
     case ${BASH_REMATCH[2]} in [kK]) unit=10 ;; [mM]) unit=20 ;; [gG]) unit=30 ;; *) unit=0 ;; esac
+    ((10#${BASH_REMATCH[1]} < 1 << 62 - unit)) || return 1
     # shellcheck disable=SC2034  # for the tool
     bytes=$((10#${BASH_REMATCH[1]} << unit))
 }
@@ -57,21 +59,81 @@ find_cachesim() {
     [ -n "${CACHESIM:-}" ] || [ -x "$cachesim" ] || cachesim=$(command -v cachesim) ||
         fail "no program cachesim: build it by 'make', or set CACHESIM to its path"
     [ -x "$cachesim" ] || fail "$cachesim is no program that can be run"
+    is_cachesim || fail "$cachesim is not cachesim: it doesn't write a sweep's table"
     export CACHESIM=$cachesim
 }
 
+# is_cachesim: whether `cachesim` writes the table of an empty trace. Another program may end well with nothing written
+is_cachesim() {
+    local row=1,1,1,1,0,0,0
+    [[ $("$cachesim" sweep --bsize 1 --sets 1 --assoc 1 --size 1 2> /dev/null < /dev/null) = *$'\n'"$row" ]]
+}
+
+private_folder_made=''  # a name that no function has for something else, so that nothing else is ever removed
+unfinished=''           # where a trace is being written: a file, or '-'
+
 # private_folder: makes a folder, `folder`, that only this user can read and that is removed when the tool ends, also by a signal
 private_folder() {
-    private_folder_made=  # a name that no function has for something else, so that nothing else is ever removed
-    trap remove_private_folder EXIT
-    trap 'exit 129' HUP
+    trap at_end EXIT
     trap 'exit 130' INT
-    trap 'exit 143' TERM
+    trap 'exit 143' HUP TERM  # until it is known what to remove
     private_folder_made=$(mktemp -d -t "cachesim-$name.XXXXXXXX")
+    trap - HUP TERM  # a trap would wait for what runs in front, which may wait for its input
     folder=$private_folder_made
 }
 
 remove_private_folder() { [ -z "$private_folder_made" ] || rm -rf -- "$private_folder_made"; }
+
+# writes_trace FILE: for a tool that writes a trace to a file, or '-'. If the tool fails, the trace ends in a line that no simulator
+# takes, so that a reader of a pipe doesn't take a part for the whole, nor an earlier trace in FILE for a new one. At its end the tool
+# calls trace_is_whole
+writes_trace() {
+    trap at_end EXIT
+    unfinished=$1
+}
+
+trace_is_whole() { unfinished=''; }
+
+spoil_trace() {
+    local line="$name failed: what stands above is not all"
+    if [ "$unfinished" = - ]; then
+        [ -t 1 ] || echo "$line"
+    elif [ -p "$unfinished" ]; then
+        echo "$line" 1<> "$unfinished"  # which waits for no reader
+    elif [ -f "$unfinished" ]; then
+        echo "$line" > "$unfinished"
+    fi
+}
+
+# at_end: what is done when the tool ends, also by a signal. In a subshell it only ends what that has started
+at_end() {
+    exec 2> /dev/null  # bash would report the end of each process
+    trap '' HUP INT PIPE TERM
+    stop_jobs
+    [ $BASHPID = $$ ] || return 0
+    remove_private_folder
+    spoil_trace || :
+}
+
+# stop PROCESS: ends a process, unless it is this shell, and all that it has started. It ends before these, so that it does not
+# report their ends
+stop() {
+    local child children=()
+    read -ra children 2> /dev/null < "/proc/$1/task/$1/children" || :
+    [ "$1" = "$BASHPID" ] || kill -- "$1" 2> /dev/null || :
+    for child in "${children[@]}"; do stop "$child"; done
+}
+
+stop_jobs() { stop "$BASHPID"; }
+
+# watched COMMAND..: runs a command. If a signal ends it, one line says so, instead of bash's, which names a line of this file
+watched() {
+    local status=0
+    { "$@" 2>&8 8>&- || status=$?; } 8>&2 2> /dev/null
+    [ $status -gt 128 ] && [ $status != 141 ] || return $status
+    printf '%s: %s ended with signal %s\n' "$name" "${1##*/}" $((status - 128)) >&2
+    return 1
+}
 
 # find_unpacker FILE: sets `unpacker` to the command that writes a trace to standard output, for a tool that must know its process
 find_unpacker() {
@@ -87,8 +149,11 @@ find_unpacker() {
 # unpacked FILE: writes a trace to standard output. '-' is standard input; .gz, .xz and .zst are unpacked
 unpacked() {
     local -a unpacker
+    local status=0
     find_unpacker "$1"
-    "${unpacker[@]}"
+    watched "${unpacker[@]}" || status=$?
+    [ $status != 2 ] || status=1  # gzip's for bytes after the end; for the tools 2 is wrong arguments
+    return $status
 }
 
 # compiled NAME SOURCE FLAG..: compiles a C file of this folder to out/NAME where that is older, and sets `binary` to its path.
@@ -98,8 +163,8 @@ compiled() {
     local source=$here/$2 fresh
     [ -e "$source" ] && [ ! "$binary" -nt "$source" ] || return 0
     needs cc gcc
-    mkdir -p -- "$here/out"
-    fresh=$(mktemp -- "$here/out/$1.XXXXXXXX")
+    { mkdir -p -- "$here/out" && fresh=$(mktemp -- "$here/out/$1.XXXXXXXX"); } 2> /dev/null ||
+        fail "$here/out can't be written: 'make tools' compiles the C parts, by someone who may write there"
     cc -O2 -Wall -Wextra "${@:3}" -o "$fresh" "$source" || { rm -f -- "$fresh"; fail "$source can't be compiled"; }
     chmod 755 -- "$fresh"  # for all who may use the folder: mktemp made it for one
     mv -- "$fresh" "$binary"
@@ -108,18 +173,27 @@ compiled() {
 # readable TRACE: ends where a trace is neither '-' nor something that can be read
 readable() { [ "$1" = - ] || { [ -r "$1" ] && [ ! -d "$1" ]; } || fail "$1: no file that can be read"; }
 
-# stop_jobs: ends what still runs in the background of this shell
-stop_jobs() {
-    local running
-    mapfile -t running < <(jobs -rp)
-    [ "${#running[@]}" = 0 ] || kill -- "${running[@]}" 2> /dev/null || :
+# take_sweep_options PLACE OPTION..: sets `options` to the options of a sweep, and `shared` to those of them that say which references
+# and which rows count. The trace is the argument in that PLACE
+take_sweep_options() {
+    local at
+    options=("${@:2}") shared=()
+    for ((at = 0; at < ${#options[@]}; at++)); do
+        case ${options[at]} in
+        -t*) misused "the trace is the $1 argument, and not given by -t" ;;
+        --format | --kind) shared+=("${options[@]:at:2}") ;;
+        --format=* | --kind=* | --pow2) shared+=("${options[at]}") ;;
+        esac
+    done
 }
+
+# swept OPTION..: the table of a sweep over standard input
+swept() { watched "$cachesim" sweep "$@"; }
 
 # side_by_side TRACE STEP..: runs functions side by side over one reading of a trace. Each has it as standard input and writes to
 # $folder/STEP. Where one fails, its message is told and the tool ends with its status.
 side_by_side() {
     local step status=0 ended ends pipes=() jobs=()
-    trap 'stop_jobs; remove_private_folder' EXIT
     for step in "${@:2}"; do
         mkfifo -- "$folder/$step.pipe"
         "$step" < "$folder/$step.pipe" > "$folder/$step" 2> "$folder/$step.fault" &

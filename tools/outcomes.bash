@@ -78,7 +78,7 @@ simulated() {
     as_lackey "$1" | {
         status=0
         fault=$folder/csim.$BASHPID
-        "$cachesim" csim -v -b "${geometry[0]}" -s "${geometry[1]}" -E "${geometry[2]}" -t /dev/stdin 2> "$fault" || status=$?
+        watched "$cachesim" csim -v -b "${geometry[0]}" -s "${geometry[1]}" -E "${geometry[2]}" -t /dev/stdin 2> "$fault" || status=$?
         grep -v ': write failed$' "$fault" >&2 || :
         exit "$status"
     }
@@ -94,7 +94,7 @@ one_cache() {
 # reading: if one reading served all, those who have to wait for each other could stop it
 two_caches() {
     local status=0 jobs=() caches=() job
-    trap 'stop_jobs; [ $BASHPID != $$ ] || remove_private_folder' EXIT
+    trap at_end EXIT # in a subshell too
     mkfifo -- "$folder/fetches" "$folder/data"
     read_geometry "$fetches" && caches+=("$folder/fetches" "${geometry[@]}")
     read_geometry "$data" && caches+=("$folder/data" "${geometry[@]}")
@@ -105,7 +105,7 @@ two_caches() {
     as_lackey LSLM 2> "$folder/order.fault" | "$binary" "$name" "$1" "${caches[@]}" || status=$?
     [ $status -le 1 ] || stop_jobs # it may have ended before it opened the pipes, for which they would wait
     for job in "${jobs[@]}"; do wait "$job" || [ $status != 0 ] || status=$?; done
-    [ $status = 0 ] || { grep -hm 1 . "$folder"/{order,fetches,data}.fault || :; } | head -n 1 >&2
+    [ $status = 0 ] || { grep -hsm 1 . "$folder"/{order,fetches,data}.fault || :; } | head -n 1 >&2
     return $status
 }
 

@@ -22,6 +22,7 @@ static char output[1 << 16];
 static size_t used;      // bytes of the output that wait to be written
 static uintmax_t number; // of lines or records that were read
 static bool accessed;    // there was an access
+static int failure = 1;  // the exit status after a fault
 
 // ---- Writing
 
@@ -46,7 +47,7 @@ static _Noreturn void fail(const char *form, ...) {
     drain();
     used = (size_t)snprintf(output, sizeof output, "%s: %s\n", name, line);
     drain();
-    exit(1);
+    exit(failure);
 }
 
 static void put(enum label label, uint64_t address) {
@@ -271,13 +272,22 @@ static bool memtrace(struct line line) {
     return true;
 }
 
+// zeros that fill the column of an address: 00000x7ffd1230
+static void fill(struct line *line) {
+    const char *at = line->at;
+    while (*at == '0') at++;
+    if (at > line->at && (*at == 'x' || *at == 'X')) line->at = at - 1;
+}
+
 // 0x401000: R 0x7ffd1230 [8 0x1f]
 static bool pin(struct line line) {
     uint64_t instruction, data = 0, size;
     if (begins(line, "#")) return true;
     if (!address(&line, &instruction) || !text(&line, ": ")) return false;
     bool writes = text(&line, "W");
-    if (!(writes || text(&line, "R")) || !blanks(&line) || !(text(&line, "(nil)") || address(&line, &data))) return false;
+    if (!(writes || text(&line, "R")) || !blanks(&line)) return false;
+    fill(&line);
+    if (!(text(&line, "(nil)") || address(&line, &data))) return false;
     if (!ended(&line) && !(blanks(&line) && decimal(&line, &size) && word_ended(&line))) return false;
     put(writes ? WRITE : READ, data);
     return true;
@@ -395,6 +405,6 @@ int main(int count, char **words) {
     setvbuf(stdout, NULL, _IONBF, 0);
     for (size_t i = 0; count == 2 && i < sizeof formats / sizeof *formats; i++)
         if (!strcmp(words[1], formats[i].name)) return convert(&formats[i]);
-    fprintf(stderr, "%s: %s is no format; '%s --help' explains the arguments\n", name, count == 2 ? words[1] : "that", name);
-    return 2;
+    failure = 2;
+    fail("%.99s is no format; '%.99s --help' explains the arguments", count == 2 ? words[1] : "that", name);
 }

@@ -7,6 +7,7 @@ those in bash. A tool in a folder below this one reads it so:
 
 import argparse
 import os
+import subprocess
 import sys
 
 HERE = os.path.dirname(os.path.realpath(__file__))
@@ -68,10 +69,20 @@ def find_cachesim():
     folders = [*near, *os.environ.get("PATH", "").split(":")]
     for path in [named] if named else [os.path.join(folder, "cachesim") for folder in folders]:
         if os.path.isfile(path) and os.access(path, os.X_OK):
-            return os.path.join(".", path)
+            path = os.path.join(".", path)
+            return path if is_cachesim(path) else fail(f"{path} is not cachesim: it doesn't write a sweep's table")
     if named:
         fail(f"{named} is no program that can be run")
     fail("no program cachesim: build it by 'make', or set CACHESIM to its path")
+
+
+def is_cachesim(path):
+    """Whether a program writes the table of an empty trace. Another one may end well with nothing written."""
+    words = [path, *"sweep --bsize 1 --sets 1 --assoc 1 --size 1 -t /dev/null".split()]
+    try:
+        return subprocess.run(words, stdin=subprocess.DEVNULL, capture_output=True, check=False).stdout.endswith(b"\n1,1,1,1,0,0,0\n")
+    except OSError:
+        return False
 
 
 def write_lines(lines):

@@ -52,7 +52,7 @@ class LabTest(ToolTest):
                 self.assertTrue(tool.stdout.read(1))
                 self.assertTrue(list(self.private.iterdir()))
                 os.killpg(tool.pid, number)
-                self.assertEqual(tool.wait(20), 128 + number)
+                self.assertEqual(tool.wait(20), 130 if number == signal.SIGINT else -number)
             finally:
                 with contextlib.suppress(ProcessLookupError):
                     os.killpg(tool.pid, signal.SIGKILL)

@@ -1,4 +1,4 @@
-"""The completion of bash, zsh and fish."""
+"""The completion of bash, zsh and fish, for the program and for the tools."""
 
 import functools
 import os
@@ -31,9 +31,9 @@ ONE_OF = {
 
 
 @functools.cache
-def written(shell):
-    """The completion for a shell."""
-    words = [TOOLS / "package/completion", shell, PROGRAM]
+def written(shell, script="completion"):
+    """The completion of the program for a shell, or that of the tools."""
+    words = [TOOLS / "package" / script, shell, PROGRAM]
     return subprocess.run(words, stdout=subprocess.PIPE, check=True, text=True, timeout=120).stdout
 
 
@@ -170,3 +170,60 @@ class Shells(ToolTest):
             found = {line.partition("\t")[0].replace("\\ ", " ").rstrip("/") for line in self.good(ran).splitlines()}
             given = typed.split()[:-1] if not typed.endswith(" ") else typed.split()
             self.assertEqual(found, set(wanted.split("|")) - set(given), typed)
+
+
+# options of tools, from their help
+OF_TOOLS = {
+    "best": "-h --help --up-to --within --rows --front",
+    "trace": "-h --help -o --output --program-output --kind --skip --count --with --libraries --any-version",
+    "over-time": "-h --help --unified --fetches --data --format --each",
+    "three-c": "-h --help --bsize --sets --assoc --size --kind --format --after --rows --pow2",
+    "sweep-parallel": "-h --help --bsize --sets --assoc --size --kind --format --after --rows --pow2",
+}
+
+
+class ForTools(ToolTest):
+    """What is written for the tools, as the shells take it."""
+
+    LINES = {
+        "cachesim-best --fr": "--front",
+        "cachesim-trace --with ": "qemu lackey",
+        "cachesim-trace --kind=d --wi": "--with",
+        "cachesim-plot --only ": "size block pareto",
+        "cachesim-pages 4 --s": "--sets --size",
+    }
+
+    def offered(self, *words):
+        quoted = " ".join(f"'{word}'" for word in words)
+        called = f"COMP_WORDS=({quoted}) COMP_CWORD={len(words) - 1}; _cachesim_tool\necho \"${{COMPREPLY[@]}}\""
+        return set(self.good(self.run_command("bash", "-c", f"{written('bash', 'tool-completion')}\n{called}")).split())
+
+    def test_bash(self):
+        for name, options in OF_TOOLS.items():
+            self.assertEqual(self.offered(f"cachesim-{name}", "-"), set(options.split()))
+            self.assertEqual(self.offered(f"/a/cachesim-{name}", ""), set())
+        for line, wanted in self.LINES.items():
+            self.assertEqual(self.offered(*line.split(" ")), set(wanted.split()), line)
+        self.assertEqual(self.offered("cachesim-trace", "--with", "=", "q"), {"qemu"})
+        for command in ("cachesim-grade", "cachesim-lab-csim", "cachesim-lab-trace"):
+            self.assertIn("--help", self.offered(command, "-"))
+
+    @needs("fish")
+    def test_fish(self):
+        (self.folder / "tools.fish").write_text(written("fish", "tool-completion"))
+        for line, wanted in self.LINES.items():
+            ran = self.run_command("fish", "-N", "-c", f"source tools.fish; complete -C '{line}'")
+            self.assertEqual({found.partition("\t")[0] for found in self.good(ran).splitlines()}, set(wanted.split()), line)
+
+    @needs("zsh")
+    def test_zsh(self):
+        """Each tool has its options, and the whole is read without a fault."""
+        (self.folder / "_cachesim-tools").write_text(written("zsh", "tool-completion"))
+        self.good(self.run_command("zsh", "-n", "_cachesim-tools"))
+        for name, options in OF_TOOLS.items():
+            script = f'_arguments() {{ print -l -- "$@" }}; service=cachesim-{name}; source ./_cachesim-tools'
+            told = self.good(self.run_command("zsh", "-f", "-c", script))
+            self.assertEqual(set(re.findall(r"(?m)^\(.*?\)(--?[\w-]+)=?\[", told)), set(options.split()))
+            self.assertIn("*:file:_files\n", told)
+        self.assertIn(":value:(qemu lackey)'", written("zsh", "tool-completion"))
+        self.assertTrue(written("zsh", "tool-completion").startswith("#compdef cachesim-best cachesim-by-page "))

@@ -111,11 +111,14 @@ class Installing(MakeTest):
         there = {path for path in self.below() if path.startswith("usr/lib/cachesim/")}
         for path in there:
             self.assertNotRegex(path, r"\.[ch]$|/package(/|$)|\.md$|__pycache__")
-        wanted = [path for path in (TOP / "tools").glob("*") if path.is_file() and os.access(path, os.X_OK)]
+        paths = [*(TOP / "tools").glob("*"), *(TOP / "tools/lab").glob("*")]
+        wanted = [path for path in paths if path.is_file() and os.access(path, os.X_OK)]
         for path in wanted:
             # a tool with a C part may be left out where there is no C compiler
             link = self.to / "usr/bin" / f"cachesim-{path.name}"
             self.assertTrue(link.resolve().is_file(), link)
+            for completion in (f"bash-completion/completions/{link.name}", f"fish/vendor_completions.d/{link.name}.fish"):
+                self.assertIn(link.name, (self.to / "usr/share" / completion).read_text())
         for link in (self.to / "usr/bin").glob("cachesim-*"):
             env = {"PATH": f"{link.parent}:{os.environ['PATH']}", "PYTHONDONTWRITEBYTECODE": ""}
             ran = self.run_command(link, "--help", env=env)
@@ -134,7 +137,8 @@ class Installing(MakeTest):
         for arguments, text in (
             (("bin/cachesim-sweep-parallel", 2, din, *space), self.run_command(PROGRAM, "sweep", *space, "-t", din).stdout.decode()),
             (("bin/cachesim-pages", 1, "--pow2", "--bsize", 16, "--sets", 1, "--assoc", "1-4", "--size", "0-1k"), pages),
-            (("lib/cachesim/lab/grade", lab / "lab-csim", lackey), "13 of 13 right\n"),
+            (("bin/cachesim-grade", lab / "lab-csim", lackey), "13 of 13 right\n"),
+            (("lib/cachesim/lab/grade", self.to / "usr/bin/cachesim-lab-csim", lackey), "13 of 13 right\n"),
             (("lib/cachesim/lab/grade", lab / "lab-csim"), "78 of 78 right\n"),
         ):
             ran = self.run_command(self.to / "usr" / arguments[0], *arguments[1:], env=env)

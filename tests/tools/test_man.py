@@ -32,7 +32,8 @@ class Page(ToolTest):
         for command in ("sweep", "csim", "din"):
             self.assertIn(f"       cachesim {command} [OPTIONS]", synopsis)
         self.assertIn("       cachesim csim [OPTIONS] -s N -E N -b N -t FILE", lines)
-        self.assertIn("cachesim-best(1)", "\n".join(lines))
+        for tool in ("best", "grade", "lab-csim", "lab-trace"):
+            self.assertIn(f"cachesim-{tool}(1)", "\n".join(lines[lines.index("SEE ALSO"):]))
         self.assertRegex((self.folder / "cachesim.1").read_text(), r"\ncachesim \\- simulates ")
 
     @needs("lowdown", "man-db")
@@ -116,7 +117,8 @@ class ToolPages(ToolTest):
 
     @needs("man-db")
     def test_each_tool_has_a_page(self):
-        tools = [path for path in sorted(TOOLS.iterdir()) if path.is_file() and os.access(path, os.X_OK)]
+        paths = [*TOOLS.iterdir(), *(TOOLS / "lab").iterdir()]
+        tools = [path for path in sorted(paths) if path.is_file() and os.access(path, os.X_OK)]
         self.assertTrue(tools)
         for tool in tools:
             with self.subTest(tool.name):

@@ -8,6 +8,7 @@ import base
 LABELS = {"read": 0, "write": 1, "fetch": 2}
 SORT = (base.EXAMPLES / "sort.din").read_bytes()
 TRANSPOSE = (base.EXAMPLES / "transpose.lackey").read_bytes()
+LAST = b"outcomes failed: what stands above is not all\n"
 MODIFIES = b" M 20,4\n L 40,1\n M 20,4\nI  20,4\n M 60,8\n S 61,1\n"
 
 
@@ -176,7 +177,7 @@ class Outcomes(base.ToolTest):
             (commands / command).symlink_to(shutil.which(command))
         arguments = [copy / "outcomes", "-", "--data", "16,1,1"]
         ran = self.run_command(*arguments, env={"PATH": str(commands)})
-        self.refused(ran, 1, "outcomes: cc is missing: apt-get install gcc\n")
+        self.assertEqual((ran.returncode, ran.stdout, ran.stderr), (1, LAST, b"outcomes: cc is missing: apt-get install gcc\n"))
         self.assertEqual(self.good(self.run_command(copy / "outcomes", "--build")), "")
         self.assertEqual([path.name for path in (copy / "out").iterdir()], ["outcomes"])
         # what is installed has no C file, and needs no compiler
@@ -188,7 +189,7 @@ class Outcomes(base.ToolTest):
         (self.folder / "trace").write_bytes(SORT)
         (copy / "out/outcomes").write_text("#!/bin/sh\n[ $2 != lines ] || exit 125\nsed 's/\\([0-9]*\\) .*/L 0,\\1/'\n")
         ran = self.run_command(copy / "outcomes", "trace", "--fetches", "16,1,1", "--data", "16,1,1", seconds=20)
-        self.refused(ran, 125)
+        self.assertEqual((ran.returncode, ran.stdout, ran.stderr), (125, LAST, b""))
 
     def test_writing(self):
         (self.folder / "long").write_bytes(SORT * 100)

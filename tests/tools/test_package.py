@@ -46,6 +46,16 @@ class Version(ToolTest):
             changes.write_text(text)
             self.refused(self.run_command(top / "tools/package/version"), 1, "version: ", "CHANGELOG.md")
 
+    def test_copyright_names_what_is_linked(self):
+        """Of the kit's ports those whose code the program has, and those that crates.txt names, are all."""
+        ours = {line.split(":")[0] for line in (TOP / "crates.txt").read_text().splitlines()}
+        used = {name for line in (TOP / "crates.txt").read_text().splitlines() for name in line.partition(":")[2].split()}
+        linked = set(re.findall(r" [tT] (\w+)::", run("nm", "-C", PROGRAM).stdout))
+        kits_own = {name for name in linked if name in ("core", "io", "libc", "os") or name.startswith("std")}
+        named = set(re.findall(r"(?m)^    ([a-z]\w+)  +(?:Copyright|\(no)", (PACKAGE / "copyright").read_text()))
+        self.assertIn("strsim", linked)
+        self.assertEqual(named, (used | linked) - ours - kits_own)
+
     def test_copyright_names_each_library_of_the_kit(self):
         ours = {line.split()[0].rstrip(":") for line in (TOP / "crates.txt").read_text().splitlines() if ":" in line}
         used = set()

@@ -232,6 +232,21 @@ class Refused(PlotTest):
         self.refused(self.plot("eight.csv", "/proc/a.png", env=path), 1, "plot: /proc/a.png: ")
         self.assertEqual((self.names(), (self.folder / "a.png").read_text()), (["a.png", "bin", "eight.csv"], "as before"))
 
+    def test_a_pipe_or_a_device_is_not_replaced(self):
+        path = self.stand_in("cat > /dev/null; echo picture")
+        os.mkfifo(self.folder / "a.png")
+        with subprocess.Popen(["timeout", "20", "cat", self.folder / "a.png"], stdout=subprocess.PIPE) as reader:
+            self.assertEqual(self.good(self.plot("eight.csv", "a.png", env=path)), "")
+            self.assertEqual(reader.communicate(timeout=20)[0], b"picture\n")
+        self.assertTrue((self.folder / "a.png").is_fifo())
+        terminal, device = os.openpty()
+        (self.folder / "b.png").symlink_to(os.ttyname(device))
+        self.assertEqual(self.good(self.plot("eight.csv", "b.png", env=path)), "")
+        self.assertEqual(os.read(terminal, 99), b"picture\r\n")
+        self.assertTrue((self.folder / "b.png").is_char_device())
+        os.close(terminal)
+        os.close(device)
+
     def test_a_warning_is_passed_on(self):
         ran = self.plot("eight.csv", "a.png", env=self.stand_in("cat > /dev/null; echo picture; echo 'no such font' >&2"))
         self.assertEqual((ran.returncode, ran.stdout, ran.stderr), (0, b"", b"plot: gnuplot: no such font\n"))

@@ -22,6 +22,11 @@ def machine(cache, through):
 
 
 class SecondLevel(base.ToolTest):
+    def spoiled(self, ran, status, fault):
+        """A run that must end before it has written a line of its trace."""
+        self.assertEqual((ran.returncode, ran.stdout), (status, LAST), ran.stderr)
+        self.assertIn(fault, ran.stderr.decode())
+
     def down(self, text, format, through, caches):
         """What is sent to the next level, by the tool."""
         (self.folder / "trace").write_bytes(text)
@@ -149,7 +154,7 @@ class SecondLevel(base.ToolTest):
             (["--data", "16,1,1"], "second-level: one trace is needed"),
             (["-", "--data", "16,1,1", "--unified", "16,1,1"], "second-level: --unified leaves nothing"),
         ):
-            self.refused(self.run_tool("second-level", *arguments), 2, fault)
+            self.spoiled(self.run_tool("second-level", *arguments), 2, fault)
         self.assertIn("--write-through", self.good(self.run_tool("second-level", "--help")))
 
     def test_writing(self):

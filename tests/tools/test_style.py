@@ -54,7 +54,7 @@ class Tools(base.ToolTest):
                 fault = FAULTS_OF_THE_PROGRAM.get(path, rf"{name}: .*; '{name} --help' explains the arguments\n")
                 self.assertRegex(ran.stderr.decode(), rf"\A{fault}\Z")
                 # what writes a trace ends it in a line that no simulator takes
-                self.assertRegex(ran.stdout.decode(), rf"\A({name}: .*\n)?\Z")
+                self.assertRegex(ran.stdout.decode(), rf"\A({name}( failed)?: .*\n)?\Z")
 
     def test_each_tool_is_in_the_readme(self):
         """In tools/README.md, or where its folder has a README in that."""

@@ -94,8 +94,9 @@ class ThreeC(base.ToolTest):
         arguments = ["--bsize", "8", "--sets", "1-32", "--assoc", "1-4", "--size", "512-2k", "--pow2"]
         table = self.good(self.run_tool("three-c", base.EXAMPLES / "sort.din", *arguments, env={"CACHESIM": str(program)}))
         asked = sum(path.read_text().count("\n") - 1 for path in self.folder.glob("rows*"))
-        # the three rows of an empty trace, and of this one; fully associative caches of two sizes; and one for first references
-        self.assertEqual((table.count("\n") - 1, asked), (3, 3 + 3 + 2 + 1))
+        # the row by which the program is known; the three rows of an empty trace, and of this one; fully associative caches of two
+        # sizes; and one for first references
+        self.assertEqual((table.count("\n") - 1, asked), (3, 1 + 3 + 3 + 2 + 1))
 
     def test_a_flush_begins_anew(self):
         arguments = "--bsize 1 --sets 2 --assoc 1 --size 2".split()
@@ -113,6 +114,18 @@ class ThreeC(base.ToolTest):
         self.assertEqual(answer, HEADER + "1,131072,1,131072,0,131072,0,131072,0,0\n")
         answer = self.good(self.run_tool("three-c", "-", *arguments, stdin=text + b"0 20000\n"))
         self.assertEqual(answer, HEADER + "1,131072,1,131072,0,131073,1,131073,,\n")
+
+    def test_more_lines_than_a_set_has_and_flushes(self):
+        """Where the parts between flushes have no more different blocks than the cache has lines, none is a capacity miss."""
+        arguments = "--bsize 1 --sets 128k --assoc 1 --size 128k".split()
+        for blocks, parts, capacity in ((50000, 3, "0,0"), (100000, 3, "0,0"), (131072, 2, "0,0"), (131073, 1, ","), (131073, 2, ",")):
+            for step in (0, blocks):  # the same blocks in each part, or different ones
+                lines = [[f"0 {place + step * part:x}\n" for place in range(blocks)] for part in range(parts)]
+                text = "4 0\n \t4\t7 note\r\n".join(map("".join, lines)).encode()
+                answer = self.good(self.run_tool("three-c", "-", *arguments, stdin=text))
+                misses, evictions = blocks * parts, (blocks - 131072) * parts if blocks > 131072 else 0
+                row = f"1,131072,1,131072,0,{misses},{evictions},{misses},{capacity}\n"
+                self.assertEqual(answer, HEADER + row, (blocks, parts, step))
 
     def test_too_many_blocks(self):
         # 16,385 blocks that are alike in their lowest 8 bits
@@ -195,10 +208,10 @@ class ThreeC(base.ToolTest):
         arguments = "--bsize 16 --sets 1-4 --assoc 1-2 --size 64".split()
         command = ["env", f"TMPDIR={self.folder}", base.TOOLS / "three-c", "-", *arguments]
         running = subprocess.Popen(command, stdin=subprocess.PIPE, stdout=subprocess.PIPE, stderr=subprocess.PIPE)
-        while running.poll() is None and not list(self.folder.glob("*/swept.pipe")):
+        while running.poll() is None and not list(self.folder.glob("*/whole.pipe")):
             time.sleep(0.001)
         running.send_signal(signal.SIGTERM)
-        self.assertEqual((running.communicate(b"0 10\n", 20), running.returncode), ((b"", b""), 143))
+        self.assertEqual((running.communicate(b"0 10\n", 20), running.returncode), ((b"", b""), -signal.SIGTERM))
         self.assertEqual(list(self.folder.iterdir()), [])
 
     def test_help(self):

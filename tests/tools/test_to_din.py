@@ -14,7 +14,7 @@ from base import EXAMPLES, PROGRAM, TOOLS, ToolTest, needs
 
 SAMPLES = EXAMPLES / "formats"
 SPACE = "--bsize 16-64 --sets 1-16 --assoc 1-4 --size 64-4k".split()
-
+SPOILED = b"to-din failed: what stands above is not all\n"
 # The accesses of examples/formats/copy.s, instruction by instruction, from its listing
 COPY = (
     "2 401000,2 401005,1 40201c,2 401010,2 401015,2 40101a,2 40101d,2 401022,"
@@ -104,6 +104,7 @@ Format: <data address>: <data size> =>""",
 00007FF6C0401000: R 000000E5C7DAF9D8 => 0 e5c7daf9d8
 0x401000: R     0x7ffd1230 16 0x0102030405060708090a0b0c0d0e0f10 => 0 7ffd1230
 0x401000: R     0x7ffd1230  0 => 0 7ffd1230
+0x401000: W 00000x7ffd12345678 04 0000000000000x1f => 1 7ffd12345678
 #eof =>""",
     "spike": r"""
 core   0: 3 0x80000044 (0x01053023) mem 0x80001000 0x7 => 2 80000044,1 80001000
@@ -172,7 +173,7 @@ WHOLE = {
     "gem5": r"(?:\d+,)?([rw])((?:,\d+){3,5})",
     "lackey": r"[ \t]*([ILSM])[ \t]+([0-9a-fA-F]{1,16}),\d{1,9}(?:[ \t].*)?",
     "memtrace": rf"{HEX},([rw]),\d+,{HEX}|{HEX}:[ \t]+\d+, ([a-z<].*)",
-    "pin": rf"{HEX}: ([RW])[ \t]+(?:\(nil\)|{HEX})(?:[ \t]+\d+(?:[ \t].*)?)?",
+    "pin": rf"{HEX}: ([RW])[ \t]+(?:\(nil\)|(?:0+(?=0[xX]))?{HEX})(?:[ \t]+\d+(?:[ \t].*)?)?",
     "spike": rf"{CORE}(?:\d )?{HEX} \({HEX}\)((?:[ \t]+(?:mem {HEX}(?: 0x[0-9a-fA-F]+)?|"
     r"[xfvc][ \t]*\d[^ \t]*[ \t]+0x[0-9a-fA-F]+|(?:mf|[elm])[ \t]*\d[^ \t]*))*)",
 }
@@ -237,11 +238,11 @@ class ToDin(ToolTest):
     def din(self, form, *arguments, **given):
         return self.good(self.run_tool("to-din", form, *arguments, **given)).splitlines()
 
-    def faulty(self, ran, *texts):
-        """A run that ends with one message, in which its output ends too."""
+    def faulty(self, ran, *texts, status=1):
+        """A run that ends with one message, and whose output ends in that, or in the line of a tool that failed."""
         message = ran.stderr.decode()
-        self.assertEqual((ran.returncode, message.count("\n")), (1, 1), message)
-        self.assertTrue(message.startswith("to-din: ") and ran.stdout.endswith(ran.stderr), (ran.stdout[-200:], message))
+        self.assertEqual((ran.returncode, message.count("\n")), (status, 1), message)
+        self.assertTrue(message.startswith("to-din: ") and ran.stdout.endswith((ran.stderr, SPOILED)), (ran.stdout[-200:], message))
         for text in texts:
             self.assertIn(text, message)
 
@@ -365,15 +366,16 @@ class Streams(ToDin):
             self.assertEqual(self.din("champsim", name), COPY)
             (self.folder / name).write_bytes(packed[:-9])
             ran = self.run_tool("to-din", "champsim", name)
-            self.assertEqual((ran.returncode, ran.stdout.splitlines()[-1].decode()), (1, f"to-din: {name} can't be unpacked"))
+            message = f"to-din: {name} can't be unpacked\n".encode()
+            self.assertEqual((ran.returncode, ran.stderr.endswith(message), ran.stdout.endswith(SPOILED)), (1, True, True))
 
 
 class Faults(ToDin):
     def test_a_pipe_without_pipefail_gives_no_table(self):
         cut = gzip.compress((SAMPLES / "pin.txt").read_bytes() * 999)[:-99]
         (self.folder / "cut.gz").write_bytes(cut)
-        for arguments, stdin in (("pin", b"0x401000: R 0x10\n0x401000"), ("pin cut.gz", b""), ("pin missing", b""), ("pin .", b"")):
-            ran = self.run_command("bash", "-c", f"{TOOLS}/to-din {arguments} | {PROGRAM} sweep {' '.join(SPACE)}", stdin=stdin)
+        for arguments in ("pin", "pin cut.gz", "pin missing", "pin missing.xz", "pin .", "", "pin a b", "dinero", "dinero cut.gz"):
+            ran = self.run_command("bash", "-c", f"{TOOLS}/to-din {arguments} | {PROGRAM} sweep {' '.join(SPACE)}", stdin=b"0x401000:\n")
             self.refused(ran, 1, "to-din: ", "cachesim: line ", ": bad label")
 
     def test_a_place_that_takes_no_more(self):
@@ -386,9 +388,8 @@ class Faults(ToDin):
             self.assertEqual((ran.stdout.decode(), ran.stderr.decode()), (f"0 10\n{status}\n", message))
 
     def test_arguments(self):
-        self.refused(self.run_tool("to-din"), 2, "--help")
-        self.refused(self.run_tool("to-din", "pin", "a", "b"), 2, "--help")
-        self.refused(self.run_tool("to-din", "dinero"), 2, "to-din: dinero is no format; 'to-din --help' explains")
+        for words, told in ("", "one file"), ("pin a b", "one file"), ("dinero", "to-din: dinero is no format"):
+            self.faulty(self.run_tool("to-din", *words.split()), told, "; 'to-din --help' explains the arguments\n", status=2)
         for name in ("missing", "missing.gz"):
             self.faulty(self.run_tool("to-din", "pin", name), f"{name} can't be read")
         self.faulty(self.run_tool("to-din", "pin", "."), "line 1: read failed: Is a directory")
@@ -404,11 +405,11 @@ class Faults(ToDin):
         for name in ("dirname", "readlink"):
             (path / name).symlink_to(shutil.which(name))
         ran = self.run_command(self.folder / "to-din", "pin", env={"PATH": str(path)})
-        self.refused(ran, 1, "to-din: cc is missing: apt-get install gcc")
+        self.faulty(ran, "to-din: cc is missing: apt-get install gcc")
         self.assertEqual(self.good(self.run_command(self.folder / "to-din", "pin", SAMPLES / "pin.txt")).splitlines(), COPY_DATA)
         (self.folder / "trace.xz").touch()
         ran = self.run_command(self.folder / "to-din", "pin", "trace.xz", env={"PATH": str(path)})
-        self.refused(ran, 1, "to-din: xz is missing: apt-get install xz-utils")
+        self.faulty(ran, "to-din: xz is missing: apt-get install xz-utils")
 
     def test_an_interrupt(self):
         pipes = {"stdin": subprocess.PIPE, "stdout": subprocess.PIPE, "stderr": subprocess.PIPE}

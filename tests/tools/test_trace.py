@@ -64,11 +64,11 @@ class StandIn(TraceTest):
 
     def test_skip_and_count(self):
         ended_by_count = (0, 1), (4095, 3), (4096, 4096), (1, 19999), (0, 20000)
-        for skip, count in ended_by_count + ((5, 20000), (20000, 7), (0, 0)):
+        for skip, count in ended_by_count + ((5, 20000), (20000, 7), (0, "00020001")):
             end = 0 if (skip, count) in ended_by_count else 9
             ran = self.steps("many:20000", "exit:9", options=("--skip", skip, "--count", count))
             self.assertEqual((ran.returncode, ran.stderr), (end, b""))
-            self.assertEqual(ran.stdout.decode(), "".join(f"0 {at:x}\n" for at in range(20000)[skip:][:count or None]))
+            self.assertEqual(ran.stdout.decode(), "".join(f"0 {at:x}\n" for at in range(20000)[skip:][:int(count)]))
 
     def test_count_ends_the_program(self):
         for steps in (("loop",), ("call", "wait"), ("call", "ignore", "wait")):
@@ -224,12 +224,28 @@ class StandIn(TraceTest):
             self.refused(self.trace("-o", "kept", name, "2:1"), status, name, text)
             self.assertFalse((self.folder / "kept").exists())
 
+    def test_an_earlier_trace_is_not_left(self):
+        """Where no new one can be made: it would look like the new one."""
+        space = ["--bsize", "16", "--sets", "1", "--assoc", "1", "--size", "16"]
+        for arguments in (["./none"], ["--nosuch", "1", self.program], ["--count", "0", self.program], []):
+            (self.folder / "old").write_text("0 10\n")
+            ran = self.trace("-o", "old", *arguments)
+            self.assertIn(ran.returncode, (125, 127))
+            self.assertEqual(ran.stdout, b"")
+            self.refused(self.run_command(PROGRAM, "sweep", *space, "-t", "old"), 1, "cachesim: line 1: bad label")
+        # who waits at a pipe learns it too, and no one is waited for
+        os.mkfifo(self.folder / "pipe")
+        self.assertEqual(self.trace("-o", "pipe", "./none", seconds=20).returncode, 127)
+        ran = self.in_shell(f"cachesim sweep {' '.join(space)} -t pipe & sleep 0.5; trace -o pipe ./none; wait $!", seconds=20)
+        self.assertIn(b"cachesim: line 1: bad label", ran.stderr)
+
     def test_options(self):
         self.assertIn("trace [OPTIONS] PROGRAM", self.good(self.run_tool("trace", "--help")))
         for arguments, text in (
             ((), "a program is wanted"), (("-o",), "-o"), (("--nosuch", "1"), "--nosuch is no option"),
             (("--kind", "x", "true"), "--kind"), (("--output", "", "true"), "--output"),
             (("--skip", "-1", "true"), "--skip"), (("--count", "1k", "true"), "--count"), (("--count=", "true"), "--count"),
+            (("--count", "0", "true"), "--count takes a number above 0"), (("--count=00", "true"), "--count takes"),
             (("--with", "pin", "true"), "--with"), (("--with", "lackey", "--libraries", "/", "true"), "for QEMU"),
         ):
             ran = self.run_tool("trace", *arguments)

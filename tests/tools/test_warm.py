@@ -79,6 +79,17 @@ class Warm(base.ToolTest):
             self.refused(ran, 1, f"warm: -: no reference behind the first {lines} lines\n")
         self.refused(self.run_tool("warm", 0, "-", *SPACE), 1, "no reference behind")
 
+    def test_nothing_follows_in_a_table_without_rows(self):
+        text = b"2 0\n0 10\n0 20\n3 0\n2 30"
+        for more in (["--rows", "0"], ["--after", "32,8,3"], ["--rows=0", "--after=0,0,0"]):
+            header = "" if any("after" in word for word in more) else table.HEADER + "\n"
+            for lines, kind in ((4, "u"), (2, "d"), (4, "i")):
+                ran = self.run_tool("warm", lines, "-", *SPACE, *more, "--kind", kind, stdin=text)
+                self.assertEqual(self.good(ran), header)
+            for lines, kind in ((5, "u"), (3, "d"), (5, "i"), (9, "u")):
+                ran = self.run_tool("warm", lines, "-", *SPACE, *more, f"--kind={kind}", stdin=text)
+                self.refused(ran, 1, f"warm: -: no reference behind the first {lines} lines\n")
+
     def test_pages(self):
         trace = base.EXAMPLES / "sort.din"
         whole = self.good(self.run_tool("warm", 700, trace, *SPACE))

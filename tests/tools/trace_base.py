@@ -77,7 +77,7 @@ class TraceTest(ToolTest):
         """A fault of the tool: one message, and a trace whose last line is not a valid one."""
         message = ran.stderr.decode()
         self.assertEqual((ran.returncode, message.count("\n")), (status, 1), message)
-        self.assertTrue(ran.stdout.splitlines()[-1].startswith(b"trace: "), ran.stdout)
+        self.assertTrue(ran.stdout.splitlines()[-1].startswith((b"trace: ", b"trace failed: ")), ran.stdout)
         for text in ("trace: ", *texts):
             self.assertIn(text, message)
 

@@ -11,9 +11,11 @@ sys.path.append(str(TOP / "tools"))
 tool = importlib.import_module("tool")
 
 
-def tool_names():
-    """The tools that are commands where they are installed."""
-    return sorted(path.name for path in (TOP / "tools").iterdir() if path.is_file() and os.access(path, os.X_OK))
+def tools():
+    """The tools that are commands where they are installed: of each name its path below tools/."""
+    top = TOP / "tools"
+    paths = [path for folder in (top, top / "lab") for path in folder.iterdir() if path.is_file() and os.access(path, os.X_OK)]
+    return {path.name: path.relative_to(top) for path in sorted(paths, key=lambda path: path.name)}
 
 
 def run(*command, text=""):
