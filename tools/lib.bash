@@ -196,7 +196,8 @@ side_by_side() {
     local step status=0 ended ends pipes=() jobs=()
     for step in "${@:2}"; do
         mkfifo -- "$folder/$step.pipe"
-        "$step" < "$folder/$step.pipe" > "$folder/$step" 2> "$folder/$step.fault" &
+        # without a word where a signal has removed the folder before a step has begun
+        { "$step" 2> "$folder/$step.fault" < "$folder/$step.pipe" > "$folder/$step" & } 2> /dev/null
         jobs+=($!) pipes+=("$folder/$step.pipe")
     done
     unpacked "$1" | tee -p -- "${pipes[@]:1}" > "${pipes[0]}" || {
