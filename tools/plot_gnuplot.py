@@ -1,62 +1,33 @@
 """The pictures of tools/plot by gnuplot: its script, which has the data within, and its run."""
 
+import math
+import os
 import shutil
 import subprocess
 import sys
+import textwrap
 from typing import NamedTuple
 
 import plot_pictures as pictures
+from plot_canvas import Frame, frames
 from tool import NAME, fail
 
 MARKS = (7, 5, 9, 11, 13, 6, 4)
+DASHES = ("solid", "(9,4)", "(2,3)", "(9,3,2,3)", "(16,5)", "(5,3)", "(9,3,2,3,2,3)")
 
 
-class Canvas(NamedTuple):
-    """A terminal of gnuplot: how it is set, its width and height, those of a letter, and the sizes of large and small type."""
+class Place(NamedTuple):
+    """Where a picture stands: what its axes enclose, the lines of its title, and how many lines of a legend are below these."""
 
-    setting: str
-    width: int
-    height: int
-    letter: float
-    line: float
-    is_text: bool = False
-    large: float = 0
-    small: float = 0
-    mark: float = 1
+    area: Frame
+    title: list
+    legend: int
 
-    def at(self, x, y):
-        """A place as gnuplot has it, as parts of the width and the height. Of text, the whole is at the last column and line."""
-        return f"{x / (self.width - self.is_text):.5f},{y / (self.height - self.is_text):.5f}"
-
-
-class Frame(NamedTuple):
-    """A part of a canvas. Heights are counted from below, as gnuplot does."""
-
-    left: float
-    bottom: float
-    right: float
-    top: float
-
-
-def pixels(count):
-    """The width and height for so many pictures."""
-    return (920, 800) if count == 3 else (860, 480)
-
-
-def png(count):
-    width, height = pixels(count)
-    return Canvas(f"pngcairo size {width},{height} font 'Sans,10.5'", width, height, 8.2, 17, large=13, small=9)
-
-
-def svg(count):
-    width, height = pixels(count)
-    setting = f"svg size {width},{height} font 'DejaVu Sans,Verdana,sans-serif,14' background rgb 'white'"
-    return Canvas(setting, width, height, 8.2, 19.5, large=17, small=12, mark=0.7)
-
-
-def text(columns, lines):
-    columns, lines = max(columns, 72), max(lines, 16)
-    return Canvas(f"dumb nofeed size {columns},{lines}", columns, lines, 1, 1, is_text=True)
+    def title_lines(self, canvas):
+        """Each line of the title with its height."""
+        lowest = 1 + self.legend if canvas.is_text else 1.4 + 1.05 * self.legend
+        for number, line in enumerate(reversed(self.title)):
+            yield line, self.area.top + (lowest + number + canvas.is_text) * canvas.line
 
 
 def quoted(words):
@@ -64,24 +35,40 @@ def quoted(words):
     return "'" + words.replace("'", "''").replace("]]>", "]] >") + "'"
 
 
-def frames(canvas, count, title):
-    """Where the pictures stand: three as two above a broad one, as text each on a page of its own."""
-    top = canvas.height - bool(title) * (1 if canvas.is_text else 1.8 * canvas.line)
-    middle, half = canvas.width / 2, 0.52 * top
-    if count < 3 or canvas.is_text:
-        return [Frame(0, 0, canvas.width, top)] * count
-    return [Frame(0, half, middle, top), Frame(middle, half, canvas.width, top), Frame(0, 0, canvas.width, half)]
+def title_of(picture, columns):
+    """The lines of a title. Where it is too long, what the picture fixes or its labels are stands in a line of its own."""
+    labels = f"({picture.labels})" * bool(picture.labels)
+    whole = f"{picture.title} {labels}".strip()
+    if len(whole) <= columns:
+        return [whole]
+    first, _, fixed = picture.title.partition(": ")
+    return [line for part in (first, fixed, labels) for line in textwrap.wrap(part, columns)]
 
 
-def plot_area(picture, frame, canvas, widest):
-    """What the axes of a picture enclose: right of it stands the legend, left and below what is written on the axes. No text of a
-    tick has more letters than `widest`."""
-    sample = 11 if canvas.is_text else 9
-    right = 2 if picture.cloud else max([len(picture.legend) + 3] + [len(line.name) + sample for line in picture.lines])
+def legend_columns(picture, canvas):
+    """How many names of a legend stand side by side above a narrow picture, and how many lines it then has."""
+    sample = 9 if canvas.is_text else 10 if canvas.is_mono else 8
+    broadest = max(len(line.name) for line in picture.lines) + sample
+    beside = max(1, int((canvas.columns - (8 if canvas.is_text else 10)) / broadest))
+    return beside, math.ceil(len(picture.lines) / beside) + bool(picture.legend)
+
+
+def place_of(picture, frame, canvas, widest):
+    """Where a picture stands in its frame: right of it or above the legend, left and below what is written on the axes. No text of
+    a tick has more letters than `widest`."""
+    title = title_of(picture, int((frame.right - frame.left) / canvas.letter) - (0 if canvas.is_text else 2))
+    has_names, sample, right, legend = any(line.name for line in picture.lines), 11 if canvas.is_text else 9, 2, 0
+    if picture.cloud:
+        legend = 2 * canvas.is_narrow if canvas.is_text else 1 + canvas.is_narrow
+    elif has_names and canvas.is_narrow:
+        legend = legend_columns(picture, canvas)[1]
+    elif has_names:
+        right = max([len(picture.legend) + 3] + [len(line.name) + sample for line in picture.lines])
     if canvas.is_text:
-        return Frame(widest + 2, 2, frame.right - right, frame.top - 3)
+        return Place(Frame(widest + 2, 2, frame.right - right, frame.top - len(title) - 2 - legend), title, legend)
     left, bottom = frame.left + (widest + 5) * canvas.letter, frame.bottom + 3.4 * canvas.line
-    return Frame(left, bottom, frame.right - right * canvas.letter, frame.top - (3.4 if picture.cloud else 2.2) * canvas.line)
+    above = len(title) + 1.2 + 1.05 * legend
+    return Place(Frame(left, bottom, frame.right - right * canvas.letter, frame.top - above * canvas.line), title, legend)
 
 
 def ticks(axis):
@@ -90,51 +77,81 @@ def ticks(axis):
     return "(" + ", ".join(marked + [f"'' {value:.10g} 1" for value in axis.minor]) + ")"
 
 
-def axes(picture, across, up, area, canvas):
+def axes(picture, across, up, place, canvas, words):
     """The commands that set the place of a picture, its title and its axes."""
+    area = place.area
     (left, bottom), (right, top) = canvas.at(*area[:2]).split(","), canvas.at(*area[2:]).split(",")
-    title = picture.title + (" (block size, sets, ways)" if picture.cloud else "")
-    lines = [f"set {side}margin at screen {place}" for side, place in zip("lbrt", (left, bottom, right, top))]
+    lines = [f"set {side}margin at screen {where}" for side, where in zip("lbrt", (left, bottom, right, top))]
     lines += [f"set xlabel {quoted(picture.across)}"]
+    middle = canvas.width / 2 if canvas.is_text else (area.left + area.right) / 2
+    for line, height in place.title_lines(canvas):
+        lines += [f"set label {quoted(line)} at screen {canvas.at(middle, height)} center"]
     if canvas.is_text:
-        lines += [f"set label {quoted(title)} at screen {canvas.at(canvas.width / 2, area.top + 2)} center"]
-        lines += [f"set label {quoted(pictures.UP)} at screen {canvas.at(0, area.top + 1)}"]
+        lines += [f"set label {quoted(words)} at screen {canvas.at(0, area.top + 1)}"]
         up = up._replace(minor=[])
     else:
-        lines += [f"set ylabel {quoted(pictures.UP)}", f"set title {quoted(title)} offset 0,{1.1 if picture.cloud else 0}"]
+        lines += [f"set ylabel {quoted(words)}"]
     for letter, axis in (("x", across), ("y", up)):
         lines += [f"{'set' if axis.log else 'unset'} logscale {letter}"]
         lines += [f"set {letter}range [{axis.low:.10g}:{axis.high:.10g}]", f"set {letter}tics {ticks(axis)}"]
     return lines
 
 
-def block(name, runs, picture, up):
-    """The data of a line: the place of each cache and its miss ratio in per cent, with an empty line where the line is cut."""
-    cut = "\n\n".join("\n".join(f"{picture.place(row)} {pictures.height(row, up):.10g}" for row in run) for run in runs)
+def block(name, runs, up):
+    """The data of a line: the place of each cache, with an empty line where the line is cut."""
+    cut = "\n\n".join("\n".join(f"{point.x} {up.height(point.y):.10g}" for point in run) for run in runs)
     return [f"${name} << END", cut, "END"]
+
+
+def bars(name, line, up):
+    """The data of the bars from the least to the greatest of several seeds, where there are some."""
+    spread = [point for run in line.runs for point in run if point.ends]
+    rows = [f"{point.x} {up.height(point.y):.10g} " + " ".join(f"{up.height(end):.10g}" for end in point.ends) for point in spread]
+    return [f"${name} << END", *rows, "END"] if rows else []
 
 
 def plot(plots):
     return ["plot " + ", \\\n    ".join(plots), "unset label"]
 
 
-def of_lines(picture, up, area, canvas):
+def looks(number, canvas):
+    """The commands for the looks of a line."""
+    if canvas.is_text:
+        return ""
+    colour = pictures.BLACK if canvas.is_mono else pictures.COLOURS[number]
+    dash = f" dashtype {DASHES[number]}" if canvas.is_mono else ""
+    return f" linewidth {canvas.stroke:.3g} linecolor rgb '{colour}'{dash}"
+
+
+def legend_of_lines(picture, place, canvas):
+    """The commands for the legend: right of the picture, or above it."""
+    area, title = place.area, f"title {quoted(picture.legend)}"
+    if not place.legend:
+        return [f"set key at screen {canvas.at(area.right + canvas.letter, area.top)} left top vertical Left reverse {title}"]
+    beside, _ = legend_columns(picture, canvas)
+    if canvas.is_text:
+        top = area.top + 1 + place.legend
+        words = [f"set label {quoted(picture.legend)} at screen {canvas.at(3, top)}"] * bool(picture.legend)
+        where = canvas.at(0, top + 1 - bool(picture.legend))
+        return words + [f"set key at screen {where} left top horizontal Left reverse maxcols {beside} title ''"]
+    where = canvas.at((area.left + area.right) / 2, area.top + 0.3 * canvas.line)
+    return [f"set key at screen {where} center bottom horizontal Left reverse maxcols {beside} {title}"]
+
+
+def of_lines(picture, up, place, canvas):
     """The data of a picture of lines, its legend, and the command that plots it."""
-    place = canvas.at(area.right + canvas.letter, area.top)
-    data, plots = [f"set key at screen {place} left top vertical Left reverse title {quoted(picture.legend)}"], []
+    data, plots = legend_of_lines(picture, place, canvas), []
     for number, line in enumerate(picture.lines):
-        name = f"{picture.name}_{number + 1}"
-        data += block(name, line.runs, picture, up)
-        style = f"linewidth 2 linecolor rgb '{pictures.COLOURS[number]}' pointtype {MARKS[number]} pointsize {canvas.mark}"
-        if canvas.is_text:
-            plots.append(f"${name} with linespoints title {quoted(' ' + line.name)}")
-        else:
-            plots.append(f"${name} with linespoints {style} title {quoted(line.name)}")
+        name, drawn = f"{picture.name}_{number + 1}", looks(number, canvas)
+        spread = bars(f"{name}_ends", line, up)
+        data += block(name, line.runs, up) + spread
+        marks = "" if canvas.is_text or picture.is_curve else f" pointtype {MARKS[number]} pointsize {canvas.mark:.3g}"
+        style = "lines" if picture.is_curve else "linespoints"
+        if spread and not canvas.is_text:
+            plots.append(f"${name}_ends with yerrorbars pointtype 7 pointsize 0{drawn.replace(DASHES[number], 'solid')} notitle")
+        titled = f"title {quoted(' ' * canvas.is_text + line.name)}" if line.name else "notitle"
+        plots.append(f"${name} with {style}{drawn}{marks} {titled}")
     return data + plot(plots)
-
-
-def label(row):
-    return ",".join(map(str, row.cache))
 
 
 def labelled(front, across, up, area, canvas):
@@ -145,51 +162,59 @@ def labelled(front, across, up, area, canvas):
         return box.left > other.right or other.left > box.right or box.bottom > other.top or other.bottom > box.top
 
     kept, boxes = [], []
-    for row in sorted(front, key=lambda row: row != front[-1] and 1 + (row.size & (row.size - 1) != 0)):
-        x = area.left + across.fraction(row.size) * (area.right - area.left)
-        y = area.bottom + up.fraction(pictures.height(row, up)) * (area.top - area.bottom)
-        box = Frame(x - (len(label(row)) + 1) * canvas.letter, y - 1.3 * canvas.line, x, y - 0.4 * canvas.line)
-        is_within = box.left > area.left + canvas.letter / 2 and box.bottom > area.bottom
-        if is_within and all(apart(box, other) for other in boxes):
-            kept.append(row)
+    for point in sorted(front, key=lambda point: point != front[-1] and 1 + (point.x & (point.x - 1) != 0)):
+        x = area.left + across.fraction(point.x) * (area.right - area.left)
+        y = area.bottom + up.fraction(up.height(point.y)) * (area.top - area.bottom)
+        more = 0.5 * canvas.is_text  # a line of text may be rounded to the next one
+        box = Frame(x - (len(point.label) + 1) * canvas.letter, y - (1.3 + more) * canvas.line, x, y - (0.4 - more) * canvas.line)
+        is_within = box.left > area.left + canvas.letter / 2 and y - 1.3 * canvas.line > area.bottom
+        if point.label and is_within and all(apart(box, other) for other in boxes):
+            kept.append(point)
             boxes.append(box)
     return kept
 
 
 def front_as_text(named, area, canvas):
     """The commands for the legend of the Pareto front as text, and what is plotted."""
-    legend = f"set label {quoted('. all caches   o ' + named)} at screen {canvas.at(area.right, area.top + 1)} right"
+    if canvas.is_narrow:
+        rows = enumerate((f"o {named}", ". all caches"), 2)
+        legend = [f"set label {quoted(words)} at screen {canvas.at(3, area.top + row)}" for row, words in rows]
+    else:
+        legend = [f"set label {quoted(f'. all caches   o {named}')} at screen {canvas.at(area.right, area.top + 1)} right"]
     marks = (("all", "."), ("front", "o"), ("labelled", "O"))
     points = [f"$pareto_{name} with points pointtype '{mark}'" for name, mark in marks]
-    return [legend, "unset key"], ["$pareto_steps with steps"] + points
+    return [*legend, "unset key"], ["$pareto_steps with steps"] + points
 
 
 def front_in_colours(named, area, canvas):
     """The same in colours."""
     place = canvas.at((area.left + area.right) / 2, area.top + 0.2 * canvas.line)
-    pale, dark = f"linecolor rgb '{pictures.PALE}'", f"linecolor rgb '{pictures.FRONT}'"
+    colour = pictures.BLACK if canvas.is_mono else pictures.FRONT
+    pale, dark = f"linecolor rgb '{pictures.PALE}'", f"linecolor rgb '{colour}'"
     every, each, ring = (f"{part * canvas.mark:.3g}" for part in (0.5, 0.7, 1.1))
-    return [f"set key at screen {place} center bottom horizontal Left reverse title ''"], [
+    way = "vertical" if canvas.is_narrow else "horizontal"
+    return [f"set key at screen {place} center bottom {way} Left reverse title ''"], [
         f"$pareto_all with points pointtype 7 pointsize {every} {pale} title 'all caches'",
-        f"$pareto_steps with steps linewidth 2 {dark} title {quoted(named)}",
+        f"$pareto_steps with steps linewidth {canvas.stroke:.3g} {dark} title {quoted(named)}",
         f"$pareto_front with points pointtype 7 pointsize {each} {dark} notitle",
-        f"$pareto_labelled with points pointtype 6 pointsize {ring} linewidth 1.5 linecolor rgb 'black' notitle",
+        f"$pareto_labelled with points pointtype 6 pointsize {ring} linewidth {0.75 * canvas.stroke:.3g} linecolor rgb 'black' notitle",
     ]
 
 
-def of_front(picture, across, up, area, canvas):
+def of_front(picture, across, up, place, canvas):
     """The data of the Pareto front, its labels, and the command that plots it. The step of its last cache goes on to the end."""
-    front, named = picture.lines[0].runs[0], picture.lines[0].name
-    steps = front + [front[-1]._replace(size=max(row.size for row in picture.cloud))]
-    cloud = pictures.thinned(picture, across, up, (area.right - area.left) / 2, (area.top - area.bottom) / 2)
+    front, named, area = picture.lines[0].runs[0], picture.lines[0].name, place.area
+    steps = front + [front[-1]._replace(x=max(point.x for point in picture.cloud))]
+    cells = (area.right - area.left) / canvas.letter * 4, (area.top - area.bottom) / canvas.line * 8
+    cloud = pictures.thinned(picture.cloud, across, up, *((side / 8 for side in cells) if canvas.is_text else cells))
     chosen = labelled(front, across, up, area, canvas)
     lines = []
-    for name, rows in (("all", cloud), ("steps", steps), ("front", front), ("labelled", chosen)):
-        lines += block(f"pareto_{name}", [rows], picture, up)
-    offset, font = ("-1,-1", "") if canvas.is_text else ("-0.5,-0.6", f" font ',{canvas.small}'")
-    for row in chosen:
-        place = f"{row.size},{pictures.height(row, up):.10g}"
-        lines += [f"set label {quoted(label(row))} at {place} right offset character {offset}{font}"]
+    for name, points in (("all", cloud), ("steps", steps), ("front", front), ("labelled", chosen)):
+        lines += block(f"pareto_{name}", [points], up)
+    offset, font = ("-1,-1", "") if canvas.is_text else ("-0.5,-0.6", f" font ',{canvas.small:.3g}'")
+    for point in chosen:
+        where = f"{point.x},{up.height(point.y):.10g}"
+        lines += [f"set label {quoted(point.label)} at {where} right offset character {offset}{font}"]
     legend, plots = (front_as_text if canvas.is_text else front_in_colours)(named, area, canvas)
     return lines + legend + plot(plots if chosen else plots[:-1])
 
@@ -199,28 +224,31 @@ def beginning(canvas, title):
     lines = [f"set terminal {canvas.setting}", "set encoding utf8", "set termoption noenhanced", "set border 3"]
     if canvas.is_text:
         return lines + ["set tics nomirror scale 0"]
-    lines += ["set tics nomirror textcolor rgb 'black'", "set border linecolor rgb '#606060'", "set key samplen 2.5"]
+    lines += ["set tics nomirror textcolor rgb 'black'", "set border linecolor rgb '#606060'"]
+    lines += [f"set key samplen {4 if canvas.is_mono else 2.5}", f"set bars {0.6 * canvas.mark:.3g}"]
     lines += ["set grid linetype 1 linewidth 1 linecolor rgb '#e4e4e4'"]
-    large = max(canvas.small, canvas.large * min(1, 0.75 * canvas.width / canvas.letter / max(1, len(title))))
+    large = max(canvas.small, canvas.large * min(1, 0.75 * canvas.columns / max(1, len(title))))
     return lines + ["set multiplot" + f" title {quoted(title)} font ',{large:.3g}'" * bool(title)]
 
 
-def script(drawn, canvas, title):
+def script(drawn, canvas, title, measure):
     """The script that draws the pictures. It writes what it draws to standard output."""
-    places = list(zip(drawn, frames(canvas, len(drawn), title)))
-    heights = [area.top - area.bottom for area in (plot_area(*place, canvas, 0) for place in places)]
-    up = pictures.ratio_axis([row for picture in drawn for row in picture.rows], 1.3 * canvas.line / min(heights))
+    within = list(zip(drawn, frames(canvas, len(drawn), bool(title))))
+    heights = [place_of(*each, canvas, 0).area for each in within]
+    shortest = max(canvas.line, min(area.top - area.bottom for area in heights))
+    up = pictures.value_axis([point for picture in drawn for point in picture.points], measure, 1.3 * canvas.line / shortest)
     widest = max(len(words) for _, words in up.ticks)
     lines = beginning(canvas, title)
-    for picture, frame in places:
-        area = plot_area(picture, frame, canvas, widest)
-        closest = 5.5 * canvas.letter / (area.right - area.left)
-        across = pictures.size_axis([picture.place(row) for row in picture.rows], closest)
+    for picture, frame in within:
+        place = place_of(picture, frame, canvas, widest)
+        broad, high = place.area.right - place.area.left, place.area.top - place.area.bottom
+        across = pictures.size_axis([point.x for point in picture.points], 5.5 * canvas.letter / broad)
+        picture = pictures.thinned_lines(picture, across, up, 8 * broad / canvas.letter, 16 * high / canvas.line)
         if canvas.is_text and title:
-            place = canvas.at(canvas.width / 2, canvas.height - 1)
-            lines += [f"set label {quoted(title[:canvas.width])} at screen {place} center"]
-        lines += axes(picture, across, up, area, canvas)
-        lines += of_front(picture, across, up, area, canvas) if picture.cloud else of_lines(picture, up, area, canvas)
+            where = canvas.at(canvas.width / 2, canvas.height - 1)
+            lines += [f"set label {quoted(title[:canvas.width])} at screen {where} center"]
+        lines += axes(picture, across, up, place, canvas, measure.up)
+        lines += of_front(picture, across, up, place, canvas) if picture.cloud else of_lines(picture, up, place, canvas)
     return "\n".join(lines + ["unset multiplot"] * (not canvas.is_text)) + "\n"
 
 
@@ -231,8 +259,8 @@ def check():
 
 
 def drawn_by(script):
-    """What gnuplot draws by a script, as bytes."""
-    ran = subprocess.run(["gnuplot", "-d"], input=script.encode(), capture_output=True)
+    """What gnuplot draws by a script, as bytes. In another encoding than UTF-8 it warns of letters that it can't convert."""
+    ran = subprocess.run(["gnuplot", "-d"], input=script.encode(), capture_output=True, env={**os.environ, "LC_ALL": "C.UTF-8"})
     told = " ".join(ran.stderr.decode(errors="replace").split())
     if ran.returncode or not ran.stdout:
         fail(f"gnuplot failed: {told}")

@@ -5,33 +5,69 @@ import json
 import math
 
 import plot_pictures as pictures
+import plot_sweep
 from tool import fail
 
 SYMBOLS = ("circle", "square", "triangle-up", "triangle-down", "diamond", "circle-open", "square-open")
+DASHES = ("solid", "dash", "dot", "dashdot", "longdash", "longdashdot", "8px,3px,2px,3px,2px,3px")
 MOST_CHOICES = 64
 MOST_POINTS = 4000
 # what may be chosen for a picture: its word, its name after the page's '#', and the texts of the choices
-MENUS = {"size": ("Block size", "bsize", pictures.bytes_text), "block": ("Associativity", "ways", pictures.ways_text)}
+BLOCK_SIZE = ("Block size", "bsize", pictures.bytes_text)
+MENUS = {"size": BLOCK_SIZE, "curve": BLOCK_SIZE, "block": ("Associativity", "ways", pictures.ways_text)}
 FONT = "system-ui, 'DejaVu Sans', Verdana, sans-serif"
-ABOUT = (
-    "%{customdata[3]:,} bytes: block %{customdata[0]:,}, sets %{customdata[1]:,}, ways %{customdata[2]:,}<br>"
-    "hits %{customdata[4]:,}, misses %{customdata[5]:,}, evictions %{customdata[6]:,}<br>"
-    "miss ratio %{customdata[7]:.4~g} %<extra></extra>"
-)
+# in a page of at most so many pixels a legend is above its picture, and ticks are few
+NARROW = 640
+# in the dark each colour of a picture has another
+DARK = {
+    "#0072b2": "#5cb3ec", "#d55e00": "#ff8a3d", "#009e73": "#2fd0a2", "#cc79a7": "#eba3cb", "#e69f00": "#ffc14a",
+    "#56b4e9": "#a9d9f7", "#000000": "#ffffff", "#bbbbbb": "#6a6a6a",
+}
 # Whatever plotly might ask for, the browser must not fetch it.
 POLICY = "default-src 'none'; script-src 'unsafe-inline'; style-src 'unsafe-inline'; img-src data: blob:"
 STYLE = f"""
-body {{ font: 16px {FONT}; margin: 1em auto; max-width: 70em; padding: 0 1em }}
+:root {{ color-scheme: light dark; overflow-y: scroll }}
+body {{ font: 16px {FONT}; margin: 1em auto; max-width: 70em; padding: 0 1em; background: #fff; color: #222 }}
 h1 {{ font-size: 1.4em }}
+h2 {{ font-size: 1em; margin: 1.5em 0 .5em }}
 select {{ font: inherit }}
+section {{ overflow: hidden }}
+@media (prefers-color-scheme: dark) {{ body {{ background: #181a1b; color: #e4e4e4 }} }}
 """
 SCRIPT = """
 const asked = new URLSearchParams(location.hash.slice(1));
+const narrow = matchMedia("(max-width: NARROWpx)"), dark = matchMedia("(prefers-color-scheme: dark)");
+const inDark = colour => dark.matches && darkColours[colour] || colour;
+const coloured = trace => {
+    const changed = {...trace};
+    for (const part of ["line", "marker", "error_y"]) {
+        if (trace[part]) changed[part] = {...trace[part], color: inDark(trace[part].color)};
+    }
+    return changed;
+};
+const laidOut = figure => {
+    const text = dark.matches ? "#e4e4e4" : "#222", grid = dark.matches ? "#3a3d3f" : "#e4e4e4";
+    const {xaxis, yaxis, legend, font, margin, ...layout} = figure.layout, beside = !narrow.matches && !figure.above;
+    const [places, words] = narrow.matches ? figure.few : figure.many;
+    return {
+        ...layout, paper_bgcolor: "rgba(0,0,0,0)", plot_bgcolor: "rgba(0,0,0,0)",
+        xaxis: {...xaxis, gridcolor: grid, tickvals: places, ticktext: words, tickangle: 0},
+        yaxis: {...yaxis, gridcolor: grid},
+        legend: beside ? legend : {...legend, orientation: "h", x: 0, y: 1, yanchor: "bottom"},
+        font: {...font, color: text, size: narrow.matches ? 12 : 14},
+        margin: narrow.matches ? {...margin, l: 10} : margin,
+        modebar: {bgcolor: "rgba(0,0,0,0)", color: "#999", activecolor: text},
+    };
+};
+const shows = [];
 for (const [name, choices] of Object.entries(figures)) {
     const menu = document.querySelector(`select[data-for="${name}"]`);
+    const title = document.querySelector(`h2[data-for="${name}"]`);
     const show = () => {
         const figure = choices[menu ? menu.value : Object.keys(choices)[0]];
-        Plotly.react(name, figure.data, figure.layout, {responsive: true, displaylogo: false});
+        title.textContent = figure.title;
+        const looks = {responsive: true, displaylogo: false, displayModeBar: narrow.matches ? false : "hover"};
+        Plotly.react(name, figure.data.map(coloured), laidOut(figure), looks);
     };
     if (menu) {
         if (Object.hasOwn(choices, asked.get(menu.name))) menu.value = asked.get(menu.name);
@@ -41,45 +77,60 @@ for (const [name, choices] of Object.entries(figures)) {
             show();
         };
     }
+    shows.push(show);
     show();
 }
-"""
+for (const query of [narrow, dark]) query.onchange = () => shows.forEach(show => show());
+""".replace("NARROW", str(NARROW))
 
 
-def points(rows, picture, up):
+def points(some, up, about):
     """The places of some caches, and what is told about each where the pointer is over it. None cuts a line."""
     return {
-        "x": [row and picture.place(row) for row in rows],
-        "y": [row and pictures.height(row, up) for row in rows],
-        "customdata": [row and [*row, pictures.percent(row)] for row in rows],
-        "hovertemplate": ABOUT,
+        "x": [point and point.x for point in some],
+        "y": [point and up.height(point.y) for point in some],
+        "customdata": [point and point.told for point in some],
+        "hovertemplate": about,
     }
 
 
-def of_lines(picture, up):
+def bars(some, up, colour):
+    """The bars from the least to the greatest of several seeds, where there are some."""
+    if not any(point and point.ends for point in some):
+        return {}
+    ends = [(point.ends or (point.y, point.y)) if point else (0, 0) for point in some]
+    above = [end[1] - point.y if point else 0 for end, point in zip(ends, some)]
+    below = [point.y - up.height(end[0]) if point else 0 for end, point in zip(ends, some)]
+    return {"error_y": {"type": "data", "symmetric": False, "array": above, "arrayminus": below, "color": colour, "thickness": 1}}
+
+
+def of_lines(picture, up, about, mono):
     """The lines of a picture as plotly has them."""
     traces = []
-    for line, colour, symbol in zip(picture.lines, pictures.COLOURS, SYMBOLS):
-        rows = [row for run in line.runs for row in [None, *run]][1:]
-        looks = {"line": {"color": colour}, "marker": {"color": colour, "symbol": symbol, "size": 8}}
-        traces.append({**points(rows, picture, up), "mode": "lines+markers", "name": line.name, **looks})
+    for line, colour, symbol, dash in zip(picture.lines, pictures.COLOURS, SYMBOLS, DASHES):
+        some = [point for run in line.runs for point in [None, *run]][1:]
+        colour = pictures.BLACK if mono else colour
+        looks = {"line": {"color": colour, **({"dash": dash} if mono else {})}, "marker": {"color": colour, "symbol": symbol, "size": 8}}
+        mode = "lines" if picture.is_curve else "lines+markers"
+        traces.append({**points(some, up, about), "mode": mode, "name": line.name, **looks, **bars(some, up, colour)})
     return traces
 
 
-def of_front(picture, across, up):
+def of_front(picture, across, up, about, mono):
     """The same for the Pareto front. Of very many caches those close together are shown as one."""
     front, cloud, named = picture.lines[0].runs[0], picture.cloud, "all caches"
     if len(cloud) > MOST_POINTS:
-        cloud, named = pictures.thinned(picture, across, up, 400, 200), "all caches, close ones as one"
-    steps = [(picture.place(row), pictures.height(row, up)) for row in front]
-    steps.append((max(row.size for row in picture.cloud), steps[-1][1]))
-    pale, dark = {"color": pictures.PALE, "size": 5}, {"color": pictures.FRONT, "size": 7}
-    line = {"color": pictures.FRONT, "shape": "hv"}
+        cloud, named = pictures.thinned(cloud, across, up, 400, 200), "all caches, close ones as one"
+    steps = [(point.x, up.height(point.y)) for point in front]
+    steps.append((max(point.x for point in picture.cloud), steps[-1][1]))
+    colour = pictures.BLACK if mono else pictures.FRONT
+    pale, dark = {"color": pictures.PALE, "size": 5}, {"color": colour, "size": 7}
+    line = {"color": colour, "shape": "hv"}
     x, y = zip(*steps)
     return [
-        {**points(cloud, picture, up), "mode": "markers", "name": named, "marker": pale},
+        {**points(cloud, up, about), "mode": "markers", "name": named, "marker": pale},
         {"x": x, "y": y, "mode": "lines", "name": picture.lines[0].name, "line": line, "hoverinfo": "skip"},
-        {**points(front, picture, up), "mode": "markers", "marker": dark, "showlegend": False},
+        {**points(front, up, about), "mode": "markers", "marker": dark, "showlegend": False},
     ]
 
 
@@ -89,46 +140,36 @@ def axis(ends, words):
     return {
         "type": "log" if ends.log else "linear",
         "range": [measure(ends.low), measure(ends.high)],
-        "title": {"text": words, "font": {"size": 15}, "standoff": 12},
-        "gridcolor": "#e4e4e4",
+        "title": {"text": words, "font": {"size": 14}, "standoff": 12},
         "zeroline": False,
         "automargin": True,
     }
 
 
-def marked(ends):
-    """The ticks of an axis, where plotly's own will not do."""
-    places, texts = zip(*ends.ticks)
-    return {"tickvals": places, "ticktext": texts}
+def ticks(ends):
+    """The places of the ticks, and their texts."""
+    return list(zip(*ends.ticks))
 
 
-def figure(picture, across, up):
-    """A picture as plotly has it."""
-    legend = {"text": picture.legend, "font": {"size": 14}}
+def figure(picture, up, measure, mono):
+    """A picture as plotly has it, with its title, and the ticks of its horizontal axis for a narrow page and a wide one."""
+    few, many = (pictures.size_axis([point.x for point in picture.points], closest) for closest in (0.15, 0.05))
+    picture = pictures.thinned_lines(picture, many, up, 1000, 500)
+    places, words = ticks(up)
     layout = {
-        "title": {"text": picture.title, "font": {"size": 16}, "x": 0, "xref": "paper"},
-        "xaxis": {**axis(across, picture.across), **marked(across)},
-        "yaxis": {**axis(up, pictures.UP), **(marked(up) if up.foot else {"tickformat": "~g"})},
-        "legend": {"orientation": "h", "y": 1, "yanchor": "bottom"} if picture.cloud else {"title": legend},
-        "font": {"family": FONT, "size": 14},
-        "height": 460,
-        "margin": {"t": 70 if picture.cloud else 50, "r": 20, "b": 60},
+        "xaxis": axis(many, picture.across),
+        "yaxis": {**axis(up, measure.up), "tickvals": places, "ticktext": words},
+        "legend": {"title": {"text": picture.legend, "font": {"size": 14}}},
+        "font": {"family": FONT},
+        "height": 440,
+        "margin": {"t": 40, "r": 20, "b": 60},
         "hovermode": "closest",
         "hoverlabel": {"align": "left"},
-        "showlegend": True,
+        "showlegend": any(line.name for line in picture.lines),
         "uirevision": "as it was",
     }
-    return {"data": of_front(picture, across, up) if picture.cloud else of_lines(picture, up), "layout": layout}
-
-
-def choices(picture, rows):
-    """The pictures that may be chosen in place of one: by what they fix."""
-    if picture.name == "size":
-        return {bsize: pictures.by_size(rows, bsize) for bsize in sorted({row.bsize for row in rows})}
-    if picture.name == "block":
-        values = pictures.handful((row.assoc for row in rows), MOST_CHOICES)
-        return {ways: pictures.by_block(rows, ways) for ways in sorted({*values, picture.fixed})}
-    return {picture.fixed: picture}
+    front = of_front(picture, many, up, measure.about, mono) if picture.cloud else of_lines(picture, up, measure.about, mono)
+    return {"title": picture.title, "above": bool(picture.cloud), "few": ticks(few), "many": ticks(many), "data": front, "layout": layout}
 
 
 def section(picture, offered):
@@ -138,20 +179,20 @@ def section(picture, offered):
         word, name, text = MENUS[picture.name]
         options = [f"<option value={fixed}{' selected' * (fixed == picture.fixed)}>{text(fixed)}</option>" for fixed in offered]
         menu = f"<label>{word} <select name={name} data-for={picture.name}>{''.join(options)}</select></label>\n"
-    return f"<section>\n{menu}<div id={picture.name}></div>\n</section>\n"
+    title = f"<h2 data-for={picture.name}>{html.escape(picture.title)}</h2>"
+    return f"<section>\n{title}\n{menu}<div id={picture.name}></div>\n</section>\n"
 
 
-def page(rows, drawn, title):
-    """The page with these pictures of a table."""
-    up = pictures.ratio_axis(rows, 0.05)
-    figures, sections = {}, []
-    for picture in drawn:
-        across = pictures.size_axis([picture.place(row) for row in rows], 0.04)
-        offered = choices(picture, rows)
-        figures[picture.name] = {fixed: figure(chosen, across, up) for fixed, chosen in offered.items()}
-        sections.append(section(picture, offered))
+def page(drawn, measure, title, counts, choices, mono):
+    """The page with these pictures of a table. `choices` answers what may be chosen in place of one."""
+    offered = [choices(picture) for picture in drawn]
+    shown = [point for several in offered for picture in several.values() for point in picture.points]
+    up = pictures.value_axis(shown, measure, 0.062)
+    figures = {
+        picture.name: {fixed: figure(chosen, up, measure, mono) for fixed, chosen in several.items()}
+        for picture, several in zip(drawn, offered)
+    }
     heading = html.escape(title or "Miss ratios of caches")
-    counts = f"{len(rows):,} cache{'s' * (len(rows) > 1)}, {rows[0].references:,} references"
     return f"""<!DOCTYPE html>
 <html lang="en">
 <head>
@@ -165,12 +206,26 @@ def page(rows, drawn, title):
 <body>
 <h1>{heading}</h1>
 <p>{counts}. A point tells its cache. Drag to zoom in, click twice to go back.</p>
-{"".join(sections)}<script>
+{"".join(map(section, drawn, offered))}<script>
 const figures = {as_script(figures)};
+const darkColours = {as_script(DARK)};
 {SCRIPT}</script>
 </body>
 </html>
 """
+
+
+def of_sweep(drawn, rows, measure, title, mono):
+    """The page for a table of a sweep."""
+    counts = f"{len(rows):,} cache{'s' * (len(rows) > 1)}, {rows[0].references:,} references"
+    return page(drawn, measure, title, counts, lambda picture: plot_sweep.choices(picture, rows, measure, MOST_CHOICES), mono)
+
+
+def of_din(drawn, table, measure, title, mono):
+    """The page for a table of din."""
+    runs = sum(len(case.values) for case in table.cases)
+    counts = f"{runs:,} run{'s' * (runs > 1)}, {table.references:,} references"
+    return page(drawn, measure, title, counts, lambda picture: {picture.fixed: picture}, mono)
 
 
 def as_script(data):

@@ -1,29 +1,54 @@
-"""What tools/plot draws of a table: the lines, titles and axes of its three pictures, for gnuplot and for a browser alike."""
+"""What tools/plot draws: pictures of lines and points, their axes and ticks, for gnuplot and for a browser alike."""
 
 import math
 from typing import NamedTuple
 
-from table import pareto
 from tool import size_text
 
-NAMES = ("size", "block", "pareto")
+NAMES = ("size", "block", "pareto", "curve")
 MOST_LINES = 7
 # of Okabe and Ito: people see them apart whatever colours they are blind to. Their yellow is too pale on white.
 COLOURS = ("#0072b2", "#d55e00", "#009e73", "#cc79a7", "#e69f00", "#56b4e9", "#000000")
-PALE, FRONT = "#bbbbbb", "#d55e00"
-UP = "miss ratio in per cent"
+PALE, FRONT, BLACK = "#bbbbbb", "#d55e00", "#000000"
+
+
+class Point(NamedTuple):
+    """A cache in a picture: its place, what is told about it, its label, and the least and greatest of several seeds."""
+
+    x: int
+    y: float
+    told: tuple
+    label: str = ""
+    ends: tuple = ()
 
 
 class Line(NamedTuple):
-    """A line of a picture: its name in the legend, and its caches, cut where one is missing between two of them."""
+    """A line of a picture: its name in the legend, and its points, cut where one is missing between two of them."""
 
     name: str
     runs: list
 
 
+class Measure(NamedTuple):
+    """What stands on the vertical axis: its name there and above the pictures, what is told of a point, and whether it is in per
+    cent."""
+
+    up: str = "miss ratio in per cent"
+    name: str = "Miss ratio"
+    about: str = ""
+    is_percent: bool = True
+
+    @property
+    def least(self):
+        """The title of the Pareto front."""
+        if self.name == "Miss ratio":
+            return "The smallest caches that miss least"
+        return f"The smallest caches with the least {self.up.removesuffix(' in per cent')}"
+
+
 class Picture(NamedTuple):
-    """A picture of the caches' miss ratios. `fixed` is the block size, or the ways, that all its caches have. The picture of the
-    Pareto front has one line, the front, above a cloud of all caches."""
+    """A picture of some caches. `fixed` is the block size, or the ways, that all its caches have. The picture of a Pareto front has
+    one line, the front, above a cloud of all caches, and says what their labels are. A curve is a line without marks."""
 
     name: str
     fixed: int
@@ -31,16 +56,14 @@ class Picture(NamedTuple):
     across: str
     legend: str
     lines: list
-    cloud: list
+    cloud: list = []
+    labels: str = ""
+    is_curve: bool = False
 
     @property
-    def rows(self):
-        """All the caches that it shows."""
-        return self.cloud or [row for line in self.lines for run in line.runs for row in run]
-
-    def place(self, row):
-        """What stands on the horizontal axis for a cache."""
-        return row.bsize if self.name == "block" else row.size
+    def points(self):
+        """All that it shows."""
+        return self.cloud or [point for line in self.lines for run in line.runs for point in run]
 
 
 class Axis(NamedTuple):
@@ -58,6 +81,10 @@ class Axis(NamedTuple):
         measure = math.log if self.log else float
         return (measure(value) - measure(self.low)) / (measure(self.high) - measure(self.low))
 
+    def height(self, value):
+        """Where a value of a cache stands."""
+        return value or self.foot
+
 
 def short(size):
     """A size as axes and legends have it: 32K."""
@@ -70,10 +97,6 @@ def ways_text(ways):
 
 def bytes_text(size):
     return "1 byte" if size == 1 else f"{short(size)} bytes"
-
-
-def percent(row):
-    return 100 * row.misses / row.references if row.references else 0.0
 
 
 def nearest(values, wanted):
@@ -90,62 +113,25 @@ def handful(values, most=MOST_LINES):
     return values[:: math.ceil(len(values) / most)]
 
 
-def cut(rows, step, steps):
-    """The rows of a line in runs: a run ends where there is a step, which other lines have, between a row and the next one."""
-    runs = [[]]
-    for row in rows:
-        if runs[-1] and any(step(runs[-1][-1]) < other < step(row) for other in steps):
-            runs.append([])
-        runs[-1].append(row)
-    return runs
-
-
-def by_size(rows, bsize):
-    """Miss ratio by cache size at one block size, a line for each associativity."""
-    rows = sorted((row for row in rows if row.bsize == bsize), key=lambda row: row.size)
-    sets = {row.sets for row in rows}
-    lines = [
-        Line(ways_text(ways), cut([row for row in rows if row.assoc == ways], lambda row: row.sets, sets))
-        for ways in handful(row.assoc for row in rows)
-    ]
-    title = f"Miss ratio by cache size: blocks of {bytes_text(bsize)}"
-    return Picture("size", bsize, title, "cache size in bytes", "", lines, [])
-
-
-def by_block(rows, ways):
-    """Miss ratio by block size at one associativity, a line for each cache size; a size of several block sizes is preferred."""
-    rows = sorted(row for row in rows if row.assoc == ways)
-    blocks = {row.bsize for row in rows}
-    sizes = [row.size for row in rows]
-    several = [size for size in sizes if sizes.count(size) > 1]
-    lines = [
-        Line(short(size), cut([row for row in rows if row.size == size], lambda row: row.bsize, blocks))
-        for size in handful(several or sizes)
-    ]
-    return Picture("block", ways, f"Miss ratio by block size: {ways_text(ways)}", "block size in bytes", "cache size", lines, [])
-
-
-def by_front(rows):
-    """The smallest caches that miss least, before all others."""
-    front = Line("fewest misses up to this size", [pareto(rows)])
-    return Picture("pareto", 0, "The smallest caches that miss least", "cache size in bytes", "", [front], rows)
-
-
-def linear_axis(greatest, closest):
-    """An axis from 0 to a bit above a percentage. No two ticks are closer than a part `closest` of it."""
+def linear_axis(greatest, closest, most):
+    """An axis from 0 to a bit above a value. No two ticks are closer than a part `closest` of it."""
     high = 1.05 * greatest or 1.0
     power = 10.0 ** math.floor(math.log10(high * closest))
     step = next(step * power for step in (1, 2, 5, 10, 20) if step * power >= high * closest)
     values = [step * count for count in range(int(high / step) + 1)]
-    return Axis(0.0, high, False, [(value, number_text(value)) for value in values if value <= 100], [], 0.0)
+    return Axis(0.0, high, False, [(value, number_text(value)) for value in values if value <= most], [], 0.0)
 
 
 def number_text(value):
+    """A number in few letters: 0.05, 2000, 20M."""
+    for unit, letter in ((1e12, "T"), (1e9, "G"), (1e6, "M"), (1e3, "k")):
+        if value >= unit:
+            return f"{value / unit:.6g}{letter}"
     return f"{value:.6g}".replace("e-0", "e-")
 
 
 def log_ticks(low, high, closest):
-    """The most ticks for an axis between two percentages of which no two are closer than a part `closest` of it."""
+    """The most ticks for an axis between two values of which no two are closer than a part `closest` of it."""
     decades = range(math.floor(math.log10(low)), math.ceil(math.log10(high)) + 1)
     whole = [10.0 ** decade for decade in decades]
     span = math.log10(high / low)
@@ -156,13 +142,13 @@ def log_ticks(low, high, closest):
     return whole[:: math.ceil(closest * span)]
 
 
-def log_axis(values, closest):
-    """A logarithmic axis around some percentages. Where 0 is among them it stands at the foot of the axis."""
+def log_axis(values, closest, most):
+    """A logarithmic axis around some values. Where 0 is among them it stands at the foot of the axis."""
     least, greatest = min(value for value in values if value), max(values)
     span = greatest / least
     foot = least / span ** 0.12 if 0 in values else 0.0
     low, high = (foot or least) / span ** 0.12, greatest * span ** 0.05
-    ticks = [(value, number_text(value)) for value in log_ticks(low, high, closest) if 0.999 * least <= value <= min(high, 100)]
+    ticks = [(value, number_text(value)) for value in log_ticks(low, high, closest) if 0.999 * least <= value <= min(high, most)]
     ticks = [tick for tick in ticks if not foot or math.log(tick[0] / foot) >= closest * math.log(high / low)]
     decades = range(math.floor(math.log10(least)), math.ceil(math.log10(high)))
     minor = [digit * 10.0 ** decade for decade in decades for digit in range(1, 10)] if len(decades) < 7 else []
@@ -170,11 +156,13 @@ def log_axis(values, closest):
     return Axis(low, high, True, [(foot, "0")] * bool(foot) + ticks, minor, foot)
 
 
-def ratio_axis(rows, closest):
-    """The axis of the miss ratio in per cent: logarithmic where the greatest is five times the least or more."""
-    values = [percent(row) for row in rows]
-    above = [value for value in values if value]
-    return log_axis(values, closest) if above and max(above) >= 5 * min(above) else linear_axis(max(values), 1.5 * closest)
+def value_axis(points, measure, closest):
+    """The axis of the measure: logarithmic where the greatest value is five times the least or more."""
+    values = [value for point in points for value in (point.y, *point.ends)]
+    above, most = [value for value in values if value], 100 if measure.is_percent else math.inf
+    if above and max(above) >= 5 * min(above):
+        return log_axis(values, closest, most)
+    return linear_axis(max(values), 1.5 * closest, most)
 
 
 def size_axis(sizes, closest):
@@ -189,15 +177,18 @@ def size_axis(sizes, closest):
     return Axis(low, high, True, [(value, short(value)) for value in powers or (least, greatest)], [], 0.0)
 
 
-def height(row, axis):
-    """Where a cache stands on the axis of the miss ratio."""
-    return percent(row) or axis.foot
-
-
-def thinned(picture, across, up, columns, lines):
-    """The cloud without the caches that would stand in one and the same cell of so many columns and lines."""
+def thinned(points, across, up, columns, lines):
+    """Some points without those that would stand in one and the same cell of so many columns and lines."""
     cells = {}
-    for row in picture.cloud:
-        cell = round(columns * across.fraction(picture.place(row))), round(lines * up.fraction(height(row, up)))
-        cells.setdefault(cell, row)
+    for point in points:
+        cell = round(columns * across.fraction(point.x)), round(lines * up.fraction(up.height(point.y)))
+        cells.setdefault(cell, point)
     return list(cells.values())
+
+
+def thinned_lines(picture, across, up, columns, lines):
+    """A picture whose curves have no more points than can be seen; each keeps its last one."""
+    if not picture.is_curve:
+        return picture
+    kept = [Line(line.name, [[*thinned(run[:-1], across, up, columns, lines), run[-1]] for run in line.runs]) for line in picture.lines]
+    return picture._replace(lines=kept)

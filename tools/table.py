@@ -1,15 +1,18 @@
 """The table that `cachesim sweep` writes, for the tools of this folder that read one."""
 
+import fractions
+import re
 import sys
 from typing import NamedTuple
 
 from tool import fail
 
 HEADER = "bsize,sets,assoc,size,hits,misses,evictions"
+NUMBER = re.compile("[0-9]+([.][0-9]+)?")
 
 
 class Row(NamedTuple):
-    """A cache, and what a sweep counted for it."""
+    """A cache, and what a sweep counted for it. `value` is that of the measure, where this is not its misses."""
 
     bsize: int
     sets: int
@@ -18,67 +21,97 @@ class Row(NamedTuple):
     hits: int
     misses: int
     evictions: int
+    value: fractions.Fraction = None
 
     @property
     def references(self):
         return self.hits + self.misses
 
     @property
+    def measured(self):
+        """What caches are compared by."""
+        return self.misses if self.value is None else self.value
+
+    @property
     def ratio(self):
-        """Misses by references; 0 where there are none."""
-        return self.misses / self.references if self.references else 0.0
+        """The measure by references; 0 where there are none."""
+        return float(self.measured / self.references) if self.references else 0.0
+
+    @property
+    def percent(self):
+        return float(100 * self.measured / self.references) if self.references else 0.0
 
     @property
     def cache(self):
         """The triple that names the cache in a table."""
         return self.bsize, self.sets, self.assoc
 
+    @property
+    def ties(self):
+        """Of caches that are alike in size and measure the one where this is less comes first."""
+        return self.assoc, self.bsize, self.sets
+
 
 class BadTable(Exception):
-    """A text that is no table of a sweep."""
+    """A text that is no table."""
 
 
-def read_table(lines, name):
+def number_of(text, column, place):
+    """The exact number that a field of a measure says."""
+    if not NUMBER.fullmatch(text):
+        raise BadTable(f"{place}: {column} is no number")
+    return fractions.Fraction(text)
+
+
+def column_of(columns, measure, name):
+    """Where the measure stands in a row."""
+    if measure not in columns:
+        raise BadTable(f"{name}: no column {measure}; there are {', '.join(columns)}")
+    return columns.index(measure)
+
+
+def read_table(lines, name, measure="misses"):
     """The rows of a table, given its lines. A page without a header will do; `name` is for the fault. A header may name more
-    columns after those of a sweep, which some tools add: these are not read."""
+    columns after those of a sweep, which some tools add: of these only the measure is read."""
     rows = []
-    own = width = len(Row._fields)
+    columns = HEADER.split(",")
+    own = len(columns)
     for number, line in enumerate(lines, 1):
         line = line.rstrip("\r\n")
         fields = line.split(",")
         if number == 1 and ",".join(fields[:own]) == HEADER:
-            width = len(fields)
+            columns = fields
             continue
-        if len(fields) != width or not all(field.isascii() and field.isdigit() for field in fields[:own]):
+        if len(fields) != len(columns) or not all(field.isascii() and field.isdigit() for field in fields[:own]):
             raise BadTable(f"{name}: line {number}: no row of a sweep's table")
         row = Row(*map(int, fields[:own]))
         if row.size != row.bsize * row.sets * row.assoc:
             raise BadTable(f"{name}: line {number}: size is not bsize * sets * assoc")
+        if measure != "misses":
+            row = row._replace(value=number_of(fields[column_of(columns, measure, name)], measure, f"{name}: line {number}"))
         rows.append(row)
     if not rows:
         raise BadTable(f"{name}: a table without a row")
     return rows
 
 
-def open_table(name):
-    """The rows of the table in a file; '-' is standard input. Ends the tool with one line where that fails."""
+def lines_of(name):
+    """The lines of a table, and its name for faults; '-' is standard input. Ends the tool with one line where that fails."""
     try:
         if name == "-":
             sys.stdin.reconfigure(encoding="ascii", errors="replace")
-            return read_table(sys.stdin, "standard input")
+            return list(sys.stdin), "standard input"
         with open(name, encoding="ascii", errors="replace") as file:
-            return read_table(file, name)
+            return list(file), name
     except OSError as fault:
         fail(f"{name}: {fault.strerror}")
-    except BadTable as fault:
-        fail(str(fault))
 
 
 def pareto(rows):
     """The smallest caches that miss least, by size: each misses less often than every other cache that is not larger. Of caches
     that are alike in both, the one of the fewest ways stands here, and of these the one of the smallest blocks."""
     front = []
-    for row in sorted(rows, key=lambda row: (row.size, row.misses, row.assoc, row.bsize)):
-        if not front or row.misses < front[-1].misses:
+    for row in sorted(rows, key=lambda row: (row.size, row.measured, row.ties)):
+        if not front or row.measured < front[-1].measured:
             front.append(row)
     return front

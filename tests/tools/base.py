@@ -32,6 +32,7 @@ PACKAGES = {
     "miller": "mlr",
     "munge": "munged",
     "parallel": "parallel",
+    "poppler-utils": "pdftotext",
     "python3-pandas": "/usr/lib/python3/dist-packages/pandas",
     "python3-plotly": "/usr/lib/python3/dist-packages/plotly",
     "pv": "pv",

@@ -204,7 +204,7 @@ class Refused(PlotTest):
 
     def test_wrong_arguments(self):
         for arguments in (
-            [], ["eight.csv"], ["eight.csv", "a.pdf"], ["eight.csv", "a"], ["--only", "x", "eight.csv", "-"],
+            [], ["eight.csv"], ["eight.csv", "a.gif"], ["eight.csv", "a"], ["--only", "x", "eight.csv", "-"],
             ["--bsize", "x", "eight.csv", "-"], ["--script", "eight.csv", "a.html"], ["--bs", "16", "eight.csv", "-"],
         ):
             ran = self.plot(*arguments)

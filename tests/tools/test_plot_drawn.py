@@ -136,7 +136,7 @@ class Drawn(PlotTest):
         self.good(self.run_command("bash", "-c", f"{base.TOOLS}/{command}"))
         was, made = (png_of((folder / "docs/pictures/sort.png").read_bytes()) for folder in (base.TOP, self.folder))
         self.assertEqual(made[:2], was[:2])
-        self.assertEqual(len(table.open_table(stored / "sort.csv")), 633)
+        self.assertEqual(len(table.read_table(*table.lines_of(stored / "sort.csv"))), 633)
 
 
 class Sources(html.parser.HTMLParser):

@@ -1,0 +1,284 @@
+"""Tables of runs of din, compared with the model of the program and with sums by hand."""
+
+import csv
+import gzip
+import itertools
+import os
+import signal
+import subprocess
+import time
+
+import base
+from base import EXAMPLES, PROGRAM, TOOLS, needs
+
+DIN = EXAMPLES / "sort.din"
+SIX = "1 0\n0 10\n2 20\n0 0\n4 0\n1 24\n"
+BAD = "0 10\n0 20\n2 1g\n0 30\n"
+FAULT = "cachesim: line 3: bad address\n"
+UNIT = {"k": 1 << 10, "m": 1 << 20}
+SMALL = "-l1-usize 64-256 -l1-ubsize 16 -l1-uassoc 1,2".split()
+POLICIES = "-l1-usize 128,256 -l1-ubsize 16 -l1-uassoc 2 -l1-urepl l,f,r --seed 1-3".split()
+
+
+def report_of(options, text):
+    """The report of the model for some options, as a dictionary: the counts by cache and name. None where it refuses them."""
+    words = [word for name, value in options.items() for word in (f"--{name}", value)]
+    out, err, status = base.model.run(["din", *words], lambda: text, None)
+    if status:
+        assert "geometry" in err or "block size smaller" in err, err
+        return None
+    found = {}
+    for line in out.splitlines():
+        cache, _, rest = line.rpartition(" ") if "=" in line.split()[0] else line.partition(" ")
+        found.update({(cache, name): int(count) for name, count in (word.split("=") for word in rest.split())})
+    return found
+
+
+class DinTableTest(base.ToolTest):
+    def write(self, name, text):
+        path = self.folder / name
+        path.write_bytes(text if isinstance(text, bytes) else text.encode())
+        return path
+
+    def tool(self, *arguments, **given):
+        return self.run_tool("din-table", *arguments, seconds=60, **given)
+
+    def rows(self, *arguments, left_out="", **given):
+        """The rows of a table. What is told of combinations that are left out begins as this."""
+        ran = self.tool(*arguments, **given)
+        told = ran.stderr.decode()
+        wanted = f"din-table: {left_out} combinations are left out: no cache has such a geometry\n" if left_out else ""
+        self.assertEqual((told, ran.returncode), (wanted, 0))
+        return list(csv.DictReader(ran.stdout.decode().splitlines()))
+
+    def program(self, body):
+        """A program in place of cachesim that does what the body says for a run, and else is cachesim."""
+        path = self.write("the program", f'#!/bin/bash\n[[ $* == *"-t /dev/null"* ]] || {{ {body}\n}}\nexec {PROGRAM} "$@"\n')
+        path.chmod(0o755)
+        return {"CACHESIM": str(path)}
+
+
+class Rows(DinTableTest):
+    def test_by_hand(self):
+        """A flush empties the cache. One set of two ways holds blocks 0 and 1; block 2 comes and evicts 0, which then misses."""
+        self.write("six", SIX)
+        row, = self.rows(1, "six", *"-l1-usize 32 -l1-ubsize 16 -l1-uassoc 2".split())
+        self.assertEqual(row, {
+            "l1-usize": "32", "l1-ubsize": "16", "l1-uassoc": "2",
+            "l1-u-fetches": "1", "l1-u-fetch-misses": "1", "l1-u-reads": "2", "l1-u-read-misses": "2",
+            "l1-u-writes": "2", "l1-u-write-misses": "2", "l1-u-evictions": "2", "l1-u-copybacks": "1",
+            "l1-u-references": "5", "l1-u-misses": "5", "l1-u-percent": "100.000",
+            "memory-reads": "5", "memory-writes": "1", "bypassed": "0",
+        })
+
+    def agree(self, trace, left_out, **options):
+        """Compares a table with the model: each combination that there is, the last option fastest, and each of its counts."""
+        text = trace.read_bytes()
+        words = [word for name, values in options.items() for word in (f"-{name.replace('_', '-')}", ",".join(values))]
+        names = [name.replace("_", "-") for name in options]
+        wanted = []
+        for values in itertools.product(*options.values()):
+            report = report_of(dict(zip(names, values)), text)
+            if report:
+                wanted.append((dict(zip(names, values)), report))
+        rows = self.rows(3, trace, *words, left_out=left_out)
+        self.assertEqual(len(rows), len(wanted))
+        for row, (given, report) in zip(rows, wanted):
+            self.assertEqual({name: row[name] for name in given}, given)
+            self.assertEqual({key: int(row["-".join(key).lstrip("-")]) for key in report}, report)
+            for cache in {cache for cache, name in report if name == "fetches"}:
+                references = sum(report[cache, name] for name in ("fetches", "reads", "writes"))
+                misses = sum(report[cache, f"{name}-misses"] for name in ("fetch", "read", "write"))
+                self.assertEqual((int(row[f"{cache}-references"]), int(row[f"{cache}-misses"])), (references, misses))
+                self.assertAlmostEqual(float(row[f"{cache}-percent"]), 100 * misses / max(1, references), delta=0.00051)
+        return len(rows)
+
+    def short(self):
+        """A trace with all labels that is short enough for the model."""
+        return self.write("short", b"".join(DIN.read_bytes().splitlines(True)[:900]) + b"4 0\n1 1fff000578\n2 401000\n")
+
+    def test_policies_and_write_modes(self):
+        self.assertEqual(self.agree(
+            self.short(), "", l1_usize=["64", "256"], l1_ubsize=["16"], l1_uassoc=["2", "4"], l1_urepl=["l", "f", "r"],
+            l1_uwalloc=["a", "n"], l1_uwback=["a", "n"],
+        ), 48)
+
+    def test_second_levels(self):
+        """Of 2 * 2 * 2 * 2 = 16 the blocks of 16 bytes are too small behind those of 32: 4 combinations are left out."""
+        self.assertEqual(self.agree(
+            self.short(), "4 of 16", l1_isize=["64"], l1_ibsize=["16"], l1_dsize=["64"], l1_dbsize=["16", "32"], l1_dwback=["n", "a"],
+            l2_usize=["256"], l2_ubsize=["16", "32"], l2_uassoc=["4"], l2_urepl=["f", "r"],
+        ), 12)
+
+    def test_seeds(self):
+        """Also where the second level alone replaces at random."""
+        self.agree(self.short(), "", l1_usize=["64"], l1_ubsize=["16"], l1_uassoc=["4"], l1_urepl=["r", "l"],
+                   l2_usize=["256"], l2_ubsize=["32"], l2_uassoc=["4"], l2_urepl=["r", "l"], seed=["0", "1", "42", "123456789012"])
+
+    def test_lackey_and_one_kind_alone(self):
+        rows = self.rows(2, EXAMPLES / "blocks.lackey", *"-informat l -l1-dsize 1k -l1-dbsize 32 -l1-dassoc 1-4".split())
+        self.assertEqual(list(rows[0])[:4], ["l1-dsize", "l1-dbsize", "l1-dassoc", "l1-d-fetches"])
+        # the cookbook's caches of 1,024 bytes with blocks of 32
+        self.assertEqual([row["l1-d-misses"] for row in rows], ["340", "364", "468"])
+
+    def test_lru_is_that_of_a_sweep(self):
+        rows = self.rows("auto", DIN, *"-l1-usize 64-8k -l1-ubsize 16-64 -l1-uassoc 1-8".split(), left_out="10 of 96")
+        table = self.sweep(*"--bsize 16-64 --sets 1-512 --assoc 1-8 --pow2 --size 64-8k -t".split(), DIN)
+        swept = {(row["size"], row["bsize"], row["assoc"]): row["misses"] for row in csv.DictReader(table.splitlines())}
+        names = ("l1-usize", "l1-ubsize", "l1-uassoc")
+        self.assertEqual({tuple(row[name] for name in names): row["l1-u-misses"] for row in rows}, swept)
+
+
+class Values(DinTableTest):
+    def test_ranges_and_lists(self):
+        for text, values in (("4k", [4096]), ("1k-8k", [1024, 2048, 4096, 8192]), ("64,1k-2k", [64, 1024, 2048]), ("1K-1K", [1024])):
+            rows = self.rows(4, DIN, "-l1-usize", text, "--l1-ubsize=16")
+            self.assertEqual([int(row["l1-usize"]) for row in rows], values)
+        rows = self.rows(4, DIN, *"--l1-usize=256 -l1-ubsize 16 -l1-uassoc 4 -l1-urepl r --seed 3-5,9".split())
+        self.assertEqual([row["seed"] for row in rows], ["3", "4", "5", "9"])
+        self.assertEqual(len({row["l1-u-misses"] for row in rows}), 4)
+
+    def test_a_seed_changes_nothing_without_random_replacement(self):
+        """There is a row for each seed all the same, from one run."""
+        env = self.program('echo "$*" >> commands')
+        rows = self.rows(2, DIN, *POLICIES, env=env)
+        self.assertEqual([(row["l1-urepl"], row["seed"]) for row in rows], 2 * list(itertools.product("lfr", "123")))
+        commands = (self.folder / "commands").read_text().splitlines()
+        self.assertEqual(len(commands), 2 * (1 + 1 + 3))
+        for row in rows:
+            same = [other for other in rows if (other["l1-usize"], other["l1-urepl"]) == (row["l1-usize"], row["l1-urepl"])]
+            self.assertEqual(len({other["l1-u-misses"] for other in same}) > 1, row["l1-urepl"] == "r")
+
+    def test_refused(self):
+        for words, fault in (
+            ("-l1-usize 64k -l1-ubsize", "-l1-ubsize: an option and its values are wanted"),
+            ("-l1-usize 64-x -l1-ubsize 16", "'x' is no size"),
+            ("-l1-usize 24-64 -l1-ubsize 16", "24-64 is no range of powers of two"),
+            ("-l1-usize 64-32 -l1-ubsize 16", "64-32 is no range of powers of two"),
+            ("-l1-usize 64,64 -l1-ubsize 16", "-l1-usize 64,64: a value is there twice"),
+            ("-l1-usize 64 -l1-ubsize 16 --seed 5-3", "5-3 is a reversed range"),
+            ("-l1-usize 64 -l1-ubsize 16 --seed 1-999999", "more than 100000 combinations"),
+            ("-l1-usize 64-8k -l1-ubsize 16 --seed 1-50000", "400000 combinations; at most 100000 are taken"),
+            ("-l1-usize 64 -l1-usize 16", "l1-usize is given twice"),
+            ("64 -l1-usize 16 -l1-ubsize", "64: an option and its values are wanted"),
+            ("-l1-usize 64 -l1-ubsize 16 -t x", "leave out -t"),
+            ("-informat d,l -l1-usize 64 -l1-ubsize 16", "a trace has one format"),
+            ("-l1-usize 16 -l1-ubsize 32", "no cache has such a geometry\n"),
+        ):
+            self.refused(self.tool(2, "none", *words.split()), 2, "din-table: ", fault)
+        for words, fault in (
+            ("-l1-usize 48 -l1-ubsize 16", "cachesim: -l1-usize: bad value\n"),
+            ("-l1-usize 64-128 -l1-ubsize 16 -l1-urepl l,x", "cachesim: -l1-urepl: bad value\n"),
+            ("-l1-usize 64-128 -l2-ubsize 16", "cachesim: l1-u: size and bsize are needed\n"),
+            ("-l2-usize 64 -l2-ubsize 16", "cachesim: no first-level cache\n"),
+            ("-l1-usize 64 -l1-ubsize 16 -l1-x y", "cachesim: error: "),
+        ):
+            self.refused(self.tool(2, "none", *words.split()), 2, fault)
+        self.refused(self.tool("four", DIN, *SMALL), 2, "din-table: four is no number of jobs")
+        self.refused(self.tool(4, DIN), 2, "din-table: ", "are wanted")
+
+
+class Traces(DinTableTest):
+    def test_read_once(self):
+        """Standard input, pipes, and packed traces, with fewer runs at once than there are and with more: one table."""
+        text = DIN.read_bytes()
+        self.write("t.gz", gzip.compress(text))
+        wanted = self.good(self.tool(2, DIN, *SMALL))
+        self.assertEqual(wanted.count("\n"), 7)
+        for jobs in (1, 4, 6, 30):
+            self.assertEqual(self.good(self.tool(jobs, "-", *SMALL, stdin=text)), wanted)
+            self.assertEqual(self.good(self.tool(jobs, "t.gz", *SMALL)), wanted)
+        script = f'"{TOOLS}/din-table" 2 <(cat "$1") {" ".join(SMALL)}; "{TOOLS}/din-table" 2 /dev/stdin {" ".join(SMALL)} < "$1"'
+        self.assertEqual(self.good(self.run_command("bash", "-c", script, "-", DIN)), 2 * wanted)
+
+    @needs("xz-utils", "zstd")
+    def test_packed(self):
+        for trace in self.packed(DIN):
+            self.assertEqual(self.rows(2, trace, *SMALL), self.rows(2, DIN, *SMALL))
+
+    def test_names(self):
+        for name in ("a b.din", "-x.din", "it's \"$HOME\".din"):
+            self.write(name, DIN.read_bytes())
+            self.assertEqual(len(self.rows(2, name, *SMALL)), 6)
+        link = self.folder / "cachesim-din-table"
+        link.symlink_to(TOOLS / "din-table")
+        self.assertEqual(self.good(self.run_command(link, 2, DIN, *SMALL)), self.good(self.tool(2, DIN, *SMALL)))
+
+    def test_jobs(self):
+        """No more runs at once than are asked for; the runs of a pipe behind the first ones too."""
+        body = 'touch "run $$"; ls | grep -c "^run" >> counts; sleep 0.2; rm "run $$"'
+        for trace, stdin in ((DIN, b""), ("-", DIN.read_bytes())):
+            (self.folder / "counts").unlink(missing_ok=True)
+            self.rows(2, trace, *SMALL, stdin=stdin, env=self.program(body))
+            counts = list(map(int, (self.folder / "counts").read_text().split()))
+            self.assertEqual((len(counts), max(counts)), (6, 2))
+        one = ("taskset", "-c", min(os.sched_getaffinity(0)))
+        (self.folder / "counts").unlink()
+        self.good(self.run_command(*one, TOOLS / "din-table", "auto", DIN, *SMALL, env=self.program(body)))
+        self.assertEqual((self.folder / "counts").read_text(), 6 * "1\n")
+
+
+class Faults(DinTableTest):
+    def failed(self, ran, status, message):
+        self.assertEqual((ran.returncode, ran.stdout, ran.stderr.decode()), (status, b"", message))
+
+    def test_bad_line(self):
+        self.write("bad", BAD)
+        self.write("bad.gz", gzip.compress(BAD.encode()))
+        for trace, jobs in itertools.product(("bad", "bad.gz", "-"), (1, 2, 9)):
+            self.failed(self.tool(jobs, trace, *SMALL, stdin=BAD.encode()), 1, FAULT)
+
+    def test_bad_line_of_an_endless_trace(self):
+        script = f'{{ printf "0 10\\n2 1g\\n"; while echo 0 20; do :; done 2> writer; }} | "{TOOLS}/din-table" 2 - {" ".join(SMALL)}'
+        self.failed(self.run_command("bash", "-c", script, seconds=30), 1, "cachesim: line 2: bad address\n")
+
+    def test_no_trace(self):
+        self.failed(self.tool(2, "none", *SMALL), 1, "cachesim: cannot open none\n")
+        self.refused(self.tool(2, "none.gz", *SMALL), 1, "din-table: none.gz can't be read: gzip: ", "No such file")
+        pressed = gzip.compress(DIN.read_bytes())
+        for text in (pressed[:-4], pressed[:-8], pressed[:1000]):
+            self.write("cut.gz", text)
+            self.refused(self.tool(2, "cut.gz", *SMALL), 1, "din-table: cut.gz can't be read: gzip: ")
+
+    def test_a_run_fails(self):
+        """Whichever it is, there is no table, and the others are ended, of a file as of a pipe that nothing comes from."""
+        for at, (body, status, message) in itertools.product((1, 3, 6), (
+            ("kill -KILL $$", 1, "din-table: the run of {} ended with signal 9\n"),
+            ("exit 7", 1, "din-table: the run of {} ended with status 7\n"),
+            ("echo x: no >&2; exit 1", 1, "x: no\n"),
+        )):
+            size, ways = list(itertools.product((64, 128, 256), (1, 2)))[at - 1]
+            env = self.program(f"[[ $* != *size={size}*assoc={ways}* ]] || {{ {body}; }}")
+            name = f"-l1-usize {size} -l1-ubsize 16 -l1-uassoc {ways}"
+            for trace in (DIN, "-"):
+                self.failed(self.tool(2, trace, *SMALL, stdin=DIN.read_bytes(), env=env), status, message.format(name))
+        env = self.program("[[ $* != *size=64*assoc=2* ]] && exec sleep 60 || { echo x: no >&2; exit 1; }")
+        began = time.monotonic()
+        self.failed(self.tool(2, DIN, *SMALL, env=env), 1, "x: no\n")
+        self.assertLess(time.monotonic() - began, 20)
+
+    def test_a_program_that_writes_no_report(self):
+        self.failed(self.tool(2, DIN, *SMALL, env={"CACHESIM": "/bin/true"}), 1, "din-table: /bin/true has written no report of din\n")
+
+    def test_no_output(self):
+        for place in ("> /dev/full", ">&-", "| true"):
+            ran = self.run_command("bash", "-c", f'set -o pipefail; "{TOOLS}/din-table" 2 "$1" {" ".join(SMALL)} {place}', "-", DIN)
+            self.failed(ran, 1, "din-table: write failed\n")
+
+    def test_no_room_for_the_trace(self):
+        limited = f'ulimit -f 10; trap "" XFSZ; exec "{TOOLS}/din-table" 2 - {" ".join(SMALL)}'
+        ran = self.run_command("bash", "-c", limited, stdin=DIN.read_bytes(), env={"TMPDIR": str(self.folder)})
+        self.failed(ran, 1, f"din-table: the trace can't be kept in {self.folder}: File too large\n")
+
+    def test_interrupted(self):
+        """No file is left, and no process."""
+        env = {**os.environ, **self.program("echo $$ >> pids; exec sleep 60"), "TMPDIR": str(self.folder)}
+        for trace, sent in itertools.product((DIN, "-"), (signal.SIGINT, signal.SIGTERM)):
+            given = {"stdin": subprocess.PIPE, "stdout": subprocess.PIPE, "stderr": subprocess.PIPE, "cwd": self.folder}
+            with subprocess.Popen([TOOLS / "din-table", "2", trace, *SMALL], env=env, **given) as ran:
+                time.sleep(1)
+                ran.send_signal(sent)
+                self.assertEqual((ran.communicate(timeout=20)[1], ran.returncode), (b"", 128 + sent))
+            for number in (self.folder / "pids").read_text().split():
+                self.assertFalse(os.path.exists(f"/proc/{number}"), number)
+        self.assertEqual(sorted(os.listdir(self.folder)), ["pids", "the program"])

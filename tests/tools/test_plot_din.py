@@ -1,0 +1,209 @@
+"""Curves over all ways, pictures of tables of din, and other measures than misses: what gnuplot is told, and what is refused."""
+
+import re
+
+import base
+import table
+from test_plot import PlotTest, data_of, rows_of
+
+# Two sizes and three policies over 1,000 references. Random replacement has three seeds: 30, 42 and 33 misses are 35 in the mean
+COLUMNS = "l1-usize,l1-ubsize,l1-uassoc,l1-urepl,seed,l1-u-references,l1-u-misses,l1-u-percent,memory-writes,bypassed"
+POLICIES = {
+    (64, "l"): (100, 100, 100), (64, "f"): (200, 200, 200), (64, "r"): (120, 180, 150),
+    (128, "l"): (20, 20, 20), (128, "f"): (25, 25, 25), (128, "r"): (30, 42, 33),
+}
+
+
+def din_rows(policies, ways=2, bsize=16):
+    """Rows of a table of din, given the misses of 1,000 references by size and policy for each seed."""
+    return "".join(
+        f"{size},{bsize},{ways},{policy},{seed},1000,{missed},{missed / 10:.3f},{missed // 10},0\n"
+        for (size, policy), misses in policies.items() for seed, missed in enumerate(misses, 1)
+    )
+
+
+def names_of(script):
+    return re.findall(r" title '([^']*)'", script.split("\nplot ", 1)[1])
+
+
+class Curve(PlotTest):
+    def curve(self, ways=40, blocks=(64,), sets=(1,)):
+        """A table of caches of which each way more misses ten times less."""
+        return "".join(
+            f"{bsize},{count},{way},{bsize * count * way},{9000 + 10 * way},{1000 - 10 * way},0\n"
+            for bsize in blocks for count in sets for way in range(1, ways + 1)
+        )
+
+    def test_one_set(self):
+        """A line without marks over all ways, which is the first of three pictures too; no legend where it is alone."""
+        self.write("t.csv", self.curve())
+        script = self.script("--curve", "t.csv", "a.svg")
+        self.assertEqual(data_of(script), {"curve_1": [[(64 * way, 10 - way / 10) for way in range(1, 41)]]})
+        self.assertIn("'Miss ratio by cache size: fully associative, blocks of 64 bytes'", script)
+        self.assertRegex(script, r"\$curve_1 with lines .* notitle")
+        whole = self.script("t.csv", "a.svg")
+        self.assertEqual({name.split("_")[0] for name in data_of(whole)}, {"curve", "block", "pareto"})
+
+    def test_few_ways_have_marks(self):
+        self.write("t.csv", self.curve(ways=6))
+        self.assertRegex(self.script("--curve", "t.csv", "a.svg"), r"\$curve_1 with linespoints .* pointtype 7")
+
+    def test_a_line_for_each_block_size_or_number_of_sets(self):
+        self.write("t.csv", self.curve(blocks=(16, 64)))
+        script = self.script("--only", "curve", "t.csv", "a.svg")
+        self.assertEqual(names_of(script), ["16 bytes", "64 bytes"])
+        self.assertIn("cache size: fully associative'", script)
+        self.write("t.csv", self.curve(blocks=(16, 64), sets=(1, 2, 4)))
+        script = self.script("--curve", "--bsize", "16", "t.csv", "a.svg")
+        self.assertEqual(names_of(script), ["1 set", "2 sets", "4 sets"])
+        self.assertEqual(data_of(script)["curve_3"], [[(64 * way, 10 - way / 10) for way in range(1, 41)]])
+        self.assertNotIn("$curve", self.script("t.csv", "a.svg"))
+
+    def test_long_curves_are_thinned(self):
+        """No more points than can be seen; the ends stay, and each point is one of the table."""
+        self.write("t.csv", self.sweep(*"--bsize 16 --sets 1 --assoc 1-65536 --size 0-1m".split(), "-t", base.EXAMPLES / "sort.din"))
+        points, = data_of(self.script("--curve", "t.csv", "a.svg"))["curve_1"]
+        rows = {row.size: row.percent for row in table.read_table(*table.lines_of(self.folder / "t.csv"))}
+        self.assertEqual((points[0][0], points[-1][0]), (16, 1 << 20))
+        self.assertTrue(all(abs(rows[x] - y) < 1e-6 for x, y in points))
+        self.assertTrue(100 < len(points) < 2000, len(points))
+        self.assertEqual(len({round(rows[size], 3) for size in rows} - {round(y, 3) for _, y in points}), 0)
+
+
+class Measure(PlotTest):
+    def test_of_a_sweep(self):
+        script = self.script("--measure", "evictions", "--only", "size", "eight.csv", "a.svg")
+        # 25, 10 misses of 100 references in 4 and 8 lines evict 21 and 2 times
+        self.assertEqual(data_of(self.script("--measure", "evictions", "--bsize", "16", "eight.csv", "a.svg"))["size_2"],
+                         [[(64, 21), (128, 2)]])
+        self.assertIn("'Evictions by cache size: blocks of 32 bytes'", script)
+        self.assertIn("set ylabel 'evictions in per cent of references'", script)
+
+    def test_a_further_column(self):
+        self.write("t.csv", f"{table.HEADER},conflict\n64,1,1,64,50,50,49,7\n64,2,1,128,60,40,38,0\n")
+        self.assertEqual(data_of(self.script("--measure", "conflict", "--only", "size", "t.csv", "-"))["size_1"][0][0], (64, 7))
+
+    def test_refused(self):
+        self.refused(self.plot("--measure", "x", "eight.csv", "-"), 1, "eight.csv: no column x; there are bsize, sets, assoc, size, hits")
+        self.write("t.csv", f"{table.HEADER},conflict\n64,1,1,64,50,50,49,-7\n")
+        self.refused(self.plot("--measure", "conflict", "t.csv", "-"), 1, "t.csv: line 2: conflict is no number\n")
+        self.refused(self.plot("--across", "l1-usize", "eight.csv", "-"), 1, "eight.csv: --across is for a table of din\n")
+
+
+class Din(PlotTest):
+    def setUp(self):
+        super().setUp()
+        self.write("din.csv", f"{COLUMNS}\n{din_rows(POLICIES)}")
+
+    def test_a_line_for_each_policy(self):
+        script = self.script("din.csv", "a.svg")
+        self.assertEqual(data_of(script), {
+            "size_1": [[(64, 10), (128, 2)]], "size_2": [[(64, 20), (128, 2.5)]],
+            "size_3": [[(64, 15), (128, 3.5)]], "size_3_ends": [[(64, 15, 12, 18), (128, 3.5, 3, 4.2)]],
+        })
+        self.assertEqual(names_of(script), ["LRU", "FIFO", "random"])
+        for text in ("Miss ratio by cache size", "cache size in bytes", "miss ratio in per cent"):
+            self.assertIn(f"'{text}'", script)
+
+    def test_measures(self):
+        data = data_of(self.script("--measure", "l1-u-misses", "din.csv", "a.svg"))
+        self.assertEqual(data["size_3_ends"], [[(64, 150, 120, 180), (128, 35, 30, 42)]])
+        script = self.script("--measure", "memory-writes", "din.csv", "a.svg")
+        self.assertEqual(data_of(script)["size_1"], [[(64, 10), (128, 2)]])
+        self.assertIn("'Memory writes by cache size'", script)
+
+    def test_across(self):
+        script = self.script("--across", "l1-uassoc", "din.csv", "a.svg")
+        self.assertEqual(names_of(script), ["64 bytes, LRU", "64 bytes, FIFO", "64 bytes, random",
+                                            "128 bytes, LRU", "128 bytes, FIFO", "128 bytes, random"])
+        self.assertIn("set xlabel 'ways'", script)
+        self.refused(self.plot("--across", "l1-urepl", "din.csv", "-"), 1, "no option l1-urepl with numbers; there are l1-usize, l1-ubs")
+
+    def test_many_lines(self):
+        """Of more than seven lines those of 4 ways are drawn, or of the ways that are asked for."""
+        fewer = {key: misses[:1] for key, misses in POLICIES.items()}
+        self.write("t.csv", COLUMNS + "\n" + "".join(din_rows(fewer, ways) for ways in (1, 2, 8)))
+        script = self.script("t.csv", "a.svg")
+        self.assertEqual(names_of(script), ["LRU", "FIFO", "random"])
+        self.assertIn("'Miss ratio by cache size: 2 ways'", script)
+        self.assertIn("'Miss ratio by cache size: 8 ways'", self.script("--ways", "8", "t.csv", "a.svg"))
+        self.assertIn("'Miss ratio by cache size: 2 ways'", self.script("--ways", "2", "t.csv", "a.svg"))
+        self.refused(self.plot("--ways", "4", "t.csv", "-"), 1, "t.csv: no run has l1-uassoc 4; there are 1, 2, 8\n")
+        self.refused(self.plot("--bsize", "32", "t.csv", "-"), 1, "t.csv: no run has l1-ubsize 32; there are 16\n")
+
+    def test_second_levels(self):
+        """The miss ratio is that of the cache on the axis, and a line's name says whose value it is."""
+        header = "l1-dsize,l2-usize,l2-urepl,l1-d-references,l1-d-misses,l1-d-percent,l2-u-references,l2-u-misses,l2-u-percent,bypassed"
+        rows = "".join(f"64,{size},{policy},100,50,50.000,50,{miss},{2 * miss}.000,9\n"
+                       for size, policy, miss in ((256, "l", 10), (256, "f", 20), (512, "l", 5), (512, "f", 6)))
+        self.write("t.csv", f"{header}\n{rows}")
+        script = self.script("t.csv", "a.svg")
+        self.assertEqual(data_of(script), {"size_1": [[(256, 20), (512, 10)]], "size_2": [[(256, 40), (512, 12)]]})
+        self.assertIn("'Miss ratio of l2-u by cache size'", script)
+        more = rows + rows.replace("64,", "32,").replace(",50,50.000,50,", ",60,60.000,60,")
+        self.write("t.csv", f"{header}\n{more}")
+        self.assertEqual(names_of(self.script("--across", "l2-usize", "t.csv", "a.svg")),
+                         ["l1-d 64 bytes, l2-u LRU", "l1-d 64 bytes, l2-u FIFO", "l1-d 32 bytes, l2-u LRU", "l1-d 32 bytes, l2-u FIFO"])
+        # what the first level counts does not depend on the second
+        first = self.script("--across", "l1-dsize", "t.csv", "a.svg")
+        self.assertEqual((data_of(first), names_of(first)), ({"size_1": [[(32, 60), (64, 50)]]}, []))
+        # all caches together: 32 + 256 bytes are the least
+        front = data_of(self.script("--only", "pareto", "--measure", "l2-u-misses", "t.csv", "a.svg"))["pareto_front"]
+        self.assertEqual(front, [[(288, 10), (544, 5)]])
+
+    def test_refused(self):
+        rows = din_rows({(64, "l"): (100,)})
+        for text, fault in (
+            (f"{COLUMNS}\n", "a table without a row"),
+            (f"{COLUMNS}\n{rows}{rows}", "line 3: a second row of the same options"),
+            (f"{COLUMNS}\n{rows[:-3]}\n", "line 2: no row of a table of din"),
+            (f"{COLUMNS}\n{rows}{rows.replace(',1000,', ',999,').replace('l', 'f')}", "1000 references in the first row, 999 here"),
+            (f"{COLUMNS}\n{rows.replace('100,10.000', 'x,10.000')}", "line 2: l1-u-misses is no number"),
+        ):
+            self.write("t.csv", text)
+            self.refused(self.plot("t.csv", "-", env=self.no_gnuplot()), 1, "plot: t.csv: ", fault)
+        self.refused(self.plot("--only", "block", "din.csv", "-"), 1, "plot: din.csv: a table of din has the pictures size and pareto\n")
+        self.refused(self.plot("--measure", "x", "din.csv", "-"), 1, "plot: din.csv: no column x; there are l1-usize, ")
+
+    def no_gnuplot(self):
+        return {"PATH": f"{self.folder}/bin"} if (self.folder / "bin").exists() else self.stand_in("exit 9")
+
+    def test_a_real_table(self):
+        """What din-table writes is taken by plot and best."""
+        words = "-l1-usize 64-1k -l1-ubsize 16 -l1-uassoc 1,4 -l1-urepl l,f,r --seed 1-4".split()
+        made = self.run_tool("din-table", 2, base.EXAMPLES / "sort.din", *words)
+        self.write("t.csv", made.stdout.decode())
+        data = data_of(self.script("t.csv", "a.svg"))
+        self.assertEqual({name: len(runs[0]) for name, runs in data.items() if name.endswith("_ends")}, {"size_6_ends": 5})
+        self.assertEqual(len(self.good(self.run_tool("best", "t.csv", "--rows", "99")).splitlines()), 31)
+
+
+class Best(PlotTest):
+    def best(self, text, *arguments):
+        self.write("t.csv", text)
+        return self.good(self.run_tool("best", "t.csv", *arguments)).splitlines()
+
+    def test_mean_and_spread(self):
+        """30, 33 and 42: the mean is 35, and the deviation the root of (25 + 4 + 49) / 2."""
+        given = f"{COLUMNS}\n{din_rows(POLICIES)}"
+        header = "l1-usize,l1-ubsize,l1-uassoc,l1-urepl,size,l1-u-misses,runs,deviation,least,greatest"
+        lines = self.best(given, "--rows", "3")
+        self.assertEqual(lines, [header, "128,16,2,l,128,20,3,0.000,20,20", "128,16,2,f,128,25,3,0.000,25,25",
+                                 "128,16,2,r,128,35,3,6.245,30,42"])
+        self.assertEqual(self.best(given, "--up-to", "64")[1:], ["64,16,2,l,64,100,3,0.000,100,100"])
+        self.assertEqual(self.best(given, "--up-to", "64", "--within", "50")[1:],
+                         ["64,16,2,l,64,100,3,0.000,100,100", "64,16,2,r,64,150,3,30.000,120,180"])
+        self.assertEqual([line[:4] for line in self.best(given, "--front")[1:]], ["64,1", "128,"])
+        percent = self.best(given, "--measure", "l1-u-percent", "--rows", "3")
+        self.assertEqual((percent[0].split(",")[5], percent[3]), ("l1-u-percent", "128,16,2,r,128,3.500,3,0.624,3,4.200"))
+
+    def test_without_seeds(self):
+        given = COLUMNS.replace(",seed", "") + "\n" + re.sub("(?m)^(([^,]+,){4})1,", r"\1", din_rows({(64, "l"): (100,)}))
+        self.assertEqual(self.best(given), ["l1-usize,l1-ubsize,l1-uassoc,l1-urepl,size,l1-u-misses", "64,16,2,l,64,100"])
+
+    def test_measure_of_a_sweep(self):
+        given = f"{table.HEADER}\n" + rows_of([(1, 500), (2, 400)])
+        self.assertEqual(self.best(given, "--measure", "hits"), [f"{table.HEADER},percent", "64,1,1,64,500,500,0,50.000"])
+        more = f"{table.HEADER},conflict\n64,1,1,64,50,50,49,7\n64,2,1,128,60,40,38,9\n"
+        self.assertEqual(self.best(more, "--measure", "conflict"), [f"{table.HEADER},conflict,percent", "64,1,1,64,50,50,49,7,7.000"])
+        self.refused(self.run_tool("best", "t.csv", "--measure", "x"), 1, "best: t.csv: no column x; there are ")

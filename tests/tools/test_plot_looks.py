@@ -1,0 +1,169 @@
+"""How pictures look: on paper, in few columns, without colour, and in a browser that is narrow or dark."""
+
+import json
+import re
+
+import base
+from base import needs
+from test_plot import PlotTest
+from test_plot_din import COLUMNS, POLICIES, din_rows
+from test_plot_drawn import png_of
+
+# Where each text of a page stands, and whether one is cut or two of one axis or legend touch
+LOOK = """<script>
+addEventListener("load", () => setTimeout(() => {
+    const found = [];
+    const box = node => node.getBoundingClientRect();
+    const touch = (one, other) =>
+        one.left < other.right && other.left < one.right && one.top < other.bottom && other.top < one.bottom;
+    for (const plot of document.querySelectorAll(".js-plotly-plot")) {
+        const texts = [...plot.querySelectorAll(".xtick text, .ytick text, .legendtext, .legendtitletext, .xtitle, .ytitle")];
+        texts.forEach((text, at) => {
+            if (box(text).right > box(plot).right + 1 || box(text).left < box(plot).left - 1) found.push("cut: " + text.textContent);
+            for (const other of texts.slice(at + 1)) {
+                if (touch(box(text), box(other))) found.push(text.textContent + " touches " + other.textContent);
+            }
+        });
+    }
+    const colour = node => getComputedStyle(node).fill || getComputedStyle(node).color;
+    parent.postMessage(JSON.stringify({
+        found, width: innerWidth, wide: document.documentElement.scrollWidth,
+        background: getComputedStyle(document.body).backgroundColor,
+        tick: colour(document.querySelector(".xtick text")), line: document.querySelector(".js-line").style.stroke,
+        ticks: [...document.querySelectorAll("#size .ytick text")].map(text => text.textContent),
+    }), "*");
+}, 500));
+</script></body>"""
+# A browser without a window has no page of less than 500 pixels, but a frame in it may be narrower
+FRAME = """<body><script>onmessage = event => { document.body.dataset.look = event.data; };</script>
+<iframe src="look.html" style="width: %dpx; height: 1500px; border: 0"></iframe></body>"""
+
+
+class LooksTest(PlotTest):
+    def setUp(self):
+        super().setUp()
+        self.write("din.csv", f"{COLUMNS}\n{din_rows(POLICIES)}")
+        self.sort = base.TOP / "docs/pictures/sort.csv"
+
+
+class Script(LooksTest):
+    def test_mono(self):
+        """Each line has dashes and marks of its own, and all are black."""
+        script = self.script("--mono", "--only", "size", self.sort, "a.svg")
+        looks = re.findall(r"linecolor rgb '(#\w+)' dashtype (\S+) pointtype (\d+)", script)
+        self.assertEqual(({colour for colour, _, _ in looks}, len(looks)), ({"#000000"}, 5))
+        self.assertEqual((len({dash for _, dash, _ in looks}), len({mark for _, _, mark in looks})), (5, 5))
+        whole = self.script("--mono", self.sort, "a.svg")
+        colours = set(re.findall("rgb '#([0-9a-f]{6})'", whole))
+        self.assertTrue(all(colour[:2] == colour[2:4] == colour[4:] for colour in colours), colours)
+        self.assertNotIn("dashtype", self.script(self.sort, "a.svg"))
+        bars = re.findall(r"_ends with yerrorbars (.*) notitle", self.script("--mono", "din.csv", "a.svg"))
+        self.assertTrue(len(bars) == 1 and "dashtype solid" in bars[0], bars)
+
+    def test_sizes(self):
+        for size, ending, wanted in (
+            ("3.3in", "pdf", "pdfcairo size 3.3in,2.64in font 'DejaVu Sans,7'"),
+            ("80x60mm", "pdf", "pdfcairo size 3.15in,2.362in font 'DejaVu Sans,7'"),
+            ("7in", "pdf", "pdfcairo size 7in,3.92in font 'DejaVu Sans,8'"),
+            ("3.3in", "png", "pngcairo size 990,792 font 'Sans,7' fontscale 3.125"),
+            ("700x400", "png", "pngcairo size 700,400 font 'Sans,10.5' fontscale 1 "),
+            ("8cmx5cm", "svg", None),
+            ("6cm", "svg", "svg size 227,181 font 'DejaVu Sans,Verdana,sans-serif,9.333'"),
+            ("640x480px", "svg", "svg size 640,480 font 'DejaVu Sans,Verdana,sans-serif,14'"),
+        ):
+            ran = self.plot("--script", "--only", "block", "--size", size, "eight.csv", f"a.{ending}")
+            if wanted:
+                self.assertIn(f"set terminal {wanted}", self.good(ran))
+            else:
+                self.refused(ran, 2, f"plot: '{size}' is no size such as 3.3in, 80x60mm or 800x600; ")
+
+    def test_refused(self):
+        for size, out, fault in (
+            ("1in", "a.pdf", "--size is too small for 1 picture with type that can be read"),
+            ("3.3x0.5in", "a.pdf", "--size is too small for 1 picture with type that can be read"),
+            ("3in", "-", "--size is for .png, .svg and .pdf"),
+            ("0", "a.png", "too small"), ("x", "a.png", "'x' is no size"), ("3ft", "a.png", "'3ft' is no size"),
+            ("999999", "a.png", "'999999' is no size"),
+        ):
+            self.refused(self.plot("--script", "--only", "size", "--size", size, "eight.csv", out), 2, "plot: ", fault)
+        self.refused(self.plot("--size", "3in", "eight.csv", "a.html"), 2, "plot: --size is for .png, .svg and .pdf")
+
+    def test_narrow_pictures_stand_in_a_column(self):
+        script = self.script("--size", "3.3in", self.sort, "a.pdf")
+        margins = [[float(place) for place in re.findall(f"set {side}margin at screen (.*)", script)] for side in "lrbt"]
+        left, right, bottom, top = margins
+        self.assertTrue(max(left) - min(left) < 0.001 and min(right) > 0.9, margins)
+        self.assertTrue(top[1] < bottom[0] and top[2] < bottom[1], margins)
+
+
+@needs("gnuplot-nox")
+class Drawn(LooksTest):
+    @needs("poppler-utils")
+    def test_pdf(self):
+        """As large as asked, with its fonts within, and all texts on the page."""
+        self.good(self.plot("--size", "3.3x2.4in", "--mono", "--title", "Eight", "--only", "size", "eight.csv", "a.pdf"))
+        self.assertRegex(self.good(self.run_command("pdfinfo", "a.pdf")), r"Page size: +23[78](\.\d+)? x 17[23](\.\d+)? pts")
+        text = self.good(self.run_command("pdftotext", "a.pdf", "-"))
+        for words in ("Eight", "Miss ratio by cache size: blocks of 32 bytes", "miss ratio in per cent", "1 way", "2 ways", "128"):
+            self.assertIn(words, text)
+        self.assertRegex(self.good(self.run_command("pdffonts", "a.pdf")), r"DejaVuSans +TrueType +\w+ +yes yes")
+        boxes = self.good(self.run_command("pdftotext", "-bbox", "a.pdf", "-"))
+        places = re.findall(r'xMin="(.*)" yMin="(.*)" xMax="(.*)" yMax="(.*)">', boxes)
+        for left, top, right, bottom in (map(float, place) for place in places):
+            self.assertTrue(left >= 0 and top >= 0 and right <= 238 and bottom <= 173, boxes)
+
+    def test_png_for_print(self):
+        """300 pixels an inch; the title and the legend are on it."""
+        self.good(self.plot("--size", "3.3x2.5in", "din.csv", "a.png"))
+        self.assertEqual(png_of((self.folder / "a.png").read_bytes())[:2], (990, 750))
+
+    def test_no_warning_where_the_language_is_c(self):
+        for out in ("a.png", "a.svg", "a.pdf", "-"):
+            self.good(self.plot("--title", "é", "eight.csv", out, env={"LC_ALL": "C", "LANG": "C"}))
+
+    def test_forty_columns(self):
+        """All of a text picture is within, and no text runs into another."""
+        for columns in (40, 50, 71):
+            env = {"COLUMNS": str(columns), "LINES": "30"}
+            for arguments, named in (
+                (["--only", "size", self.sort], ["***A*** 1 way", "@@@E@@@ 16 ways", "blocks of 64 bytes", "Miss ratio by cache size"]),
+                (["--only", "block", self.sort], ["cache size\n", "***A*** 1K", "&&&F&&& 1M", "Miss ratio by block size: 4 ways\n"]),
+                (["--only", "pareto", self.sort], ["The smallest caches that miss least", ". all caches\n", "o fewest misses up to this"]),
+                (["din.csv"], ["***A*** LRU", "###B### FIFO", "$$$C$$$ random", "Miss ratio by cache size\n"]),
+            ):
+                drawn = self.good(self.plot(*arguments, "-", env=env))
+                self.assertTrue(columns - 8 < max(map(len, drawn.splitlines())) <= columns, drawn)
+                for words in [*named, "\nmiss ratio in per cent\n"]:
+                    self.assertIn(words, drawn)
+
+
+@needs("python3-plotly", "chromium")
+class Page(LooksTest):
+    def look(self, *arguments, width, dark=False):
+        """What a browser shows of a page."""
+        self.good(self.plot(*arguments, "a.html"))
+        self.write("look.html", (self.folder / "a.html").read_text().replace("</body>", LOOK))
+        self.write("frame.html", FRAME % width)
+        options = ["--headless=new", "--no-sandbox", "--disable-gpu", "--virtual-time-budget=20000", "--dump-dom"]
+        options += ["--window-size=1400,1600", f"--user-data-dir={self.folder}/profile"]
+        options += ["--blink-settings=preferredColorScheme=0"] * dark
+        shown = self.run_command("chromium", *options, (self.folder / "frame.html").as_uri()).stdout.decode()
+        return json.loads(re.search('data-look="([^"]*)"', shown)[1].replace("&quot;", '"'))
+
+    def test_narrow_and_wide(self):
+        for width, dark in ((400, True), (1280, False)):
+            look = self.look(self.sort, width=width, dark=dark)
+            self.assertEqual(look["found"], [])
+            self.assertLessEqual(look["wide"], look["width"])
+            self.assertEqual(look["background"], "rgb(24, 26, 27)" if dark else "rgb(255, 255, 255)")
+            self.assertEqual(look["line"], "rgb(92, 179, 236)" if dark else "rgb(0, 114, 178)")
+            self.assertEqual(look["tick"], "rgb(228, 228, 228)" if dark else "rgb(34, 34, 34)")
+            self.assertEqual(look["ticks"], ["0.05", "0.1", "0.2", "0.5", "1", "2", "5", "10", "20"])
+
+    def test_din(self):
+        look = self.look("--mono", "din.csv", width=400)
+        self.assertEqual((look["found"], look["line"]), ([], "rgb(0, 0, 0)"))
+        script = (self.folder / "a.html").read_text()
+        self.assertEqual(re.findall('"dash":"([a-z]+)"', script), ["solid", "dash", "dot"])
+        self.assertIn('"error_y":{"type":"data","symmetric":false,"array":[3.0,', script)
+        self.assertIn("18 runs, 1,000 references", script)
