@@ -49,6 +49,15 @@ class Installing(MakeTest):
         self.assertEqual(self.below(), [])
         self.assertIn("nothing is installed below", self.uninstall(2).stderr)
 
+    def test_all_may_read_what_is_installed(self):
+        """Also where the files of who installs it are else private."""
+        self.few_tools()
+        self.addCleanup(os.umask, os.umask(0o077))
+        self.install()
+        for path in (self.to / "usr").rglob("*"):
+            wanted = 0o555 if path.is_dir() or path.parent.name == "bin" else 0o444
+            self.assertEqual(path.stat().st_mode & wanted, wanted, path)
+
     def test_a_prefix_in_the_home_folder(self):
         self.few_tools()
         env = {**self.path, "HOME": str(self.to)}

@@ -45,6 +45,18 @@ class TheLedger(ToolTest):
         self.fails_after(LAWS, r"pub fn pages\(\)", "pub fn pages_of()", "FAILED sweep_core::laws::pages: there is no such law")
         self.fails_after("cache_core/specs/Windows.antt", r"nat_lt \(", "nat_le (", r"FAILED cache_core.Windows \w+: new or changed")
 
+    def test_changes_of_what_clauses_cite(self):
+        """A clause may say another thing in the same words: by a view, a constant, an import or a comment."""
+        self.copy()
+        self.fails_after(READ, r"W\.contents s\.writer else None", "None else None", r"FAILED trace_core.io ToWrite view: new or changed")
+        self.fails_after("trace_core/src/limits.rt", "1_099_511_627_776", "1_099_511_627_775", "FAILED trace_core.limits MAX_LINES: new")
+        self.fails_after(TASK, r"IfSome, OnOk\}", r"OnOk}\nuse Rattle.trace_core.proofs.Runs.{IfSome}", "FAILED trace_core.Task: IfSome")
+        self.fails_after("sweep_core/specs/Space.antt", "nat_lt, nat_le,", "nat_le as nat_lt, nat_le,", "Space: nat_le as nat_lt of ")
+        work = r"(    ensures work \{.*?\}\n)\{"
+        self.fails_after("sweep_core/src/sweep.rt", work, r"    /*\n\1    */\n{", "FAILED sweep.work: there is no such clause")
+        size = r" +ensures \{ result ≡ size_of self\.now \}\n"
+        self.fails_after("cache_core/src/geometry.rt", size, "", "cache_core::Geometry::size: gone")
+
     def test_a_change_is_acknowledged(self):
         self.copy()
         path = self.folder / "crates" / TASK

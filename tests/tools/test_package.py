@@ -62,6 +62,7 @@ class Version(ToolTest):
         for line in (TOP / "crates.txt").read_text().splitlines():
             used |= set(line.partition("#")[0].partition(":")[2].split())
         text = (PACKAGE / "copyright").read_text()
+        self.assertIn("clap", used - ours)
         for library in used - ours:
             self.assertRegex(text, rf"(?m)^    {library} ")
 

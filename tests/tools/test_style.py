@@ -33,7 +33,9 @@ def written_in(word):
 
 def tools():
     """The executables under tools/, those of the folders too."""
-    return [path for path in scripts() if path.startswith(str(base.TOOLS)) and os.access(path, os.X_OK)]
+    found = [path for path in scripts() if path.startswith(str(base.TOOLS)) and os.access(path, os.X_OK)]
+    assert str(base.TOOLS / "best") in found, "files have lost their modes: no tool would be tested"
+    return found
 
 
 class Tools(base.ToolTest):

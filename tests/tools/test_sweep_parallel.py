@@ -292,6 +292,22 @@ class Faults(ParallelTest):
                 self.failed(ran, status, message)
                 self.assertLess(time.monotonic() - began, 20)
 
+    def test_a_parent_that_ignores_ends_of_processes(self):
+        """The end of a process can't be waited for where this signal is ignored, as some who start the tool leave it."""
+        ignoring = ("env", "--ignore-signal=CHLD")
+        self.assertEqual(self.good(self.run_command(*ignoring, TOOLS / "sweep-parallel", 2, DIN, *SMALL)), self.sweep(*SMALL, "-t", DIN))
+        self.assertEqual(self.good(self.run_command(*ignoring, TOOLS / "pages", 1, *THREE)), f"{' '.join(THREE)} --rows 3\n")
+
+    def test_an_output_that_takes_a_part(self):
+        """A pipe that is not waited for takes its first 64 KiB in one call, and then nothing."""
+        read, write = os.pipe()
+        os.set_blocking(write, False)
+        arguments = [TOOLS / "sweep-parallel", "1", DIN, *"--bsize 16 --sets 1 --assoc 1-4k --size 0-64k".split()]
+        ran = subprocess.run(arguments, stdout=write, stderr=subprocess.PIPE, timeout=60, check=False, **self.in_folder())
+        os.close(write)
+        os.close(read)
+        self.assertEqual((ran.returncode, ran.stderr), (1, b"sweep-parallel: write failed\n"))
+
     def test_no_output(self):
         for place in ("> /dev/full", ">&-", "| true"):
             script = f'set -o pipefail; "{TOOLS}/sweep-parallel" 2 "$1" {" ".join(SMALL)} {place}'

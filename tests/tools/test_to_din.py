@@ -331,8 +331,9 @@ class Streams(ToDin):
                     self.assertEqual(wrote, expected, lines)
             ran = self.run_command(guarded, form, stdin=chance.randbytes(999))
             self.assertEqual((ran.returncode, ran.stderr.count(b"\n")), (1, 1), ran.stderr)
-        full = self.run_command(guarded, "addresses", stdin=b"ffffffffffffffff\n" * 9999)
-        self.same(self.good(full).splitlines(), ["0 ffffffffffffffff"] * 9999)
+        for lines in (["f" * first, *["f" * 16] * 3999] for first in range(1, 17)):  # whose ends meet each last byte of the buffer
+            full = self.run_command(guarded, "addresses", stdin="\n".join(lines).encode())
+            self.same(self.good(full).splitlines(), ["0 " + line for line in lines])
         for size in range(0, 1000, 37):
             ran = self.run_command(guarded, "champsim", stdin=(SAMPLES / "champsim.bin").read_bytes()[:size])
             self.assertEqual(ran.returncode, size % 64 > 0, ran.stderr)

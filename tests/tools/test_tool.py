@@ -1,9 +1,13 @@
-"""What the Python tools share."""
+"""What the tools share."""
 
 import argparse
+import os
+import shutil
+import subprocess
 import unittest
 
 import tool
+from base import TOOLS, ToolTest
 
 
 class Sizes(unittest.TestCase):
@@ -18,3 +22,20 @@ class Sizes(unittest.TestCase):
 
     def test_texts(self):
         self.assertEqual([tool.size_text(size) for size in (0, 100, 1024, 1536, 1 << 20, 3 << 30)], ["0", "100", "1k", "1536", "1m", "3g"])
+
+
+class Compiling(ToolTest):
+    def test_two_at_once(self):
+        """Each compiles to a file of its own, which then takes its place: in a copy of the tool."""
+        for name in ("to-din", "to-din.c", "lib.bash"):
+            shutil.copy(TOOLS / name, self.folder)
+        compiler = self.folder / "bin/cc"  # ends when both have compiled
+        compiler.parent.mkdir()
+        waits = 'for ((i = 0; i < 300 && $(wc -l < "$0.done") < 2; i++)); do sleep 0.1; done'
+        compiler.write_text(f'#!/bin/bash\n"{shutil.which("cc")}" "$@" && echo >> "$0.done" && {waits}\n')
+        compiler.chmod(0o755)
+        given = {**self.in_folder(PATH=f"{compiler.parent}:{os.environ['PATH']}"), "stderr": subprocess.PIPE}
+        both = [subprocess.Popen([self.folder / "to-din", "--build"], **given) for _ in range(2)]
+        self.assertEqual([(each.communicate(timeout=60)[1], each.returncode) for each in both], [(b"", 0)] * 2)
+        self.assertEqual([path.name for path in (self.folder / "out").iterdir()], ["to-din"])
+        self.assertEqual(self.good(self.run_command(self.folder / "to-din", "addresses", stdin=b"10\n")), "0 10\n")

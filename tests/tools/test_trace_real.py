@@ -170,6 +170,12 @@ class ByQemu(Both, TraceTest):
         storing = next(line for line, after in zip(lines, lines[1:]) if after == ("1", symbols_of(program)["numbers"][0]))
         self.assertEqual(lines.count(storing), rounds * 20000 + faults)  # what faults is fetched again
 
+    def test_many_blocks(self):
+        """A block of references is handed over at each system call: more of them than 16 bits count. An endless trace is cut."""
+        program = traced("calls")
+        lines, _ = self.traced_to_file("--kind", "d", "--count", 2_000_000, program)
+        self.assertEqual(self.own_data(lines, program, "numbers"), [("1", "numbers", at) for at in range(70000)])
+
     def test_atomic_instructions(self):
         program = traced("threads")
         lines, _ = self.traced_to_file("--kind", "d", program)

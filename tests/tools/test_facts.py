@@ -1,0 +1,75 @@
+"""Numbers and options that documents tell, against what they are of."""
+
+import csv
+import itertools
+import re
+
+import base
+
+MANUAL = (base.TOP / "docs/manual.md").read_text()
+# a row of a table of options, '`--kind` `u`, `d` or `i` | which references ..'
+ROW = re.compile(r"^`(-[\w-]+)` ?(.*?) \| (.*)", re.M)
+HELP = re.compile(r"^ +(-\w|--[\w-]+)(?: <.+?>)? {2,}(.*?)(?: \[default: (\w+)\])?$", re.M)
+
+
+def section(text, heading):
+    """What stands below a heading of a document."""
+    return text.split(f"\n## {heading}\n")[1].split("\n## ")[0]
+
+
+def constant(crate, source, name):
+    """The value of a constant of the code."""
+    text = (base.TOP / "crates" / crate / "src" / source).read_text()
+    return int(re.search(rf"^pub const {name}: \w+ = (\d[\d_]*);$", text, re.M)[1])
+
+
+class Manual(base.ToolTest):
+    def test_options(self):
+        """Those of a command, their letters and their defaults are those of its help; of the caches of din the manual shows one."""
+        for command in ("sweep", "csim", "din"):
+            text = self.good(self.run_command(base.PROGRAM, command, "--help"))
+            asked = {name: rest for name, *rest in HELP.findall(text) if not re.match("--l1-[id]|--l2|--help", name)}
+            told = {name: rest for name, *rest in ROW.findall(section(MANUAL, command))}
+            self.assertGreater(len(told), 4)
+            self.assertEqual({name.lstrip("-") for name in told}, {name.lstrip("-") for name in asked})
+            for name, (meaning, default) in asked.items():
+                value, said = told[name if name in told else name[1:]]
+                letters = re.findall(r"\b([a-z]) [\w-]", meaning.rpartition(": ")[2]) if "`" in value else []
+                self.assertEqual(re.findall("`(.)`", value), letters, name)
+                if letters or default.isdigit():
+                    self.assertIn("the default" if letters else f"{default} by default", said, name)
+
+    def test_limits(self):
+        text = section(MANUAL, "Limits")
+        for name, source in (("MAX_WAYS", "geometry.rt"), ("MAX_CACHE_LINES", "geometry.rt")):
+            number = constant("cache_core", source, name)
+            self.assertIn(f"{number:,} (2^{number.bit_length() - 1}", text, name)
+        bits = constant("cache_core", "geometry.rt", "MAX_BITS")
+        self.assertIn(f"{2**bits:,} (2^{bits})", text)
+        self.assertEqual(section(MANUAL, "csim").count(f"at most {bits}\n"), 2)
+        self.assertIn(f"at most {constant('trace_core', 'limits.rt', 'MAX_LINE'):,} bytes", text)
+        self.assertIn(f"at most 2^{constant('trace_core', 'limits.rt', 'MAX_LINES').bit_length() - 1} lines", text)
+
+
+class Others(base.ToolTest):
+    def test_first_random_numbers(self):
+        """Of the seed that the definitions name."""
+        text = (base.TOP / "docs/definitions.md").read_text()
+        seed, told = re.search(r"With seed (\d+) the first are ((?:[0-9a-f]{8}(?:, )?)+)", text).groups()
+        numbers = [f"{number:08x}" for number in itertools.islice(base.model.random_words(int(seed)), 4)]
+        self.assertEqual(told.split(", "), numbers)
+
+    def test_the_picture(self):
+        with open(base.TOP / "docs/pictures/sort.csv", newline="", encoding="ascii") as file:
+            rows = list(csv.DictReader(file))
+        references = int(rows[0]["hits"]) + int(rows[0]["misses"])
+        told = f"{references / 1e6:.1f} million data references in {len(rows)} caches"
+        self.assertIn(told, (base.TOP / "README.md").read_text())
+
+    def test_the_default_page(self):
+        """Of by-page, as its help tells it."""
+        told = re.search(r"(\w+) without this option", self.good(self.run_tool("by-page", "--help")))[1]
+        arguments = (base.EXAMPLES / "sort.din", "--data", "16,8,2")
+        named = self.good(self.run_tool("by-page", *arguments, "--page", told))
+        self.assertEqual(self.good(self.run_tool("by-page", *arguments)), named)
+        self.assertNotEqual(named, self.good(self.run_tool("by-page", *arguments, "--page", "8k")))
