@@ -171,7 +171,7 @@ def csim(job, text, write):
     write("hits:%d misses:%d evictions:%d\n" % counts(places, job["E"]))
 
 
-# ---- din
+# ---- din and log
 
 def random_words(seed):
     """The words of PCG's XSH RR generator of 64 bits of state, on stream 54."""
@@ -203,6 +203,7 @@ class Machine:
     words: object
     clock: int = 0
     held: dict = field(default_factory=dict)
+    went: str = ""  # how the last step went, as a line of log says it
     stats: dict = field(default_factory=lambda: dict.fromkeys(STATISTICS, 0))
 
     def step(self, ref):
@@ -210,6 +211,7 @@ class Machine:
         self.clock += 1
         block, down = ref.addr >> self.b, []
         hit = block in self.held
+        self.went = "hit" if hit else "miss"
         self.stats[ref.access] += 1
         self.stats[f"{ref.access} miss"] += not hit
         if hit:
@@ -236,6 +238,7 @@ class Machine:
                 victim = min(mates, key=lambda other: self.held[other][0])
             dirty = self.held.pop(victim)[1]
             self.stats["evictions"] += 1
+            self.went = f"miss eviction {victim << self.b:x}" + " dirty" * dirty
             if dirty:
                 self.stats["copybacks"] += 1
                 down.append(Ref("write", victim << self.b))
@@ -259,11 +262,15 @@ class Machine:
 CACHES = ("l1-i", "l1-d", "l1-u", "l2-u")
 
 
+def machines_of(job):
+    return {name: Machine(**shape, words=random_words(job["seed"])) for name, shape in job["caches"].items()}
+
+
 def din(job, text, write):
     entries, fault = read(job["format"], text)
     if fault:
         raise fault
-    caches = {name: Machine(**shape, words=random_words(job["seed"])) for name, shape in job["caches"].items()}
+    caches = machines_of(job)
     memory, bypassed = {"read": 0, "write": 0}, 0
     for event in events_of(entries, "u"):
         if event is FLUSH:
@@ -283,6 +290,35 @@ def din(job, text, write):
         if name in caches:
             write(caches[name].line(name))
     write(f"memory reads={memory['read']} writes={memory['write']}\nbypassed={bypassed}\n")
+
+
+def log(job, text, write):
+    entries, fault = read(job["format"], text)
+    caches = machines_of(job)
+
+    def arrives(ref, places):
+        """A reference at the first of these places, and then, one by one, what that sends down to the others."""
+        place, *lower = places
+        line = f"{place} {('read', 'write', 'fetch').index(ref.access)} {ref.addr:x}"
+        if place not in caches:
+            write(f"{line}\n")
+            return
+        down = caches[place].step(ref)
+        write(f"{line} {caches[place].went}\n")
+        for below in down:
+            arrives(below, lower)
+
+    for event in events_of(entries, "u"):
+        if event is FLUSH:
+            for name in CACHES:
+                if name in caches:
+                    write(f"{name} flush {caches[name].flush()}\n")
+            continue
+        own = "l1-i" if event.access == "fetch" else "l1-d"
+        first = [name for name in ("l1-u", own) if name in caches]
+        arrives(event, [*first, *(name for name in caches if name == "l2-u"), "memory"] if first else ["bypassed"])
+    if fault:
+        raise fault
 
 
 # ---- sweep
@@ -376,6 +412,9 @@ OPTIONS = {
 }
 
 
+OPTIONS["log"] = OPTIONS["din"]
+
+
 def given(options, words):
     """The text of each option that is given: a small part of what the library that reads the words does."""
     found, left = {}, list(words)
@@ -438,7 +477,7 @@ def parse(words):
     if not words or words[0] not in OPTIONS:
         raise Usage
     command, rest = words[0], words[1:]
-    if command == "din":
+    if command in ("din", "log"):
         rest = [respelled(word) for word in rest]
     texts = given(OPTIONS[command], rest)
     values = {}
@@ -447,7 +486,7 @@ def parse(words):
             values[option.name] = option.reader(texts[option.name])
             if values[option.name] is None:
                 raise Fault(f"{option.name}: bad value", 2)
-    job = {"csim": csim_job, "din": din_job, "sweep": sweep_job}[command](values, texts)
+    job = {"csim": csim_job, "din": din_job, "log": din_job, "sweep": sweep_job}[command](values, texts)
     return command, job, texts.get("-t")
 
 
@@ -513,7 +552,7 @@ def run(words, stdin, text_of):
     try:
         command, job, name = parse(words)
         text = stdin() if name is None else text_of(name)
-        {"csim": csim, "din": din, "sweep": sweep}[command](job, text, written.append)
+        {"csim": csim, "din": din, "log": log, "sweep": sweep}[command](job, text, written.append)
     except Usage as usage:
         return ("Usage:", "", 0) if usage.help else ("", "cachesim: error:", 2)
     except Fault as fault:

@@ -17,6 +17,7 @@ OPTIONS = {
     "sweep": set("--bsize --sets --assoc --size --kind --format --after --rows --pow2 -t -h --help".split()),
     "csim": set("-s -E -b -t -v -h --help".split()),
     "din": {f"-{name}" for name in ONE_OR_TWO} | {"--seed", "-t", "-h", "--help"},
+    "log": {f"-{name}" for name in ONE_OR_TWO} | {"--seed", "-t", "-h", "--help"},
 }
 ONE_OF = {
     "sweep --kind": "u d i",
@@ -27,6 +28,8 @@ ONE_OF = {
     "din --l2-urepl": "l f r",
     "din -l1-dwalloc": "a n",
     "din --l1-iwback": "a n",
+    "log -l1-urepl": "l f r",
+    "log --l2-urepl": "l f r",
 }
 
 
@@ -69,7 +72,7 @@ class Generated(ToolTest):
         return set(self.good(self.run_command("bash", "-c", script)).split())
 
     def test_commands(self):
-        self.assertEqual(self.offered("cachesim", ""), {"sweep", "csim", "din", "-h", "--help"})
+        self.assertEqual(self.offered("cachesim", ""), {"sweep", "csim", "din", "log", "-h", "--help"})
         self.assertEqual(self.offered("cachesim", "sw"), {"sweep"})
         self.assertEqual(self.offered("cachesim", "x"), set())
 
@@ -164,7 +167,7 @@ class Shells(ToolTest):
     @needs("fish")
     def test_fish(self):
         (self.folder / "c.fish").write_text(written("fish"))
-        more = {"": "sweep|csim|din", "csim -": "|".join(OPTIONS["csim"]), "sweep --kind=": "--kind=u|--kind=d|--kind=i"}
+        more = {"": "sweep|csim|din|log", "csim -": "|".join(OPTIONS["csim"]), "sweep --kind=": "--kind=u|--kind=d|--kind=i"}
         for typed, wanted in {**self.LINES, **more}.items():
             ran = self.run_command("fish", "-N", "-c", f"source c.fish; cd traces; complete -C 'cachesim {typed}'", env=self.env)
             found = {line.partition("\t")[0].replace("\\ ", " ").rstrip("/") for line in self.good(ran).splitlines()}

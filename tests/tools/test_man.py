@@ -29,7 +29,7 @@ class Page(ToolTest):
         for heading in "NAME|SYNOPSIS|DESCRIPTION|TRACES|SWEEP|CSIM|DIN|FAULTS|EXIT STATUS|LIMITS|SEE ALSO".split("|"):
             self.assertIn(heading, lines)
         synopsis = "\n".join(lines[lines.index("SYNOPSIS"):lines.index("DESCRIPTION")])
-        for command in ("sweep", "csim", "din"):
+        for command in ("sweep", "csim", "din", "log"):
             self.assertIn(f"       cachesim {command} [OPTIONS]", synopsis)
         self.assertIn("       cachesim csim [OPTIONS] -s N -E N -b N -t FILE", lines)
         for tool in ("best", "grade", "lab-csim", "lab-trace"):

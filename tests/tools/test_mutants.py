@@ -88,8 +88,7 @@ class Mutants(ToolTest):
             self.assertEqual((lines[1], status), ("1 passed, 0 failed", 0))
 
     def test_elsewhere_or_not_at_all(self):
-        elsewhere = "not at Half::of value, but at Half::of small; Half::of invariant_of-self"
-        self.refused(FALSE + IN_ANSWER + REFUSED, elsewhere)
+        self.refused(FALSE + REFUSED, "not at Half::of value, but at Half::of small")
         self.refused(GONE + REFUSED, "only a stored proof no longer fits: .*has no field")
         self.refused(PROVED, "it is proved")
         self.refused("error: a mismatched type\n", "it did not reach the prover: error: a mismatched")
@@ -123,6 +122,10 @@ class Mutants(ToolTest):
         for said, told in ((PROVED, "it is proved"), (IN_CODE + REFUSED, "not at Half::of invariant_of-self, but at Half::of value")):
             own.write_text(said)
             self.refused(IN_ANSWER + REFUSED, f"by its stored proof alone, and without it: {told}")
+        # where a lemma beside the stored proof is what no longer holds
+        self.mutant.write_text(f"goal: Half::of value\n{EDIT}")
+        lines, _ = self.tried(IN_ANSWER + REFUSED)
+        self.assertRegex(lines[0], r"^ok low a_third \(\d+ s\) at Half::of value, without its stored proof too$")
 
     def test_a_crate_that_is_not_proved(self):
         (self.folder / "whole").write_text(IN_CODE + REFUSED)

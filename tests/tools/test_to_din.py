@@ -289,9 +289,8 @@ class Formats(ToDin):
     def test_lackey_as_the_program_reads_it(self):
         for trace in (EXAMPLES / "transpose.lackey", EXAMPLES / "blocks.lackey", SAMPLES / "lackey.txt"):
             din = self.run_tool("to-din", "lackey", trace).stdout
-            for kind in "udi":
-                table = self.sweep(*SPACE, "--kind", kind, "--format", "l", "-t", trace)
-                self.assertEqual(self.sweep(*SPACE, "--kind", kind, stdin=din), table)
+            for kind in (["--kind", letter] for letter in "udi"):
+                self.assertEqual(self.sweep(*SPACE, *kind, stdin=din), self.sweep(*SPACE, *kind, "--format", "l", "-t", trace))
 
     def test_its_lines_are_those_of_the_example(self):
         din = (EXAMPLES / "sort.din").read_text().splitlines()
@@ -331,9 +330,9 @@ class Streams(ToDin):
                     self.assertEqual(wrote, expected, lines)
             ran = self.run_command(guarded, form, stdin=chance.randbytes(999))
             self.assertEqual((ran.returncode, ran.stderr.count(b"\n")), (1, 1), ran.stderr)
-        for lines in (["f" * first, *["f" * 16] * 3999] for first in range(1, 17)):  # whose ends meet each last byte of the buffer
-            full = self.run_command(guarded, "addresses", stdin="\n".join(lines).encode())
-            self.same(self.good(full).splitlines(), ["0 " + line for line in lines])
+        for text in (b"f" * first + b"\nffffffffffffffff" * 3999 for first in range(1, 17)):  # ends at each last byte of the buffer
+            full = self.good(self.run_command(guarded, "addresses", stdin=text))
+            self.same(full.splitlines(), ["0 " + line for line in text.decode().split()])
         for size in range(0, 1000, 37):
             ran = self.run_command(guarded, "champsim", stdin=(SAMPLES / "champsim.bin").read_bytes()[:size])
             self.assertEqual(ran.returncode, size % 64 > 0, ran.stderr)

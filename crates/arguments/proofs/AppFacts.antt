@@ -53,7 +53,8 @@ found_ordered p (s ∷ rest) arguments named h = go (p s) refl (found_ordered p 
 entered_ordered : (stop : Option (Text × List Text)) → is_some (entered (built cachesim_app) stop) ≡ true
     → is_some (option_and_then chosen_command (entered (built cachesim_app) stop)) ≡ true
 entered_ordered None h = h
-entered_ordered (Some p) h = found_ordered (λ s. answers_to p.0 (label_of s)) (built cachesim_app).subs p.1 ((λ _. refl), ((λ _. refl), ((λ _. refl), tt))) h
+entered_ordered (Some p) h =
+    found_ordered (λ s. answers_to p.0 (label_of s)) (built cachesim_app).subs p.1 ((λ _. refl), ((λ _. refl), ((λ _. refl), ((λ _. refl), tt)))) h
 
 -- a subcommand that the arguments name has a job
 pub subcommand_ordered : (arguments : List Text) → is_some (subcommand_of cachesim_app arguments) ≡ true

@@ -205,7 +205,8 @@ agree_found p (s ∷ rest) arguments h =
     [ true ↦ agree_level s h.0 [] nothing_held arguments false [] none | false ↦ agree_found p rest arguments h.1 ]
 
 agree_entered : (stop : Option (Text × List Text)) → Agree (entered_fault (built cachesim_app) stop)
-agree_entered stop = agree_option _ stop [] (λ p. agree_found (λ s. answers_to p.0 (label_of s)) (built cachesim_app).subs p.1 (refl, (refl, (refl, tt)))) none
+agree_entered stop =
+    agree_option _ stop [] (λ p. agree_found (λ s. answers_to p.0 (label_of s)) (built cachesim_app).subs p.1 (refl, (refl, (refl, (refl, tt))))) none
 
 faults_agree : (arguments : List Text) → Agree (fault_of cachesim_app arguments)
 faults_agree arguments =

@@ -6,7 +6,7 @@ use Rattle.clap.specs.Words.{Row, Text, first_of, subcommand_of}
 use Rattle.clap.specs.declared.error.kind.ErrorKind.{ErrorKind}
 use Rattle.clap.specs.declared.error.kind.ErrorKind.TheVariants as kind
 use Rattle.arguments.specs.CsimJob.{csim_of}
-use Rattle.arguments.specs.DinJob.{din_of}
+use Rattle.arguments.specs.DinJob.{din_of, log_of}
 use Rattle.arguments.specs.Faults.{JobFault, job_fault_of}
 use Rattle.arguments.specs.Options.{cachesim_app, file_option}
 use Rattle.arguments.specs.Readings.{and_then}
@@ -30,7 +30,8 @@ command_value c = record { job = c.job; trace = option_map string_bytes c.trace 
 abbrev pub job_named : Text → List Row → Option (Result Job JobFault)
 job_named name rows = if bytes_eq name (codes "csim") then Some (csim_of rows)
     else (if bytes_eq name (codes "din") then Some (din_of rows)
-    else (if bytes_eq name (codes "sweep") then Some (sweep_of rows) else None))
+    else (if bytes_eq name (codes "log") then Some (log_of rows)
+    else (if bytes_eq name (codes "sweep") then Some (sweep_of rows) else None)))
 
 -- what was read, with the file of `-t`
 abbrev pub with_trace : List Row → Result Job JobFault → Result CommandValue JobFault

@@ -1,4 +1,4 @@
--- What the arguments after `din` say.
+-- What the arguments after `din` and `log` say.
 use Rattle.std.specs.Prelude.{ℕ, Bool, List, Option, Some, None, Result, Ok, codes, ◌||◌}
 use Rattle.std.specs.Prelude.{if◌then◌else◌, is_some, ok_or, option_and_then, unwrap_or}
 use Rattle.sweep_core.specs.Space.{is_power}
@@ -6,6 +6,7 @@ use Rattle.std.specs.Result.{result_map_both}
 use Rattle.std.specs.Str.{bytes_eq}
 use Rattle.clap.specs.Words.{Row, Text}
 use Rattle.cache_core.specs.Plans.{PlannedCaches, plan_of}
+use Rattle.trace_core.specs.declared.line.Format.{Format}
 use Rattle.trace_core.specs.declared.line.Format.TheVariants.{Din as DinFormat}
 use Rattle.cache_core.specs.declared.outcome.AllocMode.{AllocMode}
 use Rattle.cache_core.specs.declared.outcome.AllocMode.TheVariants.{Always, Never}
@@ -24,7 +25,7 @@ use Rattle.arguments.specs.Options.{walloc_option_of, wback_option_of}
 use Rattle.arguments.specs.Readings.{and_then, format_named, optional_value, value_or}
 use Rattle.arguments.specs.declared.din_job.CacheReading.{CacheReading}
 use Rattle.arguments.specs.declared.job.Job.{Job}
-use Rattle.arguments.specs.declared.job.Job.TheVariants.{Din}
+use Rattle.arguments.specs.declared.job.Job.TheVariants.{Din, Log}
 
 -- a value of kind P: a scaled number that is a power of two
 abbrev pub power_of : Text → Option ℕ
@@ -96,14 +97,22 @@ plan_given i d u second =
     and_then (cache_of L2U second) (λ second.
     result_map_both (λ p. p) plan (plan_of (record { i = i; d = d; u = u }) second)))))
 
--- The job of these entries, or the first fault: bad values in the table's order, then the caches' and the plan's. The letters of the
--- format and the default seed are this project's.
-abbrev pub din_of : List Row → Result Job JobFault
-din_of rows =
+-- What these entries say of the caches, the seed and the format, or the first fault: bad values in the table's order, then the caches' and
+-- the plan's. The letters of the format and the default seed are this project's.
+abbrev pub options_given : List Row → Result (PlannedCaches × ℕ × Format) JobFault
+options_given rows =
     and_then (reading_of L1I rows) (λ i.
     and_then (reading_of L1D rows) (λ d.
     and_then (reading_of L1U rows) (λ u.
     and_then (reading_of L2U rows) (λ second.
     and_then (value_or DinFormat informat_option.id format_named rows) (λ format.
     and_then (value_or 42 seed_option.id number_of rows) (λ seed.
-    and_then (plan_given i d u second) (λ p. Ok (Din p seed format MAX_LINES))))))))
+    and_then (plan_given i d u second) (λ p. Ok (p, seed, format))))))))
+
+-- the job of `din`, or the first fault
+abbrev pub din_of : List Row → Result Job JobFault
+din_of rows = and_then (options_given rows) (λ o. Ok (Din o.0 o.1 o.2 MAX_LINES))
+
+-- the job of `log`, or the first fault
+abbrev pub log_of : List Row → Result Job JobFault
+log_of rows = and_then (options_given rows) (λ o. Ok (Log o.0 o.1 o.2 MAX_LINES))

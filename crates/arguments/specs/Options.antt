@@ -56,7 +56,7 @@ verbose_option = flag (by_letter (codes "-v") 118)
 abbrev pub csim_rules : List Rule
 csim_rules = set_bits_option ∷ lines_option ∷ block_bits_option ∷ lackey_file_option ∷ verbose_option ∷ []
 
--- ---- the options of `din`: those of the caches and -informat are Dinero IV's
+-- ---- the options of `din` and of `log`: those of the caches and -informat are Dinero IV's
 
 abbrev pub informat_option : Rule
 informat_option = optional (by_name (codes "-") (codes "informat"))
@@ -148,7 +148,7 @@ cachesim_top = record (new_shape (codes "cachesim")) {
 abbrev pub cachesim_app : App
 cachesim_app = record {
   top = record cachesim_top { is_leaf = false };
-  subs = leaf (codes "csim") csim_rules ∷ leaf (codes "din") din_rules ∷ leaf (codes "sweep") sweep_rules ∷ [];
+  subs = leaf (codes "csim") csim_rules ∷ leaf (codes "din") din_rules ∷ leaf (codes "log") din_rules ∷ leaf (codes "sweep") sweep_rules ∷ [];
 }
 
 -- ---- what the code has of them

@@ -5,7 +5,7 @@ use Rattle.std.specs.Option.{option_map_or}
 use Rattle.std.specs.Str.{bytes_eq}
 use Rattle.clap.specs.Words.{Text}
 
--- the argument is an option of `din` that Dinero writes with one dash
+-- the argument is an option of `din` or `log` that Dinero writes with one dash
 abbrev pub is_dinero_option : Text → Bool
 is_dinero_option argument = starts_with nat_eq argument (codes "-l1-")
     || (starts_with nat_eq argument (codes "-l2-") || bytes_eq argument (codes "-informat"))
@@ -14,14 +14,18 @@ is_dinero_option argument = starts_with nat_eq argument (codes "-l1-")
 abbrev pub with_two_dashes : Text → Text
 with_two_dashes argument = if is_dinero_option argument then codes "-" ++ argument else argument
 
--- the second argument is `din`; the first is the program's name
-abbrev pub is_din : List Text → Bool
-is_din arguments = option_map_or (λ argument. bytes_eq argument (codes "din")) (slice_get arguments 1) false
+-- `din` and `log` have such options
+abbrev pub has_dinero_options : Text → Bool
+has_dinero_options command = bytes_eq command (codes "din") || bytes_eq command (codes "log")
+
+-- the second argument is such a command; the first is the program's name
+abbrev pub takes_dinero : List Text → Bool
+takes_dinero arguments = option_map_or has_dinero_options (slice_get arguments 1) false
 
 -- an argument behind the command's name, as clap gets it
 abbrev pub spelled : Bool → Text → Text
-spelled is_din argument = if is_din then with_two_dashes argument else argument
+spelled takes_dinero argument = if takes_dinero then with_two_dashes argument else argument
 
 -- the arguments as clap gets them
 abbrev pub respelled : List Text → List Text
-respelled arguments = take 2 arguments ++ map (spelled (is_din arguments)) (drop 2 arguments)
+respelled arguments = take 2 arguments ++ map (spelled (takes_dinero arguments)) (drop 2 arguments)

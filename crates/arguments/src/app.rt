@@ -31,13 +31,14 @@ pub fn cachesim_command<'a>(alloc: Global) -> Result<Command<'a>, AllocError>
         .subcommands(commands)
 }
 
-/// The commands `csim`, `din` and `sweep`.
+/// The commands `csim`, `din`, `log` and `sweep`.
 fn leaf_commands<'a>(alloc: Global) -> Result<Vec<Command<'a>>, AllocError>
     ensures { IfOk result (λ v. map app_and_global v.items ≡ map own_leaf cachesim_app.subs) }
 {
     let mut commands = Vec::new(alloc);
     commands.push(csim_command(alloc)?)?;
     commands.push(din_command(alloc)?)?;
+    commands.push(log_command(alloc)?)?;
     commands.push(sweep_command(alloc)?)?;
     Ok(commands)
 }
@@ -65,6 +66,17 @@ fn din_command<'a>(alloc: Global) -> Result<Command<'a>, AllocError>
         .args(args)
 }
 
+/// The command `log`.
+fn log_command<'a>(alloc: Global) -> Result<Command<'a>, AllocError>
+    ensures { IfOk result (λ c. app_and_global c ≡ own_leaf (leaf (codes "log") din_rules)) }
+{
+    let args = din_args(alloc)?;
+    Command::new(alloc, "log")
+        .about(help::LOG_ABOUT)
+        .after_help(help::LOG)
+        .args(args)
+}
+
 /// The command `sweep`.
 fn sweep_command<'a>(alloc: Global) -> Result<Command<'a>, AllocError>
     ensures { IfOk result (λ c. app_and_global c ≡ own_leaf (leaf (codes "sweep") sweep_rules)) }
@@ -77,7 +89,7 @@ fn sweep_command<'a>(alloc: Global) -> Result<Command<'a>, AllocError>
         .args(args)
 }
 
-/// The caches of `din`, each with the heading of its options in help.
+/// The caches of `din` and `log`, each with the heading of its options in help.
 static DIN_CACHES: [(CacheName, &str); 4] = [
     (CacheName::L1I, "First-level instruction cache"),
     (CacheName::L1D, "First-level data cache"),
@@ -85,7 +97,7 @@ static DIN_CACHES: [(CacheName, &str); 4] = [
     (CacheName::L2U, "Second-level unified cache"),
 ];
 
-/// The options of `din`: those of each cache stand under a heading of their own.
+/// The options of `din` and `log`: those of each cache stand under a heading of their own.
 fn din_args<'a>(alloc: Global) -> Result<Vec<Arg<'a>>, AllocError>
     ensures { IfOk result (λ v. map rule_and_global v.items ≡ map own_rule din_rules) }
 {

@@ -1,4 +1,4 @@
-//! The options of the caches of `din`: six for each.
+//! The options of the caches of `din` and `log`: six for each.
 ghost use Rattle.arguments.specs.Options.{IsOptionsOf};
 
 use crate::options::CommandOption;

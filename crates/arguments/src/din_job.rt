@@ -1,6 +1,7 @@
-//! The options of `din`.
+//! The options of `din` and `log`.
 ghost use Rattle.std.specs.Prelude.{◌≡◌, IfOk, Some};
-ghost use Rattle.arguments.specs.DinJob.{cache_of, din_of, plan_given, power_of, reading_of, repl_named, walloc_named, wback_named};
+ghost use Rattle.arguments.specs.DinJob.{cache_of, din_of, log_of, options_given, plan_given, power_of, reading_of};
+ghost use Rattle.arguments.specs.DinJob.{repl_named, walloc_named, wback_named};
 ghost use Rattle.arguments.specs.Faults.{answer_in};
 ghost use Rattle.arguments.specs.Job.{max_lines_of};
 ghost use Rattle.arguments.specs.Readings.{optional_value, rows_given};
@@ -15,6 +16,7 @@ use cache_core::outcome::{AllocMode, Repl, WriteMode};
 use cache_core::plan::{CacheName, CacheSpec, FirstLevel, Plan};
 use clap::ArgMatches;
 use sweep_core::space::is_power;
+use trace_core::line::Format;
 use trace_core::reader::MAX_LINES;
 
 /// What was given of the options of one cache.
@@ -33,6 +35,33 @@ pub fn din_job(matches: &ArgMatches<'_>) -> Result<Job, WordsFault>
     ensures job { answer_in result ≡ Some (din_of (rows_given matches.now)) }
     ensures limit { IfOk result (λ job. max_lines_of job ≡ MAX_LINES) }
 {
+    let (plan, seed, format) = options_given(matches)?;
+    Ok(Job::Din {
+        plan,
+        seed,
+        format,
+        max_lines: MAX_LINES,
+    })
+}
+
+/// The job of `log`.
+pub fn log_job(matches: &ArgMatches<'_>) -> Result<Job, WordsFault>
+    ensures job { answer_in result ≡ Some (log_of (rows_given matches.now)) }
+    ensures limit { IfOk result (λ job. max_lines_of job ≡ MAX_LINES) }
+{
+    let (plan, seed, format) = options_given(matches)?;
+    Ok(Job::Log {
+        plan,
+        seed,
+        format,
+        max_lines: MAX_LINES,
+    })
+}
+
+/// The plan, the seed of random replacement, and the format of the trace.
+fn options_given(matches: &ArgMatches<'_>) -> Result<(Plan, u64, Format), WordsFault>
+    ensures { answer_in result ≡ Some (options_given (rows_given matches.now)) }
+{
     let i = read_cache(matches, CacheName::L1I)?;
     let d = read_cache(matches, CacheName::L1D)?;
     let u = read_cache(matches, CacheName::L1U)?;
@@ -40,12 +69,7 @@ pub fn din_job(matches: &ArgMatches<'_>) -> Result<Job, WordsFault>
     let format = format_at(matches, INFORMAT.name)?;
     let seed = optional_number_at(matches, SEED.name)?.unwrap_or(42);
     let plan = plan_given(i, d, u, second)?;
-    Ok(Job::Din {
-        plan,
-        seed,
-        format,
-        max_lines: MAX_LINES,
-    })
+    Ok((plan, seed, format))
 }
 
 /// The plan of what was given of the four caches.

@@ -3,7 +3,7 @@
 //! The limits of a cache are those of `cache_core::geometry`, which no text here can cite: 1m, 64k and 4m are `MAX_BITS`, `MAX_WAYS` and
 //! `MAX_CACHE_LINES`.
 
-/// A text with the command by which Valgrind writes a trace, and the exit statuses after it: all four texts of help have both.
+/// A text with the command by which Valgrind writes a trace, and the exit statuses after it: all five texts of help have both.
 macro_rules! help_text {
     ($before:literal, $behind:literal, $end:literal) => {
         concat!(
@@ -78,6 +78,36 @@ A cache has at most 4m lines in all: 2^s * E.
 A trace of a program, and a cache of 64 sets of 8 lines of 64 bytes:
 ",
     "  cachesim csim -s 6 -E 8 -b 6 -t trace.txt\n",
+    ""
+);
+
+/// What `log` does.
+pub const LOG_ABOUT: &str =
+    "Writes a line for each access of each cache of 'cachesim din', in order";
+
+/// The text after the options of `log`.
+pub const LOG: &str = help_text!(
+    "\
+'cachesim din --help' explains the options. It also tells what a trace looks like.
+
+There is a line for each reference where it arrives: at a cache, at memory, or bypassed, where no
+first-level cache takes it. After the place come the label and the address, as in a din trace, and
+at a cache its outcome: hit, miss, or miss eviction with the address of the evicted block, and
+dirty if it was. What a reference sends to the next level follows at once.
+  l1-d 1 7ffe4000 miss eviction 7ff000 dirty
+  l2-u 1 7ff000 hit
+  l2-u 0 7ffe4000 miss
+  memory 0 7ffe4000
+A modify is a read and a write. At a flush each cache has a line with the number of dirty blocks
+that it copied back, such as 'l1-d flush 2'.
+
+What a data cache of 32 KiB sends to memory, as a din trace:
+  cachesim log -l1-dsize 32k -l1-dbsize 64 -l1-dassoc 8 -t trace.din |
+      awk '$1 == \"memory\" { print $2, $3 }'
+
+Valgrind writes a lackey trace:
+",
+    "",
     ""
 );
 

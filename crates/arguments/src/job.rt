@@ -19,6 +19,12 @@ pub enum Job {
         format: Format,
         max_lines: u64,
     },
+    Log {
+        plan: Plan,
+        seed: u64,
+        format: Format,
+        max_lines: u64,
+    },
     Sweep {
         request: Request,
     },

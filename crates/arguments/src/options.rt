@@ -178,7 +178,7 @@ pub const POW2: CommandOption = long_option!(
 /// The options of `csim`, in the order of its help.
 pub static CSIM_OPTIONS: [CommandOption; 5] = [SET_BITS, LINES, BLOCK_BITS, LACKEY_FILE, VERBOSE];
 
-/// The options of `din` that are no cache's.
+/// The options of `din` and `log` that are no cache's.
 pub static DIN_OPTIONS: [CommandOption; 3] = [INFORMAT, SEED, FILE];
 
 /// The options of `sweep`, in the order of its help.

@@ -12,7 +12,7 @@ ghost use Rattle.arguments.specs.Respell.{respelled};
 
 use crate::app::cachesim_command;
 use crate::csim_job::csim_job;
-use crate::din_job::din_job;
+use crate::din_job::{din_job, log_job};
 use crate::faults::WordsFault;
 use crate::job::Job;
 use crate::options::FILE;
@@ -84,6 +84,7 @@ fn job_of(name: &str, options: &ArgMatches<'_>) -> Result<Job, WordsFault>
     match name {
         "csim" => csim_job(options),
         "din" => din_job(options),
+        "log" => log_job(options),
         "sweep" => sweep_job(options),
         _ => unreachable!(),
     }

@@ -1,5 +1,5 @@
 -- What one reference adds to the counts of a system.
-use Rattle.std.proofs.Common.{◌≡◌, ℕ, ◌+◌, ◌*◌, ◌≤◌, ◌&&◌, not, Bool, true, false, cond, get_or, List, [], ◌∷◌, length}
+use Rattle.std.proofs.Common.{◌≡◌, ℕ, ◌+◌, ◌*◌, ◌≤◌, ◌&&◌, not, Bool, true, false, cond, get_or, List, [], ◌∷◌, ◌++◌, length}
 use Rattle.std.proofs.Common.{Option, Some, None, arith, ap, sym, subst, refl}
 use Rattle.std.specs.Prelude.{MatchBool, is_some, is_none}
 use Rattle.trace_core.specs.declared.events.Ref.{Ref}
@@ -198,6 +198,17 @@ two_reach : (memory : Memory) (xs : List Ref) →
 two_reach memory [] = refl
 two_reach memory (x ∷ []) = refl
 two_reach memory (x ∷ y ∷ xs) = refl
+
+-- and stands there in order
+two_sent : (xs : List Ref) →
+    present_refs (get_or (two_options xs) 0 None ∷ []) ++ present_refs (get_or (two_options xs) 1 None ∷ []) ≡ present_refs (two_options xs)
+two_sent [] = refl
+two_sent (x ∷ []) = refl
+two_sent (x ∷ y ∷ xs) = refl
+
+pub sent_two : (old : SystemCache) (ref : Ref) (o : Outcome) (new : SystemCache) → Enters old ref o new →
+    present_refs (get_or o.down 0 None ∷ []) ++ present_refs (get_or o.down 1 None ∷ []) ≡ present_refs o.down
+sent_two old ref o new e = let (xs, is) = sends old ref o new e in rw is (two_sent xs)
 
 pub sent_reach : (memory : Memory) (old : SystemCache) (ref : Ref) (o : Outcome) (new : SystemCache) → Enters old ref o new →
     all_reach (all_reach memory (present_refs (get_or o.down 0 None ∷ []))) (present_refs (get_or o.down 1 None ∷ [])) ≡ all_reach memory (present_refs o.down)

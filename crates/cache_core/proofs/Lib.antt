@@ -27,10 +27,14 @@ pub mod SystemPushes
 pub mod FirstLevelLaw
 pub mod LowerLaw
 pub mod SystemLaw
+pub mod Observed
 mod PlanRows
 pub mod WindowRows
 pub mod MachineRows
 mod SystemRows
+pub mod LogLaw
+pub mod SecondLevelLaw
+mod ArrivalRows
 pub mod SlotSums
 pub mod AnyLaw
 pub mod TouchedSets

@@ -18,7 +18,7 @@ use Rattle.cache_core.specs.Order.{one_if}
 use Rattle.cache_core.specs.Plans.{PlannedCaches, IsPlan}
 use Rattle.cache_core.specs.CacheSteps.{system_cache_contents, Empties}
 use Rattle.cache_core.specs.Systems.{machine_of, takes, events_for, sent, below, cache_stats, flushed_if_planned, references_in, to_memory, is_taken}
-use Rattle.cache_core.specs.SystemSteps.{SystemValue, present_refs, AllDescend, StepsSystem, FlushesSystem, EmptiesCache}
+use Rattle.cache_core.specs.SystemSteps.{SystemValue, present_refs, AccessesFirstLevel, AllDescend, StepsSystem, FlushesSystem, EmptiesCache}
 use Rattle.cache_core.specs.SystemSteps.{IsNewSystemCache, IsNewCache, IsNewSystem}
 use Rattle.cache_core.specs.SystemStands.{SystemStandsFor, SystemRuns, NewSystemLaw, StepLaw, SystemFlushLaw, SystemRunLaw}
 use Rattle.cache_core.proofs.RunLaw.{start_law, flush_run}
@@ -29,13 +29,13 @@ use Rattle.cache_core.proofs.FirstLevelLaw.{Kept, KeptIfPlanned, with_counts, st
 use Rattle.cache_core.proofs.LowerLaw.{is_read_of, is_write_of, Lower, with_refs, with_refs-cons, lower_after}
 
 -- how many dirty lines the flushes of a list find in all caches
-abbrev flushed_all : PlannedCaches → ℕ → List Event → ℕ
+abbrev pub flushed_all : PlannedCaches → ℕ → List Event → ℕ
 flushed_all plan seed events =
     flushed_if_planned seed plan.i (events_for L1I events) + flushed_if_planned seed plan.d (events_for L1D events)
     + flushed_if_planned seed plan.u (events_for L1U events) + flushed_if_planned seed plan.second (below plan seed events)
 
 -- a reference that no cache takes
-abbrev is_untaken : PlannedCaches → Ref → Bool
+abbrev pub is_untaken : PlannedCaches → Ref → Bool
 is_untaken plan ref = not (is_taken plan ref)
 
 -- what a system holds and has counted after a list of events, apart from its steps
@@ -140,7 +140,7 @@ module _ (plan : PlannedCaches) (seed : ℕ) (events : List Event) (ref : Ref) w
   abbrev more : List Event
   more = events ++ event.Reference ref ∷ []
 
-  flushed_step : flushed_all plan seed events ≡ flushed_all plan seed more
+  pub flushed_step : flushed_all plan seed events ≡ flushed_all plan seed more
   flushed_step = omega (
     arith,
     flushed_name seed L1I plan.i events ref,
@@ -181,6 +181,15 @@ module _ (plan : PlannedCaches) (seed : ℕ) (events : List Event) (ref : Ref) w
         lower = lower_step old new t.down p k f.all_sent t.lower;
         bypassed = bypassed_step old.bypassed new.bypassed (is_none t.down) t.bypassed f.untaken k.bypassed;
       }
+
+-- what a step sends down from the first level, and whether a cache of it takes the reference
+pub step_sends : (plan : PlannedCaches) (seed : ℕ) (events : List Event) (old : SystemValue) (ref : Ref) (down : Option (List (Option Ref)))
+    (i d u : Option SystemCache) → IsPlan plan → SystemStandsFor plan seed events old → AccessesFirstLevel old.i old.d old.u ref down i d u →
+    (down_list down ≡ sent plan seed events ref) × (is_none down ≡ is_untaken plan ref)
+step_sends plan seed events old ref down i d u p s f =
+    let k = kept_of plan seed events old s in
+    let kept = first_keeps seed events ref down old.i old.d old.u i d u plan.i plan.d plan.u p.i p.d p.u p.apart k.i k.d k.u f in
+    (kept.all_sent, kept.untaken)
 
 pub step_law : StepLaw
 step_law plan seed events old ref new p s t =

@@ -16,13 +16,13 @@ use Rattle.rand_pcg.specs.Lcg.{state_after}
 use Rattle.cache_core.proofs.MachineRows.{read, write, fetch, six}
 
 -- one set of so many lines of 16 bytes
-abbrev planned : ℕ → Repl → WriteMode → AllocMode → PlannedCache
+abbrev pub planned : ℕ → Repl → WriteMode → AllocMode → PlannedCache
 planned ways policy w a = record { design = record { geometry = record { s = 0; e = ways; b = 4 }; write = w; allocate = a }; policy = policy }
 
-abbrev one : PlannedCache
+abbrev pub one : PlannedCache
 one = planned 1 Lru Back Always
 
-abbrev unified : PlannedCache → Option PlannedCache → PlannedCaches
+abbrev pub unified : PlannedCache → Option PlannedCache → PlannedCaches
 unified u second = record { i = None; d = None; u = Some u; second = second }
 
 -- the statistics of a system that counted nothing

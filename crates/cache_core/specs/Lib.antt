@@ -11,9 +11,11 @@ pub mod LruLaws
 pub mod Simulation
 pub mod Plans
 pub mod Systems
+pub mod Arrivals
 pub mod SystemCaches
 pub mod CacheSteps
 pub mod SystemSteps
 pub mod SystemFields
 pub mod SystemStands
+pub mod ArrivalStats
 pub mod AnyPolicy

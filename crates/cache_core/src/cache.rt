@@ -94,6 +94,8 @@ impl<P: Replacement> Cache<P> {
         ensures step { Accesses (contents_of P.policy P.words self.old) reference result
             (contents_of P.policy P.words self.new) }
         ensures dirty { DirtiesByWrites self.old.sets reference result self.new.sets }
+        ensures victim { IfSome result.evicted
+            (λ slot. slot.block * 2 ^ self.old.design.geometry.b < 2 ^ 64) }
     {
         visit_slab(
             self.design,
@@ -103,6 +105,14 @@ impl<P: Replacement> Cache<P> {
             &mut self.touched,
             reference,
         )
+    }
+
+    /// Its geometry.
+    #[inline(always)]
+    pub fn geometry(&self) -> Geometry
+        ensures { result ≡ self.now.design.geometry }
+    {
+        self.design.geometry
     }
 
     /// Empties the cache, and returns how many dirty lines it held. Nothing is evicted, and a
@@ -137,6 +147,7 @@ fn visit_slab<P: Replacement>(
     ensures dirty { DirtiesByWrites
         (sets_of design.geometry.e slots.old filled.old) reference result
         (sets_of design.geometry.e slots.new filled.new) }
+    ensures victim { IfSome result.evicted (λ slot. slot.block * 2 ^ design.geometry.b < 2 ^ 64) }
 {
     design.geometry.limits();
     let ways = design.geometry.e() as usize;
@@ -168,6 +179,8 @@ fn visit<P: Replacement>(
     ensures policy { P.policy policy.new ≡ P.policy policy.old }
     ensures within { result.1 ≤ design.geometry.e }
     ensures addresses { Addressable design.geometry.b (take result.1 set.new) }
+    ensures victim { IfSome result.0.evicted
+        (λ slot. slot.block * 2 ^ design.geometry.b < 2 ^ 64) }
 {
     let block = design.geometry.block_of(reference.addr);
     let dirty = dirties_line(design.write, reference.access);

@@ -14,6 +14,7 @@ ghost use Rattle.cache_core.specs.LruLaws.{HitInclusion, HeldInclusion};
 ghost use Rattle.cache_core.specs.Plans.{GeometryLaw};
 ghost use Rattle.cache_core.specs.SystemStands.{NewSystemLaw, StepLaw, SystemFlushLaw};
 ghost use Rattle.cache_core.specs.SystemStands.{SystemRunLaw};
+ghost use Rattle.cache_core.specs.ArrivalStats.{LogLaw, SecondLevelLaw};
 
 /// A reference puts its block in front of the window, and a flush empties it.
 pub fn window_grows()
@@ -120,4 +121,14 @@ pub fn system_flush_stands()
 /// A list of events, one after another, adds itself to the list that a system stands for.
 pub fn system_run_stands()
     ensures { SystemRunLaw }
+{}
+
+/// The statistics of a system are the counts of its log.
+pub fn stats_count_the_log()
+    ensures { LogLaw }
+{}
+
+/// What arrives at the second level is what the first level sends down, in order.
+pub fn second_level_gets_what_is_sent()
+    ensures { SecondLevelLaw }
 {}

@@ -2,6 +2,7 @@
 //! cache does by look-back windows.
 #![tactic(auto)]
 
+pub mod arrival;
 pub mod cache;
 pub mod geometry;
 pub mod laws;

@@ -1,10 +1,20 @@
 //! A system of caches.
-ghost use Rattle.std.specs.Prelude.{◌≡◌, ◌<◌, ◌+◌, ◌^◌, ℕ, List, length, ◌∷◌, [], IfOk};
+ghost use Rattle.std.specs.Prelude.{◌≡◌, ◌≤◌, ◌<◌, ◌+◌, ◌^◌, ℕ, List, length, ◌∷◌, [], IfOk};
+ghost use Rattle.std.specs.Prelude.{Option};
 ghost use Rattle.cache_core.specs.SystemSteps.{present_refs, all_reach, Descends, AllDescend};
 ghost use Rattle.cache_core.specs.SystemSteps.{AccessesFirst, AccessesFirstLevel, EmptiesCache};
 ghost use Rattle.cache_core.specs.SystemSteps.{counted, reached, stats_held, IsNewCache};
+ghost use Rattle.cache_core.specs.SystemStands.{PlannedCacheStandsFor};
+ghost use Rattle.cache_core.specs.Arrivals.{Saw, arrives, arrives_below, arrive_below, flushes};
+ghost use Rattle.cache_core.specs.Arrivals.{at_memory, first_arrivals};
+ghost use Rattle.cache_core.specs.Plans.{PlannedCaches, IsPlan, IsPlannedCache};
+ghost use Rattle.cache_core.specs.Systems.{events_for};
+ghost use Rattle.cache_core.specs.declared.plan.CacheName.TheVariants.{L1I, L1D, L1U, L2U};
+ghost use Rattle.cache_core.specs.declared.plan.PlannedCache.{PlannedCache};
+ghost use Rattle.trace_core.specs.declared.events.Event.{Event};
 
-use crate::plan::{Plan, PlannedCache};
+use crate::arrival::{Arrival, MAX_ARRIVALS, Nobody, Observer};
+use crate::plan::{CacheName, Plan, PlannedCache};
 use crate::stats::{CacheStats, Stats};
 use crate::system_cache::SystemCache;
 use std::alloc::{AllocError, Global};
@@ -42,9 +52,9 @@ impl Model for System {
 impl System {
     ghost use Rattle.cache_core.specs.SystemSteps.{StepsSystem, FlushesSystem, IsNewSystem};
     ghost use Rattle.cache_core.specs.SystemSteps.{stats_of, HasWritten};
-    ghost use Rattle.trace_core.specs.declared.events.Event.{Event};
-    ghost use Rattle.cache_core.specs.Plans.{PlannedCaches};
+    ghost use Rattle.trace_core.specs.declared.events.Event.TheVariants as event;
     ghost use Rattle.cache_core.specs.Systems.{system_run};
+    ghost use Rattle.cache_core.specs.Arrivals.{arrivals_of};
     ghost use Rattle.cache_core.specs.SystemStands.{SystemStandsFor};
 
     /// A system of the caches of a plan, all empty; each with random replacement has a generator of
@@ -87,11 +97,29 @@ impl System {
         requires { self.old.steps < MAX_STEPS }
         ensures { StepsSystem self.old reference self.new }
     {
+        self.step_observed(reference, &mut Nobody);
+    }
+
+    /// The same step, where an observer sees each arrival.
+    #[inline(always)]
+    pub fn step_observed<O: Observer>(&mut self, reference: Ref, observer: &mut O)
+        requires steps { self.old.steps < MAX_STEPS }
+        requires room { MAX_ARRIVALS ≤ O.room observer.old }
+        ensures step { StepsSystem self.old reference self.new }
+        ensures seen { (plan : PlannedCaches) (seed : ℕ) (events : List Event) → IsPlan plan →
+            SystemStandsFor plan seed events self.old →
+            Saw O.has_seen observer.old (arrivals_of plan seed events (event.Reference reference))
+            observer.new }
+        ensures room { O.room observer.old ≤ O.room observer.new + MAX_ARRIVALS }
+    {
         self.steps += 1;
-        let down = first_level(&mut self.i, &mut self.d, &mut self.u, reference);
+        let down = first_level(&mut self.i, &mut self.d, &mut self.u, reference, observer);
         match down {
-            Some(down) => descend_all(&mut self.second, &mut self.memory, down),
-            None => self.bypassed += 1,
+            Some(down) => descend_all(&mut self.second, &mut self.memory, down, observer),
+            None => {
+                observer.see(Arrival::Bypassed { reference });
+                self.bypassed += 1;
+            }
         }
     }
 
@@ -101,11 +129,24 @@ impl System {
         requires { self.old.steps < MAX_STEPS }
         ensures { FlushesSystem self.old self.new }
     {
+        self.flush_observed(&mut Nobody);
+    }
+
+    /// The same flush, where an observer sees each cache flushed.
+    pub fn flush_observed<O: Observer>(&mut self, observer: &mut O)
+        requires steps { self.old.steps < MAX_STEPS }
+        requires room { MAX_ARRIVALS ≤ O.room observer.old }
+        ensures flush { FlushesSystem self.old self.new }
+        ensures seen { (plan : PlannedCaches) (seed : ℕ) (events : List Event) →
+            SystemStandsFor plan seed events self.old →
+            Saw O.has_seen observer.old (arrivals_of plan seed events event.Flush) observer.new }
+        ensures room { O.room observer.old ≤ O.room observer.new + MAX_ARRIVALS }
+    {
         self.steps += 1;
-        let i = empty(&mut self.i);
-        let d = empty(&mut self.d);
-        let u = empty(&mut self.u);
-        let second = empty(&mut self.second);
+        let i = empty(CacheName::L1I, &mut self.i, observer);
+        let d = empty(CacheName::L1D, &mut self.d, observer);
+        let u = empty(CacheName::L1U, &mut self.u, observer);
+        let second = empty(CacheName::L2U, &mut self.second, observer);
         self.memory.writes += i + d + u + second;
     }
 
@@ -137,12 +178,17 @@ pub(crate) struct Memory {
 }
 
 impl Memory {
-    /// Counts a reference, if there is one.
-    fn count(&mut self, reference: Option<Ref>)
-        requires { reached self.old < 2 ^ 63 }
-        ensures { self.new ≡ all_reach self.old (present_refs (reference ∷ [])) }
+    /// Counts a reference, if there is one, and has it seen.
+    fn count<O: Observer>(&mut self, reference: Option<Ref>, observer: &mut O)
+        requires counts { reached self.old < 2 ^ 63 }
+        requires room { 1 ≤ O.room observer.old }
+        ensures value { self.new ≡ all_reach self.old (present_refs (reference ∷ [])) }
+        ensures seen { Saw O.has_seen observer.old (at_memory (present_refs (reference ∷ [])))
+            observer.new }
+        ensures room { O.room observer.old ≤ O.room observer.new + 1 }
     {
         if let Some(reference) = reference {
+            observer.see(Arrival::Memory { reference });
             if reference.access == Access::Write {
                 self.writes += 1;
             } else {
@@ -154,71 +200,119 @@ impl Memory {
 
 /// One reference at a first-level cache, if it is there: what it sends down for it.
 #[inline(never)]
-fn access_first(cache: &mut Option<SystemCache>, reference: Ref) -> Option<[Option<Ref>; 2]>
-    requires { counted cache.old < 2 ^ 62 }
-    ensures { AccessesFirst cache.old reference result cache.new }
+fn access_first<O: Observer>(
+    name: CacheName,
+    cache: &mut Option<SystemCache>,
+    reference: Ref,
+    observer: &mut O,
+) -> Option<[Option<Ref>; 2]>
+    requires counts { counted cache.old < 2 ^ 62 }
+    requires room { 1 ≤ O.room observer.old }
+    ensures value { AccessesFirst cache.old reference result cache.new }
+    ensures seen { (seed : ℕ) (planned : Option PlannedCache) (events : List Event) →
+        IsPlannedCache planned → PlannedCacheStandsFor seed planned events cache.old →
+        Saw O.has_seen observer.old (arrives seed name planned events reference) observer.new }
+    ensures room { O.room observer.old ≤ O.room observer.new + 1 }
 {
     match cache {
-        Some(cache) => Some(cache.access(reference).down),
+        Some(cache) => Some(cache.access(name, reference, observer).down),
         None => None,
     }
 }
 
 /// A reference at the first level. `None` if no cache takes it.
-fn first_level(
+fn first_level<O: Observer>(
     i: &mut Option<SystemCache>,
     d: &mut Option<SystemCache>,
     u: &mut Option<SystemCache>,
     reference: Ref,
+    observer: &mut O,
 ) -> Option<[Option<Ref>; 2]>
-    requires { counted i.old + counted d.old + counted u.old < 2 ^ 62 }
-    ensures { AccessesFirstLevel i.old d.old u.old reference result i.new d.new u.new }
+    requires counts { counted i.old + counted d.old + counted u.old < 2 ^ 62 }
+    requires room { 1 ≤ O.room observer.old }
+    ensures value { AccessesFirstLevel i.old d.old u.old reference result i.new d.new u.new }
+    ensures seen { (plan : PlannedCaches) (seed : ℕ) (events : List Event) → IsPlan plan →
+        PlannedCacheStandsFor seed plan.i (events_for L1I events) i.old →
+        PlannedCacheStandsFor seed plan.d (events_for L1D events) d.old →
+        PlannedCacheStandsFor seed plan.u (events_for L1U events) u.old →
+        Saw O.has_seen observer.old (first_arrivals plan seed events reference) observer.new }
+    ensures room { O.room observer.old ≤ O.room observer.new + 1 }
 {
     if u.is_some() {
-        return access_first(u, reference);
+        return access_first(CacheName::L1U, u, reference, observer);
     }
     if reference.access == Access::Fetch {
-        return access_first(i, reference);
+        return access_first(CacheName::L1I, i, reference, observer);
     }
-    access_first(d, reference)
+    access_first(CacheName::L1D, d, reference, observer)
 }
 
 /// A reference arrives at the second level, or at memory.
 #[inline(never)]
-fn descend(second: &mut Option<SystemCache>, memory: &mut Memory, reference: Ref)
-    requires { counted second.old + reached memory.old < 2 ^ 62 }
-    ensures { Descends reference second.old memory.old second.new memory.new }
+fn descend<O: Observer>(
+    second: &mut Option<SystemCache>,
+    memory: &mut Memory,
+    reference: Ref,
+    observer: &mut O,
+)
+    requires counts { counted second.old + reached memory.old < 2 ^ 62 }
+    requires room { 3 ≤ O.room observer.old }
+    ensures value { Descends reference second.old memory.old second.new memory.new }
+    ensures seen { (seed : ℕ) (planned : Option PlannedCache) (events : List Event) →
+        IsPlannedCache planned → PlannedCacheStandsFor seed planned events second.old →
+        Saw O.has_seen observer.old (arrives_below seed planned events reference) observer.new }
+    ensures room { O.room observer.old ≤ O.room observer.new + 3 }
 {
     match second {
         Some(cache) => {
-            let [first, next] = cache.access(reference).down;
-            memory.count(first);
-            memory.count(next);
+            let [first, next] = cache.access(CacheName::L2U, reference, observer).down;
+            memory.count(first, observer);
+            memory.count(next, observer);
         }
-        None => memory.count(Some(reference)),
+        None => memory.count(Some(reference), observer),
     }
 }
 
 /// What is sent down for one reference, one after another.
-fn descend_all(second: &mut Option<SystemCache>, memory: &mut Memory, down: [Option<Ref>; 2])
-    requires { counted second.old + reached memory.old < 2 ^ 61 }
-    ensures { AllDescend (present_refs down) second.old memory.old second.new memory.new }
+fn descend_all<O: Observer>(
+    second: &mut Option<SystemCache>,
+    memory: &mut Memory,
+    down: [Option<Ref>; 2],
+    observer: &mut O,
+)
+    requires counts { counted second.old + reached memory.old < 2 ^ 61 }
+    requires room { 6 ≤ O.room observer.old }
+    ensures value { AllDescend (present_refs down) second.old memory.old second.new memory.new }
+    ensures seen { (seed : ℕ) (planned : Option PlannedCache) (events : List Event) →
+        IsPlannedCache planned → PlannedCacheStandsFor seed planned events second.old →
+        Saw O.has_seen observer.old (arrive_below seed planned events (present_refs down))
+        observer.new }
+    ensures room { O.room observer.old ≤ O.room observer.new + 6 }
 {
     let [first, next] = down;
     if let Some(reference) = first {
-        descend(second, memory, reference);
+        descend(second, memory, reference, observer);
     }
     if let Some(reference) = next {
-        descend(second, memory, reference);
+        descend(second, memory, reference, observer);
     }
 }
 
 /// Empties a cache of a system, if it is there, and returns how many dirty lines it held.
-fn empty(cache: &mut Option<SystemCache>) -> u64
-    ensures { EmptiesCache cache.old result cache.new }
+fn empty<O: Observer>(name: CacheName, cache: &mut Option<SystemCache>, observer: &mut O) -> u64
+    requires room { 1 ≤ O.room observer.old }
+    ensures value { EmptiesCache cache.old result cache.new }
+    ensures seen { (seed : ℕ) (planned : Option PlannedCache) (events : List Event) →
+        PlannedCacheStandsFor seed planned events cache.old →
+        Saw O.has_seen observer.old (flushes seed name planned events) observer.new }
+    ensures room { O.room observer.old ≤ O.room observer.new + 1 }
 {
     match cache {
-        Some(cache) => cache.flush(),
+        Some(cache) => {
+            let dirty = cache.flush();
+            observer.see(Arrival::Flush { cache: name, dirty });
+            dirty
+        }
         None => 0,
     }
 }

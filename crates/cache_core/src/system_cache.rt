@@ -1,12 +1,14 @@
 //! A cache of a system: under a policy that is known when it runs, and with what it counted.
-ghost use Rattle.std.specs.Prelude.{◌≡◌, ◌<◌, ◌^◌, Some, IfOk};
+ghost use Rattle.std.specs.Prelude.{◌≡◌, ◌≤◌, ◌<◌, ◌+◌, ◌^◌, ◌∷◌, [], Some, IfOk};
+ghost use Rattle.cache_core.specs.Arrivals.{Saw, arrival_at};
 ghost use Rattle.cache_core.specs.Order.{dirty_slots};
 ghost use Rattle.cache_core.specs.SystemCaches.{policy_of, random_numbers_of, accesses, IsCounted};
 ghost use Rattle.cache_core.specs.Systems.{random_numbers_for};
 
+use crate::arrival::{Observer, arrival_at};
 use crate::cache::Cache;
 use crate::outcome::{Outcome, Repl, Slot};
-use crate::plan::PlannedCache;
+use crate::plan::{CacheName, PlannedCache};
 use crate::replacement::{Fifo, Lru, Random, Replacement};
 use crate::stats::CacheStats;
 use std::alloc::{AllocError, Global};
@@ -95,14 +97,26 @@ impl SystemCache {
         Ok(SystemCache { cache, stats })
     }
 
-    /// One reference enters.
+    /// One reference enters, and is seen at the cache of this name.
     #[inline(always)]
-    pub(crate) fn access(&mut self, reference: Ref) -> Outcome
-        requires { accesses self.old.stats < 2 ^ 62 }
-        ensures { Enters self.old reference result self.new }
+    pub(crate) fn access<O: Observer>(
+        &mut self,
+        name: CacheName,
+        reference: Ref,
+        observer: &mut O,
+    ) -> Outcome
+        requires counts { accesses self.old.stats < 2 ^ 62 }
+        requires room { 1 ≤ O.room observer.old }
+        ensures value { Enters self.old reference result self.new }
+        ensures seen { Saw O.has_seen observer.old
+            (arrival_at name self.old.cache.design.geometry reference result.hit result.evicted
+            ∷ []) observer.new }
+        ensures room { O.room observer.old ≤ O.room observer.new + 1 }
     {
+        let geometry = self.cache.geometry();
         let outcome = self.cache.access(reference);
         self.stats.count(reference, &outcome);
+        observer.see(arrival_at(name, geometry, reference, &outcome));
         outcome
     }
 

@@ -1,4 +1,5 @@
 pub mod CsimLemmas
 pub mod DinLemmas
+pub mod LogLemmas
 pub mod DataSteps
 mod TextRows

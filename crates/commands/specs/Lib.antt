@@ -2,3 +2,4 @@ pub mod CsimText
 pub mod DinPass
 pub mod DinText
 pub mod Execute
+pub mod LogText

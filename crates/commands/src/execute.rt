@@ -6,6 +6,7 @@ ghost use Rattle.commands.specs.Execute.{task_of};
 
 use crate::csim::csim;
 use crate::din::din;
+use crate::log::log;
 use arguments::job::Job;
 use std::alloc::Global;
 use sweep_core::sweep::sweep;
@@ -15,7 +16,7 @@ use trace_core::reader::MAX_LINES;
 
 /// Does a job: it returns, reads and writes what the command of that name does.
 ///
-/// Errors: those of `csim`, `din` and `sweep`. The comparisons that `sweep` returns are dropped.
+/// Errors: those of `csim`, `din`, `log` and `sweep`. The comparisons that `sweep` returns are dropped.
 pub fn execute<S: Source, K: Sink>(
     alloc: Global,
     job: &Job,
@@ -39,6 +40,12 @@ pub fn execute<S: Source, K: Sink>(
             format,
             max_lines,
         } => din(alloc, plan, seed, format, max_lines, source, sink),
+        Job::Log {
+            plan,
+            seed,
+            format,
+            max_lines,
+        } => log(alloc, plan, seed, format, max_lines, source, sink),
         Job::Sweep { request } => {
             sweep(alloc, &request, source, sink)?;
             Ok(())

@@ -1,4 +1,4 @@
-//! The commands: what `csim` and `din` read and write, and how a job is done.
+//! The commands: what `csim`, `din` and `log` read and write, and how a job is done.
 #![tactic(auto)]
 
 pub mod csim;
@@ -6,4 +6,6 @@ mod csim_text;
 pub mod din;
 mod din_text;
 pub mod execute;
+pub mod log;
+mod log_text;
 mod text;

@@ -1,4 +1,4 @@
-//! Runs of `csim`, `din` and `execute` over devices in memory: sources without end, and sources and sinks that fail.
+//! Runs of `csim`, `din`, `log` and `execute` over devices in memory: sources without end, and sources and sinks that fail.
 ghost use Rattle.std.specs.Prelude.{◌<◌, ◌≤◌, length};
 ghost use Rattle.arguments.specs.Job.{max_lines_of};
 
@@ -11,6 +11,7 @@ use cache_core::plan::{CacheSpec, FirstLevel, Plan};
 use commands::csim::csim;
 use commands::din::din;
 use commands::execute::execute;
+use commands::log::log;
 use std::alloc::Global;
 use std::process::Abort;
 use std::test::Fail;
@@ -240,6 +241,58 @@ fn a_source_of_din_fails_at_each_of_its_calls(rt: HostRuntime) -> Result<(), Fai
     Ok(())
 }
 
+/// What `log` writes of the two blocks.
+const ARRIVALS: &[u8] = b"l1-u 1 0 miss\n\
+    memory 0 0\n\
+    l1-u 0 10 miss eviction 0 dirty\n\
+    memory 1 0\n\
+    memory 0 10\n";
+
+/// What `log` returns over these devices with a cache of one block.
+fn arrivals_of(
+    rt: &impl Abort,
+    alloc: Global,
+    source: &mut TapeSource<'_>,
+    sink: &mut ArraySink,
+) -> Result<Result<(), RunFault>, Fail> {
+    let plan = one_block()?;
+    let answer = log(alloc, plan, 42, Format::Din, MAX_LINES, source, sink);
+    if answer == Err(RunFault::Memory) {
+        assert!(rt; (source.calls(), sink.calls()) == (0, 0));
+        return Err(RunFault::Memory.into());
+    }
+    Ok(answer)
+}
+
+#[test]
+fn log_writes_the_lines_before_a_bad_one(rt: HostRuntime) -> Result<(), Fail> {
+    for most in [1, 3, 1024] {
+        let mut source = TapeSource::new(b"1 0\n0 10\nx\n", most, 0);
+        let mut sink = ArraySink::new(most, 0);
+        let answer = arrivals_of(&rt, rt.alloc(), &mut source, &mut sink)?;
+        let fault = LineFault::Label;
+        let fault = TraceFault::Line { line: 3, fault };
+        assert!(rt; answer == Err(RunFault::Trace(fault)));
+        assert!(rt; sink.held() == ARRIVALS);
+    }
+    Ok(())
+}
+
+// The last call is the flush.
+#[test]
+fn a_sink_of_log_fails_at_each_of_its_calls(rt: HostRuntime) -> Result<(), Fail> {
+    for before in 0..=ARRIVALS.len() {
+        let call = before as u64 + 1;
+        let mut source = TapeSource::new(TWO_BLOCKS, 100, 0);
+        let mut sink = ArraySink::new(1, call);
+        let answer = arrivals_of(&rt, rt.alloc(), &mut source, &mut sink)?;
+        assert!(rt; answer == Err(RunFault::Write));
+        assert!(rt; sink.held() == &ARRIVALS[..before]);
+        assert!(rt; sink.calls() == call);
+    }
+    Ok(())
+}
+
 /// A job ends well and writes this. Where memory is refused, nothing was read or written, and that ends a test.
 fn expect_done(
     rt: &impl Abort,
@@ -288,4 +341,15 @@ fn a_job_of_din(rt: HostRuntime) -> Result<(), Fail> {
         max_lines: MAX_LINES,
     };
     expect_done(&rt, rt.alloc(), &job, TWO_BLOCKS, REPORT)
+}
+
+#[test]
+fn a_job_of_log(rt: HostRuntime) -> Result<(), Fail> {
+    let job = Job::Log {
+        plan: one_block()?,
+        seed: 42,
+        format: Format::Din,
+        max_lines: MAX_LINES,
+    };
+    expect_done(&rt, rt.alloc(), &job, TWO_BLOCKS, ARRIVALS)
 }

@@ -1,4 +1,4 @@
--- The command gains its three subcommands.
+-- The command gains its four subcommands.
 use Rattle.std.proofs.Common.{rules, [], ◌∙◌, ◌≡◌, ap, false}
 use Rattle.std.proofs.lemmas.Result.{IfOk-weaker}
 use Rattle.clap.specs.Words.{App, app_of}

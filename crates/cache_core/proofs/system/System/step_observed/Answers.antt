@@ -1,0 +1,53 @@
+-- A step keeps the bounds on the counts, and is one reference at the first level and what is sent down from it. So it is seen.
+use Rattle.std.proofs.Common.{◌≡◌, List, Some, None, arith, refl, ap, sym, subst}
+use Rattle.cache_core.specs.declared.arrival.Arrival.{Arrival}
+use Rattle.cache_core.specs.Arrivals.{Saw}
+use Rattle.cache_core.specs.Systems.{below}
+use Rattle.cache_core.specs.SystemStands.{SystemStandsFor}
+use Rattle.cache_core.specs.SystemSteps.{SystemValue, present_refs}
+use Rattle.cache_core.proofs.Counters.{first_level_grows, all_grow}
+use Rattle.cache_core.proofs.Observed.{saw_both, seen_below, seen_bypassed}
+use Rattle.cache_core.proofs.SystemLaw.{step_sends}
+use Rattle.cache_core.proofs.system.System.step_observed.Goals as goal
+
+pub invariant_of-self : goal.invariant_of-self
+invariant_of-self g c =
+    let i = c.self.invariant in
+    let old = c.self.inside in
+    let first = first_level_grows old.i old.d old.u c.args.reference (Some c.in-Some.down) c.first_level-down.new.i
+    c.first_level-down.new.d c.first_level-down.new.u c.in-Some.ensures.value in
+    let lower =
+    all_grow (present_refs c.in-Some.down) old.second old.memory c.descend_all.new.second c.descend_all.new.memory c.descend_all.ensures.value in
+    let s : old.steps ≡ c.args.self.now.steps = ap (λ (v : SystemValue). v.steps) c.self.view_is in
+    record {
+      steps = omega (arith, c.requires.steps, s);
+      first = omega (arith, first.counts, i.first);
+      second = omega (arith, lower.cache.counts, first.sends, i.second);
+      memory = omega (arith, lower.memory_counts, first.sends, i.memory, first.copies, lower.cache.copies);
+    }
+
+pub returns-in-Some-clause-step : goal.returns-in-Some-clause-step
+returns-in-Some-clause-step g c = rw (← c.self.view_is) record {
+  down = Some c.in-Some.down;
+  first = c.in-Some.ensures.value;
+  lower = c.descend_all.ensures.value;
+  bypassed = omega arith;
+  steps = refl;
+}
+
+pub returns-in-Some-clause-seen : goal.returns-in-Some-clause-seen
+returns-in-Some-clause-seen g c = λ plan seed events good stands.
+    let s = subst (SystemStandsFor plan seed events) (sym c.self.view_is) stands in
+    let sends = step_sends plan seed events _ c.args.reference (Some c.in-Some.down) _ _ _ good s c.in-Some.ensures.value in
+    let lower = c.descend_all.ensures.seen seed plan.second (below plan seed events) good.second s.second in
+    saw_both g.O.Observer.has_seen (c.in-Some.ensures.seen plan seed events good s.i s.d s.u)
+    (subst (λ (xs : List Arrival). Saw g.O.Observer.has_seen c.first_level-down.new.observer xs c.descend_all.new.observer)
+    (seen_below plan seed events c.args.reference (present_refs c.in-Some.down) sends.0 sends.1) lower)
+
+pub returns-in-None-clause-seen : goal.returns-in-None-clause-seen
+returns-in-None-clause-seen g c = λ plan seed events good stands.
+    let s = subst (SystemStandsFor plan seed events) (sym c.self.view_is) stands in
+    let sends = step_sends plan seed events _ c.args.reference None _ _ _ good s c.in-None.ensures.value in
+    saw_both g.O.Observer.has_seen (c.in-None.ensures.seen plan seed events good s.i s.d s.u)
+    (subst (λ (xs : List Arrival). Saw g.O.Observer.has_seen c.first_level-down.new.observer xs c.see.new.self)
+    (seen_bypassed plan seed events c.args.reference sends.1) c.see.ensures.seen)

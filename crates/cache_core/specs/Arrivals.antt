@@ -1,0 +1,92 @@
+-- The log of a system of caches: each arrival of a reference at a cache or at memory, each reference that no cache takes, and each flush of
+-- a cache, in the order in which they happen.
+use Rattle.std.specs.Prelude.{ℕ, List, [], ◌∷◌, ◌++◌, map, Option, Some, None, Bool, if◌then◌else◌}
+use Rattle.std.specs.Option.{option_map}
+use Rattle.trace_core.specs.declared.events.Ref.{Ref}
+use Rattle.trace_core.specs.declared.events.Event.{Event}
+use Rattle.trace_core.specs.declared.events.Event.TheVariants as event
+use Rattle.cache_core.specs.declared.outcome.Slot.{Slot}
+use Rattle.cache_core.specs.declared.plan.PlannedCache.{PlannedCache}
+use Rattle.cache_core.specs.declared.plan.CacheName.{CacheName}
+use Rattle.cache_core.specs.declared.plan.CacheName.TheVariants.{L1I, L1D, L1U, L2U}
+use Rattle.cache_core.specs.declared.arrival.Victim.{Victim}
+use Rattle.cache_core.specs.declared.arrival.Arrival.{Arrival}
+use Rattle.cache_core.specs.declared.arrival.Arrival.TheVariants.{Cache, Memory, Bypassed, Flush}
+use Rattle.cache_core.specs.Geometry.{GeometryValue, address_of}
+use Rattle.cache_core.specs.Machine.{run, step, dirty_count}
+use Rattle.cache_core.specs.Plans.{PlannedCaches}
+use Rattle.cache_core.specs.Systems.{machine_of, takes, events_for, sent, below, is_taken}
+
+-- the address of an evicted block, and whether it was dirty
+abbrev pub victim_of : GeometryValue → Slot → Victim
+victim_of g slot = record { addr = address_of g slot.block; dirty = slot.dirty }
+
+-- a reference at a cache: whether it hits, and what it evicts
+abbrev pub arrival_at : CacheName → GeometryValue → Ref → Bool → Option Slot → Arrival
+arrival_at name g ref hit evicted = Cache name ref hit (option_map (victim_of g) evicted)
+
+-- a reference arrives at a cache after these events, if the plan has the cache
+abbrev pub arrives : ℕ → CacheName → Option PlannedCache → List Event → Ref → List Arrival
+arrives seed name None before ref = []
+arrives seed name (Some planned) before ref =
+    let m = machine_of seed planned in
+    let effect = (step m (run m before) ref).effect in
+    arrival_at name planned.design.geometry ref effect.hit effect.evicted ∷ []
+
+-- what the second level sends to memory for a reference after these events: the reference itself where the plan has no second level
+abbrev pub passes : ℕ → Option PlannedCache → List Event → Ref → List Ref
+passes seed None before ref = ref ∷ []
+passes seed (Some planned) before ref = (step (machine_of seed planned) (run (machine_of seed planned) before) ref).effect.down
+
+-- a reference at a cache of the first level, if the plan has the cache and it takes the reference
+abbrev pub arrives_first : ℕ → CacheName → Option PlannedCache → List Event → Ref → List Arrival
+arrives_first seed name None earlier ref = []
+arrives_first seed name (Some planned) earlier ref = if takes name ref then arrives seed name (Some planned) (events_for name earlier) ref else []
+
+-- references at memory
+abbrev pub at_memory : List Ref → List Arrival
+at_memory refs = map (λ ref. Memory ref) refs
+
+-- a reference that is sent down to the second level, and what that sends to memory
+abbrev pub arrives_below : ℕ → Option PlannedCache → List Event → Ref → List Arrival
+arrives_below seed second before ref = arrives seed L2U second before ref ++ at_memory (passes seed second before ref)
+
+-- references that are sent down, one after another
+abbrev pub arrive_below : ℕ → Option PlannedCache → List Event → List Ref → List Arrival
+arrive_below seed second before [] = []
+arrive_below seed second before (ref ∷ refs) = arrives_below seed second before ref ++ arrive_below seed second (before ++ event.Reference ref ∷ []) refs
+
+-- a cache is flushed after these events, if the plan has it
+abbrev pub flushes : ℕ → CacheName → Option PlannedCache → List Event → List Arrival
+flushes seed name None before = []
+flushes seed name (Some planned) before = Flush name (dirty_count (run (machine_of seed planned) before)) ∷ []
+
+-- a reference at the first level
+abbrev pub first_arrivals : PlannedCaches → ℕ → List Event → Ref → List Arrival
+first_arrivals plan seed earlier ref =
+    arrives_first seed L1I plan.i earlier ref ++ arrives_first seed L1D plan.d earlier ref ++ arrives_first seed L1U plan.u earlier ref
+
+-- and below it, or past it
+abbrev pub lower_arrivals : PlannedCaches → ℕ → List Event → Ref → List Arrival
+lower_arrivals plan seed earlier ref =
+    if is_taken plan ref then arrive_below seed plan.second (below plan seed earlier) (sent plan seed earlier ref) else Bypassed ref ∷ []
+
+-- the arrivals of an event that comes after earlier ones
+abbrev pub arrivals_of : PlannedCaches → ℕ → List Event → Event → List Arrival
+arrivals_of plan seed earlier (event.Reference ref) = first_arrivals plan seed earlier ref ++ lower_arrivals plan seed earlier ref
+arrivals_of plan seed earlier event.Flush =
+    flushes seed L1I plan.i (events_for L1I earlier) ++ flushes seed L1D plan.d (events_for L1D earlier)
+    ++ flushes seed L1U plan.u (events_for L1U earlier) ++ flushes seed L2U plan.second (below plan seed earlier)
+
+-- the arrivals of events that come after earlier ones
+abbrev pub arrivals_from : PlannedCaches → ℕ → List Event → List Event → List Arrival
+arrivals_from plan seed earlier [] = []
+arrivals_from plan seed earlier (e ∷ events) = arrivals_of plan seed earlier e ++ arrivals_from plan seed (earlier ++ e ∷ []) events
+
+-- the log of a list of events
+abbrev pub arrivals : PlannedCaches → ℕ → List Event → List Arrival
+arrivals plan seed events = arrivals_from plan seed [] events
+
+-- an observer that had seen some arrivals has now seen these after them
+abbrev pub Saw : {O : Type 0} → (O → List Arrival → Type 0) → O → List Arrival → O → Type 0
+Saw has_seen old arrivals new = (before : List Arrival) → has_seen old before → has_seen new (before ++ arrivals)

@@ -1,0 +1,45 @@
+-- What `log` has read, stepped through and written where it stands, and so what it performs at each of its ends.
+use Rattle.std.proofs.Common.{refl, ◌∙◌}
+use Rattle.trace_core.specs.Task.{entries_of}
+use Rattle.trace_core.proofs.Performing.{err_is, Performs-ok, Performs-trace, Performs-write}
+use Rattle.commands.specs.LogText.{log_task}
+use Rattle.commands.proofs.LogLemmas.{all_of, log-finished, log-part, log-stopped, log-unfinished, logged_more, logged_start}
+use Rattle.commands.proofs.log.log.Goals as goal
+
+pub loop-system-init : goal.loop-system-init
+loop-system-init g c = logged_start c.in_ok-lines.ensures c.requires.most c.limits.ensures c.in_ok-system.ensures
+
+pub loop-system-preserved : goal.loop-system-preserved
+loop-system-preserved g c =
+    let so_far = c.loop-system.invariant in
+    let stands = c.step.ensures c.args.plan c.args.seed (all_of (entries_of so_far.read)) so_far.good so_far.stands in
+    logged_more so_far c.next.ensures.reached c.next.ensures.reports c.in_ok-entry.was c.in-Some.is _
+    (stands.0, c.as_slice.ensures ∙ stands.1) c.in_ok-write_all.ensures
+    c.next.ensures.entry c.next.ensures.same.1
+
+pub returns-in_err-entry : goal.returns-in_err-entry
+unfolding log_task
+returns-in_err-entry g c =
+    Performs-trace c.in_err-entry.field-0.0 (err_is c.from_residual-in_err-entry.ensures.1)
+    (log-stopped c.loop-system.invariant c.next.ensures.reached c.next.ensures.reports c.in_err-entry.was)
+    (λ late. absurd cc)
+
+pub returns-in_err-write_all : goal.returns-in_err-write_all
+returns-in_err-write_all g c =
+    let so_far = c.loop-system.invariant in
+    let stands = c.step.ensures c.args.plan c.args.seed (all_of (entries_of so_far.read)) so_far.good so_far.stands in
+    Performs-write (err_is c.from_residual-in_err-write_all.ensures.1)
+    (log-part so_far c.next.ensures.reached c.next.ensures.reports c.in_ok-entry.was c.in-Some.is _
+    (c.as_slice.ensures ∙ stands.1) c.in_err-write_all.ensures)
+
+pub returns-in_err-write_last : goal.returns-in_err-write_last
+returns-in_err-write_last g c =
+    Performs-write (err_is c.from_residual-in_err-write_last.ensures.1)
+    (log-unfinished c.loop-system.invariant c.next.ensures.reached c.next.ensures.reports c.in_ok-entry.was c.in_default.is c.new-3.ensures
+    c.in_err-write_last.ensures)
+
+pub returns : goal.returns
+returns g c =
+    Performs-ok tt refl
+    (log-finished c.loop-system.invariant c.next.ensures.reached c.next.ensures.reports c.in_ok-entry.was c.in_default.is c.new-3.ensures
+    c.in_ok-write_last.ensures)

@@ -1,0 +1,149 @@
+//! The lines that `log` writes.
+ghost use Rattle.std.specs.Prelude.{◌≡◌, ◌+◌, ◌≤◌, [], ◌++◌, length};
+ghost use Rattle.cache_core.specs.Plans.{label_of};
+ghost use Rattle.commands.specs.LogText.{din_label, reference_text, victim_text, result_text, arrival_line};
+
+use crate::text::CAPACITY;
+use cache_core::arrival::{Arrival, Observer, Victim};
+use cache_core::plan::CacheName;
+use trace_core::events::{Access, Ref};
+use trace_core::text::{DECIMAL, HEXADECIMAL, Text};
+
+/// The most bytes of a reference: its label between spaces, and its address.
+const REFERENCE: usize = 3 + HEXADECIMAL;
+
+/// The most bytes that a line says of an evicted block.
+const VICTIM: usize = 10 + HEXADECIMAL + 6;
+
+/// The most bytes of a line: the name of a cache, a reference, a miss, what it evicted, and an LF.
+const LINE: usize = 4 + REFERENCE + 5 + VICTIM + 1;
+
+/// The lines of the arrivals since it was cleared.
+#[derive(Drop)]
+pub(crate) struct LogText {
+    pub(crate) text: Text<CAPACITY>,
+}
+
+impl LogText {
+    /// No line.
+    pub(crate) fn new() -> Self
+        ensures { result.text ≡ [] }
+    {
+        LogText { text: Text::new() }
+    }
+
+    /// Drops its lines.
+    pub(crate) fn clear(&mut self)
+        ensures { self.new.text ≡ [] }
+    {
+        self.text.clear();
+    }
+}
+
+impl Observer for LogText {
+    ghost use Rattle.std.specs.Prelude.{◌≡◌, ◌-◌, ◌/◌, length};
+    ghost use Rattle.commands.specs.LogText.{arrival_lines};
+    ghost use Rattle.commands.specs.declared.log_text.TheConstants.{LINE};
+    ghost use Rattle.commands.specs.declared.text.TheConstants.{CAPACITY};
+
+    ghost has_seen = { λ log arrivals. log.text ≡ arrival_lines arrivals };
+
+    ghost room = { λ log. (CAPACITY - length log.text) / LINE };
+
+    fn see(&mut self, arrival: Arrival) {
+        push_arrival(&mut self.text, arrival);
+    }
+}
+
+/// Adds the line of an arrival.
+fn push_arrival(text: &mut Text<CAPACITY>, arrival: Arrival)
+    requires { length text.old + LINE ≤ CAPACITY }
+    ensures value { text.new ≡ text.old ++ arrival_line arrival }
+    ensures short { length text.new ≤ length text.old + LINE }
+{
+    match arrival {
+        Arrival::Cache {
+            cache,
+            reference,
+            hit,
+            victim,
+        } => {
+            text.push(name(cache));
+            push_reference(text, reference);
+            text.push(result_text(hit));
+            push_victim(text, victim);
+        }
+        Arrival::Memory { reference } => {
+            text.push(b"memory");
+            push_reference(text, reference);
+        }
+        Arrival::Bypassed { reference } => {
+            text.push(b"bypassed");
+            push_reference(text, reference);
+        }
+        Arrival::Flush { cache, dirty } => {
+            text.push(name(cache));
+            text.push(b" flush ");
+            text.push_decimal(dirty);
+        }
+    }
+    text.push(b"\n");
+}
+
+/// The name of a cache.
+fn name(cache: CacheName) -> &'static [u8]
+    ensures value { result.now ≡ label_of cache }
+    ensures short { length result.now ≡ 4 }
+{
+    match cache {
+        CacheName::L1I => b"l1-i",
+        CacheName::L1D => b"l1-d",
+        CacheName::L1U => b"l1-u",
+        CacheName::L2U => b"l2-u",
+    }
+}
+
+/// Adds the label and the address of a reference, as a din trace has them.
+fn push_reference(text: &mut Text<CAPACITY>, reference: Ref)
+    requires { length text.old + REFERENCE ≤ CAPACITY }
+    ensures value { text.new ≡ text.old ++ reference_text reference }
+    ensures short { length text.new ≤ length text.old + REFERENCE }
+{
+    text.push(din_label(reference.access));
+    text.push_hexadecimal(reference.addr);
+}
+
+/// The label of a reference in a din trace, with a space on both sides.
+fn din_label(access: Access) -> &'static [u8]
+    ensures value { result.now ≡ din_label access }
+    ensures short { length result.now ≡ 3 }
+{
+    match access {
+        Access::Read => b" 0 ",
+        Access::Write => b" 1 ",
+        Access::Fetch => b" 2 ",
+    }
+}
+
+/// What a line says of a hit or a miss.
+fn result_text(hit: bool) -> &'static [u8]
+    ensures value { result.now ≡ result_text hit }
+    ensures short { length result.now ≤ 5 }
+{
+    if hit { b" hit" } else { b" miss" }
+}
+
+/// Adds the evicted block, if there is one.
+fn push_victim(text: &mut Text<CAPACITY>, victim: Option<Victim>)
+    requires { length text.old + VICTIM ≤ CAPACITY }
+    ensures value { text.new ≡ text.old ++ victim_text victim }
+    ensures short { length text.new ≤ length text.old + VICTIM }
+{
+    if let Some(victim) = victim {
+        text.push(b" eviction ");
+        text.push_hexadecimal(victim.addr);
+        if victim.dirty {
+            text.push(b" dirty");
+        }
+    }
+}
