@@ -142,10 +142,12 @@ class Installing(MakeTest):
         space = ("--bsize", "16", "--sets", "1-4", "--assoc", "1-2", "--size", "0-1k")
         din, lackey = TOP / "examples/sort.din", TOP / "examples/blocks.lackey"
         env = {"CACHESIM": "", **self.path}
+        replayed = ("-s", 1, "-E", 2, "-b", 4, "-t", TOP / "tests/cases/inputs/handout.lackey")
         pages = "--pow2 --bsize 16 --sets 1 --assoc 1-4 --size 0-1k --rows 3\n"
         for arguments, text in (
             (("bin/cachesim-sweep-parallel", 2, din, *space), self.run_command(PROGRAM, "sweep", *space, "-t", din).stdout.decode()),
             (("bin/cachesim-pages", 1, "--pow2", "--bsize", 16, "--sets", 1, "--assoc", "1-4", "--size", "0-1k"), pages),
+            (("bin/cachesim-replay", *replayed), self.run_tool("lab/replay", *replayed).stdout.decode()),
             (("bin/cachesim-grade", lab / "lab-csim", lackey), "13 of 13 right\n"),
             (("lib/cachesim/lab/grade", self.to / "usr/bin/cachesim-lab-csim", lackey), "13 of 13 right\n"),
             (("lib/cachesim/lab/grade", lab / "lab-csim"), "78 of 78 right\n"),
