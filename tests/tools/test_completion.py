@@ -179,7 +179,9 @@ class Shells(ToolTest):
 OF_TOOLS = {
     "best": "-h --help --up-to --within --rows --front",
     "trace": "-h --help -o --output --program-output --kind --skip --count --with --libraries --any-version",
-    "over-time": "-h --help --unified --fetches --data --format --each",
+    "over-time": "-h --help --each --cache --informat --seed " + " ".join(
+        f"--{cache}{word}" for cache in ("l1-i", "l1-d", "l1-u", "l2-u") for word in "size bsize assoc repl walloc wback".split()
+    ),
     "three-c": "-h --help --bsize --sets --assoc --size --kind --format --after --rows --pow2",
     "sweep-parallel": "-h --help --bsize --sets --assoc --size --kind --format --after --rows --pow2",
 }

@@ -11,12 +11,11 @@ import time
 from base import EXAMPLES, PROGRAM, TOOLS, ToolTest
 
 SPACE = "--bsize 16 --sets 1-4 --assoc 1-2 --size 64".split()
-CACHE = ["--data", "16,4,2"]
+CACHE = "-l1-dsize 128 -l1-dbsize 16 -l1-dassoc 2".split()
 # tools that read a trace, each with the arguments around it
 READERS = {
     "three-c": ([], SPACE),
     "warm": (["2"], SPACE),
-    "outcomes": ([], CACHE),
     "second-level": ([], CACHE),
     "over-time": ([], [*CACHE, "--each", "2"]),
     "by-page": ([], CACHE),
@@ -24,8 +23,8 @@ READERS = {
     "to-din": (["addresses"], []),
 }
 # those in bash that wait for what runs in front
-BASH = ("three-c", "warm", "outcomes", "second-level", "over-time", "by-page")
-TRACES = ("outcomes", "second-level", "to-din")
+BASH = ("three-c", "warm", "second-level", "over-time", "by-page")
+TRACES = ("second-level", "to-din")
 LINES = "".join(f"0 {place:x}\n" for place in range(0, 4000, 16)).encode()
 
 
@@ -53,20 +52,20 @@ class Traces(Shared):
             before, behind = READERS[tool]
             for words in (["none"], ["none.gz"], ["cut.gz"], [".", "x", "y"], ["--nosuch"], []):
                 line = " ".join([f"{TOOLS}/{tool}", *before * bool(words), *words, *behind])
-                ran = self.run_command("bash", "-c", f"{line} | sed 's/ hit$\\| miss.*//' | cachesim sweep {' '.join(SPACE)}")
+                ran = self.run_command("bash", "-c", f"{line} | cachesim sweep {' '.join(SPACE)}")
                 self.refused(ran, 1, "gzip: " if words == ["cut.gz"] else f"{tool}: ", "cachesim: line ", ": bad label\n")
             self.assertNotIn("failed", self.good(self.run_tool(tool, "--help")).replace(f"{tool} failed: ..", ""))
 
     def test_a_signal(self):
         """Also where the tool alone is ended: its reader must not take a part for the whole."""
-        for tool in ("outcomes", "second-level"):
-            running = subprocess.Popen([TOOLS / tool, "-", *CACHE], stdin=subprocess.PIPE, stdout=subprocess.PIPE, **self.in_folder())
-            running.stdin.write(LINES)
-            running.stdin.flush()
-            time.sleep(0.5)
-            running.send_signal(signal.SIGTERM)
-            written = running.communicate(timeout=20)[0]
-            self.assertTrue(written.endswith(f"{tool} failed: what stands above is not all\n".encode()), written[-100:])
+        command = [TOOLS / "second-level", "-", *CACHE]
+        running = subprocess.Popen(command, stdin=subprocess.PIPE, stdout=subprocess.PIPE, **self.in_folder())
+        running.stdin.write(LINES)
+        running.stdin.flush()
+        time.sleep(0.5)
+        running.send_signal(signal.SIGTERM)
+        written = running.communicate(timeout=20)[0]
+        self.assertTrue(written.endswith(b"second-level failed: what stands above is not all\n"), written[-100:])
 
 
 class Signals(Shared):
