@@ -1,9 +1,10 @@
 // A plugin of QEMU's user-mode emulation: puts the references of a program into the memory that trace-run reads (trace-memory.h).
 //
-//     qemu-x86_64 -plugin out/trace-plugin.so,memory=FD PROGRAM ARGS..
+//     qemu-x86_64 -plugin out/trace-plugin.so[,map=FILE],memory=FD PROGRAM ARGS..
 //
-// trace-run starts QEMU so, FD being the memory's descriptor; trace has the help. No descriptor is kept: the program may close those
-// that it doesn't know, and open its own files under their numbers.
+// trace-run starts QEMU so, FD being the memory's descriptor; trace has the help. FILE gets what was loaded where. No descriptor is kept:
+// the program may close those that it doesn't know, and open its own files under their numbers.
+#include <limits.h>
 #include <pthread.h>
 #include <stddef.h>
 #include <stdio.h>
@@ -33,6 +34,7 @@ void qemu_plugin_register_atexit_cb(plugin_id, void (*)(plugin_id, void *), void
 size_t qemu_plugin_tb_n_insns(const struct qemu_plugin_tb *);
 struct qemu_plugin_insn *qemu_plugin_tb_get_insn(const struct qemu_plugin_tb *, size_t);
 uint64_t qemu_plugin_insn_vaddr(const struct qemu_plugin_insn *);
+void *qemu_plugin_insn_haddr(const struct qemu_plugin_insn *);
 bool qemu_plugin_mem_is_store(uint32_t access);
 
 // QEMU 9 and later want a version from 2 on. What is used here is the same in them; they are known by a call that came with version 2.
@@ -81,10 +83,66 @@ static inline void put(char label, uint64_t address) {
     atomic_store_explicit(&block->used, at + 1, memory_order_release);
 }
 
+// ---- The map: mappings as in /proc/PID/maps, at the program's own addresses, which QEMU may have moved
+
+enum { MAPPINGS = 4096 };
+static const char *map_name;  // NULL where no map is wanted
+static struct { uint64_t from, to; } mapped[MAPPINGS];  // in QEMU's addresses
+static unsigned mapped_count;
+static bool has_stack;
+
+static bool is_mapped(uint64_t address) {
+    for (unsigned i = 0; i < mapped_count; i++)
+        if (mapped[i].from <= address && address < mapped[i].to) return true;
+    return mapped_count == MAPPINGS;
+}
+
+// Remembers the files that were loaded since, and adds them to a map if it is there. So is the stack, of which an address is given.
+static void follow_mappings(FILE *map, uint64_t moved, uint64_t stack) {
+    FILE *present = fopen("/proc/self/maps", "re");
+    char line[PATH_MAX + 128];
+    while (present && fgets(line, sizeof line, present)) {
+        uint64_t from, to;
+        int rest;
+        if (sscanf(line, "%lx-%lx%n", &from, &to, &rest) < 2) continue;
+        if (strchr(line, '/') && !is_mapped(from)) {
+            mapped[mapped_count].from = from;
+            mapped[mapped_count++].to = to;
+            if (map) fprintf(map, "%lx-%lx%s", from - moved, to - moved, line + rest);
+        } else if (map && stack && from - moved <= stack && stack < to - moved) {
+            has_stack = true;
+            fprintf(map, "%lx-%lx%.*s [stack]\n", from - moved, to - moved, (int)strcspn(line + rest, "\n"), line + rest);
+        }
+    }
+    if (present) fclose(present);
+}
+
+// The address of a thread's first data reference that is still in its block. The program's very first one is of its stack.
+static uint64_t first_data(void) {
+    for (uint32_t i = 0; mine && i < atomic_load(&mine->used); i++)
+        if (mine->label[i] != '2') return mine->address[i];
+    return 0;
+}
+
+static void add_to_map(const struct qemu_plugin_insn *instruction) {
+    uint64_t here = (uintptr_t)qemu_plugin_insn_haddr(instruction), stack = has_stack ? 0 : first_data();
+    if (!stack && is_mapped(here)) return;
+    pthread_mutex_lock(&lock);
+    FILE *map = fopen(map_name, "ae");
+    if (map) follow_mappings(map, here - qemu_plugin_insn_vaddr(instruction), stack);
+    if (map) fclose(map);
+    pthread_mutex_unlock(&lock);
+}
+
 // ---- What QEMU calls
+
+// A block begins with a fetch, and what an instruction refers to stands behind its fetch: other threads don't come between, unless
+// it has more references than TOGETHER.
+enum { TOGETHER = 128 };
 
 static void on_fetch(unsigned cpu, void *address) {
     (void)cpu;
+    if (mine && atomic_load_explicit(&mine->used, memory_order_relaxed) > REFERENCES - TOGETHER) hand_over();
     put('2', (uintptr_t)address);
 }
 
@@ -103,6 +161,7 @@ static void on_translation(plugin_id id, struct qemu_plugin_tb *block) {
     if (left_out) return;
     memory->ran = true;
     size_t count = qemu_plugin_tb_n_insns(block);
+    if (map_name && count) add_to_map(qemu_plugin_tb_get_insn(block, 0));
     for (size_t i = 0; i < count; i++) {
         struct qemu_plugin_insn *instruction = qemu_plugin_tb_get_insn(block, i);
         void *address = (void *)(uintptr_t)qemu_plugin_insn_vaddr(instruction);
@@ -137,6 +196,7 @@ static int refuse(const char *why) {
 EXPORTED int qemu_plugin_install(plugin_id id, const struct qemu_info *info, int count, char **words) {
     (void)info;
     int descriptor;
+    if (count == 2 && !strncmp(words[0], "map=", 4)) map_name = strdup(words[0] + 4), words++, count--;
     if (count != 1 || sscanf(words[0], "memory=%d", &descriptor) != 1) return refuse("memory=FD is wanted; tools/trace uses it");
     memory = mmap(NULL, sizeof *memory, PROT_READ | PROT_WRITE, MAP_SHARED, descriptor, 0);
     if (memory == MAP_FAILED) return refuse("no shared memory");
@@ -144,6 +204,7 @@ EXPORTED int qemu_plugin_install(plugin_id id, const struct qemu_info *info, int
     if (memory->layout != LAYOUT) return refuse("not compiled together with trace-run: remove both from the folder out");
     bool as_known = qemu_plugin_mem_is_store(WRITE << 16) && !qemu_plugin_mem_is_store(~(WRITE << 16));
     if (!as_known) return refuse("this QEMU tells reads and writes in another way");
+    if (map_name) follow_mappings(NULL, 0, 0);  // QEMU's own
     pthread_atfork(NULL, NULL, in_forked_child);
     qemu_plugin_register_vcpu_tb_trans_cb(id, on_translation);
     qemu_plugin_register_vcpu_syscall_cb(id, on_system_call);

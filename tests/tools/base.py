@@ -18,11 +18,13 @@ PROGRAM = pathlib.Path(os.environ.get("CACHESIM") or TOP / "crates/cachesim/out/
 # Debian's packages, each with a file or command that shows that it is there
 PACKAGES = {
     "bash-completion": "/usr/share/bash-completion/bash_completion",
+    "binutils": "addr2line",
     "bubblewrap": "bwrap",
     "chromium": "chromium",
     "dpkg-dev": "dpkg-shlibdeps",
     "fish": "fish",
     "flake8": "flake8",
+    "g++": "g++",
     "gcc": "gcc",
     "gcc-aarch64-linux-gnu": "aarch64-linux-gnu-gcc",
     "gnuplot-nox": "gnuplot",

@@ -42,6 +42,7 @@ void qemu_plugin_register_atexit_cb(uint64_t id, ended *call, void *word) { (voi
 size_t qemu_plugin_tb_n_insns(const void *block) { return block != NULL; }
 void *qemu_plugin_tb_get_insn(void *block, size_t at) { return at ? NULL : block; }
 uint64_t qemu_plugin_insn_vaddr(const void *instruction) { return instruction ? address : 0; }
+void *qemu_plugin_insn_haddr(const void *instruction) { return (void *)(instruction ? address : 0); }
 bool qemu_plugin_mem_is_store(uint32_t access) { return access >> 16 & 2; }
 
 static void refer(char label) {

@@ -1,0 +1,316 @@
+"""Misses by line of the source, function and object."""
+
+import collections
+import csv
+import functools
+import os
+import random
+import re
+import subprocess
+
+import base
+import trace_base
+
+SORT = base.EXAMPLES / "sort.din"
+WALKS = base.TOP / "tests/walks.c"
+COUNTS = ("references", "misses", "compulsory", "capacity", "conflict")
+
+
+@functools.cache
+def built(source, *flags, compiler="cc"):
+    return trace_base.program_of(source, "-g", *flags, compiler=compiler)
+
+
+def walks():
+    return built(WALKS, "-static", "-nostdlib", "-fno-pie", "-fno-stack-protector")
+
+
+@functools.cache
+def lines_of(program, addresses):
+    """The file's name and the line of addresses; '?' where there is none."""
+    asked = "\n".join(f"{address:x}" for address in addresses)
+    ran = subprocess.run(["addr2line", "-e", program], input=asked, capture_output=True, text=True, check=True)
+    names = [os.path.basename(re.sub(" .*", "", line)) for line in ran.stdout.splitlines()]
+    return {address: name if re.fullmatch(r"\S+:[1-9]\d*", name) else "?" for address, name in zip(addresses, names)}
+
+
+def innermost(row):
+    line = (row["inlined"] or row["line"]).split()[-1]
+    return line if re.search(r":\d+$", line) else "?"
+
+
+class ByLineTest(base.ToolTest):
+    def rows(self, trace, *arguments, **given):
+        """The table's rows, with their counts as numbers."""
+        answer = self.good(self.run_tool("by-line", trace, *arguments, **given))
+        rows = list(csv.DictReader(answer.splitlines()))
+        return [{key: int(text) if key in COUNTS and text else text for key, text in row.items()} for row in rows]
+
+    def sums(self, rows):
+        return [sum(row[name] for row in rows) for name in COUNTS]
+
+
+class Totals(ByLineTest):
+    """All rows together have the numbers of din and of three-c."""
+
+    def report(self, trace, options, place):
+        text = self.good(self.run_command(base.PROGRAM, "din", *options, "-t", trace))
+        line = next(line for line in text.splitlines() if line.startswith(place))
+        numbers = {name: int(number) for name, number in re.findall(r"(\S+)=(\d+)", line)}
+        return [sum(numbers[kind] for kind in kinds.split()) for kinds in ("fetches reads writes", "fetch-misses read-misses write-misses")]
+
+    def random_trace(self):
+        drawn = random.Random(4)
+        text = []
+        for number in range(6000):
+            place = drawn.choice((number % 300 * 16, drawn.randrange(64) * 512, 0x9000 + drawn.randrange(40)))
+            text.append("4 0" if drawn.random() < 0.002 else f"{drawn.choice('012')} {place:x}")
+        trace = self.folder / "random.din"
+        trace.write_text("\n".join(text) + "\n")
+        return trace
+
+    def test_of_din(self):
+        data = "-l1-dsize 256 -l1-dbsize 16 -l1-dassoc 2"
+        split = f"{data} -l1-isize 128 -l1-ibsize 16 -l2-usize 1k -l2-ubsize 32 -l2-uassoc 4"
+        for trace in (SORT, self.random_trace()):
+            for place, options in (
+                ("l1-d", data),
+                ("l1-d", f"{data} -l1-drepl f -l1-dwalloc n -l1-dwback n"),
+                ("l1-d", f"{data} -l1-drepl=r --seed 7"),
+                ("l1-u", "-l1-usize 256 -l1-ubsize 16 -l1-uassoc 16"),
+                ("l1-i", split),
+                ("l2-u", split),
+            ):
+                with self.subTest(place=place, options=options):
+                    rows = self.rows(trace, "--at", place, *options.split())
+                    self.assertEqual(self.sums(rows)[:2], self.report(trace, options.split(), place))
+
+    def test_of_three_c(self):
+        for trace in (SORT, self.random_trace()):
+            for sets, assoc in ((8, 2), (1, 16), (16, 1)):
+                swept = ["--kind", "d", "--bsize", 16, "--sets", sets, "--assoc", assoc, "--size", 256]
+                wanted = self.good(self.run_tool("three-c", trace, *swept)).splitlines()[1].split(",")
+                rows = self.rows(trace, "-l1-dsize", 256, "-l1-dbsize", 16, "-l1-dassoc", assoc)
+                self.assertEqual(self.sums(rows)[1:], [int(wanted[at]) for at in (5, 7, 8, 9)])
+
+    def test_pipes_and_packed_traces(self):
+        options = ("-l1-dsize", "256", "-l1-dbsize", "16", "--by", "object")
+        expected = self.rows(SORT, *options)
+        self.assertEqual(self.rows("-", *options, stdin=SORT.read_bytes()), expected)
+        for name in self.packed(SORT):
+            self.assertEqual(self.rows(name, *options), expected)
+
+    def test_more_lines_than_a_set_may_have(self):
+        rows = self.rows(SORT, "-l1-dsize", "8m", "-l1-dbsize", "64")
+        self.assertEqual({(row["capacity"], row["conflict"]) for row in rows}, {("", "")})
+        self.assertEqual(rows[0]["misses"], rows[0]["compulsory"])
+
+
+@base.needs("binutils", "gcc")
+class Rows(ByLineTest):
+    """Each row by itself, of a random trace with the addresses of a program."""
+
+    CACHE = (32, 4, 2)
+    OPTIONS = ("-l1-dsize", "256", "-l1-dbsize", "32", "-l1-dassoc", "2", "--by", "line,object")
+
+    def setUp(self):
+        super().setUp()
+        drawn, symbols = random.Random(9), trace_base.symbols_of(walks())
+        start, size = symbols["_start"]
+        counters = tuple(start + drawn.randrange(size) for _ in range(12))
+        self.lines = lines_of(walks(), counters)
+        self.places = {name: symbols[name] for name in ("table", "next", "state")}
+        self.events = []  # of each reference its line, its object and its address
+        text = []
+        for _ in range(4000):
+            counter, name = drawn.choice(counters), drawn.choice(["table", "next", "state", "(heap)", "(stack)"])
+            first = {"(heap)": 0x5000000, "(stack)": 0x1FFE000000}.get(name) or self.places[name][0]
+            address = first + drawn.randrange(0, 1024 if name != "state" else 8)
+            self.events.append((self.lines[counter], name, address))
+            text += [f"2 {counter:x}", f"{drawn.choice('01')} {address:x}"]
+        self.trace = self.folder / "t.din"
+        self.trace.write_text("\n".join(text) + "\n")
+
+    def key(self, row, before=""):
+        return (row[f"{before}inlined"] or row[f"{before}line"]).split()[-1], row[f"{before}object"]
+
+    def expected(self):
+        """By line and object the counts, and by two of these the misses after an eviction."""
+        own, full, seen, by = base.Lru(*self.CACHE), base.Lru(32, 1, 8), set(), {}
+        counts, pairs = collections.defaultdict(lambda: [0] * 5), collections.Counter()
+        for line, name, address in self.events:
+            block, numbers = address // 32, counts[line, name]
+            before = {block for held in own.sets for block in held}
+            missed, is_first = own.access(address) != "hit", block not in seen
+            capacity = full.access(address) != "hit" and not is_first
+            for evicted in before - {block for held in own.sets for block in held}:
+                by[evicted] = line, name
+            if missed and not is_first:
+                pairs[(line, name), by[block]] += 1
+            seen.add(block)
+            for at, one in enumerate((1, missed, is_first, capacity, missed - is_first - capacity)):
+                numbers[at] += one
+        return dict(counts), pairs
+
+    def test_counts(self):
+        rows = self.rows(self.trace, "--program", walks(), *self.OPTIONS)
+        self.assertEqual({self.key(row): [row[name] for name in COUNTS] for row in rows}, self.expected()[0])
+        self.assertEqual([row["misses"] for row in rows], sorted((row["misses"] for row in rows), reverse=True))
+
+    def test_who_evicted(self):
+        rows = self.rows(self.trace, "--program", walks(), "--evicted-by", *self.OPTIONS)
+        got = {(self.key(row), self.key(row, "evicted-by-")): row["misses"] for row in rows}
+        self.assertEqual(got, self.expected()[1])
+
+    def test_a_base_and_a_map(self):
+        plain = self.rows(self.trace, "--program", walks(), *self.OPTIONS)
+        moved = self.folder / "moved.din"
+        places = re.sub(r" (\S+)", lambda found: f" {int(found[1], 16) + 0x10000000000:x}", self.trace.read_text())
+        moved.write_text(places)
+        options = ["0" if word == "(stack)" else word for word in self.OPTIONS]
+        based = self.rows(moved, "--program", walks(), "--base", "10000000000", *options)
+        self.assertEqual({self.key(row) for row in based}, {(line, name.replace("stack", "heap")) for line, name in map(self.key, plain)})
+        (self.folder / "map").write_text(
+            f"10000400000-10000401000 r--p 00000000 00:00 0 {walks()}\n1001ffe000000-1001ffe100000 rw-p 00000000 00:00 0 [stack]\n"
+            "11ffe000000-11ffe100000 rw-p 00000000 00:00 0 [stack]\n"
+        )
+        mapped = self.rows(moved, "--map", "map", *options)
+        self.assertEqual([self.key(row) for row in mapped], [self.key(row) for row in plain])
+
+
+@base.needs("binutils", "gcc", "valgrind")
+class Cachegrind(ByLineTest):
+    """Line by line as Valgrind's Cachegrind has it. A modify is a read there, and a read and a write here."""
+
+    def by_cachegrind(self, size, ways, block):
+        caches = [f"--D1={size},{ways},{block}", "--I1=32768,8,64", "--LL=8388608,16,64"]
+        out = self.folder / "out"
+        self.run_command("valgrind", "--tool=cachegrind", "--cache-sim=yes", *caches, f"--cachegrind-out-file={out}", walks())
+        found, file, events = collections.defaultdict(lambda: [0, 0]), "", []
+        for line in out.read_text().splitlines():
+            word, _, rest = line.partition(" ")
+            if word == "events:":
+                events = rest.split()
+            elif word[:3] in ("fl=", "fi=", "fe="):
+                file = os.path.basename(line[3:])
+            elif word.isdigit():
+                numbers = dict(zip(events, map(int, rest.split())))
+                counts = found[f"{file}:{word}" if word != "0" else "?"]
+                counts[0] += numbers["Dr"] + numbers["Dw"]
+                counts[1] += numbers["D1mr"] + numbers["D1mw"]
+        return found
+
+    def modifies(self, trace):
+        found, counter = collections.Counter(), 0
+        for line in trace.read_text().splitlines():
+            if line.startswith("I"):
+                counter = int(line[3:].split(",")[0], 16)
+            elif line.startswith(" M"):
+                found[counter] += 1
+        lines = lines_of(walks(), tuple(sorted(found)))
+        return [(lines[counter], count) for counter, count in found.items()]
+
+    def test_line_by_line(self):
+        trace = self.folder / "walks.lackey"
+        self.run_command("valgrind", "--tool=lackey", "--trace-mem=yes", f"--log-file={trace}", walks())
+        for size, ways, block in ((512, 1, 32), (1024, 4, 32), (4096, 4, 64), (32768, 8, 64)):
+            wanted = self.by_cachegrind(size, ways, block)
+            for line, count in self.modifies(trace):
+                wanted[line][0] += count
+            options = ["-l1-dsize", size, "-l1-dbsize", block, "-l1-dassoc", ways, "--informat", "l"]
+            got = collections.defaultdict(lambda: [0, 0])
+            for row in self.rows(trace, "--program", walks(), *options):
+                got[innermost(row)][0] += row["references"]
+                got[innermost(row)][1] += row["misses"]
+            self.assertEqual(got, {line: counts for line, counts in wanted.items() if counts[0]})
+
+
+@base.needs("binutils", "gcc", "g++", "qemu-user")
+class Programs(ByLineTest):
+    """Programs at addresses of their own, traced with a map."""
+
+    def traced(self, program, *arguments):
+        self.run_tool("trace", "--map", "map", "-o", "t.din", program, *arguments)
+        return "t.din", "--map", "map"
+
+    def test_transposition(self):
+        program = built(base.EXAMPLES / "transpose.c", "-fpie", "-pie")
+        cache = ["-l1-dsize", "1k", "-l1-dbsize", "32"]
+        # of the cookbook's three C's
+        for more, line, misses, capacity, conflict in (([], 12, 1180, 896, 28), (["blocks"], 20, 340, 0, 84)):
+            given = self.traced(program, *more)
+            row = next(row for row in self.rows(*given, *cache) if innermost(row) == f"transpose.c:{line}")
+            self.assertEqual([row[name] for name in COUNTS], [2048, misses, 256, capacity, conflict])
+            objects = {row["object"]: row["references"] for row in self.rows(*given, *cache, "--by", "object")}
+            self.assertEqual((objects["a"], objects["b"]), (1024, 1024))
+            self.assertGreater(objects["(stack)"], 1000)
+            source = self.good(self.run_tool("by-line", *given, *cache, "--annotate", base.EXAMPLES / "transpose.c")).splitlines()
+            self.assertRegex(source[line + 3], rf"^ *2,048 \(.*%\) +{misses:,} \(.*%\) +256 +{capacity} +{conflict}  +b\[j\]\[i\] = a")
+            self.assertEqual(source[4].split(), ["."] * 5 + base.EXAMPLES.joinpath("transpose.c").read_text().splitlines()[0].split())
+
+    def test_two_threads(self):
+        program = built(trace_base.TRACED / "words.cpp", "-fpie", "-pie", compiler="g++")
+        given, cache = self.traced(program), ["-l1-dsize", "4k", "-l1-dbsize", "64", "-l1-dassoc", "4"]
+        rows = self.rows(*given, *cache, "--by", "line,function,object")
+        own = [row for row in rows if row["function"] == "count(int)"]
+        # a word is read by each of 16,384 rounds of the loop, of which each thread has half
+        self.assertGreaterEqual(sum(row["references"] for row in own if row["object"] == "(heap)"), 3 * 16384)
+        self.assertTrue(any("stl_tree.h:" in row["inlined"] and row["line"].startswith("words.cpp:") for row in own))
+        self.assertIn("libc.so.6", " ".join(row["object"] for row in rows))
+        annotated = self.good(self.run_tool("by-line", *given, *cache, "--annotate", trace_base.TRACED / "words.cpp"))
+        line = next(line for line in annotated.splitlines() if "found[words[i]" in line)
+        self.assertGreater(int(line.split()[0].replace(",", "")), 3 * 16384)
+
+    def test_data_of_a_thread_follow_its_own_fetches(self):
+        given = self.traced(built(trace_base.TRACED / "own_arrays.c", "-fpie", "-pie"))
+        rows = self.rows(*given, "-l1-dsize", "1k", "-l1-dbsize", "32", "--by", "function,object")
+        found = {(row["function"], row["object"]): row["references"] for row in rows if row["object"].endswith("_array")}
+        self.assertEqual(found, {(name, f"{name}_array"): 2 * 120 * 1000 for name in ("first", "second", "third")})
+
+    def test_a_map_that_can_not_be_had(self):
+        for words, fault in ((["--map", "none/map"], "none/map can't be written"), (["--map=map", "--with=lackey"], "--map are for QEMU")):
+            ran = self.run_tool("trace", *words, "true")
+            self.assertEqual(ran.returncode, 125)
+            self.assertIn(fault, ran.stderr.decode())
+
+    @base.needs("gcc-aarch64-linux-gnu")
+    def test_another_machine(self):
+        program = built(trace_base.TRACED / "own_arrays.c", "-fpie", "-pie", compiler="aarch64-linux-gnu-gcc")
+        rows = self.rows(*self.traced(program), "-l1-dsize", "1k", "-l1-dbsize", "32", "--by", "line,object")
+        found = {row["object"]: row["references"] for row in rows if row["line"].startswith("own_arrays.c:")}
+        self.assertEqual([found[f"{name}_array"] for name in ("first", "second", "third")], [2 * 120 * 1000] * 3)
+
+
+class Faults(ByLineTest):
+    def test_faults(self):
+        cache = ["-l1-dsize", "256", "-l1-dbsize", "16"]
+        for text, arguments, status, fault in (
+            (b"0 10\n7 1\n", ["-", *cache], 1, "cachesim: line 2: bad label\n"),
+            (b"", ["none", *cache], 1, "by-line: none: no file that can be read\n"),
+            (b"", ["-"], 2, "by-line: a trace and the options of din are needed"),
+            (b"", ["-", *cache, "-t", "x"], 2, "by-line: the trace is the first argument"),
+            (b"", ["-", *cache, "--at"], 2, "by-line: --at is no option, or wants a value"),
+            (b"", ["-", *cache, "--at", "l2-u"], 2, "by-line: there is no cache l2-u"),
+            (b"", ["-", *cache, "--at", "x"], 2, "by-line: 'x' is no cache"),
+            (b"", ["-", *cache, "--by", "lines"], 2, "by-line: argument --by: 'lines' is not one or more of line, function and object"),
+            (b"", ["-", *cache, "--base", "10"], 2, "by-line: --base is for a --program"),
+            (b"", ["-", *cache, "--map", "m", "--program", "p"], 2, "by-line: --map leaves nothing to --program and --base"),
+            (b"", ["-", *cache, "--annotate", "m", "--by", "line"], 2, "by-line: --annotate leaves nothing to --by"),
+            (b"", ["-", *cache, "--map", "none"], 1, "by-line: none: No such file or directory\n"),
+            (b"", ["-", *cache, "--program", "none"], 1, "by-line: none: no ELF program that can be read\n"),
+            (b"0 1\n", ["-", *cache, "--annotate", "none.c"], 1, "by-line: none.c: No such file or directory\n"),
+            (b"0 1\n", ["-", *cache, "--annotate", __file__], 1, "no reference is from a line of it\n"),
+            (b"", ["-", "-l1-dsize", "3", "-l1-dbsize", "2"], 2, "cachesim: "),
+        ):
+            with self.subTest(arguments):
+                self.refused(self.run_tool("by-line", *arguments, stdin=text), status, fault)
+
+    def test_no_fetch_before(self):
+        rows = self.rows("-", "-l1-dsize", "64", "-l1-dbsize", "16", stdin=b"0 10\n")
+        self.assertEqual([row["line"] for row in rows], ["(no fetch before it)"])
+
+    def test_nothing(self):
+        self.assertEqual(self.rows("-", "-l1-dsize", "64", "-l1-dbsize", "16", stdin=b""), [])
+
+    def test_full_device(self):
+        self.on_full_device("by-line", SORT, "-l1-dsize", "64", "-l1-dbsize", "16")
