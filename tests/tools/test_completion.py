@@ -175,13 +175,15 @@ class Shells(ToolTest):
             self.assertEqual(found, set(wanted.split("|")) - set(given), typed)
 
 
+OF_DIN = "--informat --seed " + " ".join(
+    f"--{cache}{word}" for cache in ("l1-i", "l1-d", "l1-u", "l2-u") for word in "size bsize assoc repl walloc wback".split()
+)
 # options of tools, from their help
 OF_TOOLS = {
-    "best": "-h --help --up-to --within --rows --front",
-    "trace": "-h --help -o --output --program-output --kind --skip --count --with --libraries --any-version",
-    "over-time": "-h --help --each --cache --informat --seed " + " ".join(
-        f"--{cache}{word}" for cache in ("l1-i", "l1-d", "l1-u", "l2-u") for word in "size bsize assoc repl walloc wback".split()
-    ),
+    "best": "-h --help --up-to --within --rows --front --measure",
+    "trace": "-h --help -o --output --program-output --kind --skip --count --with --libraries --any-version --map",
+    "din-table": f"-h --help {OF_DIN}",
+    "over-time": f"-h --help --each --cache {OF_DIN}",
     "three-c": "-h --help --bsize --sets --assoc --size --kind --format --after --rows --pow2",
     "sweep-parallel": "-h --help --bsize --sets --assoc --size --kind --format --after --rows --pow2",
 }
@@ -194,7 +196,7 @@ class ForTools(ToolTest):
         "cachesim-best --fr": "--front",
         "cachesim-trace --with ": "qemu lackey",
         "cachesim-trace --kind=d --wi": "--with",
-        "cachesim-plot --only ": "size block pareto",
+        "cachesim-plot --only ": "size block pareto curve",
         "cachesim-pages 4 --s": "--sets --size",
     }
 
@@ -231,4 +233,4 @@ class ForTools(ToolTest):
             self.assertEqual(set(re.findall(r"(?m)^\(.*?\)(--?[\w-]+)=?\[", told)), set(options.split()))
             self.assertIn("*:file:_files\n", told)
         self.assertIn(":value:(qemu lackey)'", written("zsh", "tool-completion"))
-        self.assertTrue(written("zsh", "tool-completion").startswith("#compdef cachesim-best cachesim-by-page "))
+        self.assertTrue(written("zsh", "tool-completion").startswith("#compdef cachesim-best cachesim-by-line cachesim-by-page "))

@@ -19,7 +19,7 @@ class Installing(MakeTest):
     def few_tools(self):
         """Leaves few tools in the copy, so that a test is quick."""
         for path in (self.top / "tools").iterdir():
-            if path.is_file() and path.name not in ("best", "lib.bash", "table.py", "tool.py"):
+            if path.is_file() and path.name not in ("best", "lib.bash", "table.py", "table_din.py", "tool.py"):
                 path.unlink()
 
     def below(self):
