@@ -69,7 +69,7 @@ class Others(base.ToolTest):
     def test_the_default_page(self):
         """Of by-page, as its help tells it."""
         told = re.search(r"(\w+) without this option", self.good(self.run_tool("by-page", "--help")))[1]
-        arguments = (base.EXAMPLES / "sort.din", "--data", "16,8,2")
+        arguments = (base.EXAMPLES / "sort.din", *"-l1-dsize 256 -l1-dbsize 16 -l1-dassoc 2".split())
         named = self.good(self.run_tool("by-page", *arguments, "--page", told))
         self.assertEqual(self.good(self.run_tool("by-page", *arguments)), named)
         self.assertNotEqual(named, self.good(self.run_tool("by-page", *arguments, "--page", "8k")))

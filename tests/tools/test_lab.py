@@ -204,18 +204,6 @@ class Grade(StudentTest):
         self.says(self.run_command(*arguments, env={"CACHESIM": ""}), "13 of 13 right\n", 0)
         self.refused(self.run_command(*arguments, env={"CACHESIM": "", "PATH": "/nowhere"}), 2, "grade: no program cachesim")
 
-    @needs("bubblewrap")
-    def test_confined(self):
-        """As README.md shows it: a program can write in its own folder alone, and sees no other processes."""
-        naughty = self.folder / "naughty"
-        tries = f"echo > here && ! echo > '{self.folder}/there' && [ ! -e /proc/{os.getpid()} ] && exec '{self.student()}' \"$@\""
-        naughty.write_text(f"#!/bin/bash\n{tries}\n")
-        naughty.chmod(0o755)
-        places = "--ro-bind / / --dev /dev --proc /proc --tmpfs /var/tmp --setenv TMPDIR /var/tmp"
-        confined = ["bwrap", *places.split(), "--unshare-all", "--die-with-parent"]
-        self.says(self.run_command(*confined, LAB / "grade", naughty, "yi.trace"), "13 of 13 right\n", 0)
-        self.assertIn(places, (LAB / "README.md").read_text())
-
 
 class Trace(LabTest):
     """A trace of a program, in the lab's form."""

@@ -26,7 +26,7 @@ class Page(ToolTest):
     def test_sections(self):
         named, lines = self.shown()
         self.assertIn('"cachesim - simulates processor caches over a trace of memory references"', named)
-        for heading in "NAME|SYNOPSIS|DESCRIPTION|TRACES|SWEEP|CSIM|DIN|FAULTS|EXIT STATUS|LIMITS|SEE ALSO".split("|"):
+        for heading in "NAME|SYNOPSIS|DESCRIPTION|TRACES|SWEEP|CSIM|DIN|LOG|FAULTS|EXIT STATUS|LIMITS|SEE ALSO".split("|"):
             self.assertIn(heading, lines)
         synopsis = "\n".join(lines[lines.index("SYNOPSIS"):lines.index("DESCRIPTION")])
         for command in ("sweep", "csim", "din", "log"):
