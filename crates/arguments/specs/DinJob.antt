@@ -97,17 +97,23 @@ plan_given i d u second =
     and_then (cache_of L2U second) (λ second.
     result_map_both (λ p. p) plan (plan_of (record { i = i; d = d; u = u }) second)))))
 
--- What these entries say of the caches, the seed and the format, or the first fault: bad values in the table's order, then the caches' and
--- the plan's. The letters of the format and the default seed are this project's.
-abbrev pub options_given : List Row → Result (PlannedCaches × ℕ × Format) JobFault
-options_given rows =
+-- what was given of the first-level instruction, data and unified cache, and of the second level's
+abbrev pub caches_given : List Row → Result (CacheReading × CacheReading × CacheReading × CacheReading) JobFault
+caches_given rows =
     and_then (reading_of L1I rows) (λ i.
     and_then (reading_of L1D rows) (λ d.
     and_then (reading_of L1U rows) (λ u.
     and_then (reading_of L2U rows) (λ second.
+    Ok (i, d, u, second)))))
+
+-- What these entries say of the caches, the seed and the format, or the first fault: bad values in the table's order, then the caches' and
+-- the plan's. The letters of the format and the default seed are this project's.
+abbrev pub options_given : List Row → Result (PlannedCaches × ℕ × Format) JobFault
+options_given rows =
+    and_then (caches_given rows) (λ c.
     and_then (value_or DinFormat informat_option.id format_named rows) (λ format.
     and_then (value_or 42 seed_option.id number_of rows) (λ seed.
-    and_then (plan_given i d u second) (λ p. Ok (p, seed, format))))))))
+    and_then (plan_given c.0 c.1 c.2 c.3) (λ p. Ok (p, seed, format)))))
 
 -- the job of `din`, or the first fault
 abbrev pub din_of : List Row → Result Job JobFault

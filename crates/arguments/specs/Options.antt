@@ -9,6 +9,9 @@ use Rattle.clap.specs.declared.builder.action.ArgAction.TheVariants.{Set, SetTru
 use Rattle.cache_core.specs.Plans.{label_of}
 use Rattle.cache_core.specs.declared.plan.CacheName.{CacheName}
 use Rattle.cache_core.specs.declared.plan.CacheName.TheVariants.{L1I, L1D, L1U, L2U}
+use Rattle.arguments.specs.declared.app.CommandText.{CommandText}
+use Rattle.arguments.specs.declared.app.OptionsOf.{OptionsOf}
+use Rattle.arguments.specs.declared.app.OptionsOf.TheVariants.{Csim, Din, Sweep}
 use Rattle.arguments.specs.declared.cache_options.CacheOptions.{CacheOptions}
 use Rattle.arguments.specs.declared.options.CommandOption.{CommandOption}
 use Rattle.arguments.specs.declared.options.Spelling.{Spelling}
@@ -167,6 +170,16 @@ with_presence Flag r = flag r
 -- an option of the tables, as clap sees it
 abbrev pub rule_of_option : CommandOption → Rule
 rule_of_option o = with_presence o.presence (with_spelling o.spelling (new_rule o.name.now))
+
+-- the rules of a command that has these options
+abbrev pub rules_of : OptionsOf → List Rule
+rules_of Csim = csim_rules
+rules_of Din = din_rules
+rules_of Sweep = sweep_rules
+
+-- a command of the table, as clap sees it
+abbrev pub leaf_of : CommandText → Shape
+leaf_of c = leaf c.name.now (rules_of c.options)
 
 -- the rule of an argument, and whether it is global
 abbrev pub rule_and_global : Arg → Rule × Bool

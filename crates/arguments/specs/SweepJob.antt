@@ -1,9 +1,12 @@
 -- What the arguments after `sweep` say.
-use Rattle.std.specs.Prelude.{ℕ, List, Result, Ok}
+use Rattle.std.specs.Prelude.{ℕ, List, Option, Result, Ok}
 use Rattle.std.specs.Result.{result_map_both}
 use Rattle.clap.specs.Words.{Row}
 use Rattle.sweep_core.specs.Space.{space_of}
+use Rattle.sweep_core.specs.declared.space.Config.{Config}
+use Rattle.trace_core.specs.declared.events.Kind.{Kind}
 use Rattle.trace_core.specs.declared.events.Kind.TheVariants.{All}
+use Rattle.trace_core.specs.declared.line.Format.{Format}
 use Rattle.trace_core.specs.declared.line.Format.TheVariants.{Din}
 use Rattle.arguments.specs.Faults.{JobFault, space}
 use Rattle.trace_core.specs.declared.limits.TheConstants.{MAX_LINES}
@@ -22,20 +25,32 @@ ranges_of rows =
     and_then (required_value size_option.id range_of rows) (λ size.
     Ok (bsize, sets, assoc, size)))))
 
+-- the references that count, and the format of the trace
+abbrev pub trace_of : List Row → Result (Kind × Format) JobFault
+trace_of rows =
+    and_then (value_or All kind_option.id kind_named rows) (λ kind.
+    and_then (value_or Din format_option.id format_named rows) (λ format.
+    Ok (kind, format)))
+
+-- after which row a page of the table begins, and how many it may have
+abbrev pub page_of : List Row → Result (Option Config × Option ℕ) JobFault
+page_of rows =
+    and_then (optional_value after_option.id triple_of rows) (λ after.
+    and_then (optional_value rows_option.id number_of rows) (λ count.
+    Ok (after, count)))
+
 -- The job of these entries, or the first fault: bad values in the table's order, then the space's. The options are this project's.
 abbrev pub sweep_of : List Row → Result Job JobFault
 sweep_of rows =
     and_then (ranges_of rows) (λ ranges.
-    and_then (value_or All kind_option.id kind_named rows) (λ kind.
-    and_then (value_or Din format_option.id format_named rows) (λ format.
-    and_then (optional_value after_option.id triple_of rows) (λ after.
-    and_then (optional_value rows_option.id number_of rows) (λ count.
+    and_then (trace_of rows) (λ trace.
+    and_then (page_of rows) (λ page.
     and_then (result_map_both (λ s. s) space (space_of ranges.0 ranges.1 ranges.2 ranges.3 (is_flagged pow2_option.id rows)))
     (λ s. Ok (Sweep (record {
       space = s;
-      kind = kind;
-      format = format;
-      after = after;
-      rows = count;
+      kind = trace.0;
+      format = trace.1;
+      after = page.0;
+      rows = page.1;
       max_lines = MAX_LINES;
-    }))))))))
+    }))))))

@@ -1,9 +1,9 @@
 //! The commands and their options, as `clap` meets them.
-ghost use Rattle.std.specs.Prelude.{◌≡◌, ◌++◌, IfOk, OnOk, Some, codes, false, map};
+ghost use Rattle.std.specs.Prelude.{◌≡◌, ◌++◌, IfOk, OnOk, Some, false, map};
 ghost use Rattle.clap.specs.Words.{app_of, new_rule, rule_of};
 ghost use Rattle.clap.specs.declared.builder.command.Command.TheViews.{out-Command as fields_of};
-ghost use Rattle.arguments.specs.Options.{app_and_global, cachesim_app, csim_rules, din_rules, leaf, own_leaf, own_rule, rule_and_global};
-ghost use Rattle.arguments.specs.Options.{rule_of_option, sweep_rules, with_spelling};
+ghost use Rattle.arguments.specs.Options.{app_and_global, cachesim_app, din_rules, leaf_of, own_leaf, own_rule, rule_and_global};
+ghost use Rattle.arguments.specs.Options.{rule_of_option, rules_of, with_spelling};
 
 use crate::cache_options::cache_options;
 use crate::help;
@@ -22,7 +22,7 @@ pub fn cachesim_command<'a>(alloc: Global) -> Result<Command<'a>, AllocError>
     ensures app { IfOk result (λ c. app_of c ≡ cachesim_app) }
     ensures local { IfOk result (λ c. (fields_of c).has_globals ≡ false) }
 {
-    let commands = leaf_commands(alloc)?;
+    let commands = leaf_commands(alloc, &COMMANDS)?;
     Command::new(alloc, "cachesim")
         .about(help::ABOUT)
         .after_help(help::PROGRAM)
@@ -31,62 +31,90 @@ pub fn cachesim_command<'a>(alloc: Global) -> Result<Command<'a>, AllocError>
         .subcommands(commands)
 }
 
-/// The commands `csim`, `din`, `log` and `sweep`.
-fn leaf_commands<'a>(alloc: Global) -> Result<Vec<Command<'a>>, AllocError>
-    ensures { IfOk result (λ v. map app_and_global v.items ≡ map own_leaf cachesim_app.subs) }
+/// Whose options a command has: `log` has those of `din`.
+#[derive(Clone, Copy)]
+pub enum OptionsOf {
+    Csim,
+    Din,
+    Sweep,
+}
+
+/// A command: its name, what help says of it before and behind its options, and these options.
+pub struct CommandText {
+    pub name: &'static str,
+    pub about: &'static str,
+    pub after_help: &'static str,
+    pub options: OptionsOf,
+}
+
+/// The commands, in the order of help.
+static COMMANDS: [CommandText; 4] = [
+    CommandText {
+        name: "csim",
+        about: help::CSIM_ABOUT,
+        after_help: help::CSIM,
+        options: OptionsOf::Csim,
+    },
+    CommandText {
+        name: "din",
+        about: help::DIN_ABOUT,
+        after_help: help::DIN,
+        options: OptionsOf::Din,
+    },
+    CommandText {
+        name: "log",
+        about: help::LOG_ABOUT,
+        after_help: help::LOG,
+        options: OptionsOf::Din,
+    },
+    CommandText {
+        name: "sweep",
+        about: help::SWEEP_ABOUT,
+        after_help: help::SWEEP,
+        options: OptionsOf::Sweep,
+    },
+];
+
+/// These commands as `clap` takes them.
+fn leaf_commands<'a>(alloc: Global, texts: &[CommandText]) -> Result<Vec<Command<'a>>, AllocError>
+    ensures { IfOk result (λ v. map app_and_global v.items ≡ map (λ text. own_leaf (leaf_of text)) texts.now) }
 {
     let mut commands = Vec::new(alloc);
-    commands.push(csim_command(alloc)?)?;
-    commands.push(din_command(alloc)?)?;
-    commands.push(log_command(alloc)?)?;
-    commands.push(sweep_command(alloc)?)?;
+    for text in texts {
+        commands.push(leaf_command(alloc, text)?)?;
+    }
     Ok(commands)
 }
 
-/// The command `csim`.
-fn csim_command<'a>(alloc: Global) -> Result<Command<'a>, AllocError>
-    ensures { IfOk result (λ c. app_and_global c ≡ own_leaf (leaf (codes "csim") csim_rules)) }
+/// A command with its texts and its options.
+fn leaf_command<'a>(alloc: Global, text: &CommandText) -> Result<Command<'a>, AllocError>
+    ensures { IfOk result (λ c. app_and_global c ≡ own_leaf (leaf_of text.now)) }
+{
+    let args = args_of(alloc, text.options)?;
+    Command::new(alloc, text.name)
+        .about(text.about)
+        .after_help(text.after_help)
+        .args(args)
+}
+
+/// The options of a command.
+fn args_of<'a>(alloc: Global, options: OptionsOf) -> Result<Vec<Arg<'a>>, AllocError>
+    ensures { IfOk result (λ v. map rule_and_global v.items ≡ map own_rule (rules_of options)) }
+{
+    match options {
+        OptionsOf::Csim => listed_args(alloc, &CSIM_OPTIONS),
+        OptionsOf::Din => din_args(alloc),
+        OptionsOf::Sweep => listed_args(alloc, &SWEEP_OPTIONS),
+    }
+}
+
+/// Options that stand under the heading of all commands.
+fn listed_args<'a>(alloc: Global, options: &[CommandOption]) -> Result<Vec<Arg<'a>>, AllocError>
+    ensures { IfOk result (λ v. map rule_and_global v.items ≡ map own_rule (map rule_of_option options.now)) }
 {
     let mut args = Vec::new(alloc);
-    push_options(alloc, &mut args, None, &CSIM_OPTIONS)?;
-    Command::new(alloc, "csim")
-        .about(help::CSIM_ABOUT)
-        .after_help(help::CSIM)
-        .args(args)
-}
-
-/// The command `din`.
-fn din_command<'a>(alloc: Global) -> Result<Command<'a>, AllocError>
-    ensures { IfOk result (λ c. app_and_global c ≡ own_leaf (leaf (codes "din") din_rules)) }
-{
-    let args = din_args(alloc)?;
-    Command::new(alloc, "din")
-        .about(help::DIN_ABOUT)
-        .after_help(help::DIN)
-        .args(args)
-}
-
-/// The command `log`.
-fn log_command<'a>(alloc: Global) -> Result<Command<'a>, AllocError>
-    ensures { IfOk result (λ c. app_and_global c ≡ own_leaf (leaf (codes "log") din_rules)) }
-{
-    let args = din_args(alloc)?;
-    Command::new(alloc, "log")
-        .about(help::LOG_ABOUT)
-        .after_help(help::LOG)
-        .args(args)
-}
-
-/// The command `sweep`.
-fn sweep_command<'a>(alloc: Global) -> Result<Command<'a>, AllocError>
-    ensures { IfOk result (λ c. app_and_global c ≡ own_leaf (leaf (codes "sweep") sweep_rules)) }
-{
-    let mut args = Vec::new(alloc);
-    push_options(alloc, &mut args, None, &SWEEP_OPTIONS)?;
-    Command::new(alloc, "sweep")
-        .about(help::SWEEP_ABOUT)
-        .after_help(help::SWEEP)
-        .args(args)
+    push_options(alloc, &mut args, None, options)?;
+    Ok(args)
 }
 
 /// The caches of `din` and `log`, each with the heading of its options in help.

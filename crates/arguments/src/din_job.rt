@@ -1,6 +1,6 @@
 //! The options of `din` and `log`.
 ghost use Rattle.std.specs.Prelude.{◌≡◌, IfOk, Some};
-ghost use Rattle.arguments.specs.DinJob.{cache_of, din_of, log_of, options_given, plan_given, power_of, reading_of};
+ghost use Rattle.arguments.specs.DinJob.{cache_of, caches_given, din_of, log_of, options_given, plan_given, power_of, reading_of};
 ghost use Rattle.arguments.specs.DinJob.{repl_named, walloc_named, wback_named};
 ghost use Rattle.arguments.specs.Faults.{answer_in};
 ghost use Rattle.arguments.specs.Job.{max_lines_of};
@@ -29,6 +29,9 @@ pub struct CacheReading {
     walloc: Option<AllocMode>,
     wback: Option<WriteMode>,
 }
+
+/// What was given of the first-level instruction, data and unified cache, and of the second level's.
+type FourReadings = (CacheReading, CacheReading, CacheReading, CacheReading);
 
 /// The job of `din`.
 pub fn din_job(matches: &ArgMatches<'_>) -> Result<Job, WordsFault>
@@ -62,14 +65,22 @@ pub fn log_job(matches: &ArgMatches<'_>) -> Result<Job, WordsFault>
 fn options_given(matches: &ArgMatches<'_>) -> Result<(Plan, u64, Format), WordsFault>
     ensures { answer_in result ≡ Some (options_given (rows_given matches.now)) }
 {
-    let i = read_cache(matches, CacheName::L1I)?;
-    let d = read_cache(matches, CacheName::L1D)?;
-    let u = read_cache(matches, CacheName::L1U)?;
-    let second = read_cache(matches, CacheName::L2U)?;
+    let (i, d, u, second) = caches_given(matches)?;
     let format = format_at(matches, INFORMAT.name)?;
     let seed = optional_number_at(matches, SEED.name)?.unwrap_or(42);
     let plan = plan_given(i, d, u, second)?;
     Ok((plan, seed, format))
+}
+
+/// What was given of the four caches.
+fn caches_given(matches: &ArgMatches<'_>) -> Result<FourReadings, WordsFault>
+    ensures { answer_in result ≡ Some (caches_given (rows_given matches.now)) }
+{
+    let i = read_cache(matches, CacheName::L1I)?;
+    let d = read_cache(matches, CacheName::L1D)?;
+    let u = read_cache(matches, CacheName::L1U)?;
+    let second = read_cache(matches, CacheName::L2U)?;
+    Ok((i, d, u, second))
 }
 
 /// The plan of what was given of the four caches.

@@ -3,7 +3,7 @@ ghost use Rattle.std.specs.Prelude.{◌≡◌, IfOk, Some};
 ghost use Rattle.arguments.specs.Faults.{answer_in};
 ghost use Rattle.arguments.specs.Job.{max_lines_of};
 ghost use Rattle.arguments.specs.Readings.{rows_given};
-ghost use Rattle.arguments.specs.SweepJob.{ranges_of, sweep_of};
+ghost use Rattle.arguments.specs.SweepJob.{page_of, ranges_of, sweep_of, trace_of};
 
 use crate::faults::WordsFault;
 use crate::job::Job;
@@ -11,7 +11,9 @@ use crate::options::{AFTER, ASSOC, BSIZE, FORMAT, KIND, POW2, ROWS, SETS, SIZE};
 use crate::readings::{config_at, format_at, is_flagged, kind_at, optional_number_at, range_at};
 use clap::ArgMatches;
 use sweep_core::request::Request;
-use sweep_core::space::Space;
+use sweep_core::space::{Config, Space};
+use trace_core::events::Kind;
+use trace_core::line::Format;
 use trace_core::reader::MAX_LINES;
 
 /// A lowest and a greatest value.
@@ -23,10 +25,8 @@ pub fn sweep_job(matches: &ArgMatches<'_>) -> Result<Job, WordsFault>
     ensures limit { IfOk result (λ job. max_lines_of job ≡ MAX_LINES) }
 {
     let (bsize, sets, assoc, size) = ranges_at(matches)?;
-    let kind = kind_at(matches, KIND.name)?;
-    let format = format_at(matches, FORMAT.name)?;
-    let after = config_at(matches, AFTER.name)?;
-    let rows = optional_number_at(matches, ROWS.name)?;
+    let (kind, format) = trace_at(matches)?;
+    let (after, rows) = page_at(matches)?;
     let powers = is_flagged(matches, POW2.name);
     let space = Space::new(bsize, sets, assoc, size, powers)?;
     let request = Request {
@@ -49,4 +49,22 @@ fn ranges_at(matches: &ArgMatches<'_>) -> Result<(Range, Range, Range, Range), W
     let assoc = range_at(matches, ASSOC.name)?;
     let size = range_at(matches, SIZE.name)?;
     Ok((bsize, sets, assoc, size))
+}
+
+/// The references that count, and the format of the trace.
+fn trace_at(matches: &ArgMatches<'_>) -> Result<(Kind, Format), WordsFault>
+    ensures { answer_in result ≡ Some (trace_of (rows_given matches.now)) }
+{
+    let kind = kind_at(matches, KIND.name)?;
+    let format = format_at(matches, FORMAT.name)?;
+    Ok((kind, format))
+}
+
+/// After which row a page of the table begins, and how many it may have.
+fn page_at(matches: &ArgMatches<'_>) -> Result<(Option<Config>, Option<u64>), WordsFault>
+    ensures { answer_in result ≡ Some (page_of (rows_given matches.now)) }
+{
+    let after = config_at(matches, AFTER.name)?;
+    let rows = optional_number_at(matches, ROWS.name)?;
+    Ok((after, rows))
 }

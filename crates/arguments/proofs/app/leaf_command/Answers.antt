@@ -1,0 +1,8 @@
+-- The command has the options of its table.
+use Rattle.std.proofs.Common.{rules}
+use Rattle.arguments.proofs.OptionLemmas.{leaf_made}
+use Rattle.arguments.proofs.app.leaf_command.Goals as goal
+
+pub returns : goal.returns
+returns c = leaf_made _ _ _ _ _ (search rules) (search rules)
+    c.in_ok-args.ensures c.args-2.ensures
