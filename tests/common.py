@@ -40,6 +40,8 @@ class Arguments(argparse.ArgumentParser):
         if not is_program(path):
             print(f"no program {path}: make builds it" + ", make demo an unproved one" * may_be_unproved + "\n0 passed, 1 failed")
             sys.exit(1)
+        if changed := not asked.program and changed_since(path):
+            print(f"{path.relative_to(TOP)} is older than {changed.relative_to(TOP)}: make builds it anew", flush=True)
         asked.program = str(path.resolve())
         return asked
 
@@ -50,6 +52,13 @@ def is_program(path):
 
 def is_newer(path, other):
     return is_program(path) and (not is_program(other) or path.stat().st_mtime > other.stat().st_mtime)
+
+
+def changed_since(program):
+    """A file of the code or the definitions that the program is built of and that changed after it, or None."""
+    built = program.stat().st_mtime
+    files = (path for path in sorted(TOP.glob("crates/*/s*/*.*t")) if path.parts[-3] != "worked_examples")
+    return next((path for path in files if path.stat().st_mtime > built), None)
 
 
 class Sum:
