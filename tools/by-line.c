@@ -150,13 +150,13 @@ static bool count_miss(uint32_t cell, uint64_t address) {
     counts->misses++;
     if (is_first) {
         counts->compulsory++;
-    } else if (block->evicted) {
+        block->evicted = 0;  // before a flush, where there was one
+    } else if (block->evicted) {  // by the same one as at the miss before, where that was a write that brings no block in
         uint64_t key = (uint64_t)cell << 32 | (block->evicted - 1);
         uint32_t pair = number_of(&pair_numbers, key, &pairs, sizeof(uint64_t));
         ((uint64_t *)pairs)[pair]++;
     }
     block->seen = flushes;
-    block->evicted = 0;
     return is_first;
 }
 

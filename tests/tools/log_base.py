@@ -136,7 +136,9 @@ class Filtering:
 
     def test_full_device(self):
         (self.folder / "long").write_bytes(SORT * 20)
-        self.on_full_device(self.TOOL, "long", *self.OWN, *map(str, self.CACHE))
+        (self.folder / "short").write_bytes(b"0 10\n")
+        for trace in ("long", "short"):
+            self.on_full_device(self.TOOL, trace, *self.OWN, *map(str, self.CACHE))
 
     def test_help(self):
         for word in ("-h", "--help"):

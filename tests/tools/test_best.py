@@ -49,6 +49,12 @@ class Best(base.ToolTest):
         self.assertEqual(self.best("table.csv", "--within", "100", "--up-to", "256"), ["32,1,2"])
         self.assertEqual(self.best("table.csv", "--within", "99.99", "--up-to", "256"), ["32,2,2"])
 
+    def test_within_is_exact(self):
+        # 47.7 per cent more than 54,305,000 are 80,208,485 and no less, though not in binary fractions
+        rows = base.rows_of(10 ** 8, {(32, 1, 1): 80208486, (32, 2, 1): 80208485, (32, 4, 1): 54305000}).encode()
+        self.assertEqual(self.best("-", "--within", "47.6999", stdin=rows), ["32,4,1"])
+        self.assertEqual(self.best("-", "--within", "47.7", stdin=rows), ["32,2,1"])
+
     def test_rows(self):
         self.assertEqual(self.best("table.csv", "--rows", "4"), ["64,8,1", "64,2,4", "32,2,2", "64,4,1"])
         self.assertEqual(self.best("table.csv", "--rows", "2", "--up-to", "64"), ["32,1,2", "16,4,1"])

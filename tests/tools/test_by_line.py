@@ -267,6 +267,14 @@ class Programs(ByLineTest):
         found = {(row["function"], row["object"]): row["references"] for row in rows if row["object"].endswith("_array")}
         self.assertEqual(found, {(name, f"{name}_array"): 2 * 120 * 1000 for name in ("first", "second", "third")})
 
+    def test_a_program_that_qemu_has_moved(self):
+        """A map has the program's own addresses, wherever in QEMU's they lie."""
+        program = built(base.EXAMPLES / "transpose.c", "-static")
+        for place in ("0x200000000", "0x100000000000"):
+            self.run_tool("trace", "--map", "map", "-o", "t.din", program, env={"QEMU_GUEST_BASE": place})
+            rows = self.rows("t.din", "--map", "map", "-l1-dsize", "1k", "-l1-dbsize", "32", "--by", "object")
+            self.assertEqual({row["object"]: row["references"] for row in rows if row["object"] in ("a", "b")}, {"a": 1024, "b": 1024})
+
     def test_a_map_that_can_not_be_had(self):
         for words, fault in ((["--map", "none/map"], "none/map can't be written"), (["--map=map", "--with=lackey"], "--map are for QEMU")):
             ran = self.run_tool("trace", *words, "true")

@@ -128,6 +128,15 @@ class Grade(StudentTest):
                 self.says(self.grade(*(program if word == "CSIM" else word for word in arguments[1:])), said, 1)
                 self.assertTrue(comes(lambda: not is_running(program)))
 
+    def test_numbers_are_compared_whole(self):
+        """Those wanted are 720, 1328 and 1312."""
+        program = self.folder / "csim"
+        for hits, misses, evictions in ((7200, 1328, 1312), (72, 1328, 1312), (720, 328, 1312), (720, 1328, 11312)):
+            program.write_text(f"#!/bin/sh\necho hits:{hits} misses:{misses} evictions:{evictions}\n")
+            program.chmod(0o755)
+            ran = self.grade("--geometry", "4,1,4", "--points", "--verbose-lines", "no", program, EXAMPLES / "blocks.lackey")
+            self.assertEqual((ran.returncode, ran.stdout.decode().splitlines()[-1]), (1, "0 of 1 right, 2 of 3 points"))
+
     def test_what_plays_no_part(self):
         """Other output, files and folders that are left behind, an emptied copy of the trace, a process that goes on."""
         for mistake in ("CHATTY", "JUNK", "LEAVES_CHILD", "LEAVES_DAEMON"):

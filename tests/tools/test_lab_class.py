@@ -105,6 +105,19 @@ class HardTraces(StudentTest):
                 self.assertTrue(found and int(found[2], 16) % 8 + int(found[3]) <= 8, line)
         self.assertGreater((self.hard / "long.trace").read_text().count("\n"), 1 << 16)
 
+    def test_what_the_help_says_of_them(self):
+        """How many accesses; and which have fetches between them, or addresses above 32 bits."""
+        counts = {"order": 24, "mixed": 600, "wide": 300, "rows": 2048, "blocks": 2048, "long": 70000}
+        for name, count in counts.items():
+            lines = (self.hard / f"{name}.trace").read_text().splitlines()
+            data = [int(line[3:].split(",")[0], 16) for line in lines if line[0] == " "]
+            self.assertEqual(len(data), count, name)
+            self.assertEqual((len(lines) > count, max(data) >= 1 << 32), (name in ("mixed", "wide", "long"), name == "wide"), name)
+            if name == "wide":
+                below = [place % (1 << 32) for place in data]
+                self.assertGreater(len({place // 64 for place in data}), len({place // 64 for place in below}))
+                self.assertLess(max(below) - min(below), 1 << 16, "they are near each other but for what is above")
+
     def test_two_are_those_of_the_examples(self):
         self.assertEqual((self.hard / "blocks.trace").read_text(), (EXAMPLES / "blocks.lackey").read_text())
         data = [line for line in (EXAMPLES / "transpose.lackey").read_text().splitlines() if line[0] == " "]
@@ -148,6 +161,12 @@ class GradeClass(ClassTest):
         self.assertEqual(self.text_of("zoe/lab"), "1 of 1 right, 3 of 3 points\n")
         self.assertIn("\n0 of 1 right, 2 of 3 points\n", self.text_of("ann/lab"))
         self.assertEqual(sorted(path.name for path in folders[0].iterdir()), ["csim", "grade.txt"])
+
+    def test_points(self):
+        """One for each number that is right, in .csim_results too, where hits and evictions are exchanged; none where a run fails."""
+        folders = [self.enrol(name, self.student(*[name] * (name != "right"))) for name in ("right", "COUNTS", "RESULTS", "STATUS")]
+        rows = self.table(self.grade_class(*self.SHORT, "--trace", EXAMPLES / "blocks.lackey", *folders))
+        self.assertEqual({name: row["points"] for name, row in rows.items()}, {"right": "3", "COUNTS": "2", "RESULTS": "1", "STATUS": "0"})
 
     def test_programs_that_cannot_be_run(self):
         for name, text, mode in (("none", None, 0), ("plain", "#!/bin/sh\n", 0o644), ("text", "no program\n", 0o755)):

@@ -103,6 +103,14 @@ class Script(PlotTest):
         self.assertIn("blocks of 64 bytes'", script)
         self.assertIn("Miss ratio by block size: 4 ways'", script)
 
+    def test_the_nearest_by_ratio(self):
+        """128 is twice 64, and 16 a quarter of it; 6 is once and a half 4, and 2 a half."""
+        shapes = ((bsize, sets, ways) for bsize in (16, 128) for sets in (1, 2) for ways in (2, 6))
+        self.write("t.csv", "".join(f"{bsize},{sets},{ways},{bsize * sets * ways},9,1,0\n" for bsize, sets, ways in shapes))
+        script = self.script("t.csv", "-")
+        self.assertIn("Miss ratio by cache size: blocks of 128 bytes'", script)
+        self.assertIn("Miss ratio by block size: 6 ways'", script)
+
     def test_pages_without_a_header_from_standard_input(self):
         self.assertEqual(self.script("-", "a.png", stdin=EIGHT.encode()), self.script("eight.csv", "a.png"))
 

@@ -1,5 +1,6 @@
 """Curves over all ways, pictures of tables of din, and other measures than misses: what gnuplot is told, and what is refused."""
 
+import itertools
 import re
 
 import base
@@ -105,12 +106,31 @@ class Din(PlotTest):
         for text in ("Miss ratio by cache size", "cache size in bytes", "miss ratio in per cent"):
             self.assertIn(f"'{text}'", script)
 
+    def test_bars_are_within_the_axes(self):
+        """Also where the means are far from the least and the greatest of the seeds."""
+        for misses, low, high in (((10, 800, 90), 1, 80), ((300, 600, 450), 30, 60)):
+            self.write("t.csv", f"{COLUMNS}\n" + din_rows({(64, "r"): misses, (128, "r"): misses}))
+            script = self.script("t.csv", "a.svg")
+            least, greatest = map(float, re.search(r"^set yrange \[(.*):(.*)\]$", script, re.MULTILINE).groups())
+            self.assertTrue(least <= low and high <= greatest, (least, greatest))
+
     def test_measures(self):
         data = data_of(self.script("--measure", "l1-u-misses", "din.csv", "a.svg"))
         self.assertEqual(data["size_3_ends"], [[(64, 150, 120, 180), (128, 35, 30, 42)]])
         script = self.script("--measure", "memory-writes", "din.csv", "a.svg")
         self.assertEqual(data_of(script)["size_1"], [[(64, 10), (128, 2)]])
         self.assertIn("'Memory writes by cache size'", script)
+
+    def test_ticks_of_counts(self):
+        """A tick's text is its value, in thousands or millions where it says so."""
+        units = {"": 1, "k": 10 ** 3, "M": 10 ** 6, "G": 10 ** 9}
+        for many, used in ((1, {"", "k"}), (10 ** 3, {"k", "M"}), (10 ** 6, {"M", "G"})):
+            rows = "".join(f"{size},16,2,l,1,{100000 * many},{misses * many},1.000,0,0\n" for size, misses in ((64, 60000), (128, 300)))
+            self.write("t.csv", f"{COLUMNS}\n{rows}")
+            script = self.script("--measure", "l1-u-misses", "t.csv", "a.svg")
+            ticks = re.findall(r"'([0-9.]+)([kMG]?)' ([^ ,)]+)", re.search(r"^set ytics \((.*)\)$", script, re.MULTILINE)[1])
+            self.assertEqual([float(number) * units[unit] for number, unit, _ in ticks], [float(value) for _, _, value in ticks])
+            self.assertEqual({unit for _, unit, _ in ticks}, used)
 
     def test_across(self):
         script = self.script("--across", "l1-uassoc", "din.csv", "a.svg")
@@ -131,6 +151,22 @@ class Din(PlotTest):
         self.refused(self.plot("--ways", "4", "t.csv", "-"), 1, "t.csv: no run has l1-uassoc 4; there are 1, 2, 8\n")
         self.refused(self.plot("--bsize", "32", "t.csv", "-"), 1, "t.csv: no run has l1-ubsize 32; there are 16\n")
 
+    def test_some_of_many_policies(self):
+        """Of twelve combinations at most seven are drawn, each under its own name."""
+        written = {"a": "write-allocate", "n": "no write-allocate"}, {"a": "write-back", "n": "write-through"}
+        words = {"l": "LRU", "f": "FIFO", "r": "random"}, *written
+        combinations = list(itertools.product("lfr", "an", "an"))
+        rows = "".join(f"{size},{','.join(given)},1000,{missed},{missed / 10},0\n" for size, less in ((64, 0), (128, 50))
+                       for given, missed in zip(combinations, range(100 - less, 120)))
+        self.write("t.csv", f"l1-usize,l1-urepl,l1-uwalloc,l1-uwback,l1-u-references,l1-u-misses,l1-u-percent,bypassed\n{rows}")
+        script = self.script("t.csv", "a.svg")
+        names = [", ".join(text[value] for text, value in zip(words, given)) for given in combinations]
+        wanted = {name: [(64, 10 + at / 10), (128, 5 + at / 10)] for at, name in enumerate(names)}
+        drawn, lines = names_of(script), data_of(script)
+        self.assertTrue(4 <= len(drawn) <= 7, drawn)
+        for number, name in enumerate(drawn, 1):
+            self.assertEqual(lines[f"size_{number}"], [wanted[name]], name)
+
     def test_second_levels(self):
         """The miss ratio is that of the cache on the axis, and a line's name says whose value it is."""
         header = "l1-dsize,l2-usize,l2-urepl,l1-d-references,l1-d-misses,l1-d-percent,l2-u-references,l2-u-misses,l2-u-percent,bypassed"
@@ -148,8 +184,10 @@ class Din(PlotTest):
         first = self.script("--across", "l1-dsize", "t.csv", "a.svg")
         self.assertEqual((data_of(first), names_of(first)), ({"size_1": [[(32, 60), (64, 50)]]}, []))
         # all caches together: 32 + 256 bytes are the least
-        front = data_of(self.script("--only", "pareto", "--measure", "l2-u-misses", "t.csv", "a.svg"))["pareto_front"]
-        self.assertEqual(front, [[(288, 10), (544, 5)]])
+        data = data_of(self.script("--only", "pareto", "--measure", "l2-u-misses", "t.csv", "a.svg"))
+        self.assertEqual(data["pareto_front"], [[(288, 10), (544, 5)]])
+        every = [(first + second, missed) for first in (32, 64) for second, missed in ((256, 10), (256, 20), (512, 5), (512, 6))]
+        self.assertEqual(sorted(data["pareto_all"][0]), sorted(every))
 
     def test_refused(self):
         rows = din_rows({(64, "l"): (100,)})
@@ -200,6 +238,13 @@ class Best(PlotTest):
     def test_without_seeds(self):
         given = COLUMNS.replace(",seed", "") + "\n" + re.sub("(?m)^(([^,]+,){4})1,", r"\1", din_rows({(64, "l"): (100,)}))
         self.assertEqual(self.best(given), ["l1-usize,l1-ubsize,l1-uassoc,l1-urepl,size,l1-u-misses", "64,16,2,l,64,100"])
+
+    def test_the_last_cache(self):
+        """Its misses are compared, whichever column stands behind them, and the size is that of all caches."""
+        header = "l1-dsize,l2-usize,l1-d-references,l1-d-misses,l1-d-percent,l2-u-references,l2-u-misses,l2-u-percent,memory-reads,bypassed"
+        rows = "64,256,100,50,50.000,50,20,40.000,20,9\n128,256,100,40,40.000,40,25,62.500,25,9\n"
+        self.assertEqual(self.best(f"{header}\n{rows}", "--rows", "2"),
+                         ["l1-dsize,l2-usize,size,l2-u-misses", "64,256,320,20", "128,256,384,25"])
 
     def test_measure_of_a_sweep(self):
         given = f"{table.HEADER}\n" + rows_of([(1, 500), (2, 400)])

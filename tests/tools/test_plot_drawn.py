@@ -18,6 +18,7 @@ import base
 import table
 from base import needs
 from test_plot import ALL, AXES, TITLES, PlotTest, rows_of
+from test_plot_din import COLUMNS, POLICIES, din_rows
 
 
 def png_of(data):
@@ -176,19 +177,61 @@ class Page(PlotTest):
         self.assertGreater(len(sources.scripts[0]), 1_000_000)
         self.assertEqual((len(sources.scripts), sources.heading), (2, "<Eight> & more"))
 
+    def figures(self, *arguments):
+        """The pictures as plotly gets them, by name and by what is chosen."""
+        return json.loads(re.search("^const figures = (.*);$", Sources(self.page(*arguments)).scripts[1], re.MULTILINE)[1])
+
     def test_data(self):
-        script = Sources(self.page("eight.csv")).scripts[1]
-        figures = json.loads(re.search("^const figures = (.*);$", script, re.MULTILINE)[1])
+        figures = self.figures("eight.csv")
         self.assertEqual({name: list(choices) for name, choices in figures.items()},
                          {"size": ["16", "32"], "block": ["1", "2"], "pareto": ["0"]})
         one, two = figures["size"]["16"]["data"]
         self.assertEqual((one["name"], one["x"], one["y"]), ("1 way", [32, 64], [40, 30]))
         self.assertEqual((two["name"], two["x"], two["y"]), ("2 ways", [64, 128], [25, 10]))
         self.assertEqual(two["customdata"], [[16, 2, 2, 64, 75, 25, 21, 25], [16, 4, 2, 128, 90, 10, 2, 10]])
+        blocks = {ways: {line["name"]: line["y"] for line in figures["block"][ways]["data"]} for ways in "12"}
+        self.assertEqual(blocks, {"1": {"32": [40, 50], "64": [30, 32]}, "2": {"64": [25, 28], "128": [10, 8]}})
         every, steps, front = figures["pareto"]["0"]["data"]
         self.assertEqual(sorted(zip(every["x"], every["y"])), sorted(ALL))
         self.assertEqual((steps["x"], steps["y"], steps["line"]["shape"]), ([32, 64, 128, 128], [40, 25, 8, 8], "hv"))
         self.assertEqual(list(zip(front["x"], front["y"])), [(32, 40), (64, 25), (128, 8)])
+
+    def test_counts_of_the_table(self):
+        self.assertIn("<p>8 caches, 100 references. ", self.page("eight.csv"))
+        self.write("din.csv", f"{COLUMNS}\n" + din_rows(POLICIES).replace(",0\n", ",30\n"))
+        self.assertIn("<p>18 runs, 1,030 references. ", self.page("din.csv"), "also those that no cache takes")
+
+    def test_a_line_that_is_cut(self):
+        """There is nothing between the points where it is cut, and what is told of the others stays with them."""
+        self.write("t.csv", rows_of([(2, 900), (8, 700), (16, 600)]) + "64,4,2,512,500,500,0\n")
+        line = self.figures("--only", "size", "t.csv")["size"]["64"]["data"][0]
+        self.assertEqual((line["x"], line["y"]), ([128, None, 512, 1024], [90, None, 70, 60]))
+        self.assertEqual([told and told[:4] for told in line["customdata"]],
+                         [[64, 2, 1, 128], None, [64, 8, 1, 512], [64, 16, 1, 1024]])
+
+    def test_axes(self):
+        """Plotly takes the ends of a logarithmic axis as powers of ten. A tick's text is its value."""
+        figure = self.figures("eight.csv")["size"]["32"]
+        for axis, least, greatest in (("xaxis", 32, 128), ("yaxis", 8, 50)):
+            self.assertEqual(figure["layout"][axis]["type"], "log")
+            low, high = (10 ** end for end in figure["layout"][axis]["range"])
+            self.assertTrue(least / 2 < low < least and greatest < high < 2 * greatest, (axis, low, high))
+        up = figure["layout"]["yaxis"]
+        for values, texts in (figure["few"], figure["many"], (up["tickvals"], up["ticktext"])):
+            self.assertEqual((len(values) > 1, list(map(float, texts))), (True, values))
+
+    def test_data_of_din(self):
+        """The mean over three seeds, 3.5, is 0.5 above the least and 0.7 below the greatest."""
+        self.write("din.csv", f"{COLUMNS}\n{din_rows(POLICIES)}")
+        first, _, line = self.figures("din.csv")["size"]["0"]["data"]
+        self.assertEqual((first["name"], first["x"], first["y"], "error_y" in first), ("LRU", [64, 128], [10, 2], False))
+        self.assertEqual((line["name"], line["x"], line["y"]), ("random", [64, 128], [15, 3.5]))
+        self.assertEqual([round(length, 9) for length in line["error_y"]["array"]], [3, 0.7])
+        self.assertEqual([round(length, 9) for length in line["error_y"]["arrayminus"]], [3, 0.5])
+        self.assertEqual(line["customdata"][1], ["128", "16", "2", "r", 128, "3.5 (3 to 4.2)"])
+        names = "l1-usize", "l1-ubsize", "l1-uassoc", "l1-urepl", "size", "l1-u-percent"
+        told = "<br>".join(f"{name} %{{customdata[{at}]}}" for at, name in enumerate(names))
+        self.assertEqual(line["hovertemplate"], f"{told}<extra></extra>")
 
     @needs("chromium")
     def test_in_a_browser(self):

@@ -67,6 +67,12 @@ class Replay(ReplayTest):
             self.assertEqual([re.split("  +", row)[-1] for row in rows], lines)
         self.assertRegex(rows[5], r"^ +6  flush +1 written back +all free$")
 
+    def test_a_flush_of_several_sets(self):
+        """Of three blocks in two sets two are dirty."""
+        rows = self.good(self.replay("-l1-usize", 64, "-l1-ubsize", 16, "-l1-uassoc", 2, "--text", stdin=b"1 10\n1 20\n0 40\n4 0\n4 0\n"))
+        self.assertEqual([re.split("  +", row.strip())[1:] for row in rows.split("\n")[6:8]],
+                         [["flush", "2 written back", "all free"], ["flush", "0 written back", "all free"]])
+
     def test_reasons(self):
         """In words, with the step that decides."""
         steps = self.data(*ONE_SET, stdin=ORDER)["steps"]

@@ -41,7 +41,8 @@ class Reading(unittest.TestCase):
 class Pareto(unittest.TestCase):
     def test_front(self):
         # 64 bytes miss 9 times at best. Of the two caches of 128 bytes that miss 7 times the direct-mapped one stays. 256 bytes
-        # do no better than 128. Of the three caches of 512 bytes that miss 5 times that of one way with the smaller blocks stays.
+        # do no better than 128. Of the three caches of 512 bytes that miss 5 times that of one way with the smaller blocks stays; of
+        # those of 1,024 bytes the one of one way, though its blocks are larger.
         rows = [
             table.Row(16, 1, 4, 64, 1, 9, 5),
             table.Row(16, 2, 2, 64, 0, 10, 6),
@@ -52,8 +53,10 @@ class Pareto(unittest.TestCase):
             table.Row(64, 8, 1, 512, 5, 5, 0),
             table.Row(32, 16, 1, 512, 5, 5, 0),
             table.Row(32, 8, 2, 512, 5, 5, 0),
+            table.Row(32, 16, 2, 1024, 6, 4, 0),
+            table.Row(64, 16, 1, 1024, 6, 4, 0),
         ]
-        front = [(16, 1, 4), (16, 8, 1), (32, 16, 1)]
+        front = [(16, 1, 4), (16, 8, 1), (32, 16, 1), (64, 16, 1)]
         self.assertEqual([row.cache for row in table.pareto(rows)], front)
         self.assertEqual([row.cache for row in table.pareto(rows[::-1])], front)
 

@@ -127,6 +127,14 @@ class ThreeC(base.ToolTest):
                 row = f"1,131072,1,131072,0,{misses},{evictions},{misses},{capacity}\n"
                 self.assertEqual(answer, HEADER + row, (blocks, parts, step))
 
+    def test_more_lines_than_a_set_has_and_parts_that_differ(self):
+        """The part with the most different blocks decides, whichever it is: with more of them than lines, capacity is not known."""
+        arguments = "--bsize 1 --sets 128k --assoc 1 --size 128k".split()
+        for parts, evictions, capacity in (((131073, 70000), 1, ","), ((70000, 131073), 1, ","), ((131072, 70000), 0, "0,0")):
+            text = " \t4\t7 note\r\n".join("".join(f"0 {place:x}\n" for place in range(blocks)) for blocks in parts).encode()
+            answer = self.good(self.run_tool("three-c", "-", *arguments, stdin=text))
+            self.assertEqual(answer, HEADER + f"1,131072,1,131072,0,{sum(parts)},{evictions},{sum(parts)},{capacity}\n", parts)
+
     def test_too_many_blocks(self):
         # 16,385 blocks that are alike in their lowest 8 bits
         text = "".join(f"0 {block * 256:x}\n" for block in range(16385)).encode()
