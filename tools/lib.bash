@@ -116,11 +116,14 @@ at_end() {
 }
 
 # stop PROCESS: ends a process, unless it is this shell, and all that it has started. It ends before these, so that it does not
-# report their ends
+# report their ends. A subshell of this tool is killed: bash heeds no SIGTERM while it waits for the other end of a pipe
 stop() {
-    local child children=()
+    local child children=() whose='' own='' signal=TERM
     read -ra children 2> /dev/null < "/proc/$1/task/$1/children" || :
-    [ "$1" = "$BASHPID" ] || kill -- "$1" 2> /dev/null || :
+    read -r whose 2> /dev/null < "/proc/$1/comm" || :
+    read -r own 2> /dev/null < "/proc/$$/comm" || :
+    [ "$whose" != "$own" ] || signal=KILL
+    [ "$1" = "$BASHPID" ] || kill -"$signal" -- "$1" 2> /dev/null || :
     for child in "${children[@]}"; do stop "$child"; done
 }
 
@@ -190,15 +193,19 @@ take_sweep_options() {
 # swept OPTION..: the table of a sweep over standard input
 swept() { watched "$cachesim" sweep "$@"; }
 
+# make_pipes FILE..: makes these named pipes, without a word where a signal has removed their folder
+make_pipes() { mkfifo -- "$@" 2> /dev/null || fail "$1: no named pipe can be made there"; }
+
 # side_by_side TRACE STEP..: runs functions side by side over one reading of a trace. Each has it as standard input and writes to
 # $folder/STEP. Where one fails, its message is told and the tool ends with its status.
 side_by_side() {
-    local step status=0 ended ends pipes=() jobs=()
+    local step status=0 ended ends pipes jobs=()
+    pipes=("${@:2}") && pipes=("${pipes[@]/#/$folder/}") && pipes=("${pipes[@]/%/.pipe}")
+    make_pipes "${pipes[@]}"
     for step in "${@:2}"; do
-        mkfifo -- "$folder/$step.pipe"
         # without a word where a signal has removed the folder before a step has begun
-        { "$step" 2> "$folder/$step.fault" < "$folder/$step.pipe" > "$folder/$step" & } 2> /dev/null
-        jobs+=($!) pipes+=("$folder/$step.pipe")
+        { "$step" 2> "$folder/$step.fault" > "$folder/$step" < "$folder/$step.pipe" & } 2> /dev/null
+        jobs+=($!)
     done
     unpacked "$1" | tee -p -- "${pipes[@]:1}" > "${pipes[0]}" || {
         ends=("${PIPESTATUS[@]}")

@@ -272,15 +272,22 @@ class Faults(DinTableTest):
         ran = self.run_command("bash", "-c", limited, stdin=DIN.read_bytes(), env={"TMPDIR": str(self.folder)})
         self.failed(ran, 1, f"din-table: the trace can't be kept in {self.folder}: File too large\n")
 
+    def begun(self):
+        """The processes of the program that have begun."""
+        pids = self.folder / "pids"
+        return pids.read_text().split() if pids.exists() else []
+
     def test_interrupted(self):
         """No file is left, and no process."""
         env = {**os.environ, **self.program("echo $$ >> pids; exec sleep 60"), "TMPDIR": str(self.folder)}
         for trace, sent in itertools.product((DIN, "-"), (signal.SIGINT, signal.SIGTERM)):
             given = {"stdin": subprocess.PIPE, "stdout": subprocess.PIPE, "stderr": subprocess.PIPE, "cwd": self.folder}
+            begun = len(self.begun())
             with subprocess.Popen([TOOLS / "din-table", "2", trace, *SMALL], env=env, **given) as ran:
-                time.sleep(1)
+                while ran.poll() is None and len(self.begun()) < begun + 2:
+                    time.sleep(0.01)
                 ran.send_signal(sent)
                 self.assertEqual((ran.communicate(timeout=20)[1], ran.returncode), (b"", 128 + sent))
-            for number in (self.folder / "pids").read_text().split():
+            for number in self.begun():
                 self.assertFalse(os.path.exists(f"/proc/{number}"), number)
         self.assertEqual(sorted(os.listdir(self.folder)), ["pids", "the program"])

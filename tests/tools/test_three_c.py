@@ -213,14 +213,17 @@ class ThreeC(base.ToolTest):
         self.on_full_device("three-c", base.EXAMPLES / "sort.din", *arguments)
 
     def test_interrupt(self):
+        """However far it is, it ends at once without a word, and nothing is left."""
         arguments = "--bsize 16 --sets 1-4 --assoc 1-2 --size 64".split()
         command = ["env", f"TMPDIR={self.folder}", base.TOOLS / "three-c", "-", *arguments]
-        running = subprocess.Popen(command, stdin=subprocess.PIPE, stdout=subprocess.PIPE, stderr=subprocess.PIPE)
-        while running.poll() is None and not list(self.folder.glob("*/whole.pipe")):
-            time.sleep(0.001)
-        running.send_signal(signal.SIGTERM)
-        self.assertEqual((running.communicate(b"0 10\n", 20), running.returncode), ((b"", b""), -signal.SIGTERM))
-        self.assertEqual(list(self.folder.iterdir()), [])
+        for step in range(20):
+            running = subprocess.Popen(command, stdin=subprocess.PIPE, stdout=subprocess.PIPE, stderr=subprocess.PIPE)
+            while running.poll() is None and not list(self.folder.glob("*/whole.pipe")):
+                time.sleep(0.001)
+            time.sleep(0.001 * step)
+            running.send_signal(signal.SIGTERM)
+            self.assertEqual((running.communicate(b"0 10\n", 20), running.returncode), ((b"", b""), -signal.SIGTERM))
+            self.assertEqual(list(self.folder.iterdir()), [])
 
     def test_help(self):
         self.assertIn("Hill", self.good(self.run_tool("three-c", "--help")))
