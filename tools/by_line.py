@@ -142,7 +142,7 @@ def counts_in(path, cells):
     found = {frame.file for cell in cells for frame in cell.frames if frame.file and os.path.basename(frame.file) == name}
     files = [file for file in found if os.path.realpath(file) == real] or found
     if not files:
-        tool.fail(f"{path}: no reference is from a line of it")
+        tool.fail(f"{path}: no reference is from a line of it: compile the program with -g, and name it by --map or --program")
     own = ((next((frame.line for frame in reversed(cell.frames) if frame.file in files), None), cell.counts) for cell in cells)
     return sums(pair for pair in own if pair[0])
 

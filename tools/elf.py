@@ -143,6 +143,8 @@ class Layout:
                 found = [MAPPING.fullmatch(line.rstrip("\n")) for line in lines]
         except OSError as fault:
             tool.fail(f"{map_file}: {fault.strerror}")
+        if not found:  # as `trace` leaves it while the program runs
+            tool.fail(f"{map_file}: an empty map; if the trace comes through a pipe from the run that writes it, trace into a file")
         for number, mapping in enumerate(found, 1):
             if not mapping:
                 tool.fail(f"{map_file}: line {number} is none of a map")

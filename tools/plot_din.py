@@ -118,7 +118,9 @@ def by_across(asked, table, across, several, measure):
     several = [option for option in of_measure(table, varied(table)) if option != across]
     at, lines = table.options.index(across), []
     found = list(groups(table, across, several).items())
-    for given, cases in found[:: -(-len(found) // MOST_LINES)]:
+    chosen = found[:: -(-len(found) // MOST_LINES)]
+    told += [f"{len(chosen)} of {len(found)} lines"] * (len(chosen) < len(found))
+    for given, cases in chosen:
         name = ", ".join(value_text(*pair, has_caches) for pair in zip(several, given))
         cases = {int(case.given[at]): case for case in reversed(cases)}
         lines.append(Line(name, [[point(table, cases[x], x, several, has_caches) for x in sorted(cases)]]))

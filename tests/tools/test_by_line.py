@@ -305,9 +305,10 @@ class Faults(ByLineTest):
             (b"", ["-", *cache, "--map", "m", "--program", "p"], 2, "by-line: --map leaves nothing to --program and --base"),
             (b"", ["-", *cache, "--annotate", "m", "--by", "line"], 2, "by-line: --annotate leaves nothing to --by"),
             (b"", ["-", *cache, "--map", "none"], 1, "by-line: none: No such file or directory\n"),
+            (b"0 1\n", ["-", *cache, "--map", "/dev/null"], 1, "by-line: /dev/null: an empty map; if the trace comes through a pipe"),
             (b"", ["-", *cache, "--program", "none"], 1, "by-line: none: no ELF program that can be read\n"),
             (b"0 1\n", ["-", *cache, "--annotate", "none.c"], 1, "by-line: none.c: No such file or directory\n"),
-            (b"0 1\n", ["-", *cache, "--annotate", __file__], 1, "no reference is from a line of it\n"),
+            (b"0 1\n", ["-", *cache, "--annotate", __file__], 1, "no reference is from a line of it: compile the program with -g"),
             (b"", ["-", "-l1-dsize", "3", "-l1-dbsize", "2"], 2, "cachesim: "),
         ):
             with self.subTest(arguments):

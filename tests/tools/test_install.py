@@ -174,6 +174,11 @@ class Installing(MakeTest):
         self.assertRegex(ran.stderr, "(?m)^stage: left out, since their C parts are not compiled:.* needs-c")
         self.assertFalse((self.to / "usr/bin/cachesim-needs-c").exists())
 
+    def test_no_program_is_built(self):
+        (self.top / "crates/cachesim/out/cachesim").unlink()
+        ran = self.run_command(self.top / "tools/package/stage", self.folder / "tree")
+        self.refused(ran, 1, "stage: no program ", "crates/cachesim/out/cachesim: make builds it\n")
+
     def test_a_place_that_cannot_be_written(self):
         self.few_tools()
         ran = self.make("install", "PREFIX=/proc/cachesim", env=self.path)

@@ -103,12 +103,27 @@ class ToolPages(ToolTest):
         self.assertIn("\\fBcachesim\\-some\\-tool\\fR [\\-h] TABLE\n", page)
         self.assertIn(".PP\noptions:\n.TP\n\\fB\\-h, \\-\\-help\\fR\nshows this\n.TP\n\\fB\\-\\-long NAME\\fR\na name\n", page)
 
+    def test_usage_of_argparse_before_the_call(self):
+        page = self.page(self.tool(
+            "usage: some-tool [-h] TABLE\n\nsome-tool TABLE    chooses the best. Well.\n\nIt writes a line.\n\n"
+            "    plot it; trace --map x sort | tools/best - && (best x)\n"
+        ))
+        self.assertTrue(page.endswith("\n.SH SEE ALSO\n\\fBcachesim\\fR(1)\n"))
+        self.assertIn(".SH NAME\ncachesim\\-some\\-tool \\- chooses the best\n", page)
+        self.assertIn("\\fBcachesim\\-some\\-tool\\fR [\\-h] TABLE\n.SH DESCRIPTION\n.PP\nIt writes a line.\n", page)
+        # each tool of an example has the name that it is installed with
+        self.assertIn("\ncachesim\\-plot it; cachesim\\-trace \\-\\-map x sort | cachesim\\-best \\- && (cachesim\\-best x)\n", page)
+
     def test_a_sentence_before_the_call(self):
         page = self.page(self.tool(
             "Cuts a\ntable X.. well. Well.\n\n    some-tool [--even] JOBS\n              MORE\n\nIt writes a line.\n"
         ))
         self.assertIn(".SH NAME\ncachesim\\-some\\-tool \\- cuts a table X.. well\n", page)
         self.assertIn("\\fBcachesim\\-some\\-tool\\fR [\\-\\-even] JOBS MORE\n.SH DESCRIPTION\n.PP\nIt writes a line.\n", page)
+
+    def test_where_the_examples_are(self):
+        page = self.page(self.tool("some-tool FILE    does it\n\n    some-tool examples/sort.din\n"))
+        self.assertTrue(page.endswith("\nThe folder examples is in share/doc/cachesim, beside the share/man of this page.\n"))
 
     def test_a_help_that_tells_nothing(self):
         for text in ("", "another-tool    does it\n", "some-tool\n"):

@@ -167,6 +167,20 @@ class Din(PlotTest):
         for number, name in enumerate(drawn, 1):
             self.assertEqual(lines[f"size_{number}"], [wanted[name]], name)
 
+    def test_lines_that_are_left_out(self):
+        """Of twelve lines each second is drawn, and the title says so; of six all are."""
+        rows = [f"{size},{policy},{back},{allocate},1000,100,10.000,0\n"
+                for size in (64, 128) for policy in "lfr" for back in "an" for allocate in "an"]
+        header = "l1-usize,l1-urepl,l1-uwback,l1-uwalloc,l1-u-references,l1-u-misses,l1-u-percent,bypassed\n"
+        self.write("t.csv", header + "".join(rows))
+        script = self.script("t.csv", "a.svg")
+        self.assertIn("'Miss ratio by cache size: 6 of 12 lines'", script)
+        self.assertEqual(len(names_of(script)), 6)
+        self.write("t.csv", header + "".join(row for row in rows if ",n,1000" not in row))
+        script = self.script("t.csv", "a.svg")
+        self.assertIn("'Miss ratio by cache size'", script)
+        self.assertEqual(len(names_of(script)), 6)
+
     def test_second_levels(self):
         """The miss ratio is that of the cache on the axis, and a line's name says whose value it is."""
         header = "l1-dsize,l2-usize,l2-urepl,l1-d-references,l1-d-misses,l1-d-percent,l2-u-references,l2-u-misses,l2-u-percent,bypassed"

@@ -73,6 +73,31 @@ class Replay(ReplayTest):
         self.assertEqual([re.split("  +", row.strip())[1:] for row in rows.split("\n")[6:8]],
                          [["flush", "2 written back", "all free"], ["flush", "0 written back", "all free"]])
 
+    def test_one_set(self):
+        """The steps of set 1 of the handout's trace, numbered from 1, with the same sets as in the whole."""
+        rows = HANDOUT_TEXT.split("\n")[3:-2]
+        wanted = [row[4:] for row in rows if row.split()[4] == "1"]
+        arguments = ["-s", 1, "-E", 2, "-b", 4, "-t", HANDOUT, "--set", "1"]
+        text = self.good(self.replay(*arguments, "--text")).split("\n")
+        self.assertEqual(text[0], "handout.lackey, set 1: 2 sets of 2 lines, blocks of 16 bytes, LRU")
+        self.assertEqual([row[:4].strip() for row in text[3:-2]], ["1", "2", "3", "4", "5", "6"])
+        self.assertEqual([row[4:] for row in text[3:-2]], wanted)
+        # of these the loads of 10, 110, 210 and 12 miss
+        self.assertEqual(text[-2], "hits:2 misses:4 evictions:2")
+        data = self.data(*arguments)
+        self.assertEqual((data["sets"], [step["set"] for step in data["steps"]]), ([1], [1] * 6))
+        # a flush counts the dirty blocks of both sets, and what the other set sends to memory is of no step
+        two = ("-l1-usize", "32", "-l1-ubsize", "16", "--set", "0")
+        data = self.data(*two, stdin=b"1 0\n1 10\n0 30\n4 0\n1 20\n")
+        self.assertEqual([step["sent"] for step in data["steps"]], [["read 0"], [], ["read 20"]])
+        self.assertIn("1 dirty block written back", data["steps"][1]["why"])
+        for number, fault in (("2", "there is no set 2: the last one is 1"), ("-1", "--set"), ("x", "'x' is no set such as 0 or 1c")):
+            self.refused(self.replay("-s", 1, "-E", 2, "-b", 4, "-t", HANDOUT, f"--set={number}"), 2, fault)
+        self.refused(self.replay("-s", 4, "-E", 2, "-b", 4, "-t", HANDOUT, "--set", "f"), 1, "no reference for set f")
+        # more than the limit in all, but not in the set
+        many = b" L 0,1\n" * 2000 + b" L 10,1\n"
+        self.assertEqual(len(self.data("-s", 1, "-E", 1, "-b", 4, "--set", "1", stdin=many)["steps"]), 1)
+
     def test_reasons(self):
         """In words, with the step that decides."""
         steps = self.data(*ONE_SET, stdin=ORDER)["steps"]
