@@ -1,13 +1,13 @@
-//! Arguments by calls: their spelling, their numbers, the jobs that they ask for, and the faults that they have.
+//! Arguments by calls: their spelling, their numbers, the file of the trace, and what `clap` refuses. Other faults are in `tests/cases`.
 use arguments::faults::WordsFault;
 use arguments::numbers::{read_number, read_range, read_scaled, read_triple};
 use arguments::parse::{Command, parse};
 use arguments::respell::respell;
-use cache_core::plan::{CacheName, PlanFault};
+use cache_core::plan::PlanFault;
 use std::alloc::{AllocError, Global};
 use std::process::Abort;
 use std::test::Fail;
-use sweep_core::space::{Cause, Config, SpaceFault, Which};
+use sweep_core::space::Config;
 
 /// The arguments of a line, which stand apart by single spaces.
 fn arguments_of(alloc: Global, line: &str) -> Result<Vec<String>, AllocError> {
@@ -30,14 +30,6 @@ fn fault_of(alloc: Global, line: &str) -> Result<WordsFault, Fail> {
         Ok(_) => Err("a job".into()),
         Err(WordsFault::Memory) => Err(WordsFault::Memory.into()),
         Err(fault) => Ok(fault),
-    }
-}
-
-/// What each option of `sweep` behind the needed ones, or in their place, is refused by.
-fn space_fault(alloc: Global, line: &str) -> Result<(Which, Cause), Fail> {
-    match fault_of(alloc, line)? {
-        WordsFault::Space(SpaceFault { which, cause }) => Ok((which, cause)),
-        fault => Err(fault.into()),
     }
 }
 
@@ -112,72 +104,6 @@ fn triples_have_two_commas(rt: HostRuntime) {
 fn a_line_without_a_cache(rt: HostRuntime) -> Result<(), Fail> {
     match fault_of(rt.alloc(), "cachesim din")? {
         WordsFault::Plan(fault) => assert!(rt; fault == PlanFault::NoFirst),
-        fault => return Err(fault.into()),
-    }
-    Ok(())
-}
-
-#[test]
-fn caches_that_give_no_plan(rt: HostRuntime) -> Result<(), Fail> {
-    let geometry = PlanFault::BadGeometry {
-        cache: CacheName::L1U,
-    };
-    for (options, wanted) in [
-        (
-            " -l1-usize 16 -l1-ubsize 16 -l1-isize 16 -l1-ibsize 16",
-            PlanFault::MixedFirst,
-        ),
-        (" -l1-usize 16 -l1-ubsize 32", geometry),
-        (
-            " -l1-usize 32 -l1-ubsize 32 -l2-usize 32 -l2-ubsize 16",
-            PlanFault::SmallBlock,
-        ),
-    ] {
-        let line = format!(in rt.alloc(); "cachesim din{options}")?;
-        let fault = fault_of(rt.alloc(), &line)?;
-        assert!(rt; fault.status() == 2);
-        match fault {
-            WordsFault::Plan(fault) => assert!(rt; fault == wanted, "{line}"),
-            fault => return Err(fault.into()),
-        }
-    }
-    Ok(())
-}
-
-#[test]
-fn caches_that_are_not_whole(rt: HostRuntime) -> Result<(), Fail> {
-    let line = "cachesim din -l1-usize 48 -l1-ubsize 16";
-    match fault_of(rt.alloc(), line)? {
-        WordsFault::Value { option } => assert!(rt; option == "-l1-usize"),
-        fault => return Err(fault.into()),
-    }
-    let line = "cachesim din -l1-uassoc 2";
-    match fault_of(rt.alloc(), line)? {
-        WordsFault::Incomplete { cache } => assert!(rt; cache == CacheName::L1U),
-        fault => return Err(fault.into()),
-    }
-    Ok(())
-}
-
-#[test]
-fn ranges_that_give_no_space(rt: HostRuntime) -> Result<(), Fail> {
-    for (bsize, sets, assoc, size, wanted) in [
-        ("24", "1-2", "1-2", "16-64", (Which::Bsize, Cause::NotPower)),
-        ("0", "1-2", "1-2", "16-64", (Which::Bsize, Cause::NotPower)),
-        ("2m", "1-2", "1-2", "16-64", (Which::Bsize, Cause::Limit)),
-        ("16", "4-2", "1-2", "16-64", (Which::Sets, Cause::Reversed)),
-        ("16", "1-2", "0", "16-64", (Which::Assoc, Cause::Limit)),
-        ("1", "1", "65537", "65537", (Which::Assoc, Cause::Limit)),
-        ("16", "1-2", "1-2", "64-16", (Which::Size, Cause::Reversed)),
-    ] {
-        let line = format!(in rt.alloc();
-            "cachesim sweep --bsize {bsize} --sets {sets} --assoc {assoc} --size {size}"
-        )?;
-        assert!(rt; space_fault(rt.alloc(), &line)? == wanted, "{line}");
-    }
-    let line = "cachesim sweep --bsize 16 --sets 1-2 --assoc 1-2 --size x";
-    match fault_of(rt.alloc(), line)? {
-        WordsFault::Value { option } => assert!(rt; option == "--size"),
         fault => return Err(fault.into()),
     }
     Ok(())
