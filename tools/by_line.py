@@ -183,6 +183,13 @@ def report(asked, layout):
         csv.writer(sys.stdout, lineterminator="\n").writerows(rows)
 
 
+def warn_of_new_files(layout, map_file):
+    """Warns of programs that are not what was traced: the addresses in the trace are of an earlier build."""
+    for path in layout.newer_than(map_file):
+        text = f"{path} is newer than {map_file}: if it was built again since, its names and lines are wrong; then trace it again"
+        print(f"{tool.NAME}: {text}", file=sys.stderr)
+
+
 def main():
     tool.NAME = sys.argv[1]
     asked = arguments()
@@ -190,6 +197,8 @@ def main():
     if asked.command == "report":
         report(asked, layout)
     else:
+        if asked.map:
+            warn_of_new_files(layout, asked.map)
         tool.write_lines(f"{place.start:x} {place.end:x} {place.name}" for place in layout.objects())
 
 

@@ -150,6 +150,11 @@ class Layout:
                 tool.fail(f"{map_file}: line {number} is none of a map")
             self.take_mapping(*(int(text, 16) for text in mapping.groups()[:3]), mapping[4])
 
+    def newer_than(self, map_file):
+        """The paths of the programs and libraries that were written after a map."""
+        since = os.stat(map_file).st_mtime_ns
+        return [file.path for file in self.files if os.stat(file.path).st_mtime_ns > since]
+
     def take_mapping(self, start, end, offset, path):
         if path.startswith("[stack"):
             self.stacks.append(Range(start, end, "(stack)"))

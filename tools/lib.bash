@@ -160,15 +160,21 @@ unpacked() {
 }
 
 # compiled NAME SOURCE FLAG..: compiles a C file of this folder to out/NAME where that is older, and sets `binary` to its path.
-# The installed tools come with out/ and without the C files.
+# The installed tools come with out/ and without the C files. The environment's CC and flags are heeded; those named here come last.
 compiled() {
     binary=$here/out/$1
-    local source=$here/$2 fresh
+    local source=$here/$2 fresh compiler flags
     [ -e "$source" ] && [ ! "$binary" -nt "$source" ] || return 0
-    needs cc gcc
+    read -rd '' -a compiler <<< "${CC:-cc}" || :
+    read -rd '' -a flags <<< "${CPPFLAGS-} ${CFLAGS--O2 -Wall -Wextra} ${LDFLAGS-}" || :
+    if [ -n "${CC:-}" ]; then
+        needs "${compiler[0]}" "${compiler[0]##*/}"
+    else
+        needs cc gcc
+    fi
     { mkdir -p -- "$here/out" && fresh=$(mktemp -- "$here/out/$1.XXXXXXXX"); } 2> /dev/null ||
         fail "$here/out can't be written: 'make tools' compiles the C parts, by someone who may write there"
-    cc -O2 -Wall -Wextra "${@:3}" -o "$fresh" "$source" || { rm -f -- "$fresh"; fail "$source can't be compiled"; }
+    "${compiler[@]}" "${flags[@]}" "${@:3}" -o "$fresh" "$source" || { rm -f -- "$fresh"; fail "$source can't be compiled"; }
     chmod 755 -- "$fresh"  # for all who may use the folder: mktemp made it for one
     mv -- "$fresh" "$binary"
 }

@@ -38,6 +38,11 @@ class Row(NamedTuple):
         return float(self.measured / self.references) if self.references else 0.0
 
     @property
+    def share(self):
+        """The measure in per cent of the references, exactly."""
+        return fractions.Fraction(100 * self.measured, self.references) if self.references else fractions.Fraction()
+
+    @property
     def percent(self):
         return float(100 * self.measured / self.references) if self.references else 0.0
 

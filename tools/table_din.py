@@ -16,17 +16,24 @@ WORDS = {
 
 
 class Case(NamedTuple):
-    """A combination of values: the texts of its options, the bytes of all its caches, the measure for each seed, and its place."""
+    """A combination of values: the texts of its options, the bytes of all its caches, the measure for each seed, and its place. Last
+    the measure for each seed in per cent of references."""
 
     given: tuple
     size: int
     values: tuple
     ties: int
+    shares: tuple = ()
 
     @property
     def measured(self):
         """What cases are compared by: the mean over the seeds."""
         return sum(self.values) / len(self.values)
+
+    @property
+    def share(self):
+        """The mean over the seeds in per cent of references, exactly."""
+        return sum(self.shares) / len(self.shares)
 
     @property
     def deviation(self):
@@ -71,6 +78,15 @@ def references_of(columns, fields):
     return sum(int(fields[columns.index(column)]) for column in counted)
 
 
+def share_of(columns, fields, measure, value, references):
+    """A measure in per cent, exactly: what a cache counts by the cache's own references, and all else by those of the trace."""
+    if measure.endswith("-percent"):
+        return value
+    own = "-".join(measure.split("-")[:2]) + "-references"
+    count = int(fields[columns.index(own)]) if own in columns else references
+    return 100 * value / count if count else value * 0
+
+
 def read_rows(lines, name, columns):
     """The fields of each row, which are as many as the columns, and where they stand."""
     numbers = [at for at, column in enumerate(columns) if column.endswith(("size", "assoc", "-references")) or column == "bypassed"]
@@ -100,7 +116,9 @@ def read_table(lines, name, measure=None):
         if own != references:
             raise BadTable(f"{place}: the rows are not of one trace: {references} references in the first row, {own} here")
         first = found.setdefault(given, Case(given, sum(int(fields[at]) for at in sizes), (), len(found)))
-        found[given] = first._replace(values=first.values + (number_of(fields[measured], measure, place),))
+        value = number_of(fields[measured], measure, place)
+        share = share_of(columns, fields, measure, value, references)
+        found[given] = first._replace(values=first.values + (value,), shares=first.shares + (share,))
     if not found:
         raise BadTable(f"{name}: a table without a row")
     return Table(options, measure, references, list(found.values()))

@@ -55,6 +55,37 @@ class Best(base.ToolTest):
         self.assertEqual(self.best("-", "--within", "47.6999", stdin=rows), ["32,4,1"])
         self.assertEqual(self.best("-", "--within", "47.7", stdin=rows), ["32,2,1"])
 
+    def test_below(self):
+        """Of 1,000 references: 50 misses are 5 per cent, which is at most that."""
+        for percent, caches in (
+            ("100", ["32,1,2", "16,4,1", "16,1,4"]),
+            ("20", ["32,1,2", "16,4,1", "16,1,4"]),
+            ("19.9", ["32,1,2"]),
+            ("9.9999", ["32,2,2"]),
+            ("5", ["32,2,2"]),
+            ("4.9", ["64,8,1", "64,2,4"]),
+        ):
+            self.assertEqual(self.best("table.csv", "--below", percent), caches, percent)
+        self.assertEqual(self.best("table.csv", "--below", "5", "--up-to", "128"), ["32,2,2"])
+        # 200 misses are 800 hits
+        self.assertEqual(self.best("table.csv", "--below", "80", "--measure", "hits"), ["16,4,1", "16,1,4"])
+        self.assertEqual(self.best("-", "--below", "0", stdin=b"16,1,1,16,0,0,0\n"), ["16,1,1"])
+
+    def test_below_is_exact(self):
+        # one miss of three references
+        row = base.rows_of(3, {(16, 1, 1): 1}).encode()
+        self.assertEqual(self.best("-", "--below", "33.33333333333333333334", stdin=row), ["16,1,1"])
+        ran = self.run_tool("best", "-", "--below", "33.33333333333333333333", stdin=row)
+        self.refused(ran, 1, "best: -: no cache has at most 33.3333 per cent misses; the least is 33.3333\n")
+
+    def test_nothing_below(self):
+        for arguments, said in (
+            (["--below", "4.89"], "no cache has at most 4.89 per cent misses; the least is 4.9\n"),
+            (["--below", "5", "--up-to", "64"], "no cache of at most 64 bytes has at most 5 per cent misses; the least is 10\n"),
+            (["--below", "0", "--measure", "evictions"], "no cache has at most 0 per cent evictions; the least is 4.1\n"),
+        ):
+            self.refused(self.run_tool("best", "table.csv", *arguments), 1, f"best: table.csv: {said}")
+
     def test_rows(self):
         self.assertEqual(self.best("table.csv", "--rows", "4"), ["64,8,1", "64,2,4", "32,2,2", "64,4,1"])
         self.assertEqual(self.best("table.csv", "--rows", "2", "--up-to", "64"), ["32,1,2", "16,4,1"])
@@ -113,6 +144,8 @@ class Best(base.ToolTest):
             (b"", ["table.csv", "--within", "-1"], 2, "--within"),
             (b"", ["table.csv", "--within", "nan"], 2, "'nan' is no number of per cent"),
             (b"", ["table.csv", "--within", "1", "--front"], 2, "not allowed with"),
+            (b"", ["table.csv", "--within", "1", "--below", "1"], 2, "not allowed with"),
+            (b"", ["table.csv", "--below", "1%"], 2, "'1%' is no number of per cent"),
             (b"", ["table.csv", "--rows", "0"], 2, "'0' is no number above 0"),
             (b"", ["table.csv", "--up-to", "1x"], 2, "'1x' is no size"),
         ):

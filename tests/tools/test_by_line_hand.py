@@ -1,6 +1,7 @@
 """Misses by line, function and object of small traces, with numbers by hand."""
 
 import collections
+import os
 import re
 import subprocess
 
@@ -194,6 +195,27 @@ class Sources(Hand):
                          {f"{self.folder}/a/same.c:1": 2, f"{self.folder}/b/same.c:1": 1})
         annotated = self.good(self.run_tool("by-line", "-", "--program", program, *ONE_LINE, "--annotate", "b/same.c", stdin=text))
         self.assertEqual(annotated.splitlines()[-1].split()[:4], ["1", "(33.3%)", "1", "(50.0%)"])
+
+    def test_a_program_newer_than_the_map(self):
+        """It is told by name, and the table comes all the same. It may be as old as the map, and other files newer."""
+        (self.folder / "inlined.c").write_text(INLINED)
+        program = self.compiled("inlined.c")
+        data = self.folder / "data"
+        data.write_text("no program\n")
+        start = int(re.search(r"LOAD +0x0+ 0x(\w+)", self.good(self.run_command("readelf", "-lW", program)))[1], 16)
+        map_file = self.folder / "map"
+        map_file.write_text("".join(f"{at:x}-{at + 4096:x} r--p 00000000 00:00 0 {path}\n" for at, path in ((start, program), (16, data))))
+        given = ["by-line", "-", "--map", "map", *ONE_LINE]
+        text = f"2 {self.address_of(program, 7):x}\n0 100\n".encode()
+        os.utime(map_file, ns=(0, 10 ** 18))
+        for path, later in ((program, 0), (data, 10 ** 9)):
+            os.utime(path, ns=(0, 10 ** 18 + later))
+        table = self.good(self.run_tool(*given, stdin=text))
+        self.assertIn("\ninlined.c:7,,main,1,1,", table)
+        os.utime(program, ns=(0, 10 ** 18 + 1))
+        ran = self.run_tool(*given, stdin=text)
+        message = f"by-line: {program} is newer than map: if it was built again since, its names and lines are wrong; then trace it again\n"
+        self.assertEqual((ran.stdout.decode(), ran.stderr.decode(), ran.returncode), (table, message, 0))
 
     def test_a_loop_in_one_line(self):
         """Of such a line binutils tell the parts apart, by a number behind the line's own."""

@@ -121,7 +121,7 @@ class Grade(StudentTest):
 
     def test_mistakes(self):
         cases = list(mistakes())
-        self.assertEqual(len(cases), 16)
+        self.assertEqual(len(cases), 17)
         for names, arguments, said in cases:
             with self.subTest(names):
                 program = self.student(*names)

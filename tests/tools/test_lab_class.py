@@ -204,6 +204,7 @@ class GradeClass(ClassTest):
             (["--trace", "bad.trace"], {}, "grade-class: -s 1 -E 1 -b 1 -t bad.trace: line 1: bad label\n"),
             (["--trace", "absent"], {}, "grade-class: absent: no such file\n"),
             (["absent"], {}, "grade-class: absent: no such folder\n"),
+            (["bad.trace", "absent"], {}, "grade-class: absent: no such folder\n"),
             (["--geometry", "21,1,1"], {}, "bad geometry\n"),
             (["--jobs", "0"], {}, "grade-class: argument --jobs: invalid jobs value: '0'; "),
             ([], {"CACHESIM": "/absent"}, "grade-class: /absent is no program that can be run\n"),
@@ -211,6 +212,18 @@ class GradeClass(ClassTest):
         ):
             self.refused(self.grade_class("students/ann", *arguments, env=env), 2, message)
         self.assertFalse((self.folder / "students/ann/grade.txt").exists())
+
+    def test_files_among_the_folders(self):
+        """They are named and left out; without a folder nobody is judged."""
+        students = [self.enrol(name, self.student()) for name in ("ann", "zoe")]
+        files = [self.folder / "students" / name for name in ("README.txt", "list")]
+        for file in files:
+            file.touch()
+        ran = self.grade_class(*self.SHORT, *sorted([*students, *files]))
+        message = "".join(f"grade-class: {file}: left out, as it is no folder\n" for file in files)
+        rows = "ann,6,6,18,\nzoe,6,6,18,\n"
+        self.assertEqual((ran.stdout.decode(), ran.stderr.decode(), ran.returncode), (f"{HEADER}\n{rows}", message, 1))
+        self.refused(self.grade_class(*files), 2, f"grade-class: {files[0]}: no folder\n")
 
     def test_a_text_that_cannot_be_written(self):
         (self.enrol("ann", self.student()) / "grade.txt").mkdir()

@@ -260,6 +260,33 @@ class Best(PlotTest):
         self.assertEqual(self.best(f"{header}\n{rows}", "--rows", "2"),
                          ["l1-dsize,l2-usize,size,l2-u-misses", "64,256,320,20", "128,256,384,25"])
 
+    def test_below(self):
+        """30, 42 and 33 misses of 1,000 references are 3.5 per cent in the mean."""
+        given = f"{COLUMNS}\n{din_rows(POLICIES)}"
+        lines = self.best(given, "--below", "3.5")
+        self.assertEqual(lines[0], "l1-usize,l1-ubsize,l1-uassoc,l1-urepl,size,l1-u-misses,runs,deviation,least,greatest,percent")
+        self.assertEqual([(line[:10], line.split(",")[-1]) for line in lines[1:]],
+                         [("128,16,2,l", "2.000"), ("128,16,2,f", "2.500"), ("128,16,2,r", "3.500")])
+        self.assertEqual([line[:10] for line in self.best(given, "--below", "3.4999")[1:]], ["128,16,2,l", "128,16,2,f"])
+        self.assertEqual([line[:9] for line in self.best(given, "--below", "10")[1:]], ["64,16,2,l"])
+        self.refused(self.run_tool("best", "t.csv", "--below", "1.9"), 1,
+                     "best: t.csv: no cache has at most 1.9 per cent misses; the least is 2\n")
+
+    def test_below_of_a_cache_and_of_the_trace(self):
+        """20 of the 50 references to the second level, and of the 109 of the trace: 40 and 18.349 per cent."""
+        rows = "64,256,100,50,50.000,50,20,40.000,20,9\n128,256,100,40,40.000,40,25,62.500,25,9\n"
+        header = "l1-dsize,l2-usize,l1-d-references,l1-d-misses,l1-d-percent,l2-u-references,l2-u-misses,l2-u-percent,memory-reads,bypassed"
+        for arguments, row in (
+            (["--below", "40"], "64,256,320,20,40.000"),
+            (["--below", "20", "--measure", "memory-reads"], "64,256,320,20,18.349"),
+            (["--below", "40", "--measure", "l1-d-misses"], "128,256,384,40,40.000"),
+            (["--below", "41", "--measure", "l2-u-percent"], "64,256,320,40,40.000"),
+        ):
+            self.assertEqual(self.best(f"{header}\n{rows}", *arguments)[1:], [row])
+        self.refused(self.run_tool("best", "t.csv", "--below", "39.999"), 1, "at most 39.999 per cent misses; the least is 40\n")
+        nothing = "l1-dsize,l1-d-references,l1-d-misses,l1-d-percent,bypassed\n64,0,0,0.000,0\n"
+        self.assertEqual(self.best(nothing, "--below", "0")[1:], ["64,64,0,0.000"])
+
     def test_measure_of_a_sweep(self):
         given = f"{table.HEADER}\n" + rows_of([(1, 500), (2, 400)])
         self.assertEqual(self.best(given, "--measure", "hits"), [f"{table.HEADER},percent", "64,1,1,64,500,500,0,50.000"])

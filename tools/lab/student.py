@@ -44,10 +44,11 @@ class Case(NamedTuple):
 
 
 class Run(NamedTuple):
-    """What a run of a student's program left. The fault is empty where it ended well."""
+    """What a run of a student's program left. The fault is empty where it ended well. A run that was killed had no time to flush."""
 
     fault: str
     is_slow: bool
+    is_killed: bool
     output: pathlib.Path
     results: Optional[bytes]
 
@@ -74,7 +75,8 @@ class Student:
             limit = max(LEAST_LIMIT, 16 * os.path.getsize(case.trace))
             with open(output, "wb") as out, open(messages, "wb") as err:
                 status = status_of(command, limit, seconds, cwd=room, stdout=out, stderr=err)
-            ran = Run(fault_of(status, messages, seconds), status is None, output, results_in(room))
+            is_slow = status is None
+            ran = Run(fault_of(status, messages, seconds), is_slow, is_slow or is_signal(status), output, results_in(room))
         if ran.is_slow:
             self.slow_runs += 1
             self.seconds = self.seconds if flags else self.few_seconds
@@ -99,14 +101,21 @@ def status_of(command, limit, seconds, **given):
     return process.returncode if has_ended else None
 
 
+def number_of(status):
+    """The number of the signal that a status tells: bubblewrap and shells do so by one above 128."""
+    return -status if status < 0 else status - 128
+
+
+def is_signal(status):
+    return status < 0 or number_of(status) in list(signal.Signals)
+
+
 def fault_of(status, messages, seconds):
     """A status in words, with the last message that came before."""
     if not status:
         return "" if status == 0 else f"no end within {seconds:g} s"
-    # bubblewrap and shells tell a signal by a status above 128
-    number = -status if status < 0 else status - 128
-    is_signal = status < 0 or number in list(signal.Signals)
-    text = f"ended by signal {number}: {signal.strsignal(number)}" if is_signal else f"ended with status {status}"
+    number = number_of(status)
+    text = f"ended by signal {number}: {signal.strsignal(number)}" if is_signal(status) else f"ended with status {status}"
     last = last_line(messages)
     return f"{text}; its last message is '{shown(last)}'" if last else text
 
