@@ -89,7 +89,8 @@ class Mutants(ToolTest):
 
     def test_elsewhere_or_not_at_all(self):
         self.refused(FALSE + REFUSED, "not at Half::of value, but at Half::of small")
-        self.refused(GONE + REFUSED, "only a stored proof no longer fits: .*has no field")
+        (self.folder / "alone").write_text(GONE + REFUSED)
+        self.refused(GONE + REFUSED, "by its stored proof alone, and without it: only a stored proof no longer fits: .*has no field")
         self.refused(PROVED, "it is proved")
         self.refused("error: a mismatched type\n", "it did not reach the prover: error: a mismatched")
         self.refused("src/lib.rt:6:5: error: no such word\n" + REFUSED, "it did not reach the prover")
@@ -122,10 +123,11 @@ class Mutants(ToolTest):
         for said, told in ((PROVED, "it is proved"), (IN_CODE + REFUSED, "not at Half::of invariant_of-self, but at Half::of value")):
             own.write_text(said)
             self.refused(IN_ANSWER + REFUSED, f"by its stored proof alone, and without it: {told}")
-        # where a lemma beside the stored proof is what no longer holds
+        # where a lemma beside the stored proof is what no longer holds, and where the stored proof names what is gone
         self.mutant.write_text(f"goal: Half::of value\n{EDIT}")
-        lines, _ = self.tried(IN_ANSWER + REFUSED)
-        self.assertRegex(lines[0], r"^ok low a_third \(\d+ s\) at Half::of value, without its stored proof too$")
+        for said in (IN_ANSWER, GONE):
+            lines, _ = self.tried(said + REFUSED)
+            self.assertRegex(lines[0], r"^ok low a_third \(\d+ s\) at Half::of value, without its stored proof too$")
 
     def test_a_crate_that_is_not_proved(self):
         (self.folder / "whole").write_text(IN_CODE + REFUSED)
