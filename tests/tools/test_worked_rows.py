@@ -1,0 +1,62 @@
+"""No worked row compares a thing with itself: such a row passes whatever the definition or the code says."""
+
+import re
+import unittest
+
+import base
+
+ROWS = re.compile(r"^(?:(?:abbrev|unfoldable|pub) )*(\w[\w-]*) :(.*?)(?=^\S|\Z)", re.M | re.S)
+OPENS, CLOSES = "([{", ")]}"
+
+
+def side(text, opens, closes, ends):
+    """A side of a comparison: up to the bracket that encloses it, or a sign that ends it."""
+    depth = 0
+    for at, letter in enumerate(text):
+        if depth == 0 and letter in closes + ends:
+            return text[:at]
+        depth += (letter in opens) - (letter in closes)
+    return text
+
+
+def equal_sides(text, equals, ends):
+    """The comparisons with the same text on both sides."""
+    for sign in re.finditer(equals, text):
+        left = side(text[: sign.start()][::-1], CLOSES, OPENS, ends)[::-1]
+        right = side(text[sign.end() :], OPENS, CLOSES, ends)
+        if left.split() == right.split():
+            yield left.strip()
+
+
+def in_rows(text):
+    """The names of the rows of a module of proofs that compare a thing with itself."""
+    return [name for name, row in ROWS.findall(text) if any(equal_sides(row, "≡", "×→≡"))]
+
+
+def in_code(text):
+    return list(equal_sides(text, "==", ",;=!&|"))
+
+
+class WorkedRows(unittest.TestCase):
+    def test_of_definitions(self):
+        files = [path for path in base.TOP.glob("crates/*/proofs/*.antt") if re.search("Tables|Examples|Rows", path.stem)]
+        self.assertGreater(len(files), 8)
+        for path in files:
+            self.assertEqual(in_rows(path.read_text()), [], path)
+
+    def test_of_code(self):
+        files = list(base.TOP.glob("crates/worked_examples/src/*.rt"))
+        self.assertGreater(len(files), 8)
+        for path in files:
+            self.assertEqual(in_code(path.read_text()), [], path)
+
+    def test_what_is_found(self):
+        rows = "good : (f 7 ≡ Some 7) × (f 8 ≡ None)\ngood = (refl, refl)\nbad : (f 7 ≡ Some 7)\n    × (f 8 ≡ f  8)\nbad = (refl, refl)\n"
+        self.assertEqual(in_rows(rows), ["bad"])
+        self.assertEqual(in_code("assert!(rt; found == wanted, \"row {i}\"); let is_so = a.counts(2) == b.counts(2);"), [])
+        self.assertEqual(in_code("assert!(rt; cache.counts(2) == cache.counts(2));"), ["cache.counts(2)"])
+        self.assertEqual(in_code("assert!(rt;\n    ok && found == found,\n    \"row {i}\");"), ["found"])
+
+
+if __name__ == "__main__":
+    unittest.main()
