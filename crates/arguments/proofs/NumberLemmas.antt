@@ -1,12 +1,15 @@
 -- What a text of digits is read as.
-use Rattle.std.proofs.Common.{◌≡◌, ◌<◌, ◌^◌, ◌+◌, ℕ, Bool, true, false, List, [], ◌∷◌, length, nat_lt, Some, None, Result, Ok, Err, refl, rules}
-use Rattle.std.proofs.Common.{arith, ap, lt-ltb, ltb-true}
-use Rattle.std.specs.List.{list_all, list_any, position_or_len}
+use Rattle.std.proofs.Common.{◌≡◌, ◌<◌, ◌==◌, ◌^◌, ◌+◌, ℕ, Bool, true, false, List, [], ◌∷◌, length, nat_lt, Some, None, Result, Ok, Err, refl, rules}
+use Rattle.std.proofs.Common.{arith, ap, ap₂, lt-ltb, ltb-true, Option, option_map}
+use Rattle.std.specs.Borrow.{Bor}
+use Rattle.std.specs.Prelude.{MatchOption}
+use Rattle.std.specs.List.{after_first, before_first, list_all, list_any, position_or_len}
 use Rattle.std.specs.Result.{result_ok, OkIff}
 use Rattle.std.specs.Char.{is_ascii_digit}
 use Rattle.std.specs.Str.Parse.{ParsesUnsigned}
 use Rattle.std.proofs.lemmas.Str.Parse.{IsDigitsTest, IsNumeralModel, WeighsDigits, numerals_by_weight, parse_digits}
-use Rattle.arguments.specs.Numbers.{number_of, value_of_digits}
+use Rattle.cache_core.proofs.Lists.{list_any_is}
+use Rattle.arguments.specs.Numbers.{number_of, split_at, value_of_digits}
 
 pub weighs : WeighsDigits value_of_digits
 weighs = search rules
@@ -52,3 +55,11 @@ no_place p (x ∷ xs) e = go (p x) refl (no_place p xs)
     go false q rec =
         let rest : 1 + position_or_len p xs ≡ length (x ∷ xs) = rw q at e in
         rw q (rec (omega arith))
+
+-- a text that is split at a byte, and one that lacks it
+pub parted : (c : ℕ) (t : List ℕ) (r : Option (Bor (List ℕ) × Bor (List ℕ)))
+    → MatchOption r (position_or_len (λ b. b == c) t ≡ length t)
+    (λ x. (x.0.now ≡ before_first (λ b. b == c) t) × (x.1.now ≡ after_first (λ b. b == c) t) × (position_or_len (λ b. b == c) t < length t))
+    → option_map (λ parts. (parts.0.now, parts.1.now)) r ≡ split_at c t
+parted c t None h = rw (no_place (λ b. b == c) t h) refl
+parted c t (Some x) h = rw (list_any_is (λ b. b == c) t, lt-ltb _ _ h.2) (ap₂ (λ a b. Some (a, b)) h.0 h.1)

@@ -24,6 +24,7 @@ use Rattle.arguments.specs.Options.{assoc_option_of, bsize_option_of, informat_o
 use Rattle.arguments.specs.Options.{walloc_option_of, wback_option_of}
 use Rattle.arguments.specs.Readings.{and_then, format_named, optional_value, value_or}
 use Rattle.arguments.specs.declared.din_job.CacheReading.{CacheReading}
+use Rattle.arguments.specs.declared.din_job.CacheReadings.{CacheReadings}
 use Rattle.arguments.specs.declared.job.Job.{Job}
 use Rattle.arguments.specs.declared.job.Job.TheVariants.{Din, Log}
 
@@ -89,31 +90,31 @@ cache_of cache r = if is_given r
     else Ok None
 
 -- The plan of what was given of the four caches, or the first fault: caches that lack size or bsize, then the plan's.
-abbrev pub plan_given : CacheReading → CacheReading → CacheReading → CacheReading → Result PlannedCaches JobFault
-plan_given i d u second =
-    and_then (cache_of L1I i) (λ i.
-    and_then (cache_of L1D d) (λ d.
-    and_then (cache_of L1U u) (λ u.
-    and_then (cache_of L2U second) (λ second.
+abbrev pub plan_given : CacheReadings → Result PlannedCaches JobFault
+plan_given caches =
+    and_then (cache_of L1I caches.i) (λ i.
+    and_then (cache_of L1D caches.d) (λ d.
+    and_then (cache_of L1U caches.u) (λ u.
+    and_then (cache_of L2U caches.second) (λ second.
     result_map_both (λ p. p) plan (plan_of (record { i = i; d = d; u = u }) second)))))
 
 -- what was given of the first-level instruction, data and unified cache, and of the second level's
-abbrev pub caches_given : List Row → Result (CacheReading × CacheReading × CacheReading × CacheReading) JobFault
+abbrev pub caches_given : List Row → Result CacheReadings JobFault
 caches_given rows =
     and_then (reading_of L1I rows) (λ i.
     and_then (reading_of L1D rows) (λ d.
     and_then (reading_of L1U rows) (λ u.
     and_then (reading_of L2U rows) (λ second.
-    Ok (i, d, u, second)))))
+    Ok (record { i = i; d = d; u = u; second = second })))))
 
 -- What these entries say of the caches, the seed and the format, or the first fault: bad values in the table's order, then the caches' and
 -- the plan's. The letters of the format and the default seed are this project's.
 abbrev pub options_given : List Row → Result (PlannedCaches × ℕ × Format) JobFault
 options_given rows =
-    and_then (caches_given rows) (λ c.
+    and_then (caches_given rows) (λ caches.
     and_then (value_or DinFormat informat_option.id format_named rows) (λ format.
     and_then (value_or 42 seed_option.id number_of rows) (λ seed.
-    and_then (plan_given c.0 c.1 c.2 c.3) (λ p. Ok (p, seed, format)))))
+    and_then (plan_given caches) (λ p. Ok (p, seed, format)))))
 
 -- the job of `din`, or the first fault
 abbrev pub din_of : List Row → Result Job JobFault

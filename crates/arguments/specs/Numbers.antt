@@ -5,7 +5,6 @@ use Rattle.std.specs.List.{list_all, list_any, before_first, after_first}
 use Rattle.std.specs.Option.{option_map_or}
 use Rattle.std.specs.Char.{is_ascii_digit}
 use Rattle.clap.specs.Words.{Text}
-use Rattle.trace_core.specs.Line.{is_comma}
 use Rattle.sweep_core.specs.declared.space.Config.{Config}
 
 -- the value of decimal digits: each times its power of ten
@@ -45,27 +44,24 @@ scaled_of text = option_map_or (scaled_numeral (take (length text - 1) text))
 abbrev pub both_of : Option ℕ → Option ℕ → Option (ℕ × ℕ)
 both_of low high = option_and_then (λ x. option_map (λ y. (x, y)) high) low
 
--- the byte between the two numbers of a range
-abbrev pub is_dash : ℕ → Bool
-is_dash c = c == 45
+-- what is before the first such byte and what is after it, where the text has one
+abbrev pub split_at : ℕ → Text → Option (Text × Text)
+split_at c text = if list_any (λ b. b == c) text
+    then Some (before_first (λ b. b == c) text, after_first (λ b. b == c) text) else None
 
--- a scaled number, or two with a dash between: least and greatest, not compared here
+-- a scaled number, or two with a dash (45) between: least and greatest, not compared here
 abbrev pub range_of : Text → Option (ℕ × ℕ)
-range_of text =
-    if list_any is_dash text
-    then both_of (scaled_of (before_first is_dash text)) (scaled_of (after_first is_dash text))
-    else option_map (λ x. (x, x)) (scaled_of text)
+range_of text = option_map_or (λ parts. both_of (scaled_of parts.0) (scaled_of parts.1)) (split_at 45 text)
+    (option_map (λ x. (x, x)) (scaled_of text))
 
 -- the triple of three numbers, where there are all three
 abbrev pub config_of : Option ℕ → Option ℕ → Option ℕ → Option Config
 config_of (Some b) (Some s) (Some e) = Some (record { bsize = b; sets = s; assoc = e })
 config_of _ _ _ = None
 
--- three numbers: before the first comma, before the second, and after it; that some cache has them is not judged here
+-- three numbers, with commas (44) between; that some cache has them is not judged here
 abbrev pub triple_of : Text → Option Config
 triple_of text =
-    let rest = after_first is_comma text in
-    if list_any is_comma text && list_any is_comma rest
-    then config_of (number_of (before_first is_comma text))
-    (number_of (before_first is_comma rest)) (number_of (after_first is_comma rest))
-    else None
+    option_and_then (λ first. option_and_then (λ second.
+    config_of (number_of first.0) (number_of second.0) (number_of second.1))
+    (split_at 44 first.1)) (split_at 44 text)

@@ -2,14 +2,17 @@
 ghost use Rattle.std.specs.Prelude.{◌≡◌, ◌++◌, IfOk, OnOk, Some, false, map};
 ghost use Rattle.clap.specs.Words.{app_of, new_rule, rule_of};
 ghost use Rattle.clap.specs.declared.builder.command.Command.TheViews.{out-Command as fields_of};
-ghost use Rattle.arguments.specs.Options.{app_and_global, cachesim_app, din_rules, leaf_of, own_leaf, own_rule, rule_and_global};
-ghost use Rattle.arguments.specs.Options.{rule_of_option, rules_of, with_spelling};
+ghost use Rattle.arguments.specs.Options.{app_and_global, cachesim_app, csim_rules, din_rules, leaf_of, own_leaf, own_rule, rule_and_global};
+ghost use Rattle.arguments.specs.Options.{rule_of_option, rules_of, sweep_rules, with_spelling};
 
 use crate::cache_options::cache_options;
 use crate::help;
 use crate::options::Presence::{Flag, Optional, Required};
 use crate::options::Spelling::{Long, Short};
-use crate::options::{CSIM_OPTIONS, CommandOption, DIN_OPTIONS, SWEEP_OPTIONS};
+use crate::options::{
+    AFTER, ASSOC, BLOCK_BITS, BSIZE, CommandOption, FILE, FORMAT, INFORMAT, KIND, LACKEY_FILE,
+    LINES, POW2, ROWS, SEED, SET_BITS, SETS, SIZE, VERBOSE,
+};
 use cache_core::plan::CacheName;
 use clap::{Arg, ArgAction, Command};
 use std::alloc::{AllocError, Global};
@@ -102,18 +105,31 @@ fn args_of<'a>(alloc: Global, options: OptionsOf) -> Result<Vec<Arg<'a>>, AllocE
     ensures { IfOk result (λ v. map rule_and_global v.items ≡ map own_rule (rules_of options)) }
 {
     match options {
-        OptionsOf::Csim => listed_args(alloc, &CSIM_OPTIONS),
+        OptionsOf::Csim => csim_args(alloc),
         OptionsOf::Din => din_args(alloc),
-        OptionsOf::Sweep => listed_args(alloc, &SWEEP_OPTIONS),
+        OptionsOf::Sweep => sweep_args(alloc),
     }
 }
 
-/// Options that stand under the heading of all commands.
-fn listed_args<'a>(alloc: Global, options: &[CommandOption]) -> Result<Vec<Arg<'a>>, AllocError>
-    ensures { IfOk result (λ v. map rule_and_global v.items ≡ map own_rule (map rule_of_option options.now)) }
+/// The options of `csim`.
+fn csim_args<'a>(alloc: Global) -> Result<Vec<Arg<'a>>, AllocError>
+    ensures { IfOk result (λ v. map rule_and_global v.items ≡ map own_rule csim_rules) }
 {
+    let options = [&SET_BITS, &LINES, &BLOCK_BITS, &LACKEY_FILE, &VERBOSE];
     let mut args = Vec::new(alloc);
-    push_options(alloc, &mut args, None, options)?;
+    push_options(alloc, &mut args, None, &options)?;
+    Ok(args)
+}
+
+/// The options of `sweep`.
+fn sweep_args<'a>(alloc: Global) -> Result<Vec<Arg<'a>>, AllocError>
+    ensures { IfOk result (λ v. map rule_and_global v.items ≡ map own_rule sweep_rules) }
+{
+    let options = [
+        &BSIZE, &SETS, &ASSOC, &SIZE, &KIND, &FORMAT, &AFTER, &ROWS, &POW2, &FILE,
+    ];
+    let mut args = Vec::new(alloc);
+    push_options(alloc, &mut args, None, &options)?;
     Ok(args)
 }
 
@@ -130,10 +146,12 @@ fn din_args<'a>(alloc: Global) -> Result<Vec<Arg<'a>>, AllocError>
     ensures { IfOk result (λ v. map rule_and_global v.items ≡ map own_rule din_rules) }
 {
     let mut args = Vec::new(alloc);
-    push_options(alloc, &mut args, None, &DIN_OPTIONS)?;
+    push_options(alloc, &mut args, None, &[&INFORMAT, &SEED, &FILE])?;
     for &(cache, heading) in &DIN_CACHES {
         let of = cache_options(cache);
-        let options = [of.size, of.bsize, of.assoc, of.repl, of.walloc, of.wback];
+        let options = [
+            &of.size, &of.bsize, &of.assoc, &of.repl, &of.walloc, &of.wback,
+        ];
         push_options(alloc, &mut args, Some(heading), &options)?;
     }
     Ok(args)
@@ -144,10 +162,10 @@ fn push_options<'a>(
     alloc: Global,
     args: &mut Vec<Arg<'a>>,
     heading: Option<&'static str>,
-    options: &[CommandOption],
+    options: &[&CommandOption],
 ) -> Result<(), AllocError>
     ensures { OnOk result (map rule_and_global args.new.items ≡ map rule_and_global args.old.items
-        ++ map own_rule (map rule_of_option options.now)) }
+        ++ map own_rule (map (λ option. rule_of_option option.now) options.now)) }
 {
     for option in options {
         args.push(arg_under(alloc, heading, option))?;

@@ -30,8 +30,14 @@ pub struct CacheReading {
     wback: Option<WriteMode>,
 }
 
-/// What was given of the first-level instruction, data and unified cache, and of the second level's.
-type FourReadings = (CacheReading, CacheReading, CacheReading, CacheReading);
+/// What was given of the options of the four caches.
+#[derive(Clone, Copy)]
+pub struct CacheReadings {
+    i: CacheReading,
+    d: CacheReading,
+    u: CacheReading,
+    second: CacheReading,
+}
 
 /// The job of `din`.
 pub fn din_job(matches: &ArgMatches<'_>) -> Result<Job, WordsFault>
@@ -65,39 +71,34 @@ pub fn log_job(matches: &ArgMatches<'_>) -> Result<Job, WordsFault>
 fn options_given(matches: &ArgMatches<'_>) -> Result<(Plan, u64, Format), WordsFault>
     ensures { answer_in result ≡ Some (options_given (rows_given matches.now)) }
 {
-    let (i, d, u, second) = caches_given(matches)?;
+    let caches = caches_given(matches)?;
     let format = format_at(matches, INFORMAT.name)?;
     let seed = optional_number_at(matches, SEED.name)?.unwrap_or(42);
-    let plan = plan_given(i, d, u, second)?;
+    let plan = plan_given(&caches)?;
     Ok((plan, seed, format))
 }
 
 /// What was given of the four caches.
-fn caches_given(matches: &ArgMatches<'_>) -> Result<FourReadings, WordsFault>
+fn caches_given(matches: &ArgMatches<'_>) -> Result<CacheReadings, WordsFault>
     ensures { answer_in result ≡ Some (caches_given (rows_given matches.now)) }
 {
     let i = read_cache(matches, CacheName::L1I)?;
     let d = read_cache(matches, CacheName::L1D)?;
     let u = read_cache(matches, CacheName::L1U)?;
     let second = read_cache(matches, CacheName::L2U)?;
-    Ok((i, d, u, second))
+    Ok(CacheReadings { i, d, u, second })
 }
 
 /// The plan of what was given of the four caches.
-fn plan_given(
-    i: CacheReading,
-    d: CacheReading,
-    u: CacheReading,
-    second: CacheReading,
-) -> Result<Plan, WordsFault>
-    ensures { answer_in result ≡ Some (plan_given i d u second) }
+fn plan_given(caches: &CacheReadings) -> Result<Plan, WordsFault>
+    ensures { answer_in result ≡ Some (plan_given caches.now) }
 {
     let first = FirstLevel {
-        i: complete(CacheName::L1I, i)?,
-        d: complete(CacheName::L1D, d)?,
-        u: complete(CacheName::L1U, u)?,
+        i: complete(CacheName::L1I, &caches.i)?,
+        d: complete(CacheName::L1D, &caches.d)?,
+        u: complete(CacheName::L1U, &caches.u)?,
     };
-    let second = complete(CacheName::L2U, second)?;
+    let second = complete(CacheName::L2U, &caches.second)?;
     Ok(Plan::new(first, second)?)
 }
 
@@ -117,10 +118,10 @@ fn read_cache(matches: &ArgMatches<'_>, cache: CacheName) -> Result<CacheReading
 }
 
 /// The cache, where one of its options was given.
-fn complete(cache: CacheName, reading: CacheReading) -> Result<Option<CacheSpec>, WordsFault>
-    ensures { answer_in result ≡ Some (cache_of cache reading) }
+fn complete(cache: CacheName, reading: &CacheReading) -> Result<Option<CacheSpec>, WordsFault>
+    ensures { answer_in result ≡ Some (cache_of cache reading.now) }
 {
-    match reading {
+    match *reading {
         CacheReading {
             size: Some(size),
             bsize: Some(bsize),

@@ -1,8 +1,8 @@
 //! How numbers are written in arguments.
-ghost use Rattle.std.specs.Prelude.{◌≡◌};
+ghost use Rattle.std.specs.Prelude.{◌≡◌, ◌<◌, option_map};
 ghost use Rattle.std.specs.List.{list_all};
 ghost use Rattle.std.specs.Char.{is_ascii_digit};
-ghost use Rattle.arguments.specs.Numbers.{config_of, number_of, range_of, scale_of, scaled_of, triple_of};
+ghost use Rattle.arguments.specs.Numbers.{config_of, number_of, range_of, scale_of, scaled_of, split_at, triple_of};
 
 use sweep_core::space::Config;
 
@@ -52,7 +52,7 @@ fn scale_of(letter: u8) -> Option<u64>
 pub fn read_range(text: &str) -> Option<(u64, u64)>
     ensures { result ≡ range_of text.now }
 {
-    match text.split_once('-') {
+    match split_at(text, '-') {
         Some((low, high)) => Some((read_scaled(low)?, read_scaled(high)?)),
         None => {
             let value = read_scaled(text)?;
@@ -61,12 +61,20 @@ pub fn read_range(text: &str) -> Option<(u64, u64)>
     }
 }
 
+/// What is before the first of these characters, and what is after it.
+fn split_at(text: &str, delimiter: char) -> Option<(&str, &str)>
+    requires { delimiter < 128 }
+    ensures { option_map (λ parts. (parts.0.now, parts.1.now)) result ≡ split_at delimiter text.now }
+{
+    text.split_once(delimiter)
+}
+
 /// `B,S,E`, each as `read_number` reads it: bsize, sets and assoc, which need not be those of a cache. `None` for any other text.
 pub fn read_triple(text: &str) -> Option<Config>
     ensures { result ≡ triple_of text.now }
 {
-    let (bsize, rest) = text.split_once(',')?;
-    let (sets, assoc) = rest.split_once(',')?;
+    let (bsize, rest) = split_at(text, ',')?;
+    let (sets, assoc) = split_at(rest, ',')?;
     read_config(bsize, sets, assoc)
 }
 

@@ -1,4 +1,5 @@
-//! The options of the commands. Each is said once, as a constant that its table and its job cite.
+//! The options of the commands. Each is said once, as a static that its command's list in `app.rt` and its job cite. A constant would be
+//! copied into each function that cites it, whose check then takes twice as long.
 //!
 //! `tools/package/completion` reads these texts in the program's help: a text that ends in letters with their meanings,
 //! for example `u all, d data`, tells it the values; a value called FILE is completed as a file; and `[default: ..]` is
@@ -56,132 +57,121 @@ macro_rules! long_option {
     };
 }
 
-pub const SET_BITS: CommandOption = short_option!(
+pub static SET_BITS: CommandOption = short_option!(
     "-s",
     's',
     Required("N"),
     "Set index bits, 0 to 20: the cache has 2^N sets"
 );
 
-pub const LINES: CommandOption = short_option!(
+pub static LINES: CommandOption = short_option!(
     "-E",
     'E',
     Required("N"),
     "Lines per set, 1 to 65536"
 );
 
-pub const BLOCK_BITS: CommandOption = short_option!(
+pub static BLOCK_BITS: CommandOption = short_option!(
     "-b",
     'b',
     Required("N"),
     "Block bits, 0 to 20: a block has 2^N bytes"
 );
 
-pub const LACKEY_FILE: CommandOption = short_option!(
+pub static LACKEY_FILE: CommandOption = short_option!(
     "-t",
     't',
     Required("FILE"),
     "File of the trace, as lackey writes it"
 );
 
-pub const VERBOSE: CommandOption = short_option!(
+pub static VERBOSE: CommandOption = short_option!(
     "-v",
     'v',
     Flag,
     "Write a line for each load, store and modify"
 );
 
-pub const INFORMAT: CommandOption = long_option!(
+pub static INFORMAT: CommandOption = long_option!(
     "-",
     "informat",
     Optional("FORMAT"),
     "Format of the trace: d din, l lackey [default: d]"
 );
 
-pub const SEED: CommandOption = long_option!(
+pub static SEED: CommandOption = long_option!(
     "--",
     "seed",
     Optional("N"),
     "Seed of random replacement [default: 42]"
 );
 
-pub const FILE: CommandOption = short_option!(
+pub static FILE: CommandOption = short_option!(
     "-t",
     't',
     Optional("FILE"),
     "File of the trace [default: standard input]"
 );
 
-pub const BSIZE: CommandOption = long_option!(
+pub static BSIZE: CommandOption = long_option!(
     "--",
     "bsize",
     Required("RANGE"),
     "Block size in bytes: powers of two up to 1m"
 );
 
-pub const SETS: CommandOption = long_option!(
+pub static SETS: CommandOption = long_option!(
     "--",
     "sets",
     Required("RANGE"),
     "Number of sets: powers of two up to 1m"
 );
 
-pub const ASSOC: CommandOption = long_option!(
+pub static ASSOC: CommandOption = long_option!(
     "--",
     "assoc",
     Required("RANGE"),
     "Lines per set: 1 to 64k"
 );
 
-pub const SIZE: CommandOption = long_option!(
+pub static SIZE: CommandOption = long_option!(
     "--",
     "size",
     Required("RANGE"),
     "Total size in bytes; other caches have no row"
 );
 
-pub const KIND: CommandOption = long_option!(
+pub static KIND: CommandOption = long_option!(
     "--",
     "kind",
     Optional("KIND"),
     "References that count: u all, d data, i instruction fetches [default: u]"
 );
 
-pub const FORMAT: CommandOption = long_option!(
+pub static FORMAT: CommandOption = long_option!(
     "--",
     "format",
     Optional("FORMAT"),
     "Format of the trace: d din, l lackey [default: d]"
 );
 
-pub const AFTER: CommandOption = long_option!(
+pub static AFTER: CommandOption = long_option!(
     "--",
     "after",
     Optional("B,S,E"),
     "Write only the rows after this bsize, sets, assoc, without the header"
 );
 
-pub const ROWS: CommandOption = long_option!(
+pub static ROWS: CommandOption = long_option!(
     "--",
     "rows",
     Optional("N"),
     "Write at most this many rows [default: all]"
 );
 
-pub const POW2: CommandOption = long_option!(
+pub static POW2: CommandOption = long_option!(
     "--",
     "pow2",
     Flag,
     "Take only powers of two for --assoc"
 );
-
-/// The options of `csim`, in the order of its help.
-pub static CSIM_OPTIONS: [CommandOption; 5] = [SET_BITS, LINES, BLOCK_BITS, LACKEY_FILE, VERBOSE];
-
-/// The options of `din` and `log` that are no cache's.
-pub static DIN_OPTIONS: [CommandOption; 3] = [INFORMAT, SEED, FILE];
-
-/// The options of `sweep`, in the order of its help.
-pub static SWEEP_OPTIONS: [CommandOption; 10] = [
-    BSIZE, SETS, ASSOC, SIZE, KIND, FORMAT, AFTER, ROWS, POW2, FILE,
-];
