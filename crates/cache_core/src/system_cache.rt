@@ -12,7 +12,7 @@ use crate::plan::{CacheName, PlannedCache};
 use crate::replacement::{Fifo, Lru, Random, Replacement};
 use crate::stats::CacheStats;
 use std::alloc::{AllocError, Global};
-use trace_core::events::Ref;
+use trace_core::events::{Access, Ref};
 
 /// A policy that is chosen when the system is made.
 #[derive(Drop)]
@@ -97,7 +97,7 @@ impl SystemCache {
         Ok(SystemCache { cache, stats })
     }
 
-    /// One reference enters, and is seen at the cache of this name.
+    /// One reference enters, is counted by its kind, and is seen at the cache of this name.
     #[inline(always)]
     pub(crate) fn access<O: Observer>(
         &mut self,
@@ -115,7 +115,26 @@ impl SystemCache {
     {
         let geometry = self.cache.geometry();
         let outcome = self.cache.access(reference);
-        self.stats.count(reference, &outcome);
+        let missed = u64::from(!outcome.hit);
+        let stats = &mut self.stats;
+        match reference.access {
+            Access::Fetch => {
+                stats.fetches += 1;
+                stats.fetch_misses += missed;
+            }
+            Access::Read => {
+                stats.reads += 1;
+                stats.read_misses += missed;
+            }
+            Access::Write => {
+                stats.writes += 1;
+                stats.write_misses += missed;
+            }
+        }
+        if let Some(victim) = outcome.evicted {
+            stats.evictions += 1;
+            stats.copybacks += u64::from(victim.dirty);
+        }
         observer.see(arrival_at(name, geometry, reference, &outcome));
         outcome
     }

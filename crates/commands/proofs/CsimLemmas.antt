@@ -4,7 +4,6 @@ use Rattle.std.proofs.Common.{refl, sym, ap, ◌∙◌, subst, arith, append-nil
 use Rattle.std.proofs.lemmas.List.{map_push}
 use Rattle.std.specs.Prelude.{IfOk, IfSome}
 use Rattle.std.specs.List.{flat_map}
-use Rattle.trace_core.specs.declared.limits.TheConstants.{MAX_LINES}
 use Rattle.trace_core.specs.declared.events.Op.{Op}
 use Rattle.trace_core.specs.declared.events.Op.TheVariants.{Fetch, Load, Store, Modify}
 use Rattle.trace_core.specs.declared.events.Entry.{Entry}
@@ -14,7 +13,6 @@ use Rattle.trace_core.specs.declared.events.Kind.TheVariants.{DataOnly}
 use Rattle.trace_core.specs.declared.line.Format.TheVariants.{Lackey}
 use Rattle.trace_core.specs.declared.fault.TraceFault.{TraceFault}
 use Rattle.trace_core.specs.declared.line.Format.{Format}
-use Rattle.trace_core.specs.declared.limits.TheConstants.{MAX_LINES}
 use Rattle.trace_core.specs.Device.{SourceView, SinkView, Wrote, WrotePart, WroteLast, WroteLastPart}
 use Rattle.trace_core.specs.Events.{events_of}
 use Rattle.trace_core.specs.Reading.{entries}
@@ -104,17 +102,15 @@ pub record Simulated (g : GeometryValue) (verbose : Bool) (limit : ℕ) (start n
   pub wrote : Wrote sink sink' (csim_lines g verbose (entries_of read))
   pub simulates : SimulationStandsFor g (data_of (entries_of read)) sim
   pub few : length (data_of (entries_of read)) ≤ 2 * p.lines
-  pub limited : p.limit ≤ MAX_LINES
 
 pub simulated_start : {g : GeometryValue} {verbose : Bool} {limit : ℕ} {source : SourceView} {sink : SinkView} {p : Progress} {sim : Simulation}
-    → p ≡ begun Lackey limit → limit ≤ MAX_LINES → SimulationStandsFor g [] sim → Simulated g verbose limit source source sink sink p sim
-simulated_start {g} {verbose} {limit} {source} {sink} is few_lines stands = record {
+    → p ≡ begun Lackey limit → SimulationStandsFor g [] sim → Simulated g verbose limit source source sink sink p sim
+simulated_start {g} {verbose} {limit} {source} {sink} is stands = record {
   read = [];
   reached = rw is (Reached-start Lackey limit source);
   wrote = subst (Wrote sink sink) (no-lines g verbose) (Wrote-none sink);
   simulates = stands;
   few = rw is (omega arith);
-  limited = rw is few_lines;
 }
 
 -- a call of a reader that returned this reads on
@@ -134,9 +130,9 @@ module _ {g : GeometryValue} {verbose : Bool} {limit : ℕ} {start mid now : Sou
     pub simulated_more : {sink' : SinkView} {sim' : Simulation}
         → SimulationStandsFor g (data_of (entries_of old.read) ++ events_of DataOnly x.1) sim' × (lookups ≡ lookups_of g (data_of (entries_of old.read)) x.1)
         → Wrote between sink' (cond verbose (line_of x.1 lookups) [])
-        → IfOk answer (λ one. IfSome one (λ y. (y.0 ≡ q.lines) × (p.lines < q.lines))) → q.limit ≡ p.limit
+        → IfOk answer (λ one. IfSome one (λ y. (y.0 ≡ q.lines) × (p.lines < q.lines)))
         → Simulated g verbose limit start now sink sink' q sim'
-    simulated_more {sink' = sink'} {sim' = sim'} stands wrote bears same =
+    simulated_more {sink' = sink'} {sim' = sim'} stands wrote bears =
         let further : p.lines < q.lines = (rw (was ∙ ap Ok is) at bears).1 in
         record {
           read = old.read ++ x ∷ [];
@@ -151,7 +147,6 @@ module _ {g : GeometryValue} {verbose : Bool} {limit : ℕ} {start mid now : Sou
             length-append (data_of (entries_of old.read)) (events_of DataOnly x.1),
             two_events x.1,
           );
-          limited = omega (arith, same, old.limited);
         }
 
     -- a line that was written in part

@@ -1,5 +1,6 @@
 -- What `din` has read, stepped through and written when it ends.
-use Rattle.std.proofs.Common.{◌≡◌, ℕ, List, [], ◌∷◌, Option, None, Some, map, sym, ap, ◌∙◌, ◌≤◌, length, arith}
+use Rattle.std.proofs.Common.{◌≡◌, ℕ, ◌*◌, ◌<◌, ◌≤◌, List, [], ◌∷◌, ◌++◌, Option, None, Some, Result, Ok, map, sym, ap, subst, ◌∙◌, length, arith}
+use Rattle.std.specs.Prelude.{IfOk, IfSome}
 use Rattle.std.specs.List.{filter, flat_map}
 use Rattle.std.specs.Option.{option_to_list}
 use Rattle.trace_core.specs.declared.events.Entry.{Entry}
@@ -15,8 +16,9 @@ use Rattle.trace_core.specs.declared.fault.TraceFault.{TraceFault}
 use Rattle.trace_core.specs.declared.state.ReaderState.TheVariants as state
 use Rattle.trace_core.specs.Device.{SourceView, SinkView, WroteLast, WroteLastPart}
 use Rattle.trace_core.specs.Events.{events_of, keeps, references}
-use Rattle.trace_core.specs.Reader.{Progress, Reached, begun}
+use Rattle.trace_core.specs.Reader.{Progress, Reached, begun, entries_returned}
 use Rattle.trace_core.specs.Task.{Finished, Stopped, WriteFailed, entries_of}
+use Rattle.trace_core.proofs.Collecting.{collected-more}
 use Rattle.trace_core.proofs.Runs.{Reached-from}
 use Rattle.trace_core.proofs.Tasks.{ReadWhole}
 use Rattle.trace_core.proofs.Performing.{Finished-written, Stopped-at, WriteFailed-late}
@@ -25,7 +27,8 @@ use Rattle.cache_core.specs.declared.stats.Stats.{Stats}
 use Rattle.cache_core.specs.Plans.{PlannedCaches, IsPlan}
 use Rattle.cache_core.specs.Systems.{system_run}
 use Rattle.cache_core.specs.SystemSteps.{SystemValue, IsNewSystem, stats_of}
-use Rattle.cache_core.proofs.SystemLaw.{new_law, system_runs_law}
+use Rattle.cache_core.specs.SystemStands.{SystemRuns}
+use Rattle.cache_core.proofs.SystemLaw.{new_law, system_runs_law, system_runs-append, system_runs-steps}
 use Rattle.commands.specs.DinPass.{StepsThrough}
 use Rattle.commands.specs.DinText.{din_task, report_of}
 
@@ -85,3 +88,24 @@ two_steps (entry.Item item) = by_op item.op
     by_op Store = omega arith
     by_op Modify = omega arith
 two_steps entry.Flush = omega arith
+
+-- A system was stepped through the entries that were read, at most two references a line, and then through one entry more.
+pub stepped-more : {format : Format} {limit : ℕ} {start mid now : SourceView} {p q : Progress} {first old new : SystemValue} {x : ℕ × Entry}
+    {answer : Result (Option (ℕ × Entry)) TraceFault} {found : Option (ℕ × Entry)}
+    → StepsThrough format limit start mid p first old × (old.steps ≤ 2 * p.lines)
+    → ((format : Format) (limit : ℕ) (start : SourceView) (xs : List (ℕ × Entry)) → Reached format limit start mid xs p
+    → Reached format limit start now (xs ++ entries_returned answer) q)
+    → IfOk answer (λ one. IfSome one (λ y. (y.0 ≡ q.lines) × (p.lines < q.lines)))
+    → answer ≡ Ok found → found ≡ Some x → SystemRuns old (events_of All x.1) new
+    → StepsThrough format limit start now q first new × (new.steps ≤ 2 * q.lines)
+stepped-more {q = q} {first} {old} {new} {x} so_far reads_on bears was is runs =
+    let read = so_far.0.read in
+    let further = (rw (was ∙ ap Ok is) at bears).1 in (
+      record {
+        read = read ++ x ∷ [];
+        reached = rw (was ∙ ap Ok is) at (reads_on _ _ _ read so_far.0.reached);
+        runs = subst (λ es. SystemRuns first es new) (sym (collected-more All read x))
+            (system_runs-append first old new (flat_map (events_of All) (entries_of read)) (events_of All x.1) so_far.0.runs runs);
+      },
+      omega (arith, system_runs-steps old new (events_of All x.1) runs, two_steps x.1, so_far.1, further),
+    )

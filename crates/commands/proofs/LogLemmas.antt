@@ -6,15 +6,16 @@ use Rattle.std.proofs.lemmas.Grind.{flat_map-append}
 use Rattle.std.specs.Prelude.{IfOk, IfSome}
 use Rattle.std.specs.List.{flat_map}
 use Rattle.trace_core.specs.declared.events.Entry.{Entry}
+use Rattle.trace_core.specs.declared.events.Entry.TheVariants as entry
+use Rattle.trace_core.specs.declared.events.Item.{Item}
 use Rattle.trace_core.specs.declared.events.Event.{Event}
 use Rattle.trace_core.specs.declared.events.Event.TheVariants as event
 use Rattle.trace_core.specs.declared.events.Ref.{Ref}
 use Rattle.trace_core.specs.declared.events.Kind.TheVariants.{All}
-use Rattle.trace_core.specs.declared.limits.TheConstants.{MAX_LINES}
 use Rattle.trace_core.specs.declared.line.Format.{Format}
 use Rattle.trace_core.specs.declared.fault.TraceFault.{TraceFault}
 use Rattle.trace_core.specs.Device.{SourceView, SinkView, Wrote, WrotePart, WroteLast, WroteLastPart}
-use Rattle.trace_core.specs.Events.{events_of}
+use Rattle.trace_core.specs.Events.{events_of, references}
 use Rattle.trace_core.specs.Reading.{entries}
 use Rattle.trace_core.specs.Reader.{Progress, Reached, Reports, entries_returned, begun}
 use Rattle.trace_core.specs.Task.{Finished, Stopped, WriteFailed, entries_of}
@@ -26,21 +27,22 @@ use Rattle.trace_core.proofs.Written.{Wrote-none, Wrote-more, WrotePart-after, W
 use Rattle.cache_core.specs.declared.arrival.Arrival.{Arrival}
 use Rattle.cache_core.specs.Arrivals.{Saw, arrivals_of, arrivals_from}
 use Rattle.cache_core.specs.Plans.{PlannedCaches, IsPlan}
-use Rattle.cache_core.specs.SystemSteps.{SystemValue, IsNewSystem, StepsSystem}
+use Rattle.cache_core.specs.SystemSteps.{SystemValue, IsNewSystem, StepsSystem, FlushesSystem}
 use Rattle.cache_core.specs.SystemStands.{SystemStandsFor}
-use Rattle.cache_core.proofs.SystemLaw.{new_law, step_law}
+use Rattle.cache_core.proofs.SystemLaw.{new_law, step_law, system_flush_law}
+use Rattle.commands.specs.declared.log_text.LogText.{LogText}
 use Rattle.commands.specs.LogText.{arrival_line, arrival_lines, log_lines, log_task}
-use Rattle.commands.proofs.DinLemmas.{two_steps}
+use Rattle.commands.proofs.DinLemmas.{both_events, one_event, two_steps}
 
 -- one entry: a system that stood for some events stands for these with those of the entry, and its arrivals were seen
 module _ {O : Type 0} (has_seen : O → List Arrival → Type 0) (plan : PlannedCaches) (seed : ℕ) (events : List Event) {more : List Event}
     {old new : SystemValue} {start end : O} (good : IsPlan plan) (stands : SystemStandsFor plan seed events old) (none : has_seen start []) where
-  pub logged_one : {e : Event} → more ≡ e ∷ [] → SystemStandsFor plan seed (events ++ e ∷ []) new → Saw has_seen start (arrivals_of plan seed events e) end →
+  logged_one : {e : Event} → more ≡ e ∷ [] → SystemStandsFor plan seed (events ++ e ∷ []) new → Saw has_seen start (arrivals_of plan seed events e) end →
       SystemStandsFor plan seed (events ++ more) new × has_seen end (arrivals_from plan seed events more)
   logged_one {e} is after saw =
       rw is (after, subst (has_seen end) (sym (append-nil (arrivals_of plan seed events e))) (saw [] none))
 
-  pub logged_both : {mid : SystemValue} {half : O} {first second : Ref} → more ≡ event.Reference first ∷ event.Reference second ∷ [] →
+  logged_both : {mid : SystemValue} {half : O} {first second : Ref} → more ≡ event.Reference first ∷ event.Reference second ∷ [] →
       StepsSystem old first mid → StepsSystem mid second new →
       Saw has_seen start (arrivals_of plan seed events (event.Reference first)) half →
       (SystemStandsFor plan seed (events ++ event.Reference first ∷ []) mid →
@@ -107,20 +109,56 @@ pub record Logging (plan : PlannedCaches) (seed : ℕ) (format : Format) (limit 
   pub wrote : Wrote sink sink' (log_lines plan seed (entries_of read))
   pub stands : SystemStandsFor plan seed (all_of (entries_of read)) v
   pub few : v.steps ≤ 2 * p.lines
-  pub limited : p.limit ≤ MAX_LINES
   pub good : IsPlan plan
 
 pub logged_start : {plan : PlannedCaches} {seed : ℕ} {format : Format} {limit : ℕ} {source : SourceView} {sink : SinkView} {p : Progress} {v : SystemValue}
-    → p ≡ begun format limit → limit ≤ MAX_LINES → IsPlan plan → IsNewSystem plan seed v → Logging plan seed format limit source source sink sink p v
-logged_start {plan} {seed} {format} {limit} {source} {sink} {v = v} is few_lines good new = record {
+    → p ≡ begun format limit → IsPlan plan → IsNewSystem plan seed v → Logging plan seed format limit source source sink sink p v
+logged_start {plan} {seed} {format} {limit} {source} {sink} {v = v} is good new = record {
   read = [];
   reached = rw is (Reached-start format limit source);
   wrote = Wrote-none sink;
   stands = new_law plan seed v new;
   few = omega (arith, new.steps);
-  limited = rw is few_lines;
   good = good;
 }
+
+-- the lines that a text has
+abbrev has : LogText → List Arrival → Type 0
+has log xs = log.text ≡ arrival_lines xs
+
+-- a system that stood for some events stands for these with more, and a text has the lines of the arrivals of these
+abbrev pub Logged : PlannedCaches → ℕ → List Event → List Event → SystemValue → LogText → Type 0
+Logged plan seed events more v log = SystemStandsFor plan seed (events ++ more) v × has log (arrivals_from plan seed events more)
+
+-- a text gets the lines of a reference's arrivals
+abbrev Sees : SystemValue → LogText → Ref → LogText → Type 0
+Sees v log ref log' = (plan : PlannedCaches) (seed : ℕ) (events : List Event) → IsPlan plan → SystemStandsFor plan seed events v
+    → Saw has log (arrivals_of plan seed events (event.Reference ref)) log'
+
+-- the events of one entry more, where its lines come to an empty text: two references, one, or a flush
+module _ {plan : PlannedCaches} {seed : ℕ} {format : Format} {limit : ℕ} {start now : SourceView} {sink sink' : SinkView} {p : Progress}
+    {v : SystemValue} (old : Logging plan seed format limit start now sink sink' p v) {log : LogText} (none : log.text ≡ []) where
+  pub logged_two : {e : Entry} {item : Item} {refs : Ref × Option Ref} {second : Ref} {mid v' : SystemValue} {half log' : LogText} →
+      e ≡ entry.Item item → refs ≡ references item → refs.1 ≡ Some second → StepsSystem v refs.0 mid → Sees v log refs.0 half →
+      StepsSystem mid second v' → Sees mid half second log' → Logged plan seed (all_of (entries_of old.read)) (events_of All e) v' log'
+  logged_two is refs two first seen next then =
+      logged_both has plan seed (all_of (entries_of old.read)) old.good old.stands none (both_events is refs two) first next
+      (seen plan seed _ old.good old.stands) (λ middle. then plan seed _ old.good middle)
+
+  pub logged_step : {e : Entry} {item : Item} {refs : Ref × Option Ref} {v' : SystemValue} {log' : LogText} →
+      e ≡ entry.Item item → refs ≡ references item → refs.1 ≡ None → StepsSystem v refs.0 v' → Sees v log refs.0 log' →
+      Logged plan seed (all_of (entries_of old.read)) (events_of All e) v' log'
+  logged_step is refs none_more first seen =
+      logged_one has plan seed (all_of (entries_of old.read)) old.good old.stands none (one_event is refs none_more)
+      (step_law plan seed _ _ _ _ old.good old.stands first) (seen plan seed _ old.good old.stands)
+
+  pub logged_flush : {e : Entry} {v' : SystemValue} {log' : LogText} → e ≡ entry.Flush → FlushesSystem v v' →
+      ((plan : PlannedCaches) (seed : ℕ) (events : List Event) → SystemStandsFor plan seed events v →
+      Saw has log (arrivals_of plan seed events event.Flush) log') →
+      Logged plan seed (all_of (entries_of old.read)) (events_of All e) v' log'
+  logged_flush is flushed seen =
+      logged_one has plan seed (all_of (entries_of old.read)) old.good old.stands none (ap (events_of All) is)
+      (system_flush_law plan seed _ _ _ old.stands flushed) (seen plan seed _ old.stands)
 
 -- a call of a reader that returned this reads on
 abbrev ReadsOn : SourceView → SourceView → Progress → Progress → Result (Option (ℕ × Entry)) TraceFault → Type 0
@@ -141,9 +179,9 @@ module _ {plan : PlannedCaches} {seed : ℕ} {format : Format} {limit : ℕ} {st
         → SystemStandsFor plan seed (all_of (entries_of old.read) ++ events_of All x.1) v'
         × (text ≡ arrival_lines (arrivals_from plan seed (all_of (entries_of old.read)) (events_of All x.1)))
         → Wrote between sink' text
-        → IfOk answer (λ one. IfSome one (λ y. (y.0 ≡ q.lines) × (p.lines < q.lines))) → q.limit ≡ p.limit
+        → IfOk answer (λ one. IfSome one (λ y. (y.0 ≡ q.lines) × (p.lines < q.lines)))
         → Logging plan seed format limit start now sink sink' q v'
-    logged_more {sink' = sink'} {v' = v'} stands wrote bears same =
+    logged_more {sink' = sink'} {v' = v'} stands wrote bears =
         let further : p.lines < q.lines = (rw (was ∙ ap Ok is) at bears).1 in
         record {
           read = old.read ++ x ∷ [];
@@ -159,7 +197,6 @@ module _ {plan : PlannedCaches} {seed : ℕ} {format : Format} {limit : ℕ} {st
             length-append (all_of (entries_of old.read)) (events_of All x.1),
             two_steps x.1,
           );
-          limited = omega (arith, same, old.limited);
           good = old.good;
         }
 

@@ -1,10 +1,8 @@
 //! The command `din`.
-ghost use Rattle.std.specs.Prelude.{◌≡◌, ◌≤◌, ◌+◌, ◌*◌, IfOk, MatchResult};
-ghost use Rattle.trace_core.specs.Events.{events_of};
+ghost use Rattle.std.specs.Prelude.{◌≡◌, ◌≤◌, IfOk, MatchResult};
 ghost use Rattle.trace_core.specs.Reader.{begun};
 ghost use Rattle.trace_core.specs.Task.{Performs};
 ghost use Rattle.cache_core.specs.SystemSteps.{SystemValue, stats_of};
-ghost use Rattle.cache_core.specs.SystemStands.{SystemRuns};
 ghost use Rattle.commands.specs.DinPass.{StepsThrough};
 ghost use Rattle.commands.specs.DinText.{din_task};
 
@@ -12,9 +10,9 @@ use crate::din_text::set_report;
 use crate::text::write_last;
 use cache_core::plan::Plan;
 use cache_core::stats::Stats;
-use cache_core::system::{MAX_STEPS, System};
+use cache_core::system::System;
 use std::alloc::Global;
-use trace_core::events::{Entry, Kind, refs_of};
+use trace_core::events::{Entry, refs_of};
 use trace_core::fault::{RunFault, TraceFault};
 use trace_core::io::{Sink, Source};
 use trace_core::line::Format;
@@ -51,14 +49,14 @@ pub fn din<S: Source, K: Sink>(
     Ok(())
 }
 
-/// Steps a system through a trace, and returns what it counted. It takes no more than two steps a line.
+/// Steps a new system through a trace, all the references of an entry or a flush, and returns what it counted.
 fn stats_of_trace<S: Source>(
     mut system: System,
     lines: &mut Lines,
     source: &mut S,
 ) -> Result<Stats, TraceFault>
     requires begun { lines.old ≡ begun lines.old.format lines.old.limit }
-    requires steps { system.steps + 2 * lines.old.limit ≤ MAX_STEPS }
+    requires new { system.steps ≡ 0 }
     ensures stepped { (end : SystemValue) × StepsThrough lines.old.format lines.old.limit
         (S.view source.old) (S.view source.new) lines.new system end
         × IfOk result (λ stats. stats ≡ stats_of end) }
@@ -66,25 +64,16 @@ fn stats_of_trace<S: Source>(
         (λ fault. lines.new.state ≡ ReaderState.Failed fault) }
 {
     while let Some((_, entry)) = lines.next(source)? {
-        step(&mut system, entry);
+        match entry {
+            Entry::Item(item) => {
+                let (first, second) = refs_of(item);
+                system.step(first);
+                if let Some(second) = second {
+                    system.step(second);
+                }
+            }
+            Entry::Flush => system.flush(),
+        }
     }
     Ok(system.stats())
-}
-
-/// Steps a system through all the references of an entry, or flushes it.
-#[inline(always)]
-fn step(system: &mut System, entry: Entry)
-    requires { system.old.steps + 2 ≤ MAX_STEPS }
-    ensures { SystemRuns system.old (events_of Kind.All entry) system.new }
-{
-    match entry {
-        Entry::Item(item) => {
-            let (first, second) = refs_of(item);
-            system.step(first);
-            if let Some(second) = second {
-                system.step(second);
-            }
-        }
-        Entry::Flush => system.flush(),
-    }
 }

@@ -1,9 +1,8 @@
 //! One pass over a trace: what is read is fed to each profile as it comes.
-ghost use Rattle.std.specs.Prelude.{◌≡◌, ◌∷◌, [], ◌^◌, ◌≤◌, true, All, map};
-ghost use Rattle.trace_core.specs.Events.{events_of};
+ghost use Rattle.std.specs.Prelude.{◌≡◌, ◌∷◌, [], ◌≤◌, All, map};
 ghost use Rattle.trace_core.specs.Reader.{begun};
 ghost use Rattle.profile_core.specs.State.{fed_of};
-ghost use Rattle.sweep_core.specs.Pass.{CanTake, pair_after_reference, pair_after_flush};
+ghost use Rattle.sweep_core.specs.Pass.{CanTake, pair_after_flush};
 ghost use Rattle.sweep_core.specs.Pass.{kept_events, all_after, state_after, Feeds};
 
 use crate::profiles::PairProfile;
@@ -11,9 +10,10 @@ use cache_core::geometry::MAX_BITS;
 use trace_core::events::{Entry, Kind, Ref, refs_of};
 use trace_core::fault::TraceFault;
 use trace_core::io::Source;
-use trace_core::reader::{Lines, MAX_LINES};
+use trace_core::reader::Lines;
 
-/// Reads a trace up to its end or its first fault, and feeds it. No reference is kept.
+/// Reads a trace up to its end or its first fault, and feeds what each entry gives: its references
+/// of a kind, or a flush. No reference is kept.
 pub(crate) fn read_trace<S: Source>(
     lines: &mut Lines,
     kind: Kind,
@@ -21,38 +21,28 @@ pub(crate) fn read_trace<S: Source>(
     profiles: &mut [PairProfile],
 ) -> Result<(), TraceFault>
     requires begun { lines.old ≡ begun lines.old.format lines.old.limit }
-    requires limited { lines.old.limit ≤ MAX_LINES }
     requires unfed { All (λ x. fed_of x.profile ≡ 0) profiles.old }
     ensures fed { Feeds kind lines.old.format lines.old.limit
         (S.view source.old) (S.view source.new) lines.new profiles.old profiles.new }
     ensures reports { lines.new.state ≡ state_after result }
 {
     while let Some((_, entry)) = lines.next(source)? {
-        feed_entry(profiles, kind, entry);
+        match entry {
+            Entry::Item(item) => {
+                let (first, second) = refs_of(item);
+                feed_kept(profiles, kind, first);
+                if let Some(second) = second {
+                    feed_kept(profiles, kind, second);
+                }
+            }
+            Entry::Flush => flush(profiles),
+        }
     }
     Ok(())
 }
 
-/// Feeds what an entry gives: its references of a kind, or a flush.
-#[inline(always)]
-fn feed_entry(profiles: &mut [PairProfile], kind: Kind, entry: Entry)
-    requires { CanTake 2 profiles.old }
-    ensures { profiles.new ≡ all_after (events_of kind entry) profiles.old }
-{
-    match entry {
-        Entry::Item(item) => {
-            let (first, second) = refs_of(item);
-            feed_kept(profiles, kind, first);
-            if let Some(second) = second {
-                feed_kept(profiles, kind, second);
-            }
-        }
-        Entry::Flush => flush(profiles),
-    }
-}
-
 /// Feeds a reference to each profile, where it is of a kind. No address from the greatest block
-/// size on is in block 0.
+/// size on is in block 0, which is tested once for all profiles.
 #[inline(always)]
 fn feed_kept(profiles: &mut [PairProfile], kind: Kind, reference: Ref)
     requires { CanTake 1 profiles.old }
@@ -60,31 +50,14 @@ fn feed_kept(profiles: &mut [PairProfile], kind: Kind, reference: Ref)
 {
     if kind.keeps(reference.access) {
         if reference.addr >= 1 << MAX_BITS {
-            feed_each(profiles, reference.addr, true);
+            for pair in profiles.iter_mut() {
+                pair.profile.feed_known(reference.addr, true);
+            }
         } else {
-            feed_low(profiles, reference.addr);
+            for pair in profiles.iter_mut() {
+                pair.profile.feed(reference.addr);
+            }
         }
-    }
-}
-
-/// Feeds an address that may be in block 0, which few are.
-#[inline(never)]
-fn feed_low(profiles: &mut [PairProfile], addr: u64)
-    requires { CanTake 1 profiles.old }
-    ensures { profiles.new ≡ map (pair_after_reference addr) profiles.old }
-{
-    feed_each(profiles, addr, false);
-}
-
-/// Feeds an address, where the caller may say that it is not in block 0.
-#[inline(always)]
-fn feed_each(profiles: &mut [PairProfile], addr: u64, past_first: bool)
-    requires free { CanTake 1 profiles.old }
-    requires known { past_first ≡ true → 2 ^ 20 ≤ addr }
-    ensures { profiles.new ≡ map (pair_after_reference addr) profiles.old }
-{
-    for pair in profiles.iter_mut() {
-        pair.profile.feed_known(addr, past_first);
     }
 }
 

@@ -80,6 +80,7 @@ impl Lines {
         ensures entry { IfOk result (λ found. IfSome found (λ x.
             (x.0 ≡ self.new.lines) × (self.old.lines < self.new.lines))) }
         ensures within { self.new.lines ≤ self.new.limit }
+        ensures limited { self.new.limit ≤ MAX_LINES }
         ensures same { (self.new.format ≡ self.old.format) × (self.new.limit ≡ self.old.limit) }
     {
         match self.scan.next(source) {

@@ -8,7 +8,7 @@ use Rattle.commands.proofs.CsimLemmas.{csim-finished, csim-part, csim-stopped, c
 use Rattle.commands.proofs.csim.csim.Goals as goal
 
 pub loop-simulation-init : goal.loop-simulation-init
-loop-simulation-init g c = simulated_start c.in_ok-lines.ensures c.requires.most c.in_ok-simulation.ensures
+loop-simulation-init g c = simulated_start c.in_ok-lines.ensures c.in_ok-simulation.ensures
 
 pub step-lookups-requires : goal.step-lookups-requires
 step-lookups-requires g c =
@@ -16,7 +16,7 @@ step-lookups-requires g c =
     let before = data_of (entries_of so_far.read) in
     let bears = rw c.in-Some.is at c.in_ok-entry.ensures.entry in
     within_above (length before) (2 ^ 62) c.loop-simulation.simulation.counts
-    (omega (arith, so_far.few, bears.1, c.next.ensures.within, c.next.ensures.same.1, so_far.limited))
+    (omega (arith, so_far.few, bears.1, c.next.ensures.within, c.next.ensures.limited))
     (simulated_within c.args.geometry before c.loop-simulation.simulation so_far.simulates)
 
 pub loop-simulation-preserved : goal.loop-simulation-preserved
@@ -25,7 +25,7 @@ loop-simulation-preserved g c =
     simulated_more so_far c.next.ensures.reached c.next.ensures.reports c.in_ok-entry.was c.in-Some.is
     (lookups_of_pair c.step-lookups.result)
     (c.step-lookups.ensures c.args.geometry (data_of (entries_of so_far.read)) so_far.simulates) c.in_ok-write_line.ensures
-    c.next.ensures.entry c.next.ensures.same.1
+    c.next.ensures.entry
 
 pub returns-in_err-entry : goal.returns-in_err-entry
 unfolding csim_task

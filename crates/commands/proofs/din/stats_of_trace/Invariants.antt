@@ -1,5 +1,5 @@
 -- The loop of `din` goes on while the reader has lines left.
-use Rattle.std.proofs.Common.{◌≡◌, ◌-◌, ◌+◌, ◌*◌, ◌≤◌}
+use Rattle.std.proofs.Common.{◌-◌, ◌*◌, ◌≤◌}
 use Rattle.commands.specs.DinPass.{StepsThrough}
 use Rattle.commands.proofs.din.stats_of_trace.Given as goal
 
@@ -7,8 +7,7 @@ use Rattle.commands.proofs.din.stats_of_trace.Given as goal
 abbrev pub invariant-loop-system : goal.invariant-loop-system
 invariant-loop-system g l =
     StepsThrough l.fn.lines.format l.fn.lines.limit (g.S.Source.view l.initial.source) (g.S.Source.view l.source) l.lines l.fn.system l.system
-    × (l.system.steps ≤ l.fn.system.steps + 2 * l.lines.lines)
-    × (l.lines.limit ≡ l.fn.lines.limit)
+    × (l.system.steps ≤ 2 * l.lines.lines)
 
 abbrev pub decreases-loop-system : goal.decreases-loop-system
 decreases-loop-system g l = l.lines.limit - l.lines.lines

@@ -1,5 +1,6 @@
 -- What was read was fed, and each line that is read brings the end nearer.
 use Rattle.std.proofs.Common.{◌-◌, ◌*◌}
+use Rattle.trace_core.specs.declared.limits.TheConstants.{MAX_LINES}
 use Rattle.sweep_core.specs.Pass.{CanTake, Feeds}
 use Rattle.sweep_core.proofs.pass.read_trace.Given as goal
 
@@ -7,7 +8,7 @@ use Rattle.sweep_core.proofs.pass.read_trace.Given as goal
 abbrev pub invariant-loop-entry : goal.invariant-loop-entry
 invariant-loop-entry g l =
     Feeds l.kind l.fn.lines.format l.fn.lines.limit (g.S.Source.view l.initial.source) (g.S.Source.view l.source) l.lines l.fn.profiles l.profiles
-    × CanTake (2 * (l.lines.limit - l.lines.lines)) l.profiles
+    × CanTake (2 * (MAX_LINES - l.lines.lines)) l.profiles
 
 abbrev pub decreases-loop-entry : goal.decreases-loop-entry
 decreases-loop-entry g l = l.lines.limit - l.lines.lines
