@@ -98,7 +98,6 @@ fn make_profile(alloc: Global, space: &Space, config: &Config) -> Result<Profile
 
 /// The comparisons of all profiles.
 pub(crate) fn total_probes(profiles: &[PairProfile]) -> u128
-    requires { length profiles.now < 2 ^ 60 }
     ensures { result ≡ sum_by (λ x. x.profile.probes) profiles.now }
 {
     let mut total = 0u128;
