@@ -2,8 +2,8 @@
 ghost use Rattle.std.specs.Prelude.{◌≡◌, ◌++◌, IfOk, OnOk, Some, false, map};
 ghost use Rattle.clap.specs.Words.{app_of, new_rule, rule_of};
 ghost use Rattle.clap.specs.declared.builder.command.Command.TheViews.{out-Command as fields_of};
-ghost use Rattle.arguments.specs.Options.{app_and_global, cachesim_app, csim_rules, din_rules, leaf_of, own_leaf, own_rule, rule_and_global};
-ghost use Rattle.arguments.specs.Options.{rule_of_option, rules_of, sweep_rules, with_spelling};
+ghost use Rattle.arguments.specs.Options.{app_and_global, cachesim_app, csim_rules, din_rules, leaf_of, own_leaf, own_rule};
+ghost use Rattle.arguments.specs.Options.{rule_and_global, rule_of_option, rules_of, sweep_rules, with_spelling};
 
 use crate::cache_options::cache_options;
 use crate::help;
