@@ -10,7 +10,7 @@ use Rattle.clap.specs.declared.builder.command.Command.TheViews.{out-Command}
 use Rattle.clap.specs.declared.parser.matches.ArgMatches.{ArgMatches}
 use Rattle.clap.specs.declared.parser.matches.ArgMatches.TheViews.{out-ArgMatches}
 use Rattle.arguments.specs.CommandLine.{job_named, chosen_command, with_trace}
-use Rattle.arguments.specs.Options.{cachesim_app}
+use Rattle.options.specs.Options.{cachesim_app}
 
 pub app_is_simple : is_simple cachesim_app ≡ true
 app_is_simple = refl

@@ -25,7 +25,7 @@ use Rattle.std.proofs.lemmas.Option.{IfSome_then}
 use Rattle.arguments.specs.CommandLine.{is_help, usage_of}
 use Rattle.arguments.specs.declared.faults.WordsFault.{WordsFault}
 use Rattle.arguments.proofs.AppFacts.{IfSome-always}
-use Rattle.arguments.specs.Options.{cachesim_app}
+use Rattle.options.specs.Options.{cachesim_app}
 
 -- each kind says the same of help
 abbrev AllSay : Bool → Kinds → Type 0

@@ -1,6 +1,5 @@
 pub mod AppFacts
 pub mod HelpLemmas
 pub mod NumberLemmas
-pub mod OptionLemmas
 pub mod Parsing
 mod Rows

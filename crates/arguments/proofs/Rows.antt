@@ -19,7 +19,7 @@ use Rattle.trace_core.specs.declared.line.Format.TheVariants.{Din as Din-format,
 use Rattle.arguments.specs.CommandLine.{command_of}
 use Rattle.arguments.specs.Faults.{bad_geometry, incomplete, plan, space, value}
 use Rattle.arguments.specs.Numbers.{number_of, range_of, scaled_of, triple_of}
-use Rattle.arguments.specs.Options.{cachesim_app}
+use Rattle.options.specs.Options.{cachesim_app}
 use Rattle.arguments.specs.Respell.{respelled}
 use Rattle.arguments.specs.declared.job.Job.TheVariants.{Csim, Din, Sweep}
 

@@ -8,7 +8,7 @@ use Rattle.clap.specs.declared.error.kind.ErrorKind.TheVariants as kind
 use Rattle.arguments.specs.CsimJob.{csim_of}
 use Rattle.arguments.specs.DinJob.{din_of, log_of}
 use Rattle.arguments.specs.Faults.{JobFault, job_fault_of}
-use Rattle.arguments.specs.Options.{cachesim_app, file_option}
+use Rattle.options.specs.Options.{cachesim_app, file_option}
 use Rattle.arguments.specs.Readings.{and_then}
 use Rattle.arguments.specs.Respell.{respelled}
 use Rattle.arguments.specs.SweepJob.{sweep_of}

@@ -5,7 +5,7 @@ use Rattle.cache_core.specs.Geometry.{geometry_of}
 use Rattle.arguments.specs.Faults.{JobFault, bad_geometry}
 use Rattle.trace_core.specs.declared.limits.TheConstants.{MAX_LINES}
 use Rattle.arguments.specs.Numbers.{number_of}
-use Rattle.arguments.specs.Options.{block_bits_option, lines_option, set_bits_option, verbose_option}
+use Rattle.options.specs.Options.{block_bits_option, lines_option, set_bits_option, verbose_option}
 use Rattle.arguments.specs.Readings.{and_then, is_flagged, required_value}
 use Rattle.arguments.specs.declared.job.Job.{Job}
 use Rattle.arguments.specs.declared.job.Job.TheVariants.{Csim}

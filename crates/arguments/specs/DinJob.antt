@@ -20,8 +20,8 @@ use Rattle.cache_core.specs.declared.outcome.WriteMode.TheVariants.{Back, Throug
 use Rattle.arguments.specs.Faults.{JobFault, incomplete, plan}
 use Rattle.trace_core.specs.declared.limits.TheConstants.{MAX_LINES}
 use Rattle.arguments.specs.Numbers.{number_of, scaled_of}
-use Rattle.arguments.specs.Options.{assoc_option_of, bsize_option_of, informat_option, repl_option_of, seed_option, size_option_of}
-use Rattle.arguments.specs.Options.{walloc_option_of, wback_option_of}
+use Rattle.options.specs.Options.{assoc_option_of, bsize_option_of, informat_option, repl_option_of, seed_option, size_option_of}
+use Rattle.options.specs.Options.{walloc_option_of, wback_option_of}
 use Rattle.arguments.specs.Readings.{and_then, format_named, optional_value, value_or}
 use Rattle.arguments.specs.declared.din_job.CacheReading.{CacheReading}
 use Rattle.arguments.specs.declared.din_job.CacheReadings.{CacheReadings}

@@ -4,7 +4,7 @@ pub mod DinJob
 pub mod Faults
 pub mod Job
 pub mod Numbers
-pub mod Options
+pub use Rattle.options.specs.Options
 pub mod Readings
 pub mod Respell
 pub mod SweepJob

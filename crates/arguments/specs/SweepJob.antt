@@ -11,7 +11,7 @@ use Rattle.trace_core.specs.declared.line.Format.TheVariants.{Din}
 use Rattle.arguments.specs.Faults.{JobFault, space}
 use Rattle.trace_core.specs.declared.limits.TheConstants.{MAX_LINES}
 use Rattle.arguments.specs.Numbers.{number_of, range_of, triple_of}
-use Rattle.arguments.specs.Options.{after_option, assoc_option, bsize_option, format_option, kind_option, pow2_option, rows_option, sets_option, size_option}
+use Rattle.options.specs.Options.{after_option, assoc_option, bsize_option, format_option, kind_option, pow2_option, rows_option, sets_option, size_option}
 use Rattle.arguments.specs.Readings.{and_then, format_named, is_flagged, kind_named, optional_value, required_value, value_or}
 use Rattle.arguments.specs.declared.job.Job.{Job}
 use Rattle.arguments.specs.declared.job.Job.TheVariants.{Sweep}

@@ -6,15 +6,15 @@ ghost use Rattle.arguments.specs.Faults.{answer_in};
 ghost use Rattle.arguments.specs.Job.{max_lines_of};
 ghost use Rattle.arguments.specs.Readings.{optional_value, rows_given};
 
-use crate::cache_options::cache_options;
 use crate::faults::WordsFault;
 use crate::job::Job;
 use crate::numbers::read_scaled;
-use crate::options::{INFORMAT, SEED};
 use crate::readings::{format_at, optional_number_at, text_at};
 use cache_core::outcome::{AllocMode, Repl, WriteMode};
 use cache_core::plan::{CacheName, CacheSpec, FirstLevel, Plan};
 use clap::ArgMatches;
+use options::caches::cache_options;
+use options::table::{INFORMAT, SEED};
 use sweep_core::space::is_power;
 use trace_core::line::Format;
 use trace_core::reader::MAX_LINES;

@@ -6,21 +6,21 @@ ghost use Rattle.clap.specs.Words.{fault_of, first_of, kind_of, subcommand_rows_
 ghost use Rattle.arguments.specs.CommandLine.{answer_of, command_of, is_help, job_named, chosen_command, refusal_of, usage_of};
 ghost use Rattle.arguments.specs.Faults.{job_fault_of, answer_in};
 ghost use Rattle.arguments.specs.Job.{max_lines_of};
-ghost use Rattle.arguments.specs.Options.{cachesim_app};
+ghost use Rattle.options.specs.Options.{cachesim_app};
 ghost use Rattle.arguments.specs.Readings.{rows_given};
 ghost use Rattle.arguments.specs.Respell.{respelled};
 
-use crate::app::cachesim_command;
 use crate::csim_job::csim_job;
 use crate::din_job::{din_job, log_job};
 use crate::faults::WordsFault;
 use crate::job::Job;
-use crate::options::FILE;
 use crate::readings::text_at;
 use crate::respell::respell;
 use crate::sweep_job::sweep_job;
 use clap::ArgMatches;
 use clap::error::ErrorKind;
+use options::app::cachesim_command;
+use options::table::FILE;
 use std::alloc::{AllocError, Global};
 use trace_core::reader::MAX_LINES;
 

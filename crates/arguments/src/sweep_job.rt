@@ -7,9 +7,9 @@ ghost use Rattle.arguments.specs.SweepJob.{page_of, ranges_of, sweep_of, trace_o
 
 use crate::faults::WordsFault;
 use crate::job::Job;
-use crate::options::{AFTER, ASSOC, BSIZE, FORMAT, KIND, POW2, ROWS, SETS, SIZE};
 use crate::readings::{config_at, format_at, is_flagged, kind_at, optional_number_at, range_at};
 use clap::ArgMatches;
+use options::table::{AFTER, ASSOC, BSIZE, FORMAT, KIND, POW2, ROWS, SETS, SIZE};
 use sweep_core::request::Request;
 use sweep_core::space::{Config, Space};
 use trace_core::events::Kind;

@@ -7,7 +7,7 @@ use std::marker::Model;
 pub const MAX_BITS: u64 = 20;
 
 /// The most lines in a set. Texts and tools that can't cite it name it too, as 65536 or 64k: the
-/// help of `arguments` (`options.rt`, `help.rt`), the manual, `tools/three-c`, `tests/model.py`,
+/// help of `options` (`table.rt`, `help.rt`), the manual, `tools/three-c`, `tests/model.py`,
 /// `tests/limits` and `tests/fuzz`.
 pub const MAX_WAYS: u64 = 65_536;
 

@@ -2,14 +2,14 @@
 ghost use Rattle.std.specs.Prelude.{◌≡◌, ◌++◌, IfOk, OnOk, Some, false, map};
 ghost use Rattle.clap.specs.Words.{app_of, new_rule, rule_of};
 ghost use Rattle.clap.specs.declared.builder.command.Command.TheViews.{out-Command as fields_of};
-ghost use Rattle.arguments.specs.Options.{app_and_global, cachesim_app, csim_rules, din_rules, leaf_of, own_leaf, own_rule};
-ghost use Rattle.arguments.specs.Options.{rule_and_global, rule_of_option, rules_of, sweep_rules, with_spelling};
+ghost use Rattle.options.specs.Options.{app_and_global, cachesim_app, csim_rules, din_rules, leaf_of, own_leaf, own_rule};
+ghost use Rattle.options.specs.Options.{rule_and_global, rule_of_option, rules_of, sweep_rules, with_spelling};
 
-use crate::cache_options::cache_options;
+use crate::caches::cache_options;
 use crate::help;
-use crate::options::Presence::{Flag, Optional, Required};
-use crate::options::Spelling::{Long, Short};
-use crate::options::{
+use crate::table::Presence::{Flag, Optional, Required};
+use crate::table::Spelling::{Long, Short};
+use crate::table::{
     AFTER, ASSOC, BLOCK_BITS, BSIZE, CommandOption, FILE, FORMAT, INFORMAT, KIND, LACKEY_FILE,
     LINES, POW2, ROWS, SEED, SET_BITS, SETS, SIZE, VERBOSE,
 };

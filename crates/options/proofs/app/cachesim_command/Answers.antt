@@ -3,9 +3,9 @@ use Rattle.std.proofs.Common.{rules, [], ◌∙◌, ◌≡◌, ap, false}
 use Rattle.std.proofs.lemmas.Result.{IfOk-weaker}
 use Rattle.clap.specs.Words.{App, app_of}
 use Rattle.clap.specs.declared.builder.command.Command.TheViews.{out-Command}
-use Rattle.arguments.proofs.OptionLemmas.{leaves_added, with_leaves}
-use Rattle.arguments.specs.Options.{cachesim_app, cachesim_top}
-use Rattle.arguments.proofs.app.cachesim_command.Goals as goal
+use Rattle.options.proofs.OptionLemmas.{leaves_added, with_leaves}
+use Rattle.options.specs.Options.{cachesim_app, cachesim_top}
+use Rattle.options.proofs.app.cachesim_command.Goals as goal
 
 pub returns : goal.returns
 returns c =

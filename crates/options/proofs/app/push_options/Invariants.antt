@@ -1,7 +1,7 @@
 -- The options so far are added.
 use Rattle.std.proofs.Common.{◌≡◌, ◌++◌, map, take}
-use Rattle.arguments.specs.Options.{own_rule, rule_and_global, rule_of_option}
-use Rattle.arguments.proofs.app.push_options.Given as goal
+use Rattle.options.specs.Options.{own_rule, rule_and_global, rule_of_option}
+use Rattle.options.proofs.app.push_options.Given as goal
 
 abbrev pub invariant-loop-option : goal.invariant-loop-option
 invariant-loop-option l = map rule_and_global l.args.items

@@ -9,15 +9,15 @@ use Rattle.clap.specs.declared.builder.action.ArgAction.TheVariants.{Set, SetTru
 use Rattle.cache_core.specs.Plans.{label_of}
 use Rattle.cache_core.specs.declared.plan.CacheName.{CacheName}
 use Rattle.cache_core.specs.declared.plan.CacheName.TheVariants.{L1I, L1D, L1U, L2U}
-use Rattle.arguments.specs.declared.app.CommandText.{CommandText}
-use Rattle.arguments.specs.declared.app.OptionsOf.{OptionsOf}
-use Rattle.arguments.specs.declared.app.OptionsOf.TheVariants.{Csim, Din, Sweep}
-use Rattle.arguments.specs.declared.cache_options.CacheOptions.{CacheOptions}
-use Rattle.arguments.specs.declared.options.CommandOption.{CommandOption}
-use Rattle.arguments.specs.declared.options.Spelling.{Spelling}
-use Rattle.arguments.specs.declared.options.Spelling.TheVariants.{Long, Short}
-use Rattle.arguments.specs.declared.options.Presence.{Presence}
-use Rattle.arguments.specs.declared.options.Presence.TheVariants.{Required, Optional, Flag}
+use Rattle.options.specs.declared.app.CommandText.{CommandText}
+use Rattle.options.specs.declared.app.OptionsOf.{OptionsOf}
+use Rattle.options.specs.declared.app.OptionsOf.TheVariants.{Csim, Din, Sweep}
+use Rattle.options.specs.declared.caches.CacheOptions.{CacheOptions}
+use Rattle.options.specs.declared.table.CommandOption.{CommandOption}
+use Rattle.options.specs.declared.table.Spelling.{Spelling}
+use Rattle.options.specs.declared.table.Spelling.TheVariants.{Long, Short}
+use Rattle.options.specs.declared.table.Presence.{Presence}
+use Rattle.options.specs.declared.table.Presence.TheVariants.{Required, Optional, Flag}
 
 -- an option of one letter, with this name
 abbrev pub by_letter : Text → ℕ → Rule

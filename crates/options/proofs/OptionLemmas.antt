@@ -11,7 +11,7 @@ use Rattle.cache_core.specs.declared.plan.CacheName.{CacheName}
 use Rattle.clap.specs.declared.builder.arg.Arg.{Arg}
 use Rattle.clap.specs.declared.builder.command.Command.{Command}
 use Rattle.clap.specs.declared.builder.command.Command.TheViews.{out-Command}
-use Rattle.arguments.specs.Options.{app_and_global, leaf, own_leaf, own_rule, rule_and_global, cache_rules}
+use Rattle.options.specs.Options.{app_and_global, leaf, own_leaf, own_rule, rule_and_global, cache_rules}
 
 -- what has no global argument adds none
 or_none : (a b : Bool) → b ≡ false → (a || b) ≡ a

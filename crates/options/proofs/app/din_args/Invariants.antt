@@ -1,8 +1,8 @@
 -- The options of the caches so far are added.
 use Rattle.std.proofs.Common.{◌≡◌, ◌++◌, map, take}
-use Rattle.arguments.proofs.OptionLemmas.{rules_of_caches}
-use Rattle.arguments.specs.Options.{own_rule, rule_and_global}
-use Rattle.arguments.proofs.app.din_args.Given as goal
+use Rattle.options.proofs.OptionLemmas.{rules_of_caches}
+use Rattle.options.specs.Options.{own_rule, rule_and_global}
+use Rattle.options.proofs.app.din_args.Given as goal
 
 abbrev pub invariant-loop-cache : goal.invariant-loop-cache
 invariant-loop-cache l = map rule_and_global l.args.items

@@ -1,9 +1,9 @@
 //! The options of the caches of `din` and `log`: six for each.
-ghost use Rattle.arguments.specs.Options.{IsOptionsOf};
+ghost use Rattle.options.specs.Options.{IsOptionsOf};
 
-use crate::options::CommandOption;
-use crate::options::Presence::Optional;
-use crate::options::Spelling::Long;
+use crate::table::CommandOption;
+use crate::table::Presence::Optional;
+use crate::table::Spelling::Long;
 use cache_core::plan::CacheName;
 
 /// The six options of one cache.
