@@ -39,7 +39,7 @@ required r = record (optional r) { required = true }
 abbrev pub flag : Rule → Rule
 flag r = record r { action = Some SetTrue }
 
--- ---- the options of `csim`, which are those of the CS:APP cache lab's
+-- ---- the options of `csim`, which are those of the CS:APP cache lab
 
 abbrev pub set_bits_option : Rule
 set_bits_option = required (by_letter (codes "-s") 115)
