@@ -10,7 +10,7 @@ use Rattle.clap.specs.declared.parser.matches.ArgMatches.{ArgMatches}
 use Rattle.arguments.proofs.AppFacts.{IfSome-always, app_is_free, app_is_simple, parse_ordered}
 use Rattle.arguments.specs.CommandLine.{chosen_command}
 use Rattle.options.specs.Options.{cachesim_app}
-use Rattle.arguments.specs.Respell.{respelled}
+use Rattle.options.specs.Respell.{respelled}
 
 module _ {A : Type 0} (text_of : A → Text) (command : Command) (arguments : List Text) {given list : List A}
     (app_is : app_of command ≡ cachesim_app) (value : given ≡ list) (respells : map text_of list ≡ respelled arguments) where

@@ -20,7 +20,6 @@ use Rattle.arguments.specs.CommandLine.{command_of}
 use Rattle.arguments.specs.Faults.{bad_geometry, incomplete, plan, space, value}
 use Rattle.arguments.specs.Numbers.{number_of, range_of, scaled_of, triple_of}
 use Rattle.options.specs.Options.{cachesim_app}
-use Rattle.arguments.specs.Respell.{respelled}
 use Rattle.arguments.specs.declared.job.Job.TheVariants.{Csim, Din, Sweep}
 
 -- ---- numbers
@@ -58,15 +57,6 @@ triples = refl
 no_triples : (triple_of (codes "16,1") ≡ None) × (triple_of (codes "16, 1,7") ≡ None) × (triple_of (codes "1k,1,1") ≡ None)
     × (triple_of (codes "16,1,7,8") ≡ None)
 no_triples = (refl, refl, refl, refl)
-
--- ---- respelling
-
-din_is_respelled : respelled (codes "cachesim" ∷ codes "din" ∷ codes "-l1-usize" ∷ codes "1k" ∷ codes "-informat" ∷ codes "d" ∷ codes "-t" ∷ codes "f" ∷ [])
-    ≡ codes "cachesim" ∷ codes "din" ∷ codes "--l1-usize" ∷ codes "1k" ∷ codes "--informat" ∷ codes "d" ∷ codes "-t" ∷ codes "f" ∷ []
-din_is_respelled = refl
-
-others_stay : respelled (codes "cachesim" ∷ codes "csim" ∷ codes "-l1-usize" ∷ []) ≡ codes "cachesim" ∷ codes "csim" ∷ codes "-l1-usize" ∷ []
-others_stay = refl
 
 -- ---- sweeps
 

@@ -10,7 +10,7 @@ use Rattle.arguments.specs.DinJob.{din_of, log_of}
 use Rattle.arguments.specs.Faults.{JobFault, job_fault_of}
 use Rattle.options.specs.Options.{cachesim_app, file_option}
 use Rattle.arguments.specs.Readings.{and_then}
-use Rattle.arguments.specs.Respell.{respelled}
+use Rattle.options.specs.Respell.{respelled}
 use Rattle.arguments.specs.SweepJob.{sweep_of}
 use Rattle.arguments.specs.declared.faults.WordsFault.{WordsFault}
 use Rattle.arguments.specs.declared.faults.WordsFault.TheVariants as fault

@@ -5,6 +5,6 @@ pub mod Faults
 pub mod Job
 pub mod Numbers
 pub use Rattle.options.specs.Options
+pub use Rattle.options.specs.Respell
 pub mod Readings
-pub mod Respell
 pub mod SweepJob

@@ -1,4 +1,4 @@
-//! The arguments of the command line: how they are spelled, and the job that they ask for.
+//! The job that the arguments of the command line ask for.
 #![tactic(auto)]
 
 mod csim_job;
@@ -8,5 +8,4 @@ pub mod job;
 pub mod numbers;
 pub mod parse;
 mod readings;
-pub mod respell;
 mod sweep_job;

@@ -1,1 +1,2 @@
 pub mod OptionLemmas
+mod Rows

@@ -2,8 +2,8 @@
 use arguments::faults::WordsFault;
 use arguments::numbers::{read_number, read_range, read_scaled, read_triple};
 use arguments::parse::{Command, parse};
-use arguments::respell::respell;
 use cache_core::plan::PlanFault;
+use options::respell::respell;
 use std::alloc::{AllocError, Global};
 use std::process::Abort;
 use std::test::Fail;

@@ -4,7 +4,7 @@ use Rattle.clap.specs.Words.{Row, Text}
 use Rattle.arguments.proofs.HelpLemmas.{help_told, refusal_told}
 use Rattle.arguments.proofs.Parsing.{accepted, refused, rows_are, rows_ordered, taken}
 use Rattle.arguments.specs.CommandLine.{answer_of, chosen_command}
-use Rattle.arguments.specs.Respell.{respelled}
+use Rattle.options.specs.Respell.{respelled}
 use Rattle.arguments.proofs.parse.parse.Goals as goal
 
 pub read_command-requires : goal.read_command-requires

@@ -1,6 +1,6 @@
 //! Dinero's spelling of the options of `din` and `log`.
 ghost use Rattle.std.specs.Prelude.{◌≡◌, ◌++◌, IfOk, OnOk, string_bytes, map};
-ghost use Rattle.arguments.specs.Respell.{has_dinero_options, is_dinero_option, respelled, spelled, takes_dinero};
+ghost use Rattle.options.specs.Respell.{has_dinero_options, is_dinero_option, respelled, spelled, takes_dinero};
 
 use std::alloc::{AllocError, Global};
 

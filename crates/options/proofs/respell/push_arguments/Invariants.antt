@@ -1,7 +1,7 @@
 -- The arguments so far are respelled.
 use Rattle.std.proofs.Common.{◌≡◌, ◌++◌, string_bytes, map, take}
-use Rattle.arguments.specs.Respell.{spelled}
-use Rattle.arguments.proofs.respell.push_arguments.Given as goal
+use Rattle.options.specs.Respell.{spelled}
+use Rattle.options.proofs.respell.push_arguments.Given as goal
 
 abbrev pub invariant-loop-argument : goal.invariant-loop-argument
 invariant-loop-argument l = map string_bytes l.list.items
