@@ -45,17 +45,17 @@ chosen_command s = option_map (with_trace s.1) (job_named s.0 s.1)
 abbrev pub command_of : List Text → Option (Result CommandValue JobFault)
 command_of arguments = option_and_then chosen_command (subcommand_of cachesim_app (respelled arguments))
 
--- what `parse` answers, but for want of memory and what clap refuses
-abbrev pub answer_of : Result Command WordsFault → Option (Result CommandValue JobFault)
-answer_of (Ok c) = Some (Ok (command_value c))
-answer_of (Err e) = option_map Err (job_fault_of e)
+-- what `parse` returned, but for want of memory and what clap refuses
+abbrev pub command_result : Result Command WordsFault → Option (Result CommandValue JobFault)
+command_result (Ok c) = Some (Ok (command_value c))
+command_result (Err e) = option_map Err (job_fault_of e)
 
 -- where clap refused the arguments, whether it says that help was asked for
 abbrev pub usage_of : WordsFault → Option Bool
 usage_of (fault.Usage text help) = Some help
 usage_of _ = None
 
--- the same of an answer of `parse`
+-- the same of what `parse` returned
 abbrev pub refusal_of : Result Command WordsFault → Option Bool
 refusal_of (Ok c) = None
 refusal_of (Err e) = usage_of e

@@ -108,7 +108,7 @@ caches_given rows =
     Ok (record { i = i; d = d; u = u; second = second })))))
 
 -- What these entries say of the caches, the seed and the format, or the first fault: bad values in the table's order, then the caches' and
--- the plan's. The letters of the format and the default seed are this project's.
+-- the plan's. The default format and the default seed are this project's.
 abbrev pub options_given : List Row → Result (PlannedCaches × ℕ × Format) JobFault
 options_given rows =
     and_then (caches_given rows) (λ caches.

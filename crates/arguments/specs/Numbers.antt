@@ -29,7 +29,7 @@ scaled_numeral text scale =
 abbrev pub number_of : Text → Option ℕ
 number_of text = if is_numeral text then within_u64 (value_of_digits text) else None
 
--- what a letter stands for behind a number: k K m M g G
+-- what a letter stands for after a number: k K m M g G
 abbrev pub scale_of : ℕ → Option ℕ
 scale_of c = if c == 107 || c == 75 then Some (2 ^ 10)
     else (if c == 109 || c == 77 then Some (2 ^ 20)
@@ -59,7 +59,7 @@ abbrev pub config_of : Option ℕ → Option ℕ → Option ℕ → Option Confi
 config_of (Some b) (Some s) (Some e) = Some (record { bsize = b; sets = s; assoc = e })
 config_of _ _ _ = None
 
--- three numbers, with commas (44) between; that some cache has them is not judged here
+-- three numbers, with commas (44) between; that some cache has them is not checked here
 abbrev pub triple_of : Text → Option Config
 triple_of text =
     option_and_then (λ first. option_and_then (λ second.

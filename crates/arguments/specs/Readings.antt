@@ -47,7 +47,7 @@ kind_named text = if bytes_eq text (codes "u") then Some All
     else (if bytes_eq text (codes "d") then Some DataOnly
     else (if bytes_eq text (codes "i") then Some FetchOnly else None))
 
--- this project's letters: d din, l lackey
+-- d din, which is Dinero IV's letter for -informat; l lackey, which is this project's
 abbrev pub format_named : Text → Option Format
 format_named text = if bytes_eq text (codes "d") then Some Din
     else (if bytes_eq text (codes "l") then Some Lackey else None)

@@ -1,7 +1,7 @@
 //! The options of `csim`.
 ghost use Rattle.std.specs.Prelude.{◌≡◌, IfOk, Some};
 ghost use Rattle.arguments.specs.CsimJob.{csim_of};
-ghost use Rattle.arguments.specs.Faults.{answer_in};
+ghost use Rattle.arguments.specs.Faults.{job_result};
 ghost use Rattle.arguments.specs.Job.{max_lines_of};
 ghost use Rattle.arguments.specs.Readings.{rows_given};
 
@@ -15,7 +15,7 @@ use trace_core::reader::MAX_LINES;
 
 /// The job of `csim`.
 pub fn csim_job(matches: &ArgMatches<'_>) -> Result<Job, WordsFault>
-    ensures job { answer_in result ≡ Some (csim_of (rows_given matches.now)) }
+    ensures job { job_result result ≡ Some (csim_of (rows_given matches.now)) }
     ensures limit { IfOk result (λ job. max_lines_of job ≡ MAX_LINES) }
 {
     let s = number_at(matches, SET_BITS.name)?;

@@ -2,7 +2,7 @@
 ghost use Rattle.std.specs.Prelude.{◌≡◌, IfOk, Some};
 ghost use Rattle.arguments.specs.DinJob.{cache_of, caches_given, din_of, log_of, options_given, plan_given, power_of, reading_of};
 ghost use Rattle.arguments.specs.DinJob.{repl_named, walloc_named, wback_named};
-ghost use Rattle.arguments.specs.Faults.{answer_in};
+ghost use Rattle.arguments.specs.Faults.{job_result};
 ghost use Rattle.arguments.specs.Job.{max_lines_of};
 ghost use Rattle.arguments.specs.Readings.{optional_value, rows_given};
 
@@ -41,7 +41,7 @@ pub struct CacheReadings {
 
 /// The job of `din`.
 pub fn din_job(matches: &ArgMatches<'_>) -> Result<Job, WordsFault>
-    ensures job { answer_in result ≡ Some (din_of (rows_given matches.now)) }
+    ensures job { job_result result ≡ Some (din_of (rows_given matches.now)) }
     ensures limit { IfOk result (λ job. max_lines_of job ≡ MAX_LINES) }
 {
     let (plan, seed, format) = options_given(matches)?;
@@ -55,7 +55,7 @@ pub fn din_job(matches: &ArgMatches<'_>) -> Result<Job, WordsFault>
 
 /// The job of `log`.
 pub fn log_job(matches: &ArgMatches<'_>) -> Result<Job, WordsFault>
-    ensures job { answer_in result ≡ Some (log_of (rows_given matches.now)) }
+    ensures job { job_result result ≡ Some (log_of (rows_given matches.now)) }
     ensures limit { IfOk result (λ job. max_lines_of job ≡ MAX_LINES) }
 {
     let (plan, seed, format) = options_given(matches)?;
@@ -69,7 +69,7 @@ pub fn log_job(matches: &ArgMatches<'_>) -> Result<Job, WordsFault>
 
 /// The plan, the seed of random replacement, and the format of the trace.
 fn options_given(matches: &ArgMatches<'_>) -> Result<(Plan, u64, Format), WordsFault>
-    ensures { answer_in result ≡ Some (options_given (rows_given matches.now)) }
+    ensures { job_result result ≡ Some (options_given (rows_given matches.now)) }
 {
     let caches = caches_given(matches)?;
     let format = format_at(matches, INFORMAT.name)?;
@@ -80,7 +80,7 @@ fn options_given(matches: &ArgMatches<'_>) -> Result<(Plan, u64, Format), WordsF
 
 /// What was given of the four caches.
 fn caches_given(matches: &ArgMatches<'_>) -> Result<CacheReadings, WordsFault>
-    ensures { answer_in result ≡ Some (caches_given (rows_given matches.now)) }
+    ensures { job_result result ≡ Some (caches_given (rows_given matches.now)) }
 {
     let i = read_cache(matches, CacheName::L1I)?;
     let d = read_cache(matches, CacheName::L1D)?;
@@ -91,7 +91,7 @@ fn caches_given(matches: &ArgMatches<'_>) -> Result<CacheReadings, WordsFault>
 
 /// The plan of what was given of the four caches.
 fn plan_given(caches: &CacheReadings) -> Result<Plan, WordsFault>
-    ensures { answer_in result ≡ Some (plan_given caches.now) }
+    ensures { job_result result ≡ Some (plan_given caches.now) }
 {
     let first = FirstLevel {
         i: complete(CacheName::L1I, &caches.i)?,
@@ -102,9 +102,9 @@ fn plan_given(caches: &CacheReadings) -> Result<Plan, WordsFault>
     Ok(Plan::new(first, second)?)
 }
 
-/// The six options of a cache.
+/// What was given of the six options of a cache.
 fn read_cache(matches: &ArgMatches<'_>, cache: CacheName) -> Result<CacheReading, WordsFault>
-    ensures { answer_in result ≡ Some (reading_of cache (rows_given matches.now)) }
+    ensures { job_result result ≡ Some (reading_of cache (rows_given matches.now)) }
 {
     let options = cache_options(cache);
     Ok(CacheReading {
@@ -119,7 +119,7 @@ fn read_cache(matches: &ArgMatches<'_>, cache: CacheName) -> Result<CacheReading
 
 /// The cache, where one of its options was given.
 fn complete(cache: CacheName, reading: &CacheReading) -> Result<Option<CacheSpec>, WordsFault>
-    ensures { answer_in result ≡ Some (cache_of cache reading.now) }
+    ensures { job_result result ≡ Some (cache_of cache reading.now) }
 {
     match *reading {
         CacheReading {
@@ -151,7 +151,7 @@ fn complete(cache: CacheName, reading: &CacheReading) -> Result<Option<CacheSpec
 
 /// A power of two that may be left out.
 fn power_at(matches: &ArgMatches<'_>, option: &'static str) -> Result<Option<u64>, WordsFault>
-    ensures { answer_in result ≡ Some (optional_value option.entry.now power_of (rows_given matches.now)) }
+    ensures { job_result result ≡ Some (optional_value option.entry.now power_of (rows_given matches.now)) }
 {
     let Some(text) = text_at(matches, option) else {
         return Ok(None);
@@ -164,7 +164,7 @@ fn power_at(matches: &ArgMatches<'_>, option: &'static str) -> Result<Option<u64
 
 /// The replacement policy, which may be left out.
 fn repl_at(matches: &ArgMatches<'_>, option: &'static str) -> Result<Option<Repl>, WordsFault>
-    ensures { answer_in result ≡ Some (optional_value option.entry.now repl_named (rows_given matches.now)) }
+    ensures { job_result result ≡ Some (optional_value option.entry.now repl_named (rows_given matches.now)) }
 {
     match text_at(matches, option) {
         None => Ok(None),
@@ -175,12 +175,12 @@ fn repl_at(matches: &ArgMatches<'_>, option: &'static str) -> Result<Option<Repl
     }
 }
 
-/// What a write does that misses, which may be left out.
+/// Whether a write miss allocates, which may be left out.
 fn walloc_at(
     matches: &ArgMatches<'_>,
     option: &'static str,
 ) -> Result<Option<AllocMode>, WordsFault>
-    ensures { answer_in result ≡ Some (optional_value option.entry.now walloc_named (rows_given matches.now)) }
+    ensures { job_result result ≡ Some (optional_value option.entry.now walloc_named (rows_given matches.now)) }
 {
     match text_at(matches, option) {
         None => Ok(None),
@@ -190,9 +190,9 @@ fn walloc_at(
     }
 }
 
-/// Where writes go, which may be left out.
+/// Write-back or write-through, which may be left out.
 fn wback_at(matches: &ArgMatches<'_>, option: &'static str) -> Result<Option<WriteMode>, WordsFault>
-    ensures { answer_in result ≡ Some (optional_value option.entry.now wback_named (rows_given matches.now)) }
+    ensures { job_result result ≡ Some (optional_value option.entry.now wback_named (rows_given matches.now)) }
 {
     match text_at(matches, option) {
         None => Ok(None),

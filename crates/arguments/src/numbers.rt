@@ -24,7 +24,7 @@ fn has_only_digits(text: &str) -> bool
     text.bytes().all(|byte| byte.is_ascii_digit())
 }
 
-/// A number as `read_number` reads it, or one of `k K m M g G` behind it: times 2^10, 2^20 or 2^30. `None` for any other text, and where
+/// A number as `read_number` reads it, or one of `k K m M g G` after it: times 2^10, 2^20 or 2^30. `None` for any other text, and where
 /// the product is 2^64 or more.
 pub fn read_scaled(text: &str) -> Option<u64>
     ensures { result ≡ scaled_of text.now }
@@ -36,7 +36,7 @@ pub fn read_scaled(text: &str) -> Option<u64>
     }
 }
 
-/// What a letter behind a number stands for. `None` for another byte.
+/// What a letter after a number stands for. `None` for another byte.
 fn scale_of(letter: u8) -> Option<u64>
     ensures { result ≡ scale_of letter }
 {

@@ -3,8 +3,8 @@ ghost use Rattle.std.specs.Prelude.{codes, [], ◌≡◌, ◌≢◌, IfOk, IfSom
 ghost use Rattle.std.specs.Prelude.{map, option_and_then, option_map, string_bytes};
 ghost use Rattle.std.specs.List.{list_any};
 ghost use Rattle.clap.specs.Words.{fault_of, first_of, kind_of, subcommand_rows_of, takes};
-ghost use Rattle.arguments.specs.CommandLine.{answer_of, command_of, is_help, job_named, chosen_command, refusal_of, usage_of};
-ghost use Rattle.arguments.specs.Faults.{job_fault_of, answer_in};
+ghost use Rattle.arguments.specs.CommandLine.{command_result, command_of, is_help, job_named, chosen_command, refusal_of, usage_of};
+ghost use Rattle.arguments.specs.Faults.{job_fault_of, job_result};
 ghost use Rattle.arguments.specs.Job.{max_lines_of};
 ghost use Rattle.options.specs.Options.{cachesim_app};
 ghost use Rattle.arguments.specs.Readings.{rows_given};
@@ -36,10 +36,10 @@ pub struct Command {
 /// Errors, the first that applies: `Usage` for what `clap` refuses or for help; `Value` for the first bad value, in the
 /// order of the manual's tables; `Incomplete`; then `BadShape`, `Plan` or `Space`. `Memory` wherever memory is refused.
 pub fn parse(alloc: Global, arguments: &[String]) -> Result<Command, WordsFault>
-    // But for want of memory and for what clap refuses, the answer is what the arguments mean, and clap refuses nothing.
-    ensures answer { IfSome (answer_of result) (λ answer.
-        command_of (map string_bytes arguments.now) ≡ Some answer) }
-    ensures accepted { IfSome (answer_of result) (λ _.
+    // But for want of memory and for what clap refuses, it returns what the arguments mean, and clap refuses nothing.
+    ensures means { IfSome (command_result result) (λ returned.
+        command_of (map string_bytes arguments.now) ≡ Some returned) }
+    ensures accepted { IfSome (command_result result) (λ _.
         fault_of cachesim_app (respelled (map string_bytes arguments.now)) ≡ []) }
     ensures limit { IfOk result (λ c. max_lines_of c.job ≡ MAX_LINES) }
 
@@ -62,8 +62,8 @@ pub fn parse(alloc: Global, arguments: &[String]) -> Result<Command, WordsFault>
 /// The job of the command that was chosen.
 fn read_command(alloc: Global, matches: &ArgMatches<'_>) -> Result<Command, WordsFault>
     requires { is_some (option_and_then chosen_command (subcommand_rows_of matches.now)) ≡ true }
-    ensures answer { IfSome (answer_of result) (λ answer.
-        option_and_then chosen_command (subcommand_rows_of matches.now) ≡ Some answer) }
+    ensures means { IfSome (command_result result) (λ returned.
+        option_and_then chosen_command (subcommand_rows_of matches.now) ≡ Some returned) }
     ensures limit { IfOk result (λ c. max_lines_of c.job ≡ MAX_LINES) }
     ensures taken { refusal_of result ≡ None }
 {
@@ -78,7 +78,7 @@ fn read_command(alloc: Global, matches: &ArgMatches<'_>) -> Result<Command, Word
 /// The job of a command, from its options.
 fn job_of(name: &str, options: &ArgMatches<'_>) -> Result<Job, WordsFault>
     requires { is_some (job_named name.now (rows_given options.now)) ≡ true }
-    ensures job { answer_in result ≡ job_named name.now (rows_given options.now) }
+    ensures job { job_result result ≡ job_named name.now (rows_given options.now) }
     ensures limit { IfOk result (λ job. max_lines_of job ≡ MAX_LINES) }
 {
     match name {
@@ -90,7 +90,7 @@ fn job_of(name: &str, options: &ArgMatches<'_>) -> Result<Job, WordsFault>
     }
 }
 
-/// The file of `-t`.
+/// The file of `-t`, which is the name of csim's option `LACKEY_FILE` too.
 fn file_at(alloc: Global, options: &ArgMatches<'_>) -> Result<Option<String>, AllocError>
     ensures { IfOk result (λ file. option_map string_bytes file ≡ first_of (codes "-t") (rows_given options.now)) }
 {

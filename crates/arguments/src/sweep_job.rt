@@ -1,6 +1,6 @@
 //! The options of `sweep`.
 ghost use Rattle.std.specs.Prelude.{◌≡◌, IfOk, Some};
-ghost use Rattle.arguments.specs.Faults.{answer_in};
+ghost use Rattle.arguments.specs.Faults.{job_result};
 ghost use Rattle.arguments.specs.Job.{max_lines_of};
 ghost use Rattle.arguments.specs.Readings.{rows_given};
 ghost use Rattle.arguments.specs.SweepJob.{page_of, ranges_of, sweep_of, trace_of};
@@ -21,7 +21,7 @@ type Range = (u64, u64);
 
 /// The job of `sweep`.
 pub fn sweep_job(matches: &ArgMatches<'_>) -> Result<Job, WordsFault>
-    ensures job { answer_in result ≡ Some (sweep_of (rows_given matches.now)) }
+    ensures job { job_result result ≡ Some (sweep_of (rows_given matches.now)) }
     ensures limit { IfOk result (λ job. max_lines_of job ≡ MAX_LINES) }
 {
     let (bsize, sets, assoc, size) = ranges_at(matches)?;
@@ -42,7 +42,7 @@ pub fn sweep_job(matches: &ArgMatches<'_>) -> Result<Job, WordsFault>
 
 /// The ranges of block sizes, set counts, associativities and sizes.
 fn ranges_at(matches: &ArgMatches<'_>) -> Result<(Range, Range, Range, Range), WordsFault>
-    ensures { answer_in result ≡ Some (ranges_of (rows_given matches.now)) }
+    ensures { job_result result ≡ Some (ranges_of (rows_given matches.now)) }
 {
     let bsize = range_at(matches, BSIZE.name)?;
     let sets = range_at(matches, SETS.name)?;
@@ -53,7 +53,7 @@ fn ranges_at(matches: &ArgMatches<'_>) -> Result<(Range, Range, Range, Range), W
 
 /// The references that count, and the format of the trace.
 fn trace_at(matches: &ArgMatches<'_>) -> Result<(Kind, Format), WordsFault>
-    ensures { answer_in result ≡ Some (trace_of (rows_given matches.now)) }
+    ensures { job_result result ≡ Some (trace_of (rows_given matches.now)) }
 {
     let kind = kind_at(matches, KIND.name)?;
     let format = format_at(matches, FORMAT.name)?;
@@ -62,7 +62,7 @@ fn trace_at(matches: &ArgMatches<'_>) -> Result<(Kind, Format), WordsFault>
 
 /// After which row a page of the table begins, and how many it may have.
 fn page_at(matches: &ArgMatches<'_>) -> Result<(Option<Config>, Option<u64>), WordsFault>
-    ensures { answer_in result ≡ Some (page_of (rows_given matches.now)) }
+    ensures { job_result result ≡ Some (page_of (rows_given matches.now)) }
 {
     let after = config_at(matches, AFTER.name)?;
     let rows = optional_number_at(matches, ROWS.name)?;

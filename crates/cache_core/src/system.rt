@@ -20,9 +20,11 @@ use crate::system_cache::SystemCache;
 use std::alloc::{AllocError, Global};
 use std::marker::Model;
 use trace_core::events::{Access, Ref};
+use trace_core::reader::MAX_LINES;
 
-/// The most steps of a system, flushes among them: 2^41. So no count overflows.
-pub const MAX_STEPS: u64 = 1 << 41;
+/// The most steps of a system, flushes among them: two for each line of a trace. So no count
+/// overflows.
+pub const MAX_STEPS: u64 = 2 * MAX_LINES;
 
 /// A system of caches.
 #[derive(Drop)]

@@ -1,4 +1,4 @@
--- What a job reads and writes.
+-- The task of each job.
 use Rattle.trace_core.specs.Task.{Task}
 use Rattle.sweep_core.specs.SweepText.{sweep_task}
 use Rattle.arguments.specs.declared.job.Job.{Job}

@@ -22,7 +22,7 @@ has_dinero_options command = bytes_eq command (codes "din") || bytes_eq command 
 abbrev pub takes_dinero : List Text → Bool
 takes_dinero arguments = option_map_or has_dinero_options (slice_get arguments 1) false
 
--- an argument behind the command's name, as clap gets it
+-- an argument after the command's name, as clap gets it
 abbrev pub spelled : Bool → Text → Text
 spelled takes_dinero argument = if takes_dinero then with_two_dashes argument else argument
 

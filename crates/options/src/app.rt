@@ -17,8 +17,8 @@ use cache_core::plan::CacheName;
 use clap::{Arg, ArgAction, Command};
 use std::alloc::{AllocError, Global};
 
-// A branch on whose ways a `Command` or an `Arg` lives takes the check long, so they are made in one go where no way out is left, and
-// otherwise kept in lists.
+// The check takes long where a `Command` or an `Arg` is alive across a branch. So each is made in one expression without a way out, or
+// kept in a list.
 
 /// The program's command line.
 pub fn cachesim_command<'a>(alloc: Global) -> Result<Command<'a>, AllocError>
@@ -42,7 +42,7 @@ pub enum OptionsOf {
     Sweep,
 }
 
-/// A command: its name, what help says of it before and behind its options, and these options.
+/// A command: its name, what help says of it before and after its options, and these options.
 pub struct CommandText {
     pub name: &'static str,
     pub about: &'static str,

@@ -1,15 +1,15 @@
-//! What `--help` says beside the list of the options.
+//! What `--help` says besides the list of the options.
 //!
 //! The limits of a cache are those of `cache_core::geometry`, which no text here can cite: 1m, 64k and 4m are `MAX_BITS`, `MAX_WAYS` and
 //! `MAX_CACHE_LINES`.
 
 /// A text with the command by which Valgrind writes a trace, and the exit statuses after it: all five texts of help have both.
 macro_rules! help_text {
-    ($before:literal, $behind:literal, $end:literal) => {
+    ($before:literal, $after:literal, $end:literal) => {
         concat!(
             $before,
             "  valgrind --tool=lackey --trace-mem=yes --log-file=trace.txt PROGRAM\n",
-            $behind,
+            $after,
             "\nExit status: 0 done or help, 1 the trace, the output or the memory failed, 2 wrong arguments.",
             $end
         )

@@ -9,12 +9,12 @@ use Rattle.profile_core.specs.State.{ProfileState, list_of}
 abbrev pub found_at : GeometryValue → List Event → ℕ → ℕ
 found_at g es d = count_by (λ p. has_last p && (distance g p == d)) (occurrences g es)
 
--- how many did not find it among the first g.e blocks, where n of these had been seen
+-- how many did not find it in a list of n blocks: those seen, at most g.e
 abbrev pub not_found_at : GeometryValue → List Event → ℕ → ℕ
 not_found_at g es n = count_by (λ p. not (is_hit g p) && (min (seen g p) g.e == n)) (occurrences g es)
 
 -- each list is the first geometry.e of its set's different blocks since the last flush, the most recent first
--- (an LRU stack of Mattson 1970), and the numbers count the places of the events
+-- (an LRU stack of Mattson 1970), and the numbers count the references of the events
 pub record ProfileStandsFor (es : List Event) (v : ProfileState) : Type 0 where
   pub geometry : IsGeometry v.geometry
   pub set_count : length v.lists ≡ 2 ^ v.geometry.s

@@ -14,17 +14,18 @@ use cache_core::geometry::Geometry;
 use cache_core::outcome::Counts;
 use std::alloc::{AllocError, Global};
 use std::marker::Model;
+use trace_core::reader::MAX_LINES;
 
-/// The most references that a profile may be fed, 2^41: two for each of 2^40 lines. So no count
+/// The most references that a profile may be fed, two for each line of a trace. So no count
 /// overflows.
-pub const MAX_REFERENCES: u64 = 1 << 41;
+pub const MAX_REFERENCES: u64 = 2 * MAX_LINES;
 
-/// The recency lists of all sets (LRU stacks, Mattson 1970) and two histograms: references found
-/// behind the front of their list, by their stack distance, which is the block's index in the list;
-/// references not found, by the number of blocks in the list. Those found in front, at distance 0,
-/// which most are, have no counter: each made one comparison, so they are all comparisons less
-/// those that the histograms tell. What a reference in front needs stands first and side by side:
-/// with `probes` last, many profiles took a tenth more time.
+/// The recency lists of all sets (LRU stacks, Mattson 1970) and two histograms: `behind` counts the
+/// references found behind the front of their list, by their stack distance, which is the block's
+/// index in the list; `misses_by_occupancy` those not found, by the number of blocks in the list.
+/// Most are found in front, at distance 0, and have no counter: each made one comparison, so they
+/// are as many as the comparisons that the histograms leave over. The fields that these references
+/// need come first: with `probes` last, many profiles took a tenth more time.
 #[derive(Drop)]
 pub struct Profile {
     geometry: Geometry,
@@ -237,8 +238,7 @@ impl Profile {
         self.counts_next(&mut sums, e)
     }
 
-    /// Begins to count for rising associativities. It goes over both histograms twice, as `fed`
-    /// does.
+    /// Begins to count for rising associativities, at 0. It takes as long as `fed`.
     pub fn begin_sums(&self) -> HitSums
         ensures { result ≡ hit_sums_at self.now 0 }
     {
@@ -251,9 +251,9 @@ impl Profile {
     }
 
     /// The same counts as `counts`, by sums that this profile began, at an associativity not below
-    /// theirs, which becomes `e`. Nothing is fed between the two. It adds up only the numbers
-    /// between the two associativities, and the first call both histograms once more: all calls for
-    /// the same sums together cost `4 * depth` additions at most, beside those of `begin_sums`.
+    /// theirs, which becomes `e`. Nothing is fed between the two. The first call goes over
+    /// the histograms as `fed` does, each later one over the numbers between the two
+    /// associativities: all calls for the same sums cost about `5 * depth` additions.
     pub fn counts_next(&self, sums: &mut HitSums, e: u64) -> Counts
         requires some { 1 ≤ e }
         requires within { e ≤ self.now.geometry.e }

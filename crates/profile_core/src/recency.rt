@@ -215,8 +215,8 @@ fn bring_in_row(front: &mut u64, rest: &mut [u64], len: &mut u32, block: u64) ->
     }
 }
 
-/// Moves each block of the list that `first` begins one index on, into `list`, up to the index of
-/// `block`. It is known to be neither the first nor the second.
+/// `first` and then `list` were the list of a set. Shifts it by one index into `list`, up to the
+/// index of `block`, or to the end. `block` is neither its first nor its second.
 #[inline(always)]
 fn shift_past(list: &mut [u64], first: u64, block: u64) -> Shifted
     requires behind { is_front block (first ∷ list.old) ≡ false }

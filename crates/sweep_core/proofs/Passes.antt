@@ -21,7 +21,7 @@ use Rattle.trace_core.specs.declared.events.Kind.{Kind}
 use Rattle.trace_core.specs.declared.events.Event.{Event}
 use Rattle.profile_core.specs.State.{ProfileState, fed_of, list_of, raise, after_reference, after_flush, after_event}
 use Rattle.profile_core.specs.Moves.{is_in, index_of}
-use Rattle.cache_core.specs.declared.system.TheConstants.{MAX_STEPS}
+use Rattle.profile_core.specs.declared.profile.TheConstants.{MAX_REFERENCES}
 use Rattle.cache_core.specs.Geometry.{block_of, set_of_block}
 use Rattle.std.proofs.lemmas.Bool.{cases_lt}
 use Rattle.std.proofs.lemmas.List.{set_past}
@@ -111,7 +111,7 @@ fed-events (event.Flush ∷ es) v = omega (arith, fed-events es (after_flush v))
 
 can-take : (n m : ℕ) (es : List Event) (xs : List PairProfile) → length es ≤ m → CanTake (n + m) xs → CanTake n (all_after es xs)
 can-take n m es xs few free =
-    All-map (λ x. fed_of x.profile + n ≤ MAX_STEPS) (pair_after_events es) xs (λ k d h. omega (arith, free k d h, fed-events es (get_or xs k d).profile))
+    All-map (λ x. fed_of x.profile + n ≤ MAX_REFERENCES) (pair_after_events es) xs (λ k d h. omega (arith, free k d h, fed-events es (get_or xs k d).profile))
 
 -- of some references at most all are kept
 kept-most : (kind : Kind) (rs : List Ref) → length (kept_events kind rs) ≤ length rs

@@ -14,7 +14,7 @@ use Rattle.trace_core.specs.declared.line.Format.{Format}
 use Rattle.trace_core.specs.declared.fault.TraceFault.{TraceFault}
 use Rattle.trace_core.specs.declared.state.ReaderState.{ReaderState}
 use Rattle.trace_core.specs.declared.state.ReaderState.TheVariants as state
-use Rattle.cache_core.specs.declared.system.TheConstants.{MAX_STEPS}
+use Rattle.profile_core.specs.declared.profile.TheConstants.{MAX_REFERENCES}
 use Rattle.cache_core.specs.Geometry.{IsGeometry, block_of}
 use Rattle.profile_core.specs.State.{empty, fed_of, after_reference, after_flush, after_event}
 use Rattle.sweep_core.specs.declared.space.Config.{Config}
@@ -27,7 +27,7 @@ use Rattle.sweep_core.specs.Runs.{rows_of_profile}
 
 -- each profile can be fed so many references more
 abbrev pub CanTake : ℕ → List PairProfile → Type 0
-CanTake n profiles = All (λ x. fed_of x.profile + n ≤ MAX_STEPS) profiles
+CanTake n profiles = All (λ x. fed_of x.profile + n ≤ MAX_REFERENCES) profiles
 
 -- the profile of a pair after a reference to an address
 abbrev pub pair_after_reference : ℕ → PairProfile → PairProfile
@@ -62,7 +62,7 @@ pub record SweepStandsFor (r : Request) (es : List Event) (profiles : List PairP
   pub rows : flat_map (rows_of_profile r.space.powers) profiles ≡ rows_of r
   pub fed : AllByRecursion (WasFed (configs_of r) es) profiles
 
--- the state in which a reader ends that answers this
+-- the state in which a reader is that returned this
 abbrev pub state_after : Result (Unit {0}) TraceFault → ReaderState
 state_after (Ok done) = state.Ended
 state_after (Err fault) = state.Failed fault

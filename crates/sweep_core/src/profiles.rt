@@ -26,8 +26,8 @@ pub(crate) struct PairProfile {
     pub(crate) profile: Profile,
 }
 
-/// Makes the profiles of a request, each as deep as the greatest associativity of its pair, whether
-/// that has a row or not.
+/// Makes the profiles of a request, each as deep as the greatest associativity of its pair in the
+/// space, also where `rows` cuts that one off.
 pub(crate) fn make_profiles(
     alloc: Global,
     request: &Request,
@@ -49,8 +49,8 @@ pub(crate) fn make_profiles(
     Ok(made)
 }
 
-/// Takes the rows of the next pair from those after `after`, of which there are to be `most`: its
-/// first row, and how many it has. What is left is after the deepest cache of the pair.
+/// Takes the next pair that has a row after `after`: returns its first row, and how many it has.
+/// Then `after` is the pair's deepest cache, and `most` how many rows may still follow.
 fn take_pair(
     space: &Space,
     after: &mut Option<Config>,

@@ -5,10 +5,10 @@ ghost use Rattle.sweep_core.specs.SweepText.{row_of};
 
 use crate::space::Config;
 use cache_core::outcome::Counts;
-use trace_core::text::Text;
+use trace_core::text::{DECIMAL, Text};
 
-/// The most bytes that a row has: seven numbers of up to twenty digits, and what stands after each.
-pub(crate) const CAPACITY: usize = 147;
+/// The most bytes that a row has: seven numbers, and what stands after each.
+pub(crate) const CAPACITY: usize = 7 * (DECIMAL + 1);
 
 /// Puts the row of a configuration, whose size is `bytes`, in place of what a text held.
 pub(crate) fn set_row(row: &mut Text<CAPACITY>, config: &Config, bytes: u64, counts: Counts)
@@ -27,9 +27,9 @@ pub(crate) fn set_row(row: &mut Text<CAPACITY>, config: &Config, bytes: u64, cou
 
 /// Adds a number and what stands after it.
 fn push_number(row: &mut Text<CAPACITY>, number: u64, after: u8)
-    requires { length row.old + 21 ≤ CAPACITY }
+    requires { length row.old + DECIMAL + 1 ≤ CAPACITY }
     ensures row { row.new ≡ row.old ++ decimal number ++ after ∷ [] }
-    ensures short { length row.new ≤ length row.old + 21 }
+    ensures short { length row.new ≤ length row.old + DECIMAL + 1 }
 {
     row.push_decimal(number);
     row.push(&[after]);

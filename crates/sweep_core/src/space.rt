@@ -60,10 +60,10 @@ impl fmt::Display for Which {
 /// What is wrong with a range. Where several causes apply, the first counts.
 #[derive(Clone, Copy, Debug, PartialEq, Eq, Error)]
 pub enum Cause {
-    /// An end is no power of two. Judged for block sizes and set counts.
+    /// An end is not a power of two. Checked for block sizes and set counts.
     #[error("not a power of two")]
     NotPower,
-    /// An end is outside the limits. Judged for all but sizes.
+    /// An end is outside the limits. Checked for all but sizes.
     #[error("out of limits")]
     Limit,
     /// The lowest value is above the greatest.

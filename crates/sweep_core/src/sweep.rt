@@ -18,16 +18,16 @@ use trace_core::reader::{Lines, MAX_LINES};
 pub type SweepFault = RunFault;
 
 /// Reads a whole trace, of at most `max_lines` lines, 1 to `MAX_LINES`. Then it writes the header,
-/// unless `after` is given, and then a row for each configuration of the request, rising, and
-/// flushes once. A failed sink is not called again.
+/// unless `after` is given, and then a row for each configuration greater than `after`, rising, but
+/// at most `rows`, and flushes once. A failed sink is not called again.
 ///
 /// Each row is written by itself, and none is held back. So a caller whose sink is slow to call,
 /// such as a file or a socket, brings a buffer of its own: `ToWrite` over a `BufWriter`.
 ///
 /// Each pair of block size and set count that has a row costs one profile, as deep as the pair's
 /// greatest associativity in the space, and every reference is fed to each of them as it is read.
-/// The answer is how many comparisons of a block with an entry of a recency list they made, at most
-/// the depth for each reference and profile.
+/// It returns how many comparisons of a block with an entry of a recency list the profiles made: at
+/// most the depth for each reference and profile.
 ///
 /// Errors: `Memory`, with nothing read or written; `Trace` where the trace has a fault or the
 /// source failed, with nothing written; `Write` where the sink failed, after the whole trace was

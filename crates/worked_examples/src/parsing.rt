@@ -109,7 +109,7 @@ fn a_line_without_a_cache(rt: HostRuntime) -> Result<(), Fail> {
     Ok(())
 }
 
-// The texts are clap's; that help begins with what the command does is its own.
+// Of the texts, tests/cases shows that they are right.
 #[test]
 fn arguments_that_are_no_call(rt: HostRuntime) -> Result<(), Fail> {
     for (line, is_help, status) in [

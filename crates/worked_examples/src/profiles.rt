@@ -5,14 +5,11 @@ ghost use Rattle.profile_core.specs.State.{fed_of};
 use cache_core::geometry::Geometry;
 use cache_core::outcome::Counts;
 use cache_core::simulate::simulate;
-use profile_core::profile::Profile;
+use profile_core::profile::{MAX_REFERENCES, Profile};
 use std::alloc::{AllocError, Global};
 use std::process::Abort;
 use std::test::Fail;
 use trace_core::events::{Access, Ref};
-
-/// More references than these are not fed.
-const MOST: u64 = 1 << 41;
 
 const SHORT: [u64; 9] = [0x10, 0x20, 0x20, 0x22, 0x18, 0x110, 0x210, 0x12, 0x12];
 
@@ -48,7 +45,7 @@ fn one_set(alloc: Global, depth: u64) -> Result<Profile, Fail>
 
 /// Feeds addresses.
 fn feed_all(profile: &mut Profile, addrs: &[u64])
-    requires few { fed_of profile.old + length addrs.now ≤ 2 ^ 41 }
+    requires few { fed_of profile.old + length addrs.now ≤ MAX_REFERENCES }
     ensures geometry { profile.new.geometry ≡ profile.old.geometry }
     ensures fed { fed_of profile.new ≡ fed_of profile.old + length addrs.now }
 {
@@ -61,11 +58,11 @@ fn feed_all(profile: &mut Profile, addrs: &[u64])
 fn expect_probes(rt: &impl Abort, profile: &mut Profile, steps: &[(u64, u64)]) {
     for (i, (addr, wanted)) in steps.iter().enumerate() {
         let before = profile.probes();
-        assert!(rt; profile.fed() < MOST);
+        assert!(rt; profile.fed() < MAX_REFERENCES);
         profile.feed(*addr);
         assert!(rt;
             profile.probes().saturating_sub(before) == *wanted,
-            "at place {i}"
+            "at step {i}"
         );
     }
 }

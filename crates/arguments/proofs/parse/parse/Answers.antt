@@ -3,7 +3,7 @@ use Rattle.std.proofs.Common.{subst, ◌≡◌, List, Option, Some, IfSome, opti
 use Rattle.clap.specs.Words.{Row, Text}
 use Rattle.arguments.proofs.HelpLemmas.{help_told, refusal_told}
 use Rattle.arguments.proofs.Parsing.{accepted, refused, rows_are, rows_ordered, taken}
-use Rattle.arguments.specs.CommandLine.{answer_of, chosen_command}
+use Rattle.arguments.specs.CommandLine.{command_result, chosen_command}
 use Rattle.options.specs.Respell.{respelled}
 use Rattle.arguments.proofs.parse.parse.Goals as goal
 
@@ -12,16 +12,16 @@ read_command-requires c =
     rows_ordered string_bytes _ _ c.in_ok-command.ensures.app c.as_slice.ensures.value c.in_ok-respelled.ensures c.in-Ok.matches c.in-Ok.ensures.matches
     c.in_ok-command.ensures.local c.in-Ok.ensures.parsed
 
-pub returns-in-Ok-clause-answer : goal.returns-in-Ok-clause-answer
-returns-in-Ok-clause-answer c =
+pub returns-in-Ok-clause-means : goal.returns-in-Ok-clause-means
+returns-in-Ok-clause-means c =
     subst (λ (rows : Option (Text × List Row)).
-    IfSome (answer_of c.read_command.result) (λ answer. option_and_then chosen_command rows ≡ Some answer))
+    IfSome (command_result c.read_command.result) (λ returned. option_and_then chosen_command rows ≡ Some returned))
     (rows_are string_bytes _ _ c.in_ok-command.ensures.app c.as_slice.ensures.value c.in_ok-respelled.ensures c.in-Ok.matches c.in-Ok.ensures.matches)
-    c.read_command.ensures.answer
+    c.read_command.ensures.means
 
 pub returns-in-Ok-clause-accepted : goal.returns-in-Ok-clause-accepted
 returns-in-Ok-clause-accepted c =
-    accepted string_bytes _ _ c.in_ok-command.ensures.app c.as_slice.ensures.value c.in_ok-respelled.ensures (answer_of c.read_command.result)
+    accepted string_bytes _ _ c.in_ok-command.ensures.app c.as_slice.ensures.value c.in_ok-respelled.ensures (command_result c.read_command.result)
     c.in-Ok.ensures.kinds
 
 pub returns-clause-taken : goal.returns-clause-taken
