@@ -12,12 +12,12 @@ use Rattle.cache_core.specs.declared.plan.PlanFault.{PlanFault}
 use Rattle.cache_core.specs.declared.plan.PlanFault.TheVariants.{NoFirst, MixedFirst, BadGeometry, SmallBlock}
 use Rattle.cache_core.specs.Geometry.{GeometryValue, IsGeometry, geometry_of}
 
--- the name of a cache, as the user writes it
-abbrev pub label_of : CacheName → List ℕ
-label_of L1I = codes "l1-i"
-label_of L1D = codes "l1-d"
-label_of L1U = codes "l1-u"
-label_of L2U = codes "l2-u"
+-- the name of a cache, as options and output write it
+abbrev pub cache_name : CacheName → List ℕ
+cache_name L1I = codes "l1-i"
+cache_name L1D = codes "l1-d"
+cache_name L1U = codes "l1-u"
+cache_name L2U = codes "l2-u"
 
 -- the caches of a plan
 pub record PlannedCaches : Type 0 where

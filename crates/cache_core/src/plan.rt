@@ -35,7 +35,7 @@ pub struct FirstLevel {
     pub u: Option<CacheSpec>,
 }
 
-/// A cache of a system, by name. It is shown as `l1-i`, `l1-d`, `l1-u` or `l2-u`.
+/// A cache of a system, by name.
 #[derive(Clone, Copy, Debug, PartialEq, Eq)]
 pub enum CacheName {
     L1I,
@@ -44,19 +44,32 @@ pub enum CacheName {
     L2U,
 }
 
-impl Display for CacheName {
-    ghost use Rattle.std.specs.Prelude.{Some};
-    ghost use Rattle.cache_core.specs.Plans.{label_of};
+impl CacheName {
+    ghost use Rattle.std.specs.Prelude.{◌≡◌, length};
+    ghost use Rattle.cache_core.specs.Plans.{cache_name};
 
-    ghost output = { λ name. Some (label_of name) };
-
-    fn fmt<W: Write>(&self, f: &mut Formatter<W>) -> fmt::Result {
-        f.write_str(match self {
+    /// The name, as options and output write it.
+    pub fn text(self) -> &'static str
+        ensures value { result.now ≡ cache_name self }
+        ensures short { length result.now ≡ 4 }
+    {
+        match self {
             CacheName::L1I => "l1-i",
             CacheName::L1D => "l1-d",
             CacheName::L1U => "l1-u",
             CacheName::L2U => "l2-u",
-        })
+        }
+    }
+}
+
+impl Display for CacheName {
+    ghost use Rattle.std.specs.Prelude.{Some};
+    ghost use Rattle.cache_core.specs.Plans.{cache_name};
+
+    ghost output = { λ name. Some (cache_name name) };
+
+    fn fmt<W: Write>(&self, f: &mut Formatter<W>) -> fmt::Result {
+        f.write_str(self.text())
     }
 }
 

@@ -8,7 +8,9 @@ use Rattle.trace_core.specs.Reading.{events}
 use Rattle.trace_core.specs.Task.{Task}
 use Rattle.cache_core.specs.declared.stats.CacheStats.{CacheStats}
 use Rattle.cache_core.specs.declared.stats.Stats.{Stats}
-use Rattle.cache_core.specs.Plans.{PlannedCaches}
+use Rattle.cache_core.specs.declared.plan.CacheName.{CacheName}
+use Rattle.cache_core.specs.declared.plan.CacheName.TheVariants.{L1I, L1D, L1U, L2U}
+use Rattle.cache_core.specs.Plans.{PlannedCaches, cache_name}
 use Rattle.cache_core.specs.Systems.{system_run}
 
 -- a name, and its number after it
@@ -16,10 +18,10 @@ abbrev pub field : List ℕ → ℕ → List ℕ
 field name n = name ++ decimal n
 
 -- the line of a cache, if there is one
-abbrev pub cache_line : List ℕ → Option CacheStats → List ℕ
+abbrev pub cache_line : CacheName → Option CacheStats → List ℕ
 cache_line name None = []
 cache_line name (Some c) =
-    name ++ field (codes " fetches=") c.fetches ++ field (codes " fetch-misses=") c.fetch_misses
+    cache_name name ++ field (codes " fetches=") c.fetches ++ field (codes " fetch-misses=") c.fetch_misses
     ++ field (codes " reads=") c.reads ++ field (codes " read-misses=") c.read_misses
     ++ field (codes " writes=") c.writes ++ field (codes " write-misses=") c.write_misses
     ++ field (codes " evictions=") c.evictions ++ field (codes " copybacks=") c.copybacks ++ codes "\n"
@@ -27,8 +29,7 @@ cache_line name (Some c) =
 -- the report of a system
 abbrev pub report_of : Stats → List ℕ
 report_of s =
-    cache_line (codes "l1-i") s.l1i ++ cache_line (codes "l1-d") s.l1d
-    ++ cache_line (codes "l1-u") s.l1u ++ cache_line (codes "l2-u") s.l2u
+    cache_line L1I s.l1i ++ cache_line L1D s.l1d ++ cache_line L1U s.l1u ++ cache_line L2U s.l2u
     ++ field (codes "memory reads=") s.memory_reads ++ field (codes " writes=") s.memory_writes ++ codes "\n"
     ++ field (codes "bypassed=") s.bypassed ++ codes "\n"
 

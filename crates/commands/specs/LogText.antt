@@ -14,7 +14,7 @@ use Rattle.trace_core.specs.Text.{hexadecimal}
 use Rattle.cache_core.specs.declared.arrival.Victim.{Victim}
 use Rattle.cache_core.specs.declared.arrival.Arrival.{Arrival}
 use Rattle.cache_core.specs.declared.arrival.Arrival.TheVariants.{Cache, Memory, Bypassed, Flush}
-use Rattle.cache_core.specs.Plans.{PlannedCaches, label_of}
+use Rattle.cache_core.specs.Plans.{PlannedCaches, cache_name}
 use Rattle.cache_core.specs.Arrivals.{arrivals}
 
 -- the label of a reference in a din trace, with a space on both sides
@@ -38,10 +38,10 @@ victim_text (Some victim) = codes " eviction " ++ hexadecimal victim.addr ++ (if
 
 -- the line of an arrival
 abbrev pub arrival_line : Arrival → List ℕ
-arrival_line (Cache name ref hit victim) = label_of name ++ reference_text ref ++ result_text hit ++ victim_text victim ++ codes "\n"
+arrival_line (Cache name ref hit victim) = cache_name name ++ reference_text ref ++ result_text hit ++ victim_text victim ++ codes "\n"
 arrival_line (Memory ref) = codes "memory" ++ reference_text ref ++ codes "\n"
 arrival_line (Bypassed ref) = codes "bypassed" ++ reference_text ref ++ codes "\n"
-arrival_line (Flush name dirty) = label_of name ++ codes " flush " ++ decimal dirty ++ codes "\n"
+arrival_line (Flush name dirty) = cache_name name ++ codes " flush " ++ decimal dirty ++ codes "\n"
 
 -- the lines of arrivals
 abbrev pub arrival_lines : List Arrival → List ℕ

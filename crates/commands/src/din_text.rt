@@ -3,6 +3,7 @@ ghost use Rattle.std.specs.Prelude.{◌≡◌, ◌+◌, ◌≤◌, ◌++◌, len
 ghost use Rattle.commands.specs.DinText.{field, cache_line, report_of};
 
 use crate::text::CAPACITY;
+use cache_core::plan::CacheName;
 use cache_core::stats::{CacheStats, Stats};
 use trace_core::text::{DECIMAL, Text};
 
@@ -23,10 +24,10 @@ pub(crate) fn set_report(text: &mut Text<CAPACITY>, stats: &Stats)
     ensures { text.new ≡ report_of stats.now }
 {
     text.clear();
-    push_cache(text, b"l1-i", stats.l1i);
-    push_cache(text, b"l1-d", stats.l1d);
-    push_cache(text, b"l1-u", stats.l1u);
-    push_cache(text, b"l2-u", stats.l2u);
+    push_cache(text, CacheName::L1I, stats.l1i);
+    push_cache(text, CacheName::L1D, stats.l1d);
+    push_cache(text, CacheName::L1U, stats.l1u);
+    push_cache(text, CacheName::L2U, stats.l2u);
     push_field(text, b"memory reads=", stats.memory_reads);
     push_field(text, b" writes=", stats.memory_writes);
     text.push(b"\n");
@@ -35,16 +36,15 @@ pub(crate) fn set_report(text: &mut Text<CAPACITY>, stats: &Stats)
 }
 
 /// Adds the line of a cache, if there is one.
-fn push_cache(text: &mut Text<CAPACITY>, name: &[u8], stats: Option<CacheStats>)
-    requires fits { length text.old + CACHE_LINE ≤ CAPACITY }
-    requires name { length name.now ≤ 4 }
-    ensures value { text.new ≡ text.old ++ cache_line name.now stats }
+fn push_cache(text: &mut Text<CAPACITY>, name: CacheName, stats: Option<CacheStats>)
+    requires { length text.old + CACHE_LINE ≤ CAPACITY }
+    ensures value { text.new ≡ text.old ++ cache_line name stats }
     ensures short { length text.new ≤ length text.old + CACHE_LINE }
 {
     let Some(stats) = stats else {
         return;
     };
-    text.push(name);
+    text.push(name.text().as_bytes());
     push_field(text, b" fetches=", stats.fetches);
     push_field(text, b" fetch-misses=", stats.fetch_misses);
     push_field(text, b" reads=", stats.reads);

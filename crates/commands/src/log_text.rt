@@ -1,11 +1,9 @@
 //! The lines that `log` writes.
 ghost use Rattle.std.specs.Prelude.{◌≡◌, ◌+◌, ◌≤◌, [], ◌++◌, length};
-ghost use Rattle.cache_core.specs.Plans.{label_of};
 ghost use Rattle.commands.specs.LogText.{din_label, reference_text, victim_text, result_text, arrival_line};
 
 use crate::text::CAPACITY;
 use cache_core::arrival::{Arrival, Observer, Victim};
-use cache_core::plan::CacheName;
 use trace_core::events::{Access, Ref};
 use trace_core::text::{DECIMAL, HEXADECIMAL, Text};
 
@@ -68,7 +66,7 @@ fn push_arrival(text: &mut Text<CAPACITY>, arrival: Arrival)
             hit,
             victim,
         } => {
-            text.push(name(cache));
+            text.push(cache.text().as_bytes());
             push_reference(text, reference);
             text.push(result_text(hit));
             push_victim(text, victim);
@@ -82,25 +80,12 @@ fn push_arrival(text: &mut Text<CAPACITY>, arrival: Arrival)
             push_reference(text, reference);
         }
         Arrival::Flush { cache, dirty } => {
-            text.push(name(cache));
+            text.push(cache.text().as_bytes());
             text.push(b" flush ");
             text.push_decimal(dirty);
         }
     }
     text.push(b"\n");
-}
-
-/// The name of a cache.
-fn name(cache: CacheName) -> &'static [u8]
-    ensures value { result.now ≡ label_of cache }
-    ensures short { length result.now ≡ 4 }
-{
-    match cache {
-        CacheName::L1I => b"l1-i",
-        CacheName::L1D => b"l1-d",
-        CacheName::L1U => b"l1-u",
-        CacheName::L2U => b"l2-u",
-    }
 }
 
 /// Adds the label and the address of a reference, as a din trace has them.

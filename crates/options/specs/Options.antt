@@ -6,7 +6,7 @@ use Rattle.clap.specs.declared.builder.arg.Arg.{Arg}
 use Rattle.clap.specs.declared.builder.command.Command.{Command}
 use Rattle.clap.specs.declared.builder.command.Command.TheViews.{out-Command}
 use Rattle.clap.specs.declared.builder.action.ArgAction.TheVariants.{Set, SetTrue}
-use Rattle.cache_core.specs.Plans.{label_of}
+use Rattle.cache_core.specs.Plans.{cache_name}
 use Rattle.cache_core.specs.declared.plan.CacheName.{CacheName}
 use Rattle.cache_core.specs.declared.plan.CacheName.TheVariants.{L1I, L1D, L1U, L2U}
 use Rattle.options.specs.declared.app.CommandText.{CommandText}
@@ -72,7 +72,7 @@ file_option = optional (by_letter (codes "-t") 116)
 
 -- the option of a cache with this ending
 abbrev pub cache_option : CacheName → Text → Rule
-cache_option cache ending = optional (by_name (codes "-") (label_of cache ++ ending))
+cache_option cache ending = optional (by_name (codes "-") (cache_name cache ++ ending))
 
 abbrev pub size_option_of : CacheName → Rule
 size_option_of cache = cache_option cache (codes "size")
