@@ -1,5 +1,5 @@
 #   make                        proves and builds the program (8 minutes on four processors), and says where it is
-#   make demo                   sweeps a real trace within a minute, by the program as yet unproved where none is built; tests/run takes it
+#   make demo                   sweeps an example within a minute; without a proved program it makes an unproved one, which tests/run takes
 #   make test                   proves everything and tests the program; the last line is 'N passed, M failed'
 #   make test-tools             builds the program and tests the tools and the package with it
 #   make strain                 tests that take longer: refusals, 100,000 random cases, against Cachegrind, against C code

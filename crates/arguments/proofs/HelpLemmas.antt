@@ -234,7 +234,7 @@ among_exactly (x ∷ xs) k agrees among = says (x ∷ xs) (is_help x) k (refl, a
     first true all = refl
     first false all = sym (none_says xs all)
 
--- a fault of clap's is told as want of memory, or it says whether help was asked for
+-- a fault of clap's is told as lack of memory, or it says whether help was asked for
 pub help_told : (e : WordsFault) (k : ErrorKind) (arguments : List Text) → (k ≡ kind.OutOfMemory → usage_of e ≡ None)
     → IfSome (usage_of e) (λ help. help ≡ is_help k) → (k ≡ kind.OutOfMemory) ⊎ IsAmong k (fault_of cachesim_app arguments)
     → IfSome (usage_of e) (λ help. help ≡ list_any is_help (fault_of cachesim_app arguments))

@@ -45,7 +45,7 @@ chosen_command s = option_map (with_trace s.1) (job_named s.0 s.1)
 abbrev pub command_of : List Text → Option (Result CommandValue JobFault)
 command_of arguments = option_and_then chosen_command (subcommand_of cachesim_app (respelled arguments))
 
--- what `parse` returned, but for want of memory and what clap refuses
+-- what `parse` returned, but for lack of memory and what clap refuses
 abbrev pub command_result : Result Command WordsFault → Option (Result CommandValue JobFault)
 command_result (Ok c) = Some (Ok (command_value c))
 command_result (Err e) = option_map Err (job_fault_of e)

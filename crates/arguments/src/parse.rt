@@ -36,7 +36,7 @@ pub struct Command {
 /// Errors, the first that applies: `Usage` for what `clap` refuses or for help; `Value` for the first bad value, in the
 /// order of the manual's tables; `Incomplete`; then `BadShape`, `Plan` or `Space`. `Memory` wherever memory is refused.
 pub fn parse(alloc: Global, arguments: &[String]) -> Result<Command, WordsFault>
-    // But for want of memory and for what clap refuses, it returns what the arguments mean, and clap refuses nothing.
+    // But for lack of memory and for what clap refuses, it returns what the arguments mean, and clap refuses nothing.
     ensures means { IfSome (command_result result) (λ returned.
         command_of (map string_bytes arguments.now) ≡ Some returned) }
     ensures accepted { IfSome (command_result result) (λ _.

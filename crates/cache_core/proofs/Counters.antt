@@ -1,6 +1,6 @@
 -- What one reference adds to the counts of a system.
-use Rattle.std.proofs.Common.{◌≡◌, ℕ, ◌+◌, ◌*◌, ◌≤◌, ◌&&◌, not, Bool, true, false, cond, get_or, List, [], ◌∷◌, ◌++◌, length}
-use Rattle.std.proofs.Common.{Option, Some, None, arith, ap, sym, subst, refl}
+use Rattle.std.proofs.Common.{◌≡◌, ℕ, ◌+◌, ◌*◌, ◌≤◌, Bool, true, false, cond, get_or, List, [], ◌∷◌, ◌++◌, length}
+use Rattle.std.proofs.Common.{Option, Some, None, arith, ap, refl}
 use Rattle.std.specs.Prelude.{MatchBool, is_some, is_none}
 use Rattle.trace_core.specs.declared.events.Ref.{Ref}
 use Rattle.trace_core.specs.declared.events.Access.{Access}
@@ -13,10 +13,10 @@ use Rattle.cache_core.specs.declared.stats.CacheStats.{CacheStats}
 use Rattle.cache_core.specs.declared.system_cache.SystemCache.{SystemCache}
 use Rattle.cache_core.specs.declared.system.Memory.{Memory}
 use Rattle.cache_core.specs.Geometry.{block_of, set_of}
-use Rattle.cache_core.specs.Order.{Visits, VisitsAt, Fills, PassesOn, position_of, slots_of, is_dirty, one_if}
+use Rattle.cache_core.specs.Order.{Visits, VisitsAt, Fills, PassesOn, position_of, slots_of, one_if}
 use Rattle.cache_core.specs.Outcomes.{is_write, allocates, on_hit, on_placing, on_passing, two_options}
 use Rattle.cache_core.specs.CacheSteps.{Enters, system_cache_contents}
-use Rattle.cache_core.specs.SystemCaches.{stats_after, accesses, CacheCountsWithin}
+use Rattle.cache_core.specs.SystemCaches.{stats_after, accesses}
 use Rattle.cache_core.specs.Systems.{is_fetch, is_read}
 use Rattle.cache_core.specs.SystemSteps.{AccessesFirst, Descends, AllDescend, AccessesUnified, AccessesSplit, AccessesFirstLevel, copied, counted, reached}
 use Rattle.cache_core.specs.SystemSteps.{present_refs, reaches, all_reach}
@@ -34,37 +34,6 @@ one_kind Write = refl
 -- a count of one more access
 pub one_access : (s : CacheStats) (ref : Ref) (o : Outcome) → accesses (stats_after s ref o) ≡ accesses s + 1
 one_access s ref o = omega (arith, one_kind ref.access)
-
--- each count grows by one at most
-pub stats_within : (n : ℕ) (s : CacheStats) (ref : Ref) (o : Outcome) → CacheCountsWithin n s → CacheCountsWithin (n + 1) (stats_after s ref o)
-stats_within n s ref o w = record {
-  fetches = omega (arith, w.fetches, one_most (is_fetch ref.access));
-  fetch_misses = omega (arith, w.fetch_misses, one_most (is_fetch ref.access && not o.hit));
-  reads = omega (arith, w.reads, one_most (is_read ref.access));
-  read_misses = omega (arith, w.read_misses, one_most (is_read ref.access && not o.hit));
-  writes = omega (arith, w.writes, one_most (is_write ref.access));
-  write_misses = omega (arith, w.write_misses, one_most (is_write ref.access && not o.hit));
-  evictions = omega (arith, w.evictions, one_most (is_some o.evicted));
-  copybacks = omega (arith, w.copybacks, one_most (is_dirty o.evicted));
-}
-
-pub within_more : (n m : ℕ) (s : CacheStats) → n ≤ m → CacheCountsWithin n s → CacheCountsWithin m s
-within_more n m s h w = record {
-  fetches = omega (arith, w.fetches);
-  fetch_misses = omega (arith, w.fetch_misses);
-  reads = omega (arith, w.reads);
-  read_misses = omega (arith, w.read_misses);
-  writes = omega (arith, w.writes);
-  write_misses = omega (arith, w.write_misses);
-  evictions = omega (arith, w.evictions);
-  copybacks = omega (arith, w.copybacks);
-}
-
--- a cache's counts after one more access, and after a flush
-pub accessed_within : (s new : CacheStats) (ref : Ref) (o : Outcome) → new ≡ stats_after s ref o → CacheCountsWithin (accesses s) s →
-    CacheCountsWithin (accesses new) new
-accessed_within s new ref o is w =
-    rw is (subst (λ n. CacheCountsWithin n (stats_after s ref o)) (sym (one_access s ref o)) (stats_within (accesses s) s ref o w))
 
 -- one reference at a cache, if it is there
 pub record Grows (more : ℕ) (old new : Option SystemCache) : Type 0 where

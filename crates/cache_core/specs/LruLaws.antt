@@ -1,17 +1,15 @@
 -- The LRU machine with write-allocate, and what look-back windows say of it.
-use Rattle.std.specs.Prelude.{ℕ, ◌≡◌, ◌≤◌, ◌+◌, Bool, not, List, map, is_some, IsTrue, Some}
+use Rattle.std.specs.Prelude.{ℕ, ◌≡◌, ◌≤◌, ◌+◌, Bool, List, map, is_some, IsTrue, Some}
 use Rattle.std.specs.List.{list_any}
 use Rattle.trace_core.specs.declared.events.Ref.{Ref}
 use Rattle.trace_core.specs.declared.events.Event.{Event}
 use Rattle.cache_core.specs.declared.outcome.WriteMode.{WriteMode}
 use Rattle.cache_core.specs.declared.outcome.AllocMode.TheVariants.{Always}
 use Rattle.cache_core.specs.declared.outcome.Repl.TheVariants.{Lru}
-use Rattle.cache_core.specs.declared.outcome.Counts.{Counts}
-use Rattle.cache_core.specs.declared.outcome.Outcome.{Outcome}
 use Rattle.cache_core.specs.declared.replacement.Lru.{Lru as LruPolicy}
 use Rattle.cache_core.specs.Geometry.{GeometryValue, block_of}
 use Rattle.cache_core.specs.Machine.{Machine, MachineState, run, step, effects, counts_in, is_block}
-use Rattle.cache_core.specs.Order.{Contents, one_if}
+use Rattle.cache_core.specs.Order.{Contents}
 use Rattle.cache_core.specs.Slab.{CacheValue, contents_of}
 use Rattle.cache_core.specs.Windows.{Occurrence, window, occurrences, is_hit, is_evict, counts}
 
@@ -26,14 +24,6 @@ lru_machine g write = record {
 -- what a cache under LRU holds
 abbrev pub lru_contents : CacheValue LruPolicy → Contents
 lru_contents cache = contents_of (λ _. Some Lru) (λ _ _. 0) cache
-
--- the counts after one more access
-abbrev pub counts_after : Counts → Outcome → Counts
-counts_after c outcome = record {
-  hits = c.hits + one_if outcome.hit;
-  misses = c.misses + one_if (not outcome.hit);
-  evictions = c.evictions + one_if (is_some outcome.evicted);
-}
 
 -- whether a block is held
 abbrev pub holds : MachineState → ℕ → Bool

@@ -84,7 +84,7 @@ FlushLaw =
     CacheStandsFor m events old → FlushesCache old dirty new →
     CacheStandsFor m (events ++ event.Flush ∷ []) new × (dirty ≡ dirty_count (run m events))
 
--- so a list of events leads to that list with the others behind it
+-- so a list of events leads to that list with the others after it
 abbrev pub RunLaw : Type 0
 RunLaw = (m : Machine) (events more : List Event) (old new : Contents) →
     1 ≤ m.design.geometry.e → CacheStandsFor m events old → Runs old more new → CacheStandsFor m (events ++ more) new

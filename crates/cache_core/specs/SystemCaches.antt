@@ -41,19 +41,11 @@ stats_after s ref outcome = record {
 abbrev pub accesses : CacheStats → ℕ
 accesses s = s.fetches + s.reads + s.writes
 
--- each count is at most n
-pub record CacheCountsWithin (n : ℕ) (s : CacheStats) : Type 0 where
-  pub fetches : s.fetches ≤ n
-  pub fetch_misses : s.fetch_misses ≤ n
-  pub reads : s.reads ≤ n
-  pub read_misses : s.read_misses ≤ n
-  pub writes : s.writes ≤ n
-  pub write_misses : s.write_misses ≤ n
-  pub evictions : s.evictions ≤ n
-  pub copybacks : s.copybacks ≤ n
-
--- What the counts of a cache keep, where so many of its lines are dirty: none is above its accesses, and each copyback and each dirty
--- line comes of a write.
+-- What the counts of a cache keep, where so many of its lines are dirty: misses are accesses of their kind, and an eviction is an access;
+-- each copyback and each dirty line comes of a write.
 pub record IsCounted (s : CacheStats) (dirty : ℕ) : Type 0 where
-  pub within : CacheCountsWithin (accesses s) s
+  pub fetch_misses : s.fetch_misses ≤ s.fetches
+  pub read_misses : s.read_misses ≤ s.reads
+  pub write_misses : s.write_misses ≤ s.writes
+  pub evictions : s.evictions ≤ accesses s
   pub written : s.copybacks + dirty ≤ s.writes

@@ -87,8 +87,8 @@ impl<P: Replacement> Cache<P> {
         })
     }
 
-    /// One reference: what the table of outcomes says of it, with the slot that leaves a full set
-    /// by the policy. It takes no memory.
+    /// Makes one access, and returns its outcome. The policy chooses the victim in a full set. It
+    /// takes no memory.
     #[inline(always)]
     pub fn access(&mut self, reference: Ref) -> Outcome
         ensures step { Accesses (contents_of P.policy P.words self.old) reference result
@@ -309,8 +309,8 @@ fn written_through(write: WriteMode, reference: Ref) -> Option<Ref>
     (write == WriteMode::Through && reference.access == Access::Write).then_some(reference)
 }
 
-/// Leaves no slot of a slab filled, and returns how many were dirty. It goes to the listed sets
-/// alone where they are listed.
+/// Empties all sets, and returns how many slots were dirty. If the touched sets are listed, it
+/// visits only those.
 fn empty_slab(touched: &mut TouchedSets, slots: &[Slot], filled: &mut [u32], ways: usize) -> u64
     requires segments { length slots.now ≡ ways * length filled.old }
     requires within { All (λ n. n ≤ ways) filled.old }
@@ -332,8 +332,8 @@ fn empty_slab(touched: &mut TouchedSets, slots: &[Slot], filled: &mut [u32], way
     dirty
 }
 
-/// Leaves no slot of the listed sets filled, which are all that have any, and returns how many were
-/// dirty. A set that is listed again has none any more.
+/// Empties the listed sets, which are all that have a filled slot, and returns how many slots were
+/// dirty. A set that is listed twice is already empty the second time.
 fn empty_listed(slots: &[Slot], filled: &mut [u32], ways: usize, listed: &[u32]) -> u64
     requires segments { length slots.now ≡ ways * length filled.old }
     requires within { All (λ n. n ≤ ways) filled.old }

@@ -7,11 +7,11 @@ use std::marker::Model;
 pub const MAX_BITS: u64 = 20;
 
 /// The most lines in a set. Texts and tools that can't cite it name it too, as 65536 or 64k: the
-/// help of `options` (`table.rt`, `help.rt`), the manual, `tools/three-c`, `tests/model.py`,
-/// `tests/limits` and `tests/fuzz`.
+/// help of `options` (`table.rt`, `help.rt`), the manual, `tools/three-c`, `tools/by-line`,
+/// `tests/model.py`, `tests/limits` and `tests/fuzz`.
 pub const MAX_WAYS: u64 = 65_536;
 
-/// The most lines in a cache: 2^22.
+/// The most lines in a cache: 2^22. Help and manual name it as 4m.
 pub const MAX_CACHE_LINES: u64 = 4_194_304;
 
 /// The geometry of a cache: `2^s` sets of `e` lines of `2^b` bytes (CS:APP's s, E, b).

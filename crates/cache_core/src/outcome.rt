@@ -4,15 +4,15 @@ use trace_core::events::Ref;
 
 /// What a line of a cache holds: the number (not the address) of its block, and whether it is
 /// dirty: in a write-back cache, written since its block was placed or by the write that placed it.
-/// What a free line's slot says does not count.
+/// The slot of a free line has no meaning.
 #[derive(Clone, Copy, Debug, PartialEq, Eq)]
 pub struct Slot {
     pub block: u64,
     pub dirty: bool,
 }
 
-/// Write-back, where a write stays in the cache until its block is evicted; or write-through,
-/// where it is sent to the next level at once.
+/// Write-back: a written block is sent to the next level when it is evicted, and to memory when it
+/// is flushed. Write-through: each write is sent to the next level at once.
 #[derive(Clone, Copy, Debug, PartialEq, Eq)]
 pub enum WriteMode {
     Back,
@@ -42,7 +42,7 @@ pub struct Design {
     pub allocate: AllocMode,
 }
 
-/// What one access did: whether its block was held, the slot that left for it, whether it was
+/// What one access did: whether its block was held, the slot that was evicted for it, whether it was
 /// placed, and what is sent to the next level, in order, from the first element on.
 #[derive(Clone, Copy, Debug, PartialEq, Eq)]
 pub struct Outcome {

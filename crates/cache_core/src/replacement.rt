@@ -25,7 +25,7 @@ pub trait Replacement: Drop {
     /// The random numbers that it still has to draw.
     ghost words: { Self → ℕ → ℕ } = { λ _ _. 0 };
 
-    /// The slot at an index of the filled part is used. Returns its index then.
+    /// Uses the slot at an index of the filled part, and returns its new index.
     fn touch(&mut self, set: &mut [Slot], at: usize) -> usize
         requires { at < length set.old }
         ensures index { slice_get set.new result ≡ slice_get set.old at }
@@ -33,8 +33,8 @@ pub trait Replacement: Drop {
         ensures words { words self.new ≡ words self.old }
         ensures policy { policy self.new ≡ policy self.old };
 
-    /// Puts a slot into a set whose first `filled` slots are filled. Returns its index in the part
-    /// that is filled then, and the slot that left, which is one exactly if the set was full.
+    /// Puts a slot into a set whose first `filled` slots are filled. Returns its index, and the
+    /// evicted slot: there is one exactly if the set was full.
     fn place(&mut self, set: &mut [Slot], filled: usize, new: Slot) -> (usize, Option<Slot>)
         requires filled { filled ≤ length set.old }
         requires some { 1 ≤ length set.old }

@@ -69,7 +69,8 @@ impl Simulation {
 
     /// The hits, misses and evictions so far.
     pub fn counts(&self) -> Counts
-        ensures { (g : GeometryValue) (events : List Event) →
+        ensures value { result ≡ self.now.counts }
+        ensures trace { (g : GeometryValue) (events : List Event) →
             SimulationStandsFor g events self.now → result ≡ counts g events }
     {
         self.counts

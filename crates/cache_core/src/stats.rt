@@ -1,7 +1,7 @@
 //! The statistics of a system of caches.
 
-/// What one cache counted: its accesses and misses by kind, the blocks that left, and the dirty
-/// ones among those that left or were flushed.
+/// What one cache counted: its accesses and misses by kind, its evictions, and its copybacks, the
+/// dirty blocks that were evicted or flushed.
 #[derive(Clone, Copy, Debug, PartialEq, Eq)]
 pub struct CacheStats {
     pub fetches: u64,
@@ -14,8 +14,9 @@ pub struct CacheStats {
     pub copybacks: u64,
 }
 
-/// What a system counted: for each of its caches, what came to memory, and the references that no
-/// first-level cache takes.
+/// What a system counted: for each of its caches; what came to memory, where a fetch is a read, and
+/// each dirty block of a flush, of either level, a write; and the references that no first-level
+/// cache takes, which come to neither a second level nor memory.
 #[derive(Clone, Copy, Debug, PartialEq, Eq)]
 pub struct Stats {
     pub l1i: Option<CacheStats>,

@@ -60,7 +60,7 @@ impl System {
     ghost use Rattle.cache_core.specs.SystemStands.{SystemStandsFor};
 
     /// A system of the caches of a plan, all empty; each with random replacement has a generator of
-    /// its own, of this seed. Takes the memory of all its caches; only want of memory fails.
+    /// its own, of this seed. Takes the memory of all its caches; it fails only if there is too little.
     pub fn new(alloc: Global, plan: Plan, seed: u64) -> Result<Self, AllocError>
         ensures { IfOk result (IsNewSystem plan seed) }
     {
@@ -92,9 +92,9 @@ impl System {
         self.steps
     }
 
-    /// One reference, at the first-level cache that takes it; what that sends down goes to the
-    /// second level or to memory. Where no cache takes it, it is bypassed. At most `MAX_STEPS`
-    /// steps and flushes.
+    /// Makes one reference at the first-level cache that takes it; what this cache sends on goes to
+    /// the second level, or else to memory. A reference that no cache takes is bypassed. Steps and
+    /// flushes together may be at most `MAX_STEPS`.
     pub fn step(&mut self, reference: Ref)
         requires { self.old.steps < MAX_STEPS }
         ensures { StepsSystem self.old reference self.new }

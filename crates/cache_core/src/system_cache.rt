@@ -1,4 +1,4 @@
-//! A cache of a system: under a policy that is known when it runs, and with what it counted.
+//! A cache of a system, with what it counted. Its policy is chosen at run time.
 ghost use Rattle.std.specs.Prelude.{◌≡◌, ◌≤◌, ◌<◌, ◌+◌, ◌^◌, ◌∷◌, [], Some, IfOk};
 ghost use Rattle.cache_core.specs.Arrivals.{Saw, arrival_at};
 ghost use Rattle.cache_core.specs.Order.{dirty_slots};
@@ -46,8 +46,8 @@ impl Replacement for ChosenPolicy {
     }
 }
 
-/// A cache of a system, with what it counted. Each count comes of an access, and each copyback and
-/// each dirty line of a write.
+/// A cache of a system, with what it counted. Each miss and each eviction comes of an access, and
+/// each copyback and each dirty line of a write.
 #[derive(Drop)]
 pub(crate) struct SystemCache {
     pub(crate) cache: Cache<ChosenPolicy>,
@@ -143,6 +143,7 @@ impl SystemCache {
     pub(crate) fn flush(&mut self) -> u64
         ensures { Empties self.old result self.new }
     {
+        // Read so that the proof knows its range: copybacks stay at or below it.
         let _writes = self.stats.writes;
         let dirty = self.cache.flush();
         self.stats.copybacks += dirty;

@@ -59,7 +59,7 @@ impl TouchedSets {
         })
     }
 
-    /// Adds a set that gets its first block, by how many blocks it held and how many it holds now.
+    /// Adds a set that has got its first block: it held `before` blocks, and holds `after` now.
     #[inline(always)]
     pub fn add_grown(&mut self, set: usize, before: u32, after: u32)
         requires { set < 2 ^ 32 }

@@ -180,13 +180,6 @@ no_list zero k = refl
 no_list (suc n) zero = refl
 no_list (suc n) (suc k) = no_list n k
 
-set-zeros : (n h : ℕ) → h ≡ 0 → set (replicate n 0) 0 h ≡ replicate n 0
-set-zeros zero h none = refl
-set-zeros (suc n) h none = ap (λ m. m ∷ replicate n 0) none
-
-pub none_fed : (e : ℕ) → distances_of 0 (replicate e 0) (replicate (e + 1) 0) ≡ replicate e 0
-none_fed e = set-zeros e _ (omega arith)
-
 pub new_sound : (g : GeometryValue) (lists : Lists) (behind missed : List ℕ) → lists.depth ≡ g.e → lists.lists ≡ replicate (2 ^ g.s) []
     → 1 ≤ g.e → behind ≡ replicate g.e 0 → missed ≡ replicate (g.e + 1) 0 → IsSound g lists behind missed 0
 new_sound g lists behind missed depth sets some near far =

@@ -84,17 +84,6 @@ pub record IsPassed (x y i carried : ℕ) (xs now : List ℕ) : Type 0 where
   pub carried_is : carried ≡ get_or (y ∷ xs) i 0
   pub now_is : now ≡ take i (y ∷ xs) ++ drop i xs
 
--- the front, which is known to be another
-pub passed_front : (x y front : ℕ) (xs now : List ℕ) → 0 < length xs → is_front x xs ≡ false → front ≡ get_or xs 0 0 → now ≡ set xs 0 y
-    → IsPassed x y 1 front xs now
-passed_front x y front [] now some other read put = absurd (omega (arith, some))
-passed_front x y front (z ∷ zs) now some other read put = record {
-  within = omega arith;
-  others = λ k lt. let first : k ≡ 0 = omega (arith, lt) in ap (λ j. eqb (get_or (z ∷ zs) j 0) x) first ∙ other;
-  carried_is = read;
-  now_is = put;
-}
-
 module _ {x y i carried : ℕ} {xs now : List ℕ} (p : IsPassed x y i carried xs now) where
   pub passed_long : length now ≡ length xs
   passed_long = ap length p.now_is ∙ omega (arith, length-append (take i (y ∷ xs)) (drop i xs), length-take i (y ∷ xs), length-drop i xs, p.within)

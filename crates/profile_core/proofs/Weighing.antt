@@ -3,13 +3,9 @@ use Rattle.std.proofs.Common.{◌≡◌, ℕ, zero, suc, ◌+◌, ◌*◌, ◌<�
 use Rattle.std.proofs.Math.Nat.{suc-mul, mul-suc}
 use Rattle.std.proofs.Math.Seq.{drop-cons}
 use Rattle.std.proofs.lemmas.List.{get_or_read}
-use Rattle.std.proofs.lemmas.List.Sums.{sum_by-cons, sum_by-set, get_or-le-sum_by}
+use Rattle.std.proofs.lemmas.List.Sums.{sum_by-cons, get_or-le-sum_by}
 use Rattle.std.specs.Prelude.{replicate}
 use Rattle.profile_core.specs.State.{weighed}
-
--- one more in a histogram
-pub sum-raised : (ns : List ℕ) (i n : ℕ) → i < length ns → n ≡ get_or ns i n → sum (set ns i (n + 1)) ≡ sum ns + 1
-sum-raised ns i n lt read = omega (arith, sum_by-set (λ m. m) ns i (n + 1) 0 lt, get_or_read ns i n lt read 0)
 
 pub raised_fits : (ns : List ℕ) (i n : ℕ) → i < length ns → n ≡ get_or ns i n → n ≤ sum ns
 raised_fits ns i n lt read = omega (arith, get_or-le-sum_by (λ m. m) ns i 0 lt, get_or_read ns i n lt read 0)

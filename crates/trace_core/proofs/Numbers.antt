@@ -64,10 +64,6 @@ writes-more radix text value at digit inside is below written = (
   omega arith,
 )
 
--- a number written before any digit
-pub writes-none : (radix : ℕ) (text : List ℕ) → WritesNumber radix text (0, 0)
-writes-none radix text = (refl, tt, omega arith)
-
 module _ (radix most : ℕ) (some : 0 < radix) where
   pub number-fits : (ds : List ℕ) (i : ℕ) → i < length ds → i < most → AllDigits radix (take i ds) → digit_value (get_or ds i 0) < radix
       → digits_value radix (take i ds) * radix + digit_value (get_or ds i 0) < radix ^ most

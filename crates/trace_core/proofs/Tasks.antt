@@ -46,7 +46,7 @@ ReadWhole-read {task = task} {source = source} {source' = source'} whole text re
 
 module _ (task : Task) (source source' : SourceView) (xs : List (ℕ × Entry)) (p : Progress) (run : Reached task.format task.limit source source' xs p)
     (sink sink' : SinkView) where
-  -- at a fault of the trace, what comes of the entries before it was written
+  -- at a fault of the trace, the output for the entries before it was written
   pub task_stops : (x : TraceFault) → p.state ≡ state.Failed x → device_failed (state.Failed x) ≡ false
       → Wrote sink sink' (task.partial (entries_of xs))
       → IfSome source.remaining (λ text. StopsAt task x text sink sink')
@@ -54,7 +54,7 @@ module _ (task : Task) (source source' : SourceView) (xs : List (ℕ × Entry)) 
       let is = Reached-fault task.format task.limit text source source' xs p x reported run failed own in
       record { first = ap (λ r. r.fault) is; wrote = subst (λ r. Appends sink.written sink'.written (task.partial (entries_in r))) (sym is) wrote.took })
 
-  -- at a failure of the source, what comes of the entries of the delivered bytes was written
+  -- at a failure of the source, the output for the entries of the delivered bytes was written
   pub task_cut : (x : TraceFault) → p.state ≡ state.Failed x → device_failed (state.Failed x) ≡ true → Wrote sink sink' (task.partial (entries_of xs))
       → IfSome source.remaining (λ text. IfSome source'.remaining (λ rest. CutsOff task x text rest sink sink'))
   task_cut (fault.Read n) failed own wrote =

@@ -54,7 +54,7 @@ pub record Completes (task : Task) (text : List ℕ) (source' : SourceView) (sin
 pub record StopsAt (task : Task) (f : TraceFault) (text : List ℕ) (sink sink' : SinkView) : Type 0 where
   -- it is the first fault
   pub first : (reading task.format task.limit text).fault ≡ Some f
-  -- what comes of the entries before it was written, and no more
+  -- the output for the entries before it was written, and no more
   pub wrote : Appends sink.written sink'.written (task.partial (entries_in (reading task.format task.limit text)))
 
 -- The source of a run failed within this text, and left the rest.
@@ -64,7 +64,7 @@ pub record CutsOff (task : Task) (f : TraceFault) (text rest : List ℕ) (sink s
   pub delivers : text ≡ delivered ++ rest
   -- this is their first fault
   pub first : (cut_reading task.format task.limit delivered).fault ≡ Some f
-  -- what comes of the entries before it was written, and no more
+  -- the output for the entries before it was written, and no more
   pub wrote : Appends sink.written sink'.written (task.partial (entries_in (cut_reading task.format task.limit delivered)))
 
 -- A run has read this text to its end, and the sink failed within its output.
@@ -95,9 +95,9 @@ pub record Finished (task : Task) (source source' : SourceView) (sink sink' : Si
 
 -- What a run did that returned this fault of the trace, or this failure of its source.
 pub record Stopped (task : Task) (f : TraceFault) (source source' : SourceView) (sink sink' : SinkView) : Type 0 where
-  -- a fault of the trace is the first of the text, and what comes of the entries before it was written
+  -- a fault of the trace is the first of the text, and the output for the entries before it was written
   pub fault : is_failed_read f ≡ false → IfSome source.remaining (λ text. StopsAt task f text sink sink')
-  -- a failure of the source came after some bytes, and what comes of their entries was written
+  -- a failure of the source came after some bytes, and the output for their entries was written
   pub cut : is_failed_read f ≡ true → IfSome source.remaining (λ text. IfSome source'.remaining (λ rest. CutsOff task f text rest sink sink'))
   -- one read failed where the fault is the source's failure, and none otherwise
   pub read_failures : source'.failures ≡ failures_after (is_failed_read f) source.failures
@@ -135,5 +135,5 @@ pub record Performs {T S K : Type 0} (task : Task) (result : Result T RunFault) 
   pub silent : (f : TraceFault) → result ≡ Err (Trace f) → task.writes_early ≡ false → sink' ≡ sink
   -- its sink failed
   pub write : result ≡ Err Write → WriteFailed task (source_view source) (source_view source') (sink_view sink) (sink_view sink')
-  -- for want of memory it has touched neither device
+  -- for lack of memory it has touched neither device
   pub memory : result ≡ Err Memory → (source' ≡ source) × (sink' ≡ sink)

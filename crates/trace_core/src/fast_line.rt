@@ -1,5 +1,5 @@
 //! Lines in the form that most have, read in one pass from their front. `None` says nothing of a
-//! line: `line::read_line` then judges it.
+//! line: `line::read_line` then checks it.
 //!
 //! This way is for speed alone. A reader that never took it would meet each contract, and read most
 //! traces several times slower: only `tests/limits` sees that.
@@ -17,8 +17,8 @@ use crate::limits::MAX_LINE;
 use crate::line::{Format, lackey_op, without_0x};
 use memchr::memchr;
 
-/// The item of the line that a text begins with, and the index of the line's LF, where the line has
-/// the form of most, with the blanks beside its label that tracers write.
+/// The item of the line that a text begins with, and the index of the line's LF, if the line has
+/// the usual form: the label and the blanks as tracers write them.
 #[inline(always)]
 pub(crate) fn read_plain_line(format: Format, text: &[u8]) -> Option<(Item, usize)>
     ensures line { IfSome result (λ found. IsFirstByte (is_byte 10) text.now (Some found.1)) }
@@ -43,8 +43,8 @@ pub(crate) fn read_spaced_line(format: Format, text: &[u8]) -> Option<(Item, usi
     read_labelled(format, text, label, rest)
 }
 
-/// The same for a text that begins with a label, and goes on with its other fields. Whether a line
-/// is read this way is decided here alone: if it is well formed and short enough.
+/// The same for a text that begins with this label, where the other fields begin at `fields`.
+/// `None` also for a line that is malformed or too long.
 #[inline(always)]
 fn read_labelled(format: Format, text: &[u8], label: u8, fields: &[u8]) -> Option<(Item, usize)>
     requires { BeginsLabel text.now fields.now label }

@@ -11,7 +11,7 @@ use thiserror::Error;
 /// Why a trace can't be read on. Lines are numbered from 1.
 #[derive(Clone, Copy, Debug, PartialEq, Eq, Error)]
 pub enum TraceFault {
-    /// The source failed in this line, and the bytes of the line that came are not at fault.
+    /// The source failed in this line, and nothing that it delivered before is at fault.
     #[error("line {line}: read failed")]
     Read { line: u64 },
     /// More than `MAX_LINE` bytes of this line came without an LF.

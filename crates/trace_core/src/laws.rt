@@ -1,5 +1,5 @@
 //! Laws over the definitions: each is the contract of a function with no code, so that the gate
-//! proves it. Proofs above may cite the lemma behind it.
+//! proves it. Proofs of other crates may cite the lemma that proves it.
 ghost use Rattle.std.specs.Prelude.{◌≡◌, ℕ, List, [], ◌++◌, None, Some, Err, false, ◌↔◌};
 ghost use Rattle.std.specs.Prelude.{All, IsOk, is_ok, slice_get, take, drop, ◌+◌, filter_map};
 ghost use Rattle.std.specs.Prelude.{flat_map};

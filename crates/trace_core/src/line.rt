@@ -15,10 +15,11 @@ use thiserror::Error;
 #[derive(Clone, Copy, Debug, PartialEq, Eq)]
 pub enum Format {
     /// Dinero's traditional format: a label `0` (load), `1` (store), `2` (fetch) or, extensions of
-    /// this project, `3` (ignored) or `4` (flush); a hexadecimal address; and a comment.
+    /// this project, `3` (ignored) or `4` (flush); and a hexadecimal address. What follows is
+    /// ignored.
     Din,
-    /// The log of valgrind's lackey with `--trace-mem=yes`: `I`, `L`, `S` or `M`, a hexadecimal
-    /// address, a comma and a decimal size.
+    /// The log of Valgrind's Lackey with `--trace-mem=yes`: `I`, `L`, `S` or `M`, a hexadecimal
+    /// address, a comma and a decimal size. A line that begins with `=`, `-` or `*` is skipped.
     Lackey,
 }
 

@@ -13,7 +13,8 @@ pub use crate::state::ReaderState;
 use std::alloc::{AllocError, Global};
 use std::marker::Model;
 
-/// A reader of the entries of a trace, whose source is given to each call.
+/// A reader of the entries of a trace. Each call must be given the same source, since the reader
+/// keeps bytes that were delivered.
 #[derive(Drop)]
 pub struct Lines {
     scan: Scan,
@@ -55,7 +56,7 @@ impl Lines {
     /// lines are counted.
     ///
     /// It fails at the first line that is at fault, or where the source fails before such a line
-    /// was delivered. What was delivered is judged before a failure that comes after it.
+    /// was delivered. What was delivered is checked before a failure that comes after it.
     #[inline(always)]
     pub fn next<S: Source>(&mut self, source: &mut S) -> Result<Option<(u64, Entry)>, TraceFault>
         // A reader that has returned the entries `xs` of a source has then returned these and this

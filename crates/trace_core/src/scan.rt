@@ -1,4 +1,4 @@
-//! The lines of what a source delivers, judged one by one.
+//! The lines of what a source delivers, checked one by one.
 ghost use Rattle.std.specs.Prelude.{◌≡◌, ◌≢◌, ℕ, ◌+◌, ◌<◌, ◌≤◌, List, [], Option, None, Some};
 ghost use Rattle.std.specs.Prelude.{length, drop, IfNone, OnSome};
 ghost use Rattle.std.specs.Option.{option_to_list};

@@ -16,7 +16,7 @@ fn one_line(alloc: Global, mode: WriteMode, allocate: AllocMode) -> Result<Cache
     Ok(Cache::new(alloc, geometry, Lru::new(), mode, allocate)?)
 }
 
-/// What a reference does in a new cache, or behind another one.
+/// What a reference does in a new cache, or after another one.
 fn outcome_of(
     alloc: Global,
     mode: WriteMode,

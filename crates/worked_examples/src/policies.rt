@@ -37,7 +37,7 @@ fn expect_steps<P: Replacement>(rt: &impl Abort, cache: &mut Cache<P>, steps: &[
         let addr = block.wrapping_mul(16);
         let outcome = cache.access(Ref { access, addr });
         let gone = outcome.evicted.map(|slot| slot.block);
-        assert!(rt; (outcome.hit, gone) == *step, "at place {i}");
+        assert!(rt; (outcome.hit, gone) == *step, "at read {i}");
     }
 }
 

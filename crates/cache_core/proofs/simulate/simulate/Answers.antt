@@ -33,7 +33,7 @@ pub returns-clause-windows : goal.returns-clause-windows
 returns-clause-windows c =
     let g = c.args.geometry.now in
     let i = c.loop-reference.reference-index in
-    c.counts.ensures g (map (λ x. event.Reference x) (take i c.args.refs.now)) c.loop-reference.invariant.simulates
+    c.counts.ensures.trace g (map (λ x. event.Reference x) (take i c.args.refs.now)) c.loop-reference.invariant.simulates
     ∙ ap (λ xs. counts g (map (λ x. event.Reference x) xs)) (take_all i c.args.refs.now c.loop-reference-test.false)
 
 pub returns-clause-machine : goal.returns-clause-machine

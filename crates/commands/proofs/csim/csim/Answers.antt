@@ -47,11 +47,11 @@ returns-in_err-write_last g c =
     let so_far = c.loop-simulation.invariant in
     Performs-write (err_is c.from_residual-in_err-write_last.ensures.1)
     (csim-unfinished so_far c.next.ensures.reached c.next.ensures.reports c.in_ok-entry.was c.in_default.is
-    (c.counts.ensures c.args.geometry (data_of (entries_of so_far.read)) so_far.simulates) c.set_summary.ensures c.in_err-write_last.ensures)
+    (c.counts.ensures.trace c.args.geometry (data_of (entries_of so_far.read)) so_far.simulates) c.set_summary.ensures c.in_err-write_last.ensures)
 
 pub returns : goal.returns
 returns g c =
     let so_far = c.loop-simulation.invariant in
     Performs-ok tt refl
     (csim-finished so_far c.next.ensures.reached c.next.ensures.reports c.in_ok-entry.was c.in_default.is
-    (c.counts.ensures c.args.geometry (data_of (entries_of so_far.read)) so_far.simulates) c.set_summary.ensures c.in_ok-write_last.ensures)
+    (c.counts.ensures.trace c.args.geometry (data_of (entries_of so_far.read)) so_far.simulates) c.set_summary.ensures c.in_ok-write_last.ensures)
