@@ -48,7 +48,7 @@ macro_rules! six_options {
             size: cache_option!($cache, "size", "BYTES", SIZE),
             bsize: cache_option!($cache, "bsize", "BYTES", BSIZE),
             assoc: cache_option!($cache, "assoc", "N", ASSOC),
-            repl: cache_option!($cache, "repl", "RULE", REPL),
+            repl: cache_option!($cache, "repl", "POLICY", REPL),
             walloc: cache_option!($cache, "walloc", "MODE", WALLOC),
             wback: cache_option!($cache, "wback", "MODE", WBACK),
         }

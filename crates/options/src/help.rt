@@ -1,7 +1,7 @@
 //! What `--help` says besides the list of the options.
 //!
-//! The limits of a cache are those of `cache_core::geometry`, which no text here can cite: 1m, 64k and 4m are `MAX_BITS`, `MAX_WAYS` and
-//! `MAX_CACHE_LINES`.
+//! The limits of a cache are those of `cache_core::geometry`, which no text here can cite: 1m, 64k and 4m are
+//! 2^`MAX_BITS`, `MAX_WAYS` and `MAX_CACHE_LINES`.
 
 /// A text with the command by which Valgrind writes a trace, and the exit statuses after it: all five texts of help have both.
 macro_rules! help_text {
@@ -57,8 +57,8 @@ A table in pages: 100 rows, and 100 more after the last of them, say 64,16,4.
   cachesim sweep .. --rows 100 --after 64,16,4 -t trace.din
 
 The trace has one reference per line. Din: 0 data read, 1 data write or 2 instruction fetch, and
-the address in hexadecimal, such as '0 7ffe10'; 3 is skipped, and 4 empties the caches. Lackey, as
-Valgrind writes it: ' L 7ffe10,8'.
+the address in hexadecimal, such as '0 7ffe10'; 3 is skipped, and 4 flushes the caches. Lackey, as
+Valgrind writes it: ' L 7ffe10,8'; a modify is a read and a write.
 ",
     "  cachesim sweep .. --format l -t trace.txt\n",
     ""
@@ -99,7 +99,7 @@ dirty if it was. What a reference sends to the next level follows at once.
   l2-u 0 7ffe4000 miss
   memory 0 7ffe4000
 A modify is a read and a write. At a flush each cache has a line with the number of dirty blocks
-that it copied back, such as 'l1-d flush 2'.
+that it wrote to memory, such as 'l1-d flush 2'.
 
 What a data cache of 32 KiB sends to memory, as a din trace:
   cachesim log -l1-dsize 32k -l1-dbsize 64 -l1-dassoc 8 -t trace.din |
