@@ -90,6 +90,7 @@ static const char *map_name;  // NULL where no map is wanted
 static struct { uint64_t from, to; } mapped[MAPPINGS];  // in QEMU's addresses
 static unsigned mapped_count;
 static bool has_stack;
+static uint64_t first_data;  // the address of the program's very first data reference, which is of its stack
 
 static bool is_mapped(uint64_t address) {
     for (unsigned i = 0; i < mapped_count; i++)
@@ -117,15 +118,13 @@ static void follow_mappings(FILE *map, uint64_t moved, uint64_t stack) {
     if (present) fclose(present);
 }
 
-// The address of a thread's first data reference that is still in its block. The program's very first one is of its stack.
-static uint64_t first_data(void) {
-    for (uint32_t i = 0; mine && i < atomic_load(&mine->used); i++)
-        if (mine->label[i] != '2') return mine->address[i];
-    return 0;
+static void on_first_data(unsigned cpu, uint32_t access, uint64_t address, void *own) {
+    (void)cpu, (void)access, (void)own;
+    if (!first_data) first_data = address;
 }
 
 static void add_to_map(const struct qemu_plugin_insn *instruction) {
-    uint64_t here = (uintptr_t)qemu_plugin_insn_haddr(instruction), stack = has_stack ? 0 : first_data();
+    uint64_t here = (uintptr_t)qemu_plugin_insn_haddr(instruction), stack = has_stack ? 0 : first_data;
     if (!stack && is_mapped(here)) return;
     pthread_mutex_lock(&lock);
     FILE *map = fopen(map_name, "ae");
@@ -165,6 +164,7 @@ static void on_translation(plugin_id id, struct qemu_plugin_tb *block) {
     for (size_t i = 0; i < count; i++) {
         struct qemu_plugin_insn *instruction = qemu_plugin_tb_get_insn(block, i);
         void *address = (void *)(uintptr_t)qemu_plugin_insn_vaddr(instruction);
+        if (map_name && !first_data) qemu_plugin_register_vcpu_mem_cb(instruction, on_first_data, NO_REGISTERS, BOTH, NULL);
         if (memory->kind != 'd') qemu_plugin_register_vcpu_insn_exec_cb(instruction, on_fetch, NO_REGISTERS, address);
         if (memory->kind != 'i') qemu_plugin_register_vcpu_mem_cb(instruction, on_data, NO_REGISTERS, BOTH, NULL);
     }
