@@ -9,7 +9,7 @@
 #include <stdint.h>
 
 // LAYOUT changes with this file, so that two halves that were compiled from different ones don't meet.
-enum { LAYOUT = 1, BLOCKS = 64, REFERENCES = 4096 };
+enum { LAYOUT = 2, BLOCKS = 64, REFERENCES = 4096 };
 
 // references of one thread, in their order
 struct block {
@@ -23,6 +23,7 @@ struct memory {
     char kind;                    // which references: u all, d data, i fetches
     _Atomic bool loaded;          // the plugin is there
     _Atomic bool ran;             // the program's code was seen
+    _Atomic bool began;           // so did the trace
     _Atomic bool exited;          // the program ended by itself, so it is not another program since
     sem_t full, empty;            // how many blocks wait to be written, and to be filled
     _Atomic uint64_t empty_ones;  // a bit for each block

@@ -1,9 +1,10 @@
 // A plugin of QEMU's user-mode emulation: puts the references of a program into the memory that trace-run reads (trace-memory.h).
 //
-//     qemu-x86_64 -plugin out/trace-plugin.so[,map=FILE],memory=FD PROGRAM ARGS..
+//     qemu-x86_64 -plugin out/trace-plugin.so[,map=FILE][,from=HEX][,to=HEX],memory=FD PROGRAM ARGS..
 //
-// trace-run starts QEMU so, FD being the memory's descriptor; trace has the help. FILE gets what was loaded where. No descriptor is kept:
-// the program may close those that it doesn't know, and open its own files under their numbers.
+// trace-run starts QEMU so, FD being the memory's descriptor; trace has the help. FILE gets what was loaded where. HEX is how far a
+// function is behind the start of the program's code. No descriptor is kept: the program may close those that it doesn't know, and open
+// its own files under their numbers.
 #include <limits.h>
 #include <pthread.h>
 #include <stddef.h>
@@ -36,6 +37,7 @@ struct qemu_plugin_insn *qemu_plugin_tb_get_insn(const struct qemu_plugin_tb *, 
 uint64_t qemu_plugin_insn_vaddr(const struct qemu_plugin_insn *);
 void *qemu_plugin_insn_haddr(const struct qemu_plugin_insn *);
 bool qemu_plugin_mem_is_store(uint32_t access);
+__attribute__((weak)) uint64_t qemu_plugin_start_code(void);  // from QEMU 7.1 on; it knows an answer while code is translated
 
 // QEMU 9 and later want a version from 2 on. What is used here is the same in them; they are known by a call that came with version 2.
 EXPORTED int qemu_plugin_version = 1;
@@ -44,11 +46,39 @@ __attribute__((constructor)) static void choose_version(void) {
     if (qemu_plugin_scoreboard_new) qemu_plugin_version = 2;
 }
 
+static struct memory *memory;
+static bool left_out;  // this is a forked child
+
+// ---- The part of the run that is traced, from one function to another
+
+#define NOWHERE UINT64_MAX
+static uint64_t from = NOWHERE, to = NOWHERE;  // how far these functions are behind the start of the program's code
+static _Atomic bool in_part;                   // one for all threads
+
+static void on_from(unsigned cpu, void *own) {
+    (void)cpu, (void)own;
+    if (left_out) return;
+    in_part = memory->began = true;
+}
+
+static void on_to(unsigned cpu, void *own) {
+    (void)cpu, (void)own;
+    in_part = false;
+}
+
+static bool has_bounds(void) { return from != NOWHERE || to != NOWHERE; }
+
+// Has the part begin or end before an instruction's fetch, which is registered later: QEMU calls in that order.
+static void watch_for_bounds(struct qemu_plugin_insn *instruction, uint64_t address) {
+    if (!has_bounds()) return;
+    uint64_t distance = address - qemu_plugin_start_code();
+    if (distance == to) qemu_plugin_register_vcpu_insn_exec_cb(instruction, on_to, NO_REGISTERS, NULL);
+    if (distance == from) qemu_plugin_register_vcpu_insn_exec_cb(instruction, on_from, NO_REGISTERS, NULL);
+}
+
 // ---- The blocks of a thread
 
-static struct memory *memory;
 static pthread_mutex_t lock = PTHREAD_MUTEX_INITIALIZER;
-static bool left_out;  // this is a forked child
 static __thread struct block *mine __attribute__((tls_model("initial-exec")));
 
 static void hand_over(void) {
@@ -74,6 +104,7 @@ static struct block *next_block(void) {
 }
 
 static inline void put(char label, uint64_t address) {
+    if (!atomic_load_explicit(&in_part, memory_order_relaxed)) return;
     struct block *block = mine;
     if (!block || atomic_load_explicit(&block->used, memory_order_relaxed) == REFERENCES) block = next_block();
     if (!block) return;
@@ -90,6 +121,7 @@ static const char *map_name;  // NULL where no map is wanted
 static struct { uint64_t from, to; } mapped[MAPPINGS];  // in QEMU's addresses
 static unsigned mapped_count;
 static bool has_stack;
+static uint64_t first_data;  // the address of the program's very first data reference, which is of its stack
 
 static bool is_mapped(uint64_t address) {
     for (unsigned i = 0; i < mapped_count; i++)
@@ -117,15 +149,13 @@ static void follow_mappings(FILE *map, uint64_t moved, uint64_t stack) {
     if (present) fclose(present);
 }
 
-// The address of a thread's first data reference that is still in its block. The program's very first one is of its stack.
-static uint64_t first_data(void) {
-    for (uint32_t i = 0; mine && i < atomic_load(&mine->used); i++)
-        if (mine->label[i] != '2') return mine->address[i];
-    return 0;
+static void on_first_data(unsigned cpu, uint32_t access, uint64_t address, void *own) {
+    (void)cpu, (void)access, (void)own;
+    if (!first_data) first_data = address;
 }
 
 static void add_to_map(const struct qemu_plugin_insn *instruction) {
-    uint64_t here = (uintptr_t)qemu_plugin_insn_haddr(instruction), stack = has_stack ? 0 : first_data();
+    uint64_t here = (uintptr_t)qemu_plugin_insn_haddr(instruction), stack = has_stack ? 0 : first_data;
     if (!stack && is_mapped(here)) return;
     pthread_mutex_lock(&lock);
     FILE *map = fopen(map_name, "ae");
@@ -137,7 +167,7 @@ static void add_to_map(const struct qemu_plugin_insn *instruction) {
 // ---- What QEMU calls
 
 // A block begins with a fetch, and what an instruction refers to stands behind its fetch: other threads don't come between, unless
-// it has more references than TOGETHER.
+// it has more references than TOGETHER, or the part begins while it is executed.
 enum { TOGETHER = 128 };
 
 static void on_fetch(unsigned cpu, void *address) {
@@ -165,6 +195,8 @@ static void on_translation(plugin_id id, struct qemu_plugin_tb *block) {
     for (size_t i = 0; i < count; i++) {
         struct qemu_plugin_insn *instruction = qemu_plugin_tb_get_insn(block, i);
         void *address = (void *)(uintptr_t)qemu_plugin_insn_vaddr(instruction);
+        watch_for_bounds(instruction, (uintptr_t)address);
+        if (map_name && !first_data) qemu_plugin_register_vcpu_mem_cb(instruction, on_first_data, NO_REGISTERS, BOTH, NULL);
         if (memory->kind != 'd') qemu_plugin_register_vcpu_insn_exec_cb(instruction, on_fetch, NO_REGISTERS, address);
         if (memory->kind != 'i') qemu_plugin_register_vcpu_mem_cb(instruction, on_data, NO_REGISTERS, BOTH, NULL);
     }
@@ -193,11 +225,17 @@ static int refuse(const char *why) {
     return 1;
 }
 
+static bool take(const char *word, int *descriptor) {
+    if (!strncmp(word, "map=", 4)) return (map_name = strdup(word + 4)) != NULL;
+    return sscanf(word, "from=%lx", &from) == 1 || sscanf(word, "to=%lx", &to) == 1 || sscanf(word, "memory=%d", descriptor) == 1;
+}
+
 EXPORTED int qemu_plugin_install(plugin_id id, const struct qemu_info *info, int count, char **words) {
     (void)info;
-    int descriptor;
-    if (count == 2 && !strncmp(words[0], "map=", 4)) map_name = strdup(words[0] + 4), words++, count--;
-    if (count != 1 || sscanf(words[0], "memory=%d", &descriptor) != 1) return refuse("memory=FD is wanted; tools/trace uses it");
+    int descriptor = -1, taken = 0;
+    while (taken < count && take(words[taken], &descriptor)) taken++;
+    if (taken < count || descriptor < 0) return refuse("memory=FD is wanted; tools/trace uses it");
+    if (has_bounds() && !qemu_plugin_start_code) return refuse("--from and --to want QEMU 7.1 or later");
     memory = mmap(NULL, sizeof *memory, PROT_READ | PROT_WRITE, MAP_SHARED, descriptor, 0);
     if (memory == MAP_FAILED) return refuse("no shared memory");
     close(descriptor);
@@ -205,6 +243,7 @@ EXPORTED int qemu_plugin_install(plugin_id id, const struct qemu_info *info, int
     bool as_known = qemu_plugin_mem_is_store(WRITE << 16) && !qemu_plugin_mem_is_store(~(WRITE << 16));
     if (!as_known) return refuse("this QEMU tells reads and writes in another way");
     if (map_name) follow_mappings(NULL, 0, 0);  // QEMU's own
+    in_part = memory->began = from == NOWHERE;
     pthread_atfork(NULL, NULL, in_forked_child);
     qemu_plugin_register_vcpu_tb_trans_cb(id, on_translation);
     qemu_plugin_register_vcpu_syscall_cb(id, on_system_call);

@@ -1,12 +1,12 @@
 // Runs a program under a tracer and writes its references as din lines: the inner half of trace, which has the help.
 //
-//     trace-run FD NAME KIND SKIP COUNT qemu PLUGIN QEMU WORD..                 takes them from trace-plugin.c, by a memory that both share
+//     trace-run FD NAME KIND SKIP COUNT qemu FROM PLUGIN QEMU WORD..            takes them from trace-plugin.c, by a memory that both share
 //     trace-run FD NAME KIND SKIP COUNT lines IN OUT CONVERTER TRACER WORD..    takes them as din lines from the descriptor IN
 //
 // The trace goes to the descriptor FD; NAME is for messages. SKIP references of the KIND are omitted, and the program is ended after
-// COUNT more; a COUNT of 0 means no limit. OUT is a descriptor that only the tracer is to keep, for the child CONVERTER of this
-// process, which writes the lines. trace-run ends with the program's status, 128 and the number of the signal that ended it, or 125 or
-// 126 for a fault.
+// COUNT more; a COUNT of 0 means no limit. FROM is the function with which the trace begins, for a message. OUT is a descriptor that
+// only the tracer is to keep, for the child CONVERTER of this process, which writes the lines. trace-run ends with the program's status,
+// 128 and the number of the signal that ended it, or 125 or 126 for a fault.
 #define _GNU_SOURCE
 #include <err.h>
 #include <errno.h>
@@ -274,19 +274,21 @@ static int judged(void) {
     return WEXITSTATUS(status);
 }
 
-// words: qemu PLUGIN QEMU WORD..
+// words: qemu FROM PLUGIN QEMU WORD..
 static void trace_by_qemu(char **words) {
     int descriptor = share_memory();
-    char *plugin;
-    if (asprintf(&plugin, "%s,memory=%d", words[1], descriptor) < 0) fail(OWN_FAULT, "no memory");
-    char *first[] = {words[2], "-plugin", plugin};
-    memcpy(words, first, sizeof first);
-    start(words);
+    char *plugin, *never;
+    if (asprintf(&plugin, "%s,memory=%d", words[2], descriptor) < 0 ||
+        asprintf(&never, "%s was never called, or only inlined", words[1]) < 0) fail(OWN_FAULT, "no memory");
+    char *first[] = {words[3], "-plugin", plugin};
+    memcpy(words + 1, first, sizeof first);
+    start(words + 1);
     close(descriptor);
     make_digits();
     follow_blocks();
     if (!memory->loaded) fail(OWN_FAULT, "QEMU didn't take the plugin: see its message");
     ran = memory->ran;
+    if (ran && !memory->began) fail(OWN_FAULT, never);
 }
 
 // words: lines IN OUT CONVERTER TRACER WORD..

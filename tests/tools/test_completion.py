@@ -181,7 +181,7 @@ OF_DIN = "--informat --seed " + " ".join(
 # options of tools, from their help
 OF_TOOLS = {
     "best": "-h --help --up-to --within --below --rows --front --measure",
-    "trace": "-h --help -o --output --program-output --kind --skip --count --with --libraries --any-version --map",
+    "trace": "-h --help -o --output --program-output --from --to --kind --skip --count --with --libraries --any-version --map",
     "din-table": f"-h --help {OF_DIN}",
     "over-time": f"-h --help --each --cache {OF_DIN}",
     "three-c": "-h --help --bsize --sets --assoc --size --kind --format --after --rows --pow2",

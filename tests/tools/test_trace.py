@@ -25,7 +25,7 @@ class StandIn(TraceTest):
         shutil.copy(shutil.which("true"), self.program)
 
         path = f"{self.folder}/bin:{PROGRAM.parent}:{os.environ['PATH']}"
-        self.told = {"PATH": path, "FAKE_VERSION": "7.2.22", "FAKE_HELP": "-plugin ..", "PROGRAM": str(self.program)}
+        self.told = {"PATH": path, "FAKE_VERSION": "7.2.22", "FAKE_HELP": "-plugin ..", "FAKE_START": "0", "PROGRAM": str(self.program)}
 
     def run_command(self, *arguments, env=None, **given):
         return super().run_command(*arguments, env={**self.told, **(env or {})}, **given)
@@ -54,6 +54,65 @@ class StandIn(TraceTest):
             self.assertEqual(self.good(self.steps(*steps, options=("--kind", kind))), lines)
             ran = self.in_shell(f'trace --kind={kind} "$PROGRAM" {" ".join(steps)} | head -20')
             self.assertEqual(self.good(ran), lines + "0 0\n")
+
+    def has_symbols(self, *lines, start="401000"):
+        """Has nm tell these lines of a program, and readelf where its code starts; in the run that is at 7000000000."""
+        segments = "  LOAD 0x000000 0x400000 0x400000 0x5e0 0x5e0 R   0x1000", f"  LOAD 0x001000 0x{start} 0x{start} 0x1a5 0x1a5 R E 0x1000"
+        for command, text in (("nm", lines), ("readelf", segments)):
+            stand_in = self.folder / "bin" / command
+            stand_in.write_text("\n".join(["#!/bin/sh", "cat << END", *text, "END\n"]))
+            stand_in.chmod(0o755)
+        self.told["FAKE_START"] = "7000000000"
+
+    def test_a_part_between_two_functions(self):
+        self.has_symbols("401100 T first", "401200 t last", "401300 W never")
+        first, inner, last = "2:7000000100", "2:7000000104", "2:7000000200"
+        steps = ("2:10", "0:20", first, "0:1", inner, "3:2", last, "1:3", last, "2:401100", first, "1:4", first, "0:5", last, "0:6")
+        before, one, between, two, behind = (
+            "2 10\n0 20\n", "2 7000000100\n0 1\n2 7000000104\n0 2\n1 2\n", "2 7000000200\n1 3\n2 7000000200\n2 401100\n",
+            "2 7000000100\n1 4\n2 7000000100\n0 5\n", "2 7000000200\n0 6\n"
+        )
+        part = ("--from", "first", "--to", "last")
+        for options, lines in (
+            (part, one + two),
+            (("--from=first", "--to=never"), one + between + two + behind),
+            (("--from", "first"), one + between + two + behind),
+            (("--to", "last"), before + one),
+            (("--to", "last", "--from", "last"), between + two + behind),
+            (("--from", "last", "--to", "first"), between + behind),
+            ((*part, "--kind", "d"), "0 1\n0 2\n1 2\n1 4\n0 5\n"),
+            ((*part, "--kind", "d", "--skip", "1", "--count", "3"), "0 2\n1 2\n1 4\n"),
+        ):
+            with self.subTest(options):
+                self.assertEqual(self.good(self.steps(*steps, options=options)), lines)
+
+    def test_a_part_that_never_begins(self):
+        self.has_symbols("401100 T first")
+        for step in ("call", "exit:9", "kill", "exec:exit 3"):
+            ran = self.steps("2:10", "0:20", step, options=("--from", "first"))
+            self.fault(ran, 125, "first was never called, or only inlined")
+            self.assertEqual(ran.stdout, b"trace: first was never called, or only inlined\n")
+
+    def test_names_of_functions(self):
+        self.has_symbols("401100 T twice", "401200 t twice", "401300 T same", "401300 T same@@A", "401400 i chosen",
+                         "401500 W walk(int)", "401600 T a(int)", "401700 T a(char)")
+        steps = ("2:7000000300", "2:7000000500", "2:7000000600")
+        for name, at in (("same", 300), ("walk", 500), ("walk(int)", 500), ("a(int)", 600)):
+            self.assertEqual(self.good(self.steps(*steps, options=("--from", name, "--count", "1"))), f"2 7000000{at}\n")
+        for name, fault in (
+            ("twice", "has 2 functions twice"), ("a", "has 2 functions a"), ("none", "has no function none: those of shared"),
+            ("chosen", "has several functions chosen, of which one is chosen when it is loaded"),
+        ):
+            self.fault(self.steps(*steps, options=("--from", name)), 125, f"{self.program} {fault}")
+        self.has_symbols("402100 D numbers")
+        self.fault(self.steps(*steps, options=("--to", "numbers")), 125, f"{self.program} has no function numbers: it is stripped")
+
+    def test_a_function_in_thumb(self):
+        self.program.write_bytes(b"\x7fELF\1\1".ljust(18, b"\0") + b"\x28\0")
+        os.symlink(self.folder / "bin" / QEMU, self.folder / "bin/qemu-arm")
+        self.has_symbols("00010441 T main", start="00010000")
+        ran = self.steps("2:70000003c0", "2:7000000440", "0:8", options=("--from", "main"))
+        self.assertEqual(self.good(ran), "2 7000000440\n0 8\n")
 
     def test_more_than_all_blocks_hold(self):
         count = 64 * 4096 * 3 + 5
@@ -173,6 +232,15 @@ class StandIn(TraceTest):
             self.assertEqual(self.good(self.steps("2:1", options=["--any-version"], env={"FAKE_VERSION": version})), "2 1\n")
         self.fault(self.steps("2:1", env={"FAKE_HELP": "-strace"}), 125, QEMU, "without plugins", "--with lackey")
 
+    def test_a_version_that_does_not_tell_the_start_of_the_code(self):
+        (self.folder / "bin" / QEMU).unlink()
+        os.symlink(program_of(TRACED / "fake_qemu.c", "-rdynamic", "-DWITHOUT_START"), self.folder / "bin" / QEMU)
+        self.has_symbols("401100 T main")
+        self.assertEqual(self.good(self.steps("2:1")), "2 1\n")
+        ran = self.steps("2:1", options=("--from", "main"))
+        self.assertEqual((ran.returncode, ran.stdout), (125, b"trace: QEMU didn't take the plugin: see its message\n"))
+        self.assertIn("trace-plugin.so: --from and --to want QEMU 7.1 or later\n", ran.stderr.decode())
+
     def test_a_plugin_that_is_not_taken(self):
         (self.folder / "bin" / QEMU).unlink()
         fake = self.folder / "bin" / QEMU
@@ -197,6 +265,8 @@ class StandIn(TraceTest):
         self.fault(ran, 125, "valgrind is missing: apt-get install valgrind")
         os.symlink(self.folder / "bin" / QEMU, bin_ / QEMU)
         self.assertEqual(self.good(self.steps("2:1", env={"PATH": str(bin_)})), "2 1\n")
+        ran = self.steps(options=("--to", "main"), env={"PATH": str(bin_)})
+        self.fault(ran, 125, "nm is missing: apt-get install binutils")
         for name in ("trace", "lib.bash", "trace-run.c", "trace-plugin.c", "trace-memory.h"):
             shutil.copy(TOOLS / name, self.folder)
         ran = self.run_command(self.folder / "trace", self.program, env={"PATH": str(bin_)})
@@ -247,6 +317,7 @@ class StandIn(TraceTest):
             (("--skip", "-1", "true"), "--skip"), (("--count", "1k", "true"), "--count"), (("--count=", "true"), "--count"),
             (("--count", "0", "true"), "--count takes a number above 0"), (("--count=00", "true"), "--count takes"),
             (("--with", "pin", "true"), "--with"), (("--with", "lackey", "--libraries", "/", "true"), "for QEMU"),
+            (("--with", "lackey", "--to", "main", "true"), "for QEMU"), (("--from", "", "true"), "--from takes a function's name"),
         ):
             ran = self.run_tool("trace", *arguments)
             self.assertEqual(ran.returncode, 125)

@@ -1,11 +1,11 @@
 // Replaces QEMU in tests without it: loads a plugin, and calls it for what the arguments after the program say.
 //
-//     fake_qemu -plugin FILE,memory=FD .. -0 NAME PROGRAM STEP..
+//     fake_qemu -plugin FILE,ARGUMENT,.. .. -0 NAME PROGRAM STEP..
 //     fake_qemu --version     fake_qemu -h
 //
 // 0:ADDRESS, 1:ADDRESS and 2:ADDRESS are references as in din, 3:ADDRESS reads and writes at once; many:N are N reads from 0 on.
 // call is a system call, say:TEXT writes, exit:N ends, exec:N becomes another program that ends, kill is a death by SIGKILL, wait
-// waits for ever, and loop reads for ever. ignore lets SIGTERM do nothing.
+// waits for ever, and loop reads for ever. ignore lets SIGTERM do nothing. The program's code starts at FAKE_START.
 #include <dlfcn.h>
 #include <signal.h>
 #include <stdbool.h>
@@ -21,17 +21,17 @@ typedef void called(uint64_t, unsigned, int64_t, uint64_t, uint64_t, uint64_t, u
 typedef int install(uint64_t, const void *, int, char **);
 
 static translated *on_translation;
-static executed *on_fetch;
+static struct { executed *call; void *word; } on_fetch[4];
+static int fetch_calls;
 static accessed *on_data;
 static called *on_call;
 static ended *on_end;
-static void *fetch_word;
 static uint64_t address;
 
 void qemu_plugin_register_vcpu_tb_trans_cb(uint64_t id, translated *call) { (void)id, on_translation = call; }
 void qemu_plugin_register_vcpu_insn_exec_cb(void *at, executed *call, int flags, void *word)
 {
-    (void)at, (void)flags, on_fetch = call, fetch_word = word;
+    (void)at, (void)flags, on_fetch[fetch_calls].call = call, on_fetch[fetch_calls++].word = word;
 }
 void qemu_plugin_register_vcpu_mem_cb(void *at, accessed *call, int flags, int way, void *word)
 {
@@ -44,10 +44,14 @@ void *qemu_plugin_tb_get_insn(void *block, size_t at) { return at ? NULL : block
 uint64_t qemu_plugin_insn_vaddr(const void *instruction) { return instruction ? address : 0; }
 void *qemu_plugin_insn_haddr(const void *instruction) { return (void *)(instruction ? address : 0); }
 bool qemu_plugin_mem_is_store(uint32_t access) { return access >> 16 & 2; }
+#ifndef WITHOUT_START
+uint64_t qemu_plugin_start_code(void) { return strtoull(getenv("FAKE_START"), NULL, 16); }
+#endif
 
 static void refer(char label) {
+    fetch_calls = 0;
     on_translation(1, &address);
-    if (label == '2' && on_fetch) on_fetch(0, fetch_word);
+    for (int i = 0; label == '2' && i < fetch_calls; i++) on_fetch[i].call(0, on_fetch[i].word);
     if (label != '2' && on_data) on_data(0, (label == '3' ? 3u : label - '0' + 1u) << 16, address, NULL);
 }
 
@@ -72,21 +76,23 @@ static void step(const char *word) {
     if (!strncmp(word, "exec:", 5)) call(), execlp("sh", "sh", "-c", value, (char *)0);
 }
 
-// The argument behind a plugin's file, which a single comma ends; two commas are one of its name.
-static char *argument_of(char *file) {
-    char *to = file, *at = file;
+// What follows a plugin's file or argument, which a single comma ends; two commas are one of its own.
+static char *behind(char *word) {
+    char *to = word, *at = word;
     while (*at && (*at != ',' || *++at == ',')) *to++ = *at++;
     *to = 0;
     return at;
 }
 
 static int load(char *words) {
-    char *word = argument_of(words);
+    char *arguments[4], *next = behind(words);
+    int count = 0;
+    for (; *next; next = behind(next)) arguments[count++] = next;
     void *plugin = dlopen(words, RTLD_NOW | RTLD_LOCAL);
     if (!plugin) return fprintf(stderr, "fake_qemu: %s\n", dlerror());
     int *version = dlsym(plugin, "qemu_plugin_version");
     install *start = (install *)dlsym(plugin, "qemu_plugin_install");
-    return *version != 1 || start(1, NULL, 1, &word);
+    return *version != 1 || start(1, NULL, count, arguments);
 }
 
 int main(int count, char **words) {

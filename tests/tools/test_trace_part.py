@@ -1,0 +1,131 @@
+"""Tracing the part of a run between two functions, by QEMU."""
+
+import re
+import shutil
+import subprocess
+
+from base import needs
+from trace_base import TRACED, TraceTest, program_of, symbols_of, traced
+
+
+def cut(lines, begin=None, end=None):
+    """The lines from each fetch of one instruction to before the next fetch of the other."""
+    within, found = begin is None, []
+    for line in lines:
+        if line == ("2", end):
+            within = False
+        if line == ("2", begin):
+            within = True
+        if within:
+            found.append(line)
+    return found
+
+
+@needs("qemu-user", "binutils")
+class Parts(TraceTest):
+    def place(self, program, function, base=0):
+        return symbols_of(program)[function][0] + base if function else None
+
+    def same_as_cut(self, program, base=0, **given):
+        """Parts of a run have the lines that are cut from its whole trace."""
+        whole, _ = self.traced_to_file(program, **given)
+        for begin, end in (("main", None), ("enter", "leave"), (None, "leave"), ("leave", "enter"), ("leave", "leave")):
+            options = [f"--{name}={function}" for name, function in (("from", begin), ("to", end)) if function]
+            lines, _ = self.traced_to_file(*options, program, **given)
+            expected = cut(whole, self.place(program, begin, base), self.place(program, end, base))
+            self.assertGreater(len(expected), 150)
+            self.same(lines, expected)
+
+    def base_of(self, program, **given):
+        """Where QEMU loads a position-independent program."""
+        self.traced_to_file("--map", "map", program, **given)
+        return int(re.search(rf"^(\w+)-\w+ \S+ 0+ .*{re.escape(str(program))}$", (self.folder / "map").read_text(), re.M)[1], 16)
+
+    def test_a_static_program(self):
+        self.same_as_cut(traced("parts"))
+
+    def test_a_program_with_libraries(self):
+        self.same_as_cut(program_of(TRACED / "parts.c"))
+
+    def test_position_independent_programs(self):
+        for flags in (("-fpie", "-pie"), ("-fpie", "-static-pie")):
+            program = program_of(TRACED / "parts.c", *flags)
+            self.same_as_cut(program, self.base_of(program))
+
+    def test_programs_that_qemu_has_moved(self):
+        for program in (traced("parts"), program_of(TRACED / "parts.c", "-fpie", "-pie")):
+            given = {"env": {"QEMU_GUEST_BASE": "0x100000000000"}}
+            self.same_as_cut(program, self.base_of(program, **given) if "-pie" in program.name else 0, **given)
+
+    @needs("gcc-aarch64-linux-gnu")
+    def test_another_machine(self):
+        compiler = "aarch64-linux-gnu-gcc"
+        self.same_as_cut(traced("parts", compiler=compiler))
+        program = program_of(TRACED / "parts.c", "-fpie", "-pie", compiler=compiler)
+        self.same_as_cut(program, self.base_of(program))
+
+    def test_kinds_skip_and_count(self):
+        program, part = traced("parts"), ("--from", "enter", "--to", "leave")
+        lines, _ = self.traced_to_file(*part, program)
+        data, fetches = ([line for line in lines if (line[0] == "2") == is_fetch] for is_fetch in (False, True))
+        for kind, expected in (("u", lines), ("d", data), ("i", fetches)):
+            self.same(self.traced_to_file(*part, "--kind", kind, program)[0], expected)
+            self.same(self.traced_to_file(*part, f"--kind={kind}", "--skip=70", "--count=80", program)[0], expected[70:150])
+
+    def test_the_calls_of_one_thread_count_for_all(self):
+        program = traced("parts")
+        lines, _ = self.traced_to_file("--kind", "d", "--from", "enter", "--to", "leave", program, "threads")
+        self.assertEqual(self.own_data(lines, program, "inside", "outside"), [("1", "inside", 4 * at) for at in range(3 * 50)])
+
+    def test_what_is_not_called(self):
+        program = traced("parts")
+        self.same(self.traced_to_file("--to", "not_called", program)[0], self.traced_to_file(program)[0])
+        self.fault(self.trace("--from", "not_called", "--to", "main", program), 125, "not_called was never called, or only inlined")
+        self.fault(self.trace("--from", "enter", program, "fork"), 125, "enter was never called, or only inlined")
+
+    def test_a_map(self):
+        """It is that of the whole run, with the stack."""
+        program = program_of(TRACED / "parts.c", "-fpie", "-pie")
+        self.traced_to_file("--map", "whole", program)
+        for kind in "udi":
+            lines, _ = self.traced_to_file("--map", "map", "--kind", kind, "--from", "enter", "--to", "leave", program)
+            self.assertGreater(len(lines), 150)
+            self.assertEqual((self.folder / "map").read_text(), (self.folder / "whole").read_text())
+        self.assertEqual((self.folder / "map").read_text().count("[stack]\n"), 1)
+
+    def test_an_interpreter(self):
+        script = self.folder / "script"
+        script.write_text(f"#!{shutil.copy(traced('parts'), self.folder / 'parts')}\n")
+        script.chmod(0o755)
+        lines, _ = self.traced_to_file("--from", "main", "./script")
+        self.assertEqual(lines[0], ("2", self.place(traced("parts"), "main")))
+
+    @needs("g++")
+    def test_names_of_cpp(self):
+        source = self.folder / "names.cpp"
+        walk = "__attribute__((noinline)) int walk(int step) { return step; }"
+        source.write_text(f"struct Tree {{ {walk} }};\nint main() {{ return Tree().walk(0); }}\n")
+        program = program_of(source, compiler="g++")
+        for name in ("Tree::walk", "Tree::walk(int)", "_ZN4Tree4walkEi"):
+            lines, _ = self.traced_to_file("--from", name, program)
+            self.assertEqual(lines[0], ("2", self.place(program, "_ZN4Tree4walkEi")))
+        self.fault(self.trace("--from", "walk", program), 125, f"{program} has no function walk")
+
+    def test_names_that_are_refused(self):
+        program = program_of(TRACED / "parts.c", "-fpie", "-pie")
+        for name in ("exit", "inside", "ente", "nter", "enter()", ".*"):
+            ran = self.trace("--from", "main", "--to", name, program)
+            self.fault(ran, 125, f"{program} has no function {name}: those of shared libraries can't be named")
+        subprocess.run(["strip", "-o", self.folder / "stripped", program], check=True)
+        self.fault(self.trace("--from", "main", "./stripped"), 125, "./stripped has no function main: it is stripped")
+
+    def test_without_symbols_but_those_for_libraries(self):
+        program = program_of(TRACED / "parts.c", "-fpie", "-pie", "-rdynamic")
+        subprocess.run(["strip", "-o", self.folder / "stripped", program], check=True)
+        lines, _ = self.traced_to_file("--from", "enter", "--kind", "i", "--count", 1, "./stripped")
+        self.assertEqual(lines, [("2", self.place(program, "enter", self.base_of(program)))])
+
+    def test_with_lackey(self):
+        for option in ("--from", "--to"):
+            ran = self.run_tool("trace", "--with", "lackey", option, "main", traced("parts"))
+            self.fault(ran, 125, "--from, --to, --libraries, --any-version and --map are for QEMU")
