@@ -42,8 +42,8 @@ pub struct Design {
     pub allocate: AllocMode,
 }
 
-/// What one access did: whether its block was held, the slot that was evicted for it, whether it was
-/// placed, and what is sent to the next level, in order, from the first element on.
+/// What one access did: whether its block was held, the slot that was evicted for it, whether it
+/// was placed, and what is sent to the next level, in order, from the first element on.
 #[derive(Clone, Copy, Debug, PartialEq, Eq)]
 pub struct Outcome {
     pub hit: bool,

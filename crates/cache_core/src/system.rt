@@ -60,7 +60,8 @@ impl System {
     ghost use Rattle.cache_core.specs.SystemStands.{SystemStandsFor};
 
     /// A system of the caches of a plan, all empty; each with random replacement has a generator of
-    /// its own, of this seed. Takes the memory of all its caches; it fails only if there is too little.
+    /// its own, of this seed. Takes the memory of all its caches; it fails only if there is too
+    /// little.
     pub fn new(alloc: Global, plan: Plan, seed: u64) -> Result<Self, AllocError>
         ensures { IfOk result (IsNewSystem plan seed) }
     {
