@@ -6,6 +6,7 @@ import os
 import pathlib
 import re
 import resource
+import shutil
 import subprocess
 import sys
 import tempfile
@@ -75,6 +76,13 @@ def several_of(known):
     return read
 
 
+def needs(command, package):
+    """Ends the script where a command is missing, naming Debian's package."""
+    if not shutil.which(command):
+        print(f"{command} is missing: apt-get install {package}\n0 passed, 1 failed")
+        sys.exit(1)
+
+
 class Sum:
     """Counts what passes and what fails."""
 
@@ -124,6 +132,7 @@ def timed(command, **given):
 @contextlib.contextmanager
 def preloads():
     """Gives the variables that put preload.c into a program, given those that it reads."""
+    needs("cc", "gcc")
     with tempfile.TemporaryDirectory(prefix="cachesim-preload-") as folder:
         library = pathlib.Path(folder, "preload.so")
         subprocess.run(["cc", "-O2", "-shared", "-fPIC", "-o", library, TOP / "tests/preload.c"], check=True)

@@ -1,6 +1,7 @@
 """The runner of the cases, tests/run: what it must fail, and what it must pass."""
 
 import re
+import sys
 
 from base import PROGRAM, TOP, ToolTest
 
@@ -17,6 +18,20 @@ FAIL = {
     "fault-not-mentioned": FAULT + "? 2\n", "whole-beside-a-line": EMPTY + ">~ ,0,0,0\n" + HEADER, "no-command": "> x\n",
     "no-such-mark": EMPTY + "% x\n", "text-for-a-folder": EMPTY + HEADER + ROW + "@ folder/\n< x\n",
 }
+
+
+class Missing(ToolTest):
+    def test_packages_are_named(self):
+        (self.folder / "python3").symlink_to(sys.executable)
+        for script, commands in (("against_c", ["cc"]), ("against_cachegrind", ["cc", "valgrind"]), ("devices", ["cc"])):
+            for command in commands:
+                ran = self.run_command(TOP / "tests" / script, "--program", PROGRAM, env={"PATH": str(self.folder)})
+                package = "gcc" if command == "cc" else command
+                told = f"{command} is missing: apt-get install {package}\n0 passed, 1 failed\n"
+                self.assertEqual((ran.stdout.decode(), ran.returncode), (told, 1))
+                (self.folder / command).symlink_to("/bin/true")
+            for command in commands:
+                (self.folder / command).unlink()
 
 
 class Run(ToolTest):
