@@ -4,7 +4,9 @@ import argparse
 import contextlib
 import os
 import pathlib
+import re
 import resource
+import shutil
 import subprocess
 import sys
 import tempfile
@@ -13,6 +15,8 @@ TOP = pathlib.Path(__file__).resolve().parent.parent
 PROGRAM = TOP / "crates/cachesim/out/cachesim"
 UNPROVED = PROGRAM.with_name("cachesim.unproved")  # make demo leaves it
 RT = os.environ.get("RT", "rt")
+# a definition of a specification: a record or data type, or another name
+DEFINITION = re.compile(r"^(?:(?:abbrev|unfoldable|pub) )*(?:(?:record|data) (\w+)|(\w+) :)", re.M)
 
 
 class Arguments(argparse.ArgumentParser):
@@ -57,8 +61,26 @@ def is_newer(path, other):
 def changed_since(program):
     """A file of the code or the definitions that the program is built of and that changed after it, or None."""
     built = program.stat().st_mtime
-    files = (path for path in sorted(TOP.glob("crates/*/s*/*.*t")) if path.parts[-3] != "worked_examples")
+    files = (path for path in sorted(TOP.glob("crates/*/s*/**/*.*t")) if "worked_examples" not in path.parts)
     return next((path for path in files if path.stat().st_mtime > built), None)
+
+
+def several_of(known):
+    """Reads one or more of these words, joined by commas."""
+
+    def read(text):
+        if not set(text.split(",")) <= set(known):
+            raise argparse.ArgumentTypeError(f"{text!r} is not one or more of {','.join(known)}")
+        return text.split(",")
+
+    return read
+
+
+def needs(command, package):
+    """Ends the script where a command is missing, naming Debian's package."""
+    if not shutil.which(command):
+        print(f"{command} is missing: apt-get install {package}\n0 passed, 1 failed")
+        sys.exit(1)
 
 
 class Sum:
@@ -110,6 +132,7 @@ def timed(command, **given):
 @contextlib.contextmanager
 def preloads():
     """Gives the variables that put preload.c into a program, given those that it reads."""
+    needs("cc", "gcc")
     with tempfile.TemporaryDirectory(prefix="cachesim-preload-") as folder:
         library = pathlib.Path(folder, "preload.so")
         subprocess.run(["cc", "-O2", "-shared", "-fPIC", "-o", library, TOP / "tests/preload.c"], check=True)

@@ -47,7 +47,7 @@ def arguments():
     parser.add_argument("--program")
     parser.add_argument("--base", type=hexadecimal)
     parser.add_argument("--map")
-    parser.add_argument("--by", type=keys, default=["line", "function"])
+    parser.add_argument("--by", type=keys)
     parser.add_argument("--evicted-by", action="store_true")
     parser.add_argument("--annotate")
     parser.add_argument("--counts")
@@ -58,8 +58,9 @@ def arguments():
         tool.misused("--map leaves nothing to --program and --base")
     if asked.base is not None and not asked.program:
         tool.misused("--base is for a --program")
-    if asked.annotate and (asked.evicted_by or "--by" in " ".join(sys.argv)):
+    if asked.annotate and (asked.evicted_by or asked.by):
         tool.misused("--annotate leaves nothing to --by and --evicted-by")
+    asked.by = asked.by or ["line", "function"]
     return asked
 
 
@@ -151,7 +152,7 @@ def annotated(asked, cells):
     """The lines of a source file with counts before them."""
     try:
         with open(asked.annotate, encoding="utf-8", errors="surrogateescape") as source:
-            lines = source.read().splitlines()
+            lines = [line.rstrip("\n") for line in source]  # as compilers count them: a form feed ends none
     except OSError as fault:
         tool.fail(f"{asked.annotate}: {fault.strerror}")
     used = COUNTS[:3] if asked.only_compulsory else COUNTS

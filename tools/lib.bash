@@ -14,7 +14,8 @@ explain() {
     local line
     unfinished=''
     while IFS= read -r line; do
-        if [[ $line = '{'*'}' ]]; then "help_${line:1:-1}"; else printf '%s\n' "$line"; fi
+        if [[ $line = '{'*'}' ]]; then "help_${line:1:-1}"; else printf '%s\n' "$line"; fi 2> /dev/null ||
+            fail "standard output: write failed"
     done < <(sed -n '2,/^[^#]/ { /^#/ { s/^# \{0,1\}//; p } }' "$0")
 }
 
@@ -58,6 +59,7 @@ find_cachesim() {
     [ -n "${CACHESIM:-}" ] || [ -x "$cachesim" ] || cachesim=$here/../../bin/cachesim
     [ -n "${CACHESIM:-}" ] || [ -x "$cachesim" ] || cachesim=$(command -v cachesim) ||
         fail "no program cachesim: build it by 'make', or set CACHESIM to its path"
+    [[ $cachesim = */* ]] || cachesim=./$cachesim  # a path, and no word to look up
     [ -x "$cachesim" ] || fail "$cachesim is no program that can be run"
     is_cachesim || fail "$cachesim is not cachesim: it doesn't write a sweep's table"
     export CACHESIM=$cachesim
@@ -70,6 +72,7 @@ is_cachesim() {
 }
 
 private_folder_made=''  # a name that no function has for something else, so that nothing else is ever removed
+compiling=''            # what a compiler is writing
 unfinished=''           # where a trace is being written: a file, or '-'
 
 # private_folder: makes a folder, `folder`, that only this user can read and that is removed when the tool ends, also by a signal
@@ -82,7 +85,10 @@ private_folder() {
     folder=$private_folder_made
 }
 
-remove_private_folder() { [ -z "$private_folder_made" ] || rm -rf -- "$private_folder_made"; }
+remove_private_folder() {
+    [ -z "$private_folder_made" ] || rm -rf -- "$private_folder_made"
+    [ -z "$compiling" ] || rm -f -- "$compiling"
+}
 
 # writes_trace FILE: for a tool that writes a trace to a file, or '-'. If the tool fails, the trace ends in a line that no simulator
 # takes, so that a reader of a pipe doesn't take a part for the whole, nor an earlier trace in FILE for a new one. At its end the tool
@@ -159,24 +165,33 @@ unpacked() {
     return $status
 }
 
-# compiled NAME SOURCE FLAG..: compiles a C file of this folder to out/NAME where that is older, and sets `binary` to its path.
+# awk, sorted: where these fail, it is a fault of the run; the status of awk and sort, 2, is that of wrong arguments here
+awk() { command awk "$@" || return $(($? == 2 ? 1 : $?)); }
+sorted() { sort "$@" || return $(($? == 2 ? 1 : $?)); }
+
+# find_compiler: sets `compiler` to the words of CC, or else to cc; ends where it is missing
+find_compiler() {
+    read -rd '' -a compiler <<< "${CC:-cc}" || :
+    if [ -n "${CC:-}" ]; then needs "${compiler[0]}" "${compiler[0]##*/}"; else needs cc gcc; fi
+}
+
+# compiled NAME SOURCE FLAG..: compiles a C file of this folder to out/NAME where it or a header is newer, and sets `binary` to that.
 # The installed tools come with out/ and without the C files. The environment's CC and flags are heeded; those named here come last.
 compiled() {
     binary=$here/out/$1
-    local source=$here/$2 fresh compiler flags
-    [ -e "$source" ] && [ ! "$binary" -nt "$source" ] || return 0
-    read -rd '' -a compiler <<< "${CC:-cc}" || :
+    local source=$here/$2 part old='' compiler flags
+    [ -e "$source" ] || return 0
+    for part in "$source" "$here"/*.h; do [ "$binary" -nt "$part" ] || old=yes; done
+    [ -n "$old" ] || return 0
+    find_compiler
     read -rd '' -a flags <<< "${CPPFLAGS-} ${CFLAGS--O2 -Wall -Wextra} ${LDFLAGS-}" || :
-    if [ -n "${CC:-}" ]; then
-        needs "${compiler[0]}" "${compiler[0]##*/}"
-    else
-        needs cc gcc
-    fi
-    { mkdir -p -- "$here/out" && fresh=$(mktemp -- "$here/out/$1.XXXXXXXX"); } 2> /dev/null ||
+    trap at_end EXIT
+    { mkdir -p -- "$here/out" && compiling=$(mktemp -- "$here/out/$1.XXXXXXXX"); } 2> /dev/null ||
         fail "$here/out can't be written: 'make tools' compiles the C parts, by someone who may write there"
-    "${compiler[@]}" "${flags[@]}" "${@:3}" -o "$fresh" "$source" || { rm -f -- "$fresh"; fail "$source can't be compiled"; }
-    chmod 755 -- "$fresh"  # for all who may use the folder: mktemp made it for one
-    mv -- "$fresh" "$binary"
+    "${compiler[@]}" "${flags[@]}" "${@:3}" -o "$compiling" "$source" || fail "$source can't be compiled"
+    chmod 755 -- "$compiling"  # for all who may use the folder: mktemp made it for one
+    mv -- "$compiling" "$binary"
+    compiling=''
 }
 
 # readable TRACE: ends where a trace is neither '-' nor something that can be read

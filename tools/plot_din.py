@@ -118,7 +118,7 @@ def by_across(asked, table, across, several, measure):
     several = [option for option in of_measure(table, varied(table)) if option != across]
     at, lines = table.options.index(across), []
     found = list(groups(table, across, several).items())
-    chosen = found[:: -(-len(found) // MOST_LINES)]
+    chosen = pictures.evenly(found)
     told += [f"{len(chosen)} of {len(found)} lines"] * (len(chosen) < len(found))
     for given, cases in chosen:
         name = ", ".join(value_text(*pair, has_caches) for pair in zip(several, given))

@@ -110,7 +110,13 @@ def handful(values, most=MOST_LINES):
     powers = [value for value in values if value & (value - 1) == 0]
     if len(values) > most and len(powers) > 2:
         values = powers
-    return values[:: math.ceil(len(values) / most)]
+    return evenly(values, most)
+
+
+def evenly(values, most=MOST_LINES):
+    """At most so many of some values in even steps, and always the last one."""
+    chosen = values[:: math.ceil(len(values) / most)]
+    return chosen if chosen[-1] == values[-1] else [*chosen[: most - 1], values[-1]]
 
 
 def linear_axis(greatest, closest, most):

@@ -110,8 +110,9 @@ def fixed(values, wanted, usual, name, what):
     values = sorted(set(values))
     if wanted is None:
         return pictures.nearest(values, usual)
+    some = handful(values, 12)
     if wanted not in values:
-        fail(f"{name}: no cache has {what} {wanted}; there are {', '.join(map(str, handful(values, 12)))}")
+        fail(f"{name}: no cache has {what} {wanted}; there are {', '.join(map(str, some))}{' and others' * (len(some) < len(values))}")
     return wanted
 
 

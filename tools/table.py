@@ -2,7 +2,6 @@
 
 import fractions
 import re
-import sys
 from typing import NamedTuple
 
 from tool import fail
@@ -70,6 +69,8 @@ def number_of(text, column, place):
 
 def column_of(columns, measure, name):
     """Where the measure stands in a row."""
+    if measure == "percent":
+        raise BadTable(f"{name}: percent is no count: name the column that it is of")
     if measure not in columns:
         raise BadTable(f"{name}: no column {measure}; there are {', '.join(columns)}")
     return columns.index(measure)
@@ -102,14 +103,12 @@ def read_table(lines, name, measure="misses"):
 
 def lines_of(name):
     """The lines of a table, and its name for faults; '-' is standard input. Ends the tool with one line where that fails."""
+    shown = "standard input" if name == "-" else name
     try:
-        if name == "-":
-            sys.stdin.reconfigure(encoding="ascii", errors="replace")
-            return list(sys.stdin), "standard input"
-        with open(name, encoding="ascii", errors="replace") as file:
-            return list(file), name
+        with open(0 if name == "-" else name, encoding="ascii", errors="replace", closefd=name != "-") as file:
+            return list(file), shown
     except OSError as fault:
-        fail(f"{name}: {fault.strerror}")
+        fail(f"{shown}: {fault.strerror}")
 
 
 def pareto(rows):

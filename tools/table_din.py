@@ -97,10 +97,17 @@ def read_rows(lines, name, columns):
         yield f"{name}: line {number}", fields
 
 
+def judge_columns(columns, measure, name):
+    """Refuses a table without a size or, where no measure is asked for, without the misses of a cache."""
+    if not measure or not any(OPTION.fullmatch(column) and kind(column) == "size" for column in columns):
+        raise BadTable(f"{name}: no table of din: a cache's size or misses are not among its columns")
+
+
 def read_table(lines, name, measure=None):
     """The table that some lines are. Without a measure it is that of the misses of the last cache."""
     columns = lines[0].rstrip("\r\n").split(",")
     measure = measure or usual_measure(columns)
+    judge_columns(columns, measure, name)
     measured = column_of(columns, measure, name)
     options = [column for column in columns if OPTION.fullmatch(column)]
     sizes = [columns.index(option) for option in options if kind(option) == "size"]

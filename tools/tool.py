@@ -1,7 +1,7 @@
 """What the Python tools share: their name, faults and arguments, sizes, the program, and what they write. lib.bash has the same for
 those in bash. A tool in a folder below this one reads it so:
 
-    sys.path.append(str(pathlib.Path(__file__).resolve().parents[1]))
+    sys.path.insert(1, str(pathlib.Path(__file__).resolve().parents[1]))
     tool = importlib.import_module("tool")
 """
 
@@ -38,11 +38,14 @@ class Arguments(argparse.ArgumentParser):
     def error(self, message):
         misused(message)
 
+    def print_help(self, file=None):
+        write_lines(self.format_help().splitlines())
+
 
 def look_for_help(arguments):
     """Writes the tool's help where it is asked for, in place of a parser, for a tool that hands its arguments on."""
     if "-h" in arguments or "--help" in arguments:
-        print(sys.modules["__main__"].__doc__.strip())
+        write_lines(sys.modules["__main__"].__doc__.strip().splitlines())
         sys.exit()
 
 
@@ -87,6 +90,8 @@ def is_cachesim(path):
 
 def write_lines(lines):
     """Writes lines to standard output. Ends the tool where that fails: with a message, unless the reader of a pipe has gone."""
+    if sys.stdout is None:
+        fail("standard output: Bad file descriptor")
     try:
         sys.stdout.write("".join(f"{line}\n" for line in lines))
         sys.stdout.flush()

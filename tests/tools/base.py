@@ -27,6 +27,7 @@ PACKAGES = {
     "g++": "g++",
     "gcc": "gcc",
     "gcc-aarch64-linux-gnu": "aarch64-linux-gnu-gcc",
+    "git": "git",
     "gnuplot-nox": "gnuplot",
     "lintian": "lintian",
     "lowdown": "lowdown",

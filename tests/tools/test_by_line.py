@@ -93,10 +93,14 @@ class Totals(ByLineTest):
                 rows = self.rows(trace, "-l1-dsize", 256, "-l1-dbsize", 16, "-l1-dassoc", assoc)
                 self.assertEqual(self.sums(rows)[1:], [int(wanted[at]) for at in (5, 7, 8, 9)])
 
-    def test_pipes_and_packed_traces(self):
+    def test_pipes(self):
+        options = ("-l1-dsize", "256", "-l1-dbsize", "16", "--by", "object")
+        self.assertEqual(self.rows("-", *options, stdin=SORT.read_bytes()), self.rows(SORT, *options))
+
+    @base.needs("xz-utils", "zstd")
+    def test_packed(self):
         options = ("-l1-dsize", "256", "-l1-dbsize", "16", "--by", "object")
         expected = self.rows(SORT, *options)
-        self.assertEqual(self.rows("-", *options, stdin=SORT.read_bytes()), expected)
         for name in self.packed(SORT):
             self.assertEqual(self.rows(name, *options), expected)
 
@@ -297,6 +301,7 @@ class Faults(ByLineTest):
             (b"", ["none", *cache], 1, "by-line: none: no file that can be read\n"),
             (b"", ["-"], 2, "by-line: a trace and the options of din are needed"),
             (b"", ["-", *cache, "-t", "x"], 2, "by-line: the trace is the first argument"),
+            (b"", ["-", *cache, "--", "x"], 2, "by-line: -- is no option; "),
             (b"", ["-", *cache, "--at"], 2, "by-line: --at is no option, or wants a value"),
             (b"", ["-", *cache, "--at", "l2-u"], 2, "by-line: there is no cache l2-u"),
             (b"", ["-", *cache, "--at", "x"], 2, "by-line: 'x' is no cache"),
@@ -308,6 +313,7 @@ class Faults(ByLineTest):
             (b"0 1\n", ["-", *cache, "--map", "/dev/null"], 1, "by-line: /dev/null: an empty map; if the trace comes through a pipe"),
             (b"", ["-", *cache, "--program", "none"], 1, "by-line: none: no ELF program that can be read\n"),
             (b"0 1\n", ["-", *cache, "--annotate", "none.c"], 1, "by-line: none.c: No such file or directory\n"),
+            (b"0 1\n", ["-", *cache, "--annotate", "my--by.c"], 1, "by-line: my--by.c: No such file or directory\n"),
             (b"0 1\n", ["-", *cache, "--annotate", __file__], 1, "no reference is from a line of it: compile the program with -g"),
             (b"", ["-", "-l1-dsize", "3", "-l1-dbsize", "2"], 2, "cachesim: "),
         ):

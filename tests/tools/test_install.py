@@ -1,11 +1,27 @@
 """make install and make uninstall, in a copy of the repository and into a folder of its own."""
 
+import atexit
+import functools
 import os
+import pathlib
 import re
 import shutil
+import subprocess
+import tempfile
 
-from base import PROGRAM, TOP
-from test_make import MakeTest, put_program
+from base import PROGRAM, TOP, ToolTest
+from test_make import MakeTest, copy_repository, put_program
+
+
+@functools.cache
+def installed():
+    """A folder with all that is installed, made once for the tests that leave it as it is."""
+    folder = pathlib.Path(tempfile.mkdtemp(prefix="cachesim-installed-"))
+    atexit.register(shutil.rmtree, folder, ignore_errors=True)
+    copy_repository(folder / "a copy")
+    put_program(folder / "a copy")
+    subprocess.run([folder / "a copy/tools/package/install", folder / "usr"], check=True, stdout=subprocess.DEVNULL)
+    return folder / "usr"
 
 
 class Installing(MakeTest):
@@ -18,7 +34,7 @@ class Installing(MakeTest):
 
     def few_tools(self):
         """Leaves few tools in the copy, so that a test is quick."""
-        for path in (self.top / "tools").iterdir():
+        for path in [*(self.top / "tools").iterdir(), *(self.top / "tools/lab").iterdir()]:
             if path.is_file() and path.name not in ("best", "lib.bash", "table.py", "table_din.py", "tool.py"):
                 path.unlink()
 
@@ -115,46 +131,6 @@ class Installing(MakeTest):
         self.uninstall()
         self.assertEqual(self.below(), ["usr", "usr/bin", "usr/bin/other"])
 
-    def test_which_tools_are_installed(self):
-        self.install()
-        there = {path for path in self.below() if path.startswith("usr/lib/cachesim/")}
-        for path in there:
-            self.assertNotRegex(path, r"\.[ch]$|/package(/|$)|\.md$|__pycache__")
-        paths = [*(TOP / "tools").glob("*"), *(TOP / "tools/lab").glob("*")]
-        wanted = [path for path in paths if path.is_file() and os.access(path, os.X_OK)]
-        for path in wanted:
-            # a tool with a C part may be left out where there is no C compiler
-            link = self.to / "usr/bin" / f"cachesim-{path.name}"
-            self.assertTrue(link.resolve().is_file(), link)
-            for completion in (f"bash-completion/completions/{link.name}", f"fish/vendor_completions.d/{link.name}.fish"):
-                self.assertIn(link.name, (self.to / "usr/share" / completion).read_text())
-        for link in (self.to / "usr/bin").glob("cachesim-*"):
-            env = {"PATH": f"{link.parent}:{os.environ['PATH']}", "PYTHONDONTWRITEBYTECODE": ""}
-            ran = self.run_command(link, "--help", env=env)
-            self.assertEqual(ran.returncode, 0, ran.stderr)
-        # Python has left no files there
-        self.assertEqual({path for path in self.below() if path.startswith("usr/lib/cachesim/")}, there)
-
-    def test_tools_find_the_program_beside_them(self):
-        """Installed below a folder that is not on the path."""
-        self.install()
-        lab = self.to / "usr/lib/cachesim/lab"
-        space = ("--bsize", "16", "--sets", "1-4", "--assoc", "1-2", "--size", "0-1k")
-        din, lackey = TOP / "examples/sort.din", TOP / "examples/blocks.lackey"
-        env = {"CACHESIM": "", **self.path}
-        replayed = ("-s", 1, "-E", 2, "-b", 4, "-t", TOP / "tests/cases/inputs/handout.lackey")
-        pages = "--pow2 --bsize 16 --sets 1 --assoc 1-4 --size 0-1k --rows 3\n"
-        for arguments, text in (
-            (("bin/cachesim-sweep-parallel", 2, din, *space), self.run_command(PROGRAM, "sweep", *space, "-t", din).stdout.decode()),
-            (("bin/cachesim-pages", 1, "--pow2", "--bsize", 16, "--sets", 1, "--assoc", "1-4", "--size", "0-1k"), pages),
-            (("bin/cachesim-replay", *replayed), self.run_tool("lab/replay", *replayed).stdout.decode()),
-            (("bin/cachesim-grade", lab / "lab-csim", lackey), "13 of 13 right\n"),
-            (("lib/cachesim/lab/grade", self.to / "usr/bin/cachesim-lab-csim", lackey), "13 of 13 right\n"),
-            (("lib/cachesim/lab/grade", lab / "lab-csim"), "78 of 78 right\n"),
-        ):
-            ran = self.run_command(self.to / "usr" / arguments[0], *arguments[1:], env=env)
-            self.assertEqual((ran.returncode, ran.stdout.decode(), ran.stderr), (0, text, b""))
-
     def test_each_c_part_is_compiled(self):
         parts = set()
         for path in (TOP / "tools").rglob("*"):
@@ -184,3 +160,50 @@ class Installing(MakeTest):
         ran = self.make("install", "PREFIX=/proc/cachesim", env=self.path)
         self.assertEqual(ran.returncode, 2)
         self.assertIn("install: /proc/cachesim can't be made", ran.stderr)
+
+
+class Installed(ToolTest):
+    """All tools, where they are installed."""
+
+    def below(self):
+        return sorted(path.relative_to(installed()) for path in (installed() / "lib").rglob("*"))
+
+    def test_which_tools_are_installed(self):
+        there = self.below()
+        for path in there:
+            self.assertNotRegex(str(path), r"\.[ch]$|/package(/|$)|\.md$|__pycache__")
+        paths = [*(TOP / "tools").glob("*"), *(TOP / "tools/lab").glob("*")]
+        wanted = [path for path in paths if path.is_file() and os.access(path, os.X_OK)]
+        for path in wanted:
+            # a tool with a C part may be left out where there is no C compiler
+            link = installed() / "bin" / f"cachesim-{path.name}"
+            self.assertTrue(link.resolve().is_file(), link)
+            for completion in (f"bash-completion/completions/{link.name}", f"fish/vendor_completions.d/{link.name}.fish"):
+                self.assertIn(link.name, (installed() / "share" / completion).read_text())
+        for link in (installed() / "bin").glob("cachesim-*"):
+            env = {"PATH": f"{link.parent}:{os.environ['PATH']}", "PYTHONDONTWRITEBYTECODE": ""}
+            ran = self.run_command(link, "--help", env=env)
+            self.assertEqual(ran.returncode, 0, ran.stderr)
+        # Python has left no files there
+        self.assertEqual(self.below(), there)
+
+    def test_tools_find_the_program_beside_them(self):
+        """Installed below a folder that is not on the path, before another program of its name that is."""
+        lab = installed() / "lib/cachesim/lab"
+        space = ("--bsize", "16", "--sets", "1-4", "--assoc", "1-2", "--size", "0-1k")
+        din, lackey = TOP / "examples/sort.din", TOP / "examples/blocks.lackey"
+        (self.folder / "cachesim").write_text("#!/bin/bash\nexit 9\n")
+        (self.folder / "cachesim").chmod(0o755)
+        env = {"CACHESIM": "", "PATH": f"{self.folder}:/usr/bin:/bin"}
+        replayed = ("-s", 1, "-E", 2, "-b", 4, "-t", TOP / "tests/cases/inputs/handout.lackey")
+        pages = "--pow2 --bsize 16 --sets 1 --assoc 1-4 --size 0-1k --rows 3\n"
+        for arguments, text in (
+            (("bin/cachesim-sweep-parallel", 2, din, *space), self.run_command(PROGRAM, "sweep", *space, "-t", din).stdout.decode()),
+            (("bin/cachesim-pages", 1, "--pow2", "--bsize", 16, "--sets", 1, "--assoc", "1-4", "--size", "0-1k"), pages),
+            (("bin/cachesim-replay", *replayed), self.run_tool("lab/replay", *replayed).stdout.decode()),
+            (("bin/cachesim-grade", lab / "lab-csim", lackey), "13 of 13 right\n"),
+            (("lib/cachesim/lab/grade", installed() / "bin/cachesim-lab-csim", lackey), "13 of 13 right\n"),
+            (("lib/cachesim/lab/grade", lab / "lab-csim"), "78 of 78 right\n"),
+        ):
+            ran = self.run_command(installed() / arguments[0], *arguments[1:], env=env)
+            self.assertEqual((ran.returncode, ran.stdout.decode(), ran.stderr), (0, text, b""))

@@ -2,7 +2,7 @@
 
 import shutil
 
-from base import TOP, ToolTest
+from base import TOP, ToolTest, needs
 
 SOURCE = """\
 //! Half of a number.
@@ -47,6 +47,7 @@ class AllMutants(ToolTest):
         self.assertEqual((ran.stderr, ran.returncode), (b"", 0))
 
 
+@needs("git")
 class Mutants(ToolTest):
     def setUp(self):
         super().setUp()

@@ -46,6 +46,12 @@ class Version(ToolTest):
             changes.write_text(text)
             self.refused(self.run_command(top / "tools/package/version"), 1, "version: ", "CHANGELOG.md")
 
+    def test_each_change_is_in_the_packages_history(self):
+        entries = (TOP / "CHANGELOG.md").read_text().partition("\n## ")[2].split("\n")
+        points = [line for line, before in zip(entries[1:], entries) if line[:2] == "- " or line and not before and line[0] != "#"]
+        text = self.good(self.run_command(PACKAGE / "changelog", "A Name <name@example.org>"))
+        self.assertEqual(text.count("\n  * "), len(points))
+
     def test_copyright_names_what_is_linked(self):
         """Of the kit's ports those whose code the program has, and those that crates.txt names, are all."""
         ours = {line.split(":")[0] for line in (TOP / "crates.txt").read_text().splitlines()}

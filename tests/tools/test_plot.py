@@ -38,6 +38,10 @@ def data_of(script):
 
 
 class PlotTest(base.ToolTest):
+    def no_gnuplot(self):
+        """Where gnuplot is asked for at once, one that is never run."""
+        return {"PATH": f"{self.folder}/bin"} if (self.folder / "bin").exists() else self.stand_in("exit 9")
+
     def setUp(self):
         super().setUp()
         self.write("eight.csv", f"{table.HEADER}\n{EIGHT}")
@@ -123,12 +127,18 @@ class Script(PlotTest):
         self.write("t.csv", rows_of([(8, 900)], 16) + rows_of([(2, 700)], 64) + rows_of([(1, 600)], 32))
         self.assertEqual(data_of(self.script("--only", "block", "t.csv", "-"))["block_1"], [[(16, 90)], [(64, 70)]])
 
+    def test_labels_are_apart(self):
+        """Of forty points in a row, each better than the one before, some have a label."""
+        rows = "".join(f"64,1,{way},{64 * way},{25 * way - 25},{1025 - 25 * way},0\n" for way in range(1, 41))
+        script = self.script("--only", "pareto", "-", "a.svg", stdin=rows.encode())
+        self.assertTrue(3 < len(re.findall(r"set label '\d+,\d+,\d+' at", script)) < 20)
+
     def test_a_few_of_many_lines(self):
         for ways, chosen in (
             (range(1, 8), [1, 2, 3, 4, 5, 6, 7]),
             (range(1, 65), [1, 2, 4, 8, 16, 32, 64]),
-            (range(1, 513), [1, 4, 16, 64, 256]),
-            (range(9, 29), [9, 12, 15, 18, 21, 24, 27]),
+            (range(1, 513), [1, 4, 16, 64, 256, 512]),
+            (range(9, 29), [9, 12, 15, 18, 21, 24, 28]),
         ):
             self.write("t.csv", "".join(f"64,1,{way},{64 * way},9,1,0\n" for way in ways))
             named = re.findall(r"title ' (\d+) ways?'", self.script("--only", "size", "t.csv", "-"))
@@ -192,15 +202,14 @@ class Refused(PlotTest):
             self.write("bad.csv", text)
             self.refused(self.plot("bad.csv", "-", env=self.no_gnuplot()), 1, "plot: bad.csv: ", fault)
 
-    def no_gnuplot(self):
-        """Where gnuplot is asked for at once, one that is never run."""
-        return {"PATH": f"{self.folder}/bin"} if (self.folder / "bin").exists() else self.stand_in("exit 9")
-
     def test_faults_of_the_run(self):
         self.write("bin.png", "")
         (self.folder / "folder.png").mkdir()
         path = self.no_gnuplot()
+        self.write("ways.csv", "".join(f"64,1,{way},{64 * way},9,1,0\n" for way in range(1, 30)))
         for arguments, fault in (
+            (["--ways", "99", "ways.csv", "a.png"], "ways.csv: no cache has the associativity 99; there are 1, 2, 4, 8, 16 and others\n"),
+            (["--measure", "percent", "eight.csv", "a.png"], "eight.csv: percent is no count: name the column that it is of\n"),
             (["none.csv", "a.png"], "none.csv: No such file or directory"),
             (["eight.csv", "none/a.png"], "none/a.png: there is no folder"),
             (["eight.csv", "bin.png/a.png"], "bin.png/a.png: there is no folder"),

@@ -168,14 +168,14 @@ class Din(PlotTest):
             self.assertEqual(lines[f"size_{number}"], [wanted[name]], name)
 
     def test_lines_that_are_left_out(self):
-        """Of twelve lines each second is drawn, and the title says so; of six all are."""
+        """Of twelve lines each second and the last are drawn, and the title says so; of six all are."""
         rows = [f"{size},{policy},{back},{allocate},1000,100,10.000,0\n"
                 for size in (64, 128) for policy in "lfr" for back in "an" for allocate in "an"]
         header = "l1-usize,l1-urepl,l1-uwback,l1-uwalloc,l1-u-references,l1-u-misses,l1-u-percent,bypassed\n"
         self.write("t.csv", header + "".join(rows))
         script = self.script("t.csv", "a.svg")
-        self.assertIn("'Miss ratio by cache size: 6 of 12 lines'", script)
-        self.assertEqual(len(names_of(script)), 6)
+        self.assertIn("'Miss ratio by cache size: 7 of 12 lines'", script)
+        self.assertEqual(len(names_of(script)), 7)
         self.write("t.csv", header + "".join(row for row in rows if ",n,1000" not in row))
         script = self.script("t.csv", "a.svg")
         self.assertIn("'Miss ratio by cache size'", script)
@@ -207,6 +207,8 @@ class Din(PlotTest):
         rows = din_rows({(64, "l"): (100,)})
         for text, fault in (
             (f"{COLUMNS}\n", "a table without a row"),
+            ("seed,l1-u-misses\n1,5\n", "no table of din: a cache's size or misses are not among its columns\n"),
+            ("l1-usize,l1-urepl\n64,l\n", "no table of din: a cache's size or misses are not among its columns\n"),
             (f"{COLUMNS}\n{rows}{rows}", "line 3: a second row of the same options"),
             (f"{COLUMNS}\n{rows[:-3]}\n", "line 2: no row of a table of din"),
             (f"{COLUMNS}\n{rows}{rows.replace(',1000,', ',999,').replace('l', 'f')}", "1000 references in the first row, 999 here"),
@@ -216,9 +218,6 @@ class Din(PlotTest):
             self.refused(self.plot("t.csv", "-", env=self.no_gnuplot()), 1, "plot: t.csv: ", fault)
         self.refused(self.plot("--only", "block", "din.csv", "-"), 1, "plot: din.csv: a table of din has the pictures size and pareto\n")
         self.refused(self.plot("--measure", "x", "din.csv", "-"), 1, "plot: din.csv: no column x; there are l1-usize, ")
-
-    def no_gnuplot(self):
-        return {"PATH": f"{self.folder}/bin"} if (self.folder / "bin").exists() else self.stand_in("exit 9")
 
     def test_a_real_table(self):
         """What din-table writes is taken by plot and best."""

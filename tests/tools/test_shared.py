@@ -163,3 +163,34 @@ class Compiling(Shared):
         ran = self.run_command(self.folder / "to-din", "addresses", EXAMPLES / "formats/addresses.txt")
         told = f"to-din: {self.folder}/out can't be written: 'make tools' compiles the C parts, by someone who may write there\n"
         self.assertEqual((ran.returncode, ran.stderr.decode()), (1, told))
+
+
+class Streams(ToolTest):
+    def test_help_on_a_full_device(self):
+        for tool, told, status in (("warm", "write failed", 1), ("trace", "write failed", 125), ("best", "No space left on device", 1),
+                                   ("pages", "No space left on device", 1)):
+            with open("/dev/full", "wb") as full:
+                ran = subprocess.run([TOOLS / tool, "--help"], stdout=full, stderr=subprocess.PIPE, timeout=20, check=False)
+            self.assertEqual((ran.stderr.decode(), ran.returncode), (f"{tool}: standard output: {told}\n", status))
+
+    def test_closed_streams(self):
+        (self.folder / "t.csv").write_text("16,1,1,16,5,5,4\n")
+        for table, mark, stream in (("-", "<&-", "standard input"), ("t.csv", ">&-", "standard output")):
+            ran = self.run_command("bash", "-c", f'exec "$0" {table} {mark}', TOOLS / "best")
+            self.refused(ran, 1, f"best: {stream}: Bad file descriptor\n")
+
+    def test_program_without_a_slash(self):
+        """It is a path, and no word that is looked up."""
+        (self.folder / "cachesim").write_text("#!/bin/bash\nexit 0\n")
+        (self.folder / "cachesim").chmod(0o755)
+        ran = self.run_tool("warm", 1, EXAMPLES / "sort.din", "--bsize", 16, env={"CACHESIM": "cachesim"})
+        self.refused(ran, 1, "warm: ./cachesim is not cachesim")
+
+    def test_a_status_of_awk(self):
+        """2 of awk, as on a full disk, is no wrong argument."""
+        (self.folder / "bin").mkdir()
+        (self.folder / "bin/awk").write_text("#!/bin/bash\nexit 2\n")
+        (self.folder / "bin/awk").chmod(0o755)
+        space = ("--bsize", 16, "--sets", 1, "--assoc", 1, "--size", 16)
+        path = f"{self.folder}/bin:{os.environ['PATH']}"
+        self.assertEqual(self.run_tool("three-c", EXAMPLES / "sort.din", *space, env={"PATH": path}).returncode, 1)

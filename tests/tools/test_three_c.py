@@ -166,6 +166,17 @@ class ThreeC(base.ToolTest):
         self.run_command("gzip", "a trace.din")
         self.assertEqual(self.good(self.run_tool("three-c", "a trace.din.gz", *arguments)), expected)
 
+    def test_a_sweep_of_a_part_that_fails(self):
+        """Whatever the program's path is; its parent is sh or awk."""
+        program = self.folder / "it's $a program"
+        given = "-", "--bsize", 16, "--sets", 65536, "--assoc", 2, "--size", "2m"
+        for end, status in (("", 0), ("case $(< /proc/$PPID/comm) in sh | *awk) cat > /dev/null; exit 3 ;; esac", 1)):
+            program.write_text(f"#!/bin/bash\n{end}\nexec '{base.PROGRAM}' \"$@\"\n")
+            program.chmod(0o755)
+            ran = self.run_tool("three-c", *given, stdin=70000 * b"0 10\n" + b"4 0\n0 10\n", env={"CACHESIM": str(program)})
+            self.assertEqual(ran.returncode, status, ran.stderr)
+            self.assertEqual(ran.stdout.decode().splitlines()[1:], ["16,65536,2,2097152,69999,2,0,2,0,0"] * (not status))
+
     @base.needs("xz-utils", "zstd")
     def test_packed(self):
         arguments = "--bsize 16 --sets 1-4 --assoc 1-2 --size 64".split()

@@ -6,6 +6,7 @@ import shutil
 import subprocess
 import unittest
 
+import common
 import tool
 from base import TOOLS, ToolTest
 
@@ -24,7 +25,43 @@ class Sizes(unittest.TestCase):
         self.assertEqual([tool.size_text(size) for size in (0, 100, 1024, 1536, 1 << 20, 3 << 30)], ["0", "100", "1k", "1536", "1m", "3g"])
 
 
+class Several(unittest.TestCase):
+    def test_words(self):
+        read = common.several_of(("sweep", "din"))
+        self.assertEqual((read("din"), read("din,sweep")), (["din"], ["din", "sweep"]))
+        for text in ("", "swep", "din,", "sweep,x"):
+            with self.assertRaises(argparse.ArgumentTypeError):
+                read(text)
+
+
 class Compiling(ToolTest):
+    def test_a_header_that_changed(self):
+        for name in ("to-din", "to-din.c", "lib.bash"):
+            shutil.copy(TOOLS / name, self.folder)
+        given = {"env": {"CFLAGS": "-O0"}}
+        self.good(self.run_command(self.folder / "to-din", "--build", **given))
+        made = self.folder / "out/to-din"
+        before = made.stat().st_ino
+        self.good(self.run_command(self.folder / "to-din", "--build", **given))
+        self.assertEqual(made.stat().st_ino, before)
+        later = made.stat().st_mtime + 1
+        (self.folder / "a.h").touch()
+        os.utime(self.folder / "a.h", (later, later))
+        self.good(self.run_command(self.folder / "to-din", "--build", **given))
+        self.assertNotEqual(made.stat().st_ino, before)
+
+    def test_a_signal(self):
+        """It leaves nothing of what was being compiled."""
+        for name in ("to-din", "to-din.c", "lib.bash"):
+            shutil.copy(TOOLS / name, self.folder)
+        compiler = self.folder / "bin/cc"
+        compiler.parent.mkdir()
+        compiler.write_text("#!/bin/bash\nkill -TERM $PPID\nexec sleep 60\n")
+        compiler.chmod(0o755)
+        ran = self.run_command(self.folder / "to-din", "--build", env={"PATH": f"{compiler.parent}:{os.environ['PATH']}"}, seconds=20)
+        self.assertEqual((ran.stderr, ran.returncode), (b"", -15))
+        self.assertEqual(list((self.folder / "out").iterdir()), [])
+
     def test_two_at_once(self):
         """Each compiles to a file of its own, which then takes its place: in a copy of the tool."""
         for name in ("to-din", "to-din.c", "lib.bash"):

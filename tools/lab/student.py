@@ -16,7 +16,7 @@ import sys
 import tempfile
 from typing import NamedTuple, Optional
 
-sys.path.append(str(pathlib.Path(__file__).resolve().parents[1]))
+sys.path.insert(1, str(pathlib.Path(__file__).resolve().parents[1]))
 tool = importlib.import_module("tool")
 
 LEAST_LIMIT = 64 << 20

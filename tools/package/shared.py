@@ -7,7 +7,7 @@ import subprocess
 import sys
 
 TOP = pathlib.Path(__file__).resolve().parents[2]
-sys.path.append(str(TOP / "tools"))
+sys.path.insert(1, str(TOP / "tools"))
 tool = importlib.import_module("tool")
 
 
@@ -31,6 +31,11 @@ def run(*command, text=""):
     except subprocess.SubprocessError as fault:
         tool.fail(str(fault))
     return ran.stdout
+
+
+def quoted(text):
+    """A text as one word for bash and zsh."""
+    return "'" + text.replace("'", "'\\''") + "'"
 
 
 def version_and_date():
