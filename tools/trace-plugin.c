@@ -47,7 +47,6 @@ __attribute__((constructor)) static void choose_version(void) {
 }
 
 static struct memory *memory;
-static bool left_out;  // this is a forked child
 
 // ---- The part of the run that is traced, from one function to another
 
@@ -57,7 +56,6 @@ static _Atomic bool in_part;                   // one for all threads
 
 static void on_from(unsigned cpu, void *own) {
     (void)cpu, (void)own;
-    if (left_out) return;
     in_part = memory->began = true;
 }
 
@@ -79,6 +77,7 @@ static void watch_for_bounds(struct qemu_plugin_insn *instruction, uint64_t addr
 // ---- The blocks of a thread
 
 static pthread_mutex_t lock = PTHREAD_MUTEX_INITIALIZER;
+static bool left_out;  // this is a forked child
 static __thread struct block *mine __attribute__((tls_model("initial-exec")));
 
 static void hand_over(void) {

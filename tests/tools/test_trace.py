@@ -94,7 +94,7 @@ class StandIn(TraceTest):
             self.assertEqual(ran.stdout, b"trace: first was never called, or only inlined\n")
 
     def test_names_of_functions(self):
-        self.has_symbols("401100 T twice", "401200 t twice", "401300 T same", "401300 T same@@A", "401400 i chosen",
+        self.has_symbols("401100 T twice", "401200 t twice", "401300 T same@A", "401300 T same@@B", "401400 i chosen",
                          "401500 W walk(int)", "401600 T a(int)", "401700 T a(char)")
         steps = ("2:7000000300", "2:7000000500", "2:7000000600")
         for name, at in (("same", 300), ("walk", 500), ("walk(int)", 500), ("a(int)", 600)):
