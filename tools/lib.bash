@@ -59,8 +59,8 @@ find_cachesim() {
     [ -n "${CACHESIM:-}" ] || [ -x "$cachesim" ] || cachesim=$here/../../bin/cachesim
     [ -n "${CACHESIM:-}" ] || [ -x "$cachesim" ] || cachesim=$(command -v cachesim) ||
         fail "no program cachesim: build it by 'make', or set CACHESIM to its path"
-    [[ $cachesim = */* ]] || cachesim=./$cachesim  # a path, and no word to look up
     [ -x "$cachesim" ] || fail "$cachesim is no program that can be run"
+    [[ $cachesim = */* ]] || cachesim=./$cachesim  # a path, and no word to look up
     is_cachesim || fail "$cachesim is not cachesim: it doesn't write a sweep's table"
     export CACHESIM=$cachesim
 }
