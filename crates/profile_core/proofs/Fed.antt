@@ -1,6 +1,6 @@
 -- A profile that was fed a reference whose block is not the front of its set's list: its fields are sound again, and they are those of
 -- the state after the reference.
-use Rattle.std.proofs.Common.{◌≡◌, ℕ, zero, suc, ◌+◌, ◌-◌, ◌*◌, ◌<◌, ◌≤◌, true, false, List, [], ◌∷◌, length, take, get_or, set, sum, refl, sym, ◌∙◌, ap, subst}
+use Rattle.std.proofs.Common.{◌≡◌, ℕ, zero, suc, ◌+◌, ◌-◌, ◌*◌, ◌<◌, ◌≤◌, false, List, [], ◌∷◌, length, take, get_or, set, sum, refl, sym, ◌∙◌, ap, subst}
 use Rattle.std.proofs.Common.{arith, length-set, length-take}
 use Rattle.std.proofs.Math.Nat.{suc-mul}
 use Rattle.std.proofs.lemmas.List.{get_or_read}
@@ -9,8 +9,8 @@ use Rattle.profile_core.specs.declared.profile.TheConstants.{MAX_REFERENCES}
 use Rattle.profile_core.specs.Moves.{is_front, move_to_front}
 use Rattle.profile_core.specs.Slab.{Lists, brought}
 use Rattle.profile_core.specs.State.{ProfileState, IsSound, IsNext, list_of, fed_of, after_reference, compared_behind, distances_of}
-use Rattle.profile_core.proofs.Feeding.{FoundAt, FoundNowhere, behind_front, first-raised, raised_behind, raised_front, sum-distances, after_fed}
-use Rattle.profile_core.proofs.Feeding.{found_step, nowhere_step, front_step}
+use Rattle.profile_core.proofs.Feeding.{FoundAt, FoundNowhere, behind_front, first-raised, raised_behind, sum-distances, after_fed}
+use Rattle.profile_core.proofs.Feeding.{found_step, nowhere_step}
 use Rattle.profile_core.proofs.Weighing.{raised_fits, weighed-raised}
 
 -- the value of a profile, by its fields
@@ -68,17 +68,6 @@ module _ {g : GeometryValue} {was : Lists} {behind missed : List ℕ} {probes : 
         fed = omega (arith, fed, was_fed, few);
         compared = subst (λ (k : ℕ). probes' ≤ k) (sym grown) (at_most probes probes' m (n * g.e) g.e h.compared more le);
       }
-
-  -- found in front: one comparison more, and the lists stay
-  module _ {k : ℕ} (of_set : k ≡ set_of_block g x) (front : is_front x (get_or was.lists k []) ≡ true) where
-    pub front_after : state_of g was behind missed (probes + 1) ≡ after_reference v x
-    front_after =
-        front_step (state_of g was behind missed probes) x k of_set _ front (h.short k)
-        (raised_front behind (probes - compared_behind behind missed) (probes + 1 - compared_behind behind missed) (omega (arith, h.told)))
-        ∙ ap (λ w. after_reference w x) view_is
-
-    pub front_sound : 1 ≤ g.e → fed_of v < MAX_REFERENCES → IsSound g was behind missed (probes + 1)
-    front_sound some few = sound_after front_after refl refl h.short refl refl refl (omega (arith, h.told)) refl some few
 
 -- what is known where block x is brought to the front of its set's list, and the numbers are as they were
 pub record IsMoved (g : GeometryValue) (was now : Lists) (behind missed : List ℕ) (probes x k : ℕ) (v : ProfileState) : Type 0 where

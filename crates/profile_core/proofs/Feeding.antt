@@ -87,10 +87,6 @@ first-raised [] distance n some = refl
 first-raised (y ∷ bs) zero n some = absurd (omega (arith, some))
 first-raised (y ∷ bs) (suc distance) n some = refl
 
-pub raised_front : (behind : List ℕ) (h h' : ℕ) → h' ≡ h + 1 → set behind 0 h' ≡ raise (set behind 0 h) 0
-raised_front [] h h' more = refl
-raised_front (y ∷ bs) h h' more = ap (λ m. m ∷ bs) more
-
 pub raised_behind : (behind : List ℕ) (distance n h : ℕ) → 1 ≤ distance → n ≡ get_or behind distance 0
     → set (set behind distance (n + 1)) 0 h ≡ raise (set behind 0 h) distance
 raised_behind [] distance n h some read = refl

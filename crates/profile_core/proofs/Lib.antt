@@ -10,6 +10,7 @@ pub mod Emptying
 pub mod Weighing
 pub mod Feeding
 pub mod Fed
+pub mod Fronts
 pub mod Runs
 pub mod HitSums
 mod Rows

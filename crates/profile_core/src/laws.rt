@@ -1,14 +1,16 @@
 //! Laws over the definitions: each is the contract of a function with no code, so that the gate
 //! proves it. Proofs of other crates may cite the lemma that proves it.
 
-ghost use Rattle.std.specs.Prelude.{◌≤◌, ◌*◌, List, ◌++◌, ◌∷◌, [], length, fold};
+ghost use Rattle.std.specs.Prelude.{ℕ, ◌≡◌, true, ◌≤◌, ◌*◌, List, ◌++◌, ◌∷◌, [], length, fold};
 ghost use Rattle.trace_core.specs.declared.events.Ref.{Ref};
 ghost use Rattle.trace_core.specs.declared.events.Event.{Event};
 ghost use Rattle.trace_core.specs.declared.events.Event.TheVariants as event;
 ghost use Rattle.cache_core.specs.Geometry.{GeometryValue, IsGeometry, block_of};
-ghost use Rattle.cache_core.specs.Windows.{occurrences, probes};
+ghost use Rattle.cache_core.specs.Windows.{occurrences, probes, has_last, distance};
+ghost use Rattle.cache_core.specs.LruLaws.{occurrence_after};
 ghost use Rattle.profile_core.specs.State.{ProfileState, empty, after_reference, after_flush};
 ghost use Rattle.profile_core.specs.State.{after_event};
+ghost use Rattle.profile_core.specs.Fronts.{finds_front, is_refined};
 ghost use Rattle.profile_core.specs.ProfileStandsFor.{ProfileStandsFor};
 
 /// A new profile stands for no events; a reference fed is a reference added, and a flush a flush
@@ -26,6 +28,26 @@ pub fn each_step_stands()
 pub fn stands_after()
     ensures { (g : GeometryValue) (es : List Event) → IsGeometry g
         → ProfileStandsFor es (fold after_event (empty g) es) }
+{}
+
+/// What finds its block in front of its set's list does so in each profile with more sets of the same
+/// block size too, and where there is but one set, in each with larger blocks: these profiles are
+/// fed the same events.
+pub fn fronts_are_refined()
+    ensures { (g h : GeometryValue) (es : List Event) (addr : ℕ) → IsGeometry g → IsGeometry h
+        → is_refined g h ≡ true
+        → finds_front (fold after_event (empty g) es) (block_of g addr) ≡ true
+        → finds_front (fold after_event (empty h) es) (block_of h addr) ≡ true }
+{}
+
+/// The same in the words of the definitions: where a reference's distance is 0, it is so in each
+/// geometry that refines this one.
+pub fn distance_0_is_refined()
+    ensures { (g h : GeometryValue) (es : List Event) (r : Ref) → IsGeometry g → IsGeometry h
+        → is_refined g h ≡ true
+        → has_last (occurrence_after g es r) ≡ true → distance g (occurrence_after g es r) ≡ 0
+        → (has_last (occurrence_after h es r) ≡ true)
+        × (distance h (occurrence_after h es r) ≡ 0) }
 {}
 
 /// A list of events makes at most `g.e` times as many comparisons as it has references.

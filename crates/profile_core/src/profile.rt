@@ -6,6 +6,7 @@ ghost use Rattle.cache_core.specs.Geometry.{IsGeometry, geometry_value, block_of
 ghost use Rattle.cache_core.specs.Windows.{occurrences, counts, probes, held};
 ghost use Rattle.profile_core.specs.State.{empty, list_of, after_reference, after_flush, fed_of};
 ghost use Rattle.profile_core.specs.State.{held_of, counts_at, hit_sums_at, weighed, IsNext};
+ghost use Rattle.profile_core.specs.Fronts.{finds_front, after_unless_front, after_fronts, is_refined};
 ghost use Rattle.profile_core.specs.Moves.{is_second};
 ghost use Rattle.profile_core.specs.ProfileStandsFor.{ProfileStandsFor};
 
@@ -24,8 +25,7 @@ pub const MAX_REFERENCES: u64 = 2 * MAX_LINES;
 /// references found behind the front of their list, by their stack distance, which is the block's
 /// index in the list; `misses_by_occupancy` those not found, by the number of blocks in the list.
 /// Most are found in front, at distance 0, and have no counter: each made one comparison, so they
-/// are as many as the comparisons that the histograms leave over. The fields that these references
-/// need come first: with `probes` last, many profiles took a tenth more time.
+/// are as many as the comparisons that the histograms leave over.
 #[derive(Drop)]
 pub struct Profile {
     geometry: Geometry,
@@ -104,27 +104,54 @@ impl Profile {
         ensures step { self.new ≡ after_reference self.old (block_of self.old.geometry addr) }
         ensures one_more { fed_of self.new ≡ fed_of self.old + 1 }
     {
-        self.feed_known(addr, false);
+        self.geometry.limits();
+        if self.feed_unless_front(addr, false) {
+            self.count_fronts(1);
+        }
     }
 
-    /// The same, where a caller may say by `past_first` that the address is 2^20 or more, and so
-    /// not in block 0 at any block size. So one test serves all the profiles that an address is fed
-    /// to.
+    /// Feeds one reference by its address, unless it finds its block in front: such a reference
+    /// changes nothing but two numbers, and is left to be counted by `count_fronts`. Returns
+    /// whether it does. A caller may say by `past_first` that the address is 2^20 or more, and so
+    /// not in block 0 at any block size: then one test serves all the profiles that an address is
+    /// fed to.
     #[inline(always)]
-    pub fn feed_known(&mut self, addr: u64, past_first: bool)
+    pub fn feed_unless_front(&mut self, addr: u64, past_first: bool) -> bool
         requires few { fed_of self.old < MAX_REFERENCES }
         requires known { past_first ≡ true → 2 ^ 20 ≤ addr }
-        ensures step { self.new ≡ after_reference self.old (block_of self.old.geometry addr) }
-        ensures one_more { fed_of self.new ≡ fed_of self.old + 1 }
+        ensures front { result ≡ finds_front self.old (block_of self.old.geometry addr) }
+        ensures step { self.new ≡ after_unless_front self.old (block_of self.old.geometry addr) }
     {
         self.geometry.limits();
         let block = self.geometry.block_of(addr);
         let set = self.geometry.set_of_block(block) as usize;
         if self.lists.is_front(set, block, past_first) {
-            self.probes += 1;
+            true
         } else {
             self.feed_behind(set, block);
+            false
         }
+    }
+
+    /// Counts so many references that find their block in front, each with the comparison that
+    /// finds it.
+    #[inline(always)]
+    pub fn count_fronts(&mut self, count: u64)
+        requires { fed_of self.old + count ≤ MAX_REFERENCES }
+        ensures { self.new ≡ after_fronts count self.old }
+    {
+        self.probes += count;
+    }
+
+    /// Whether a block that is in front here is in front there too, wherever both were fed the
+    /// same: `finer` has the same block size and no fewer sets, or here is but one set and
+    /// `finer`'s blocks are no smaller.
+    pub fn is_refined_by(&self, finer: &Profile) -> bool
+        ensures { result ≡ is_refined self.now.geometry finer.now.geometry }
+    {
+        let (s, b) = (self.geometry.s(), self.geometry.b());
+        let (finer_s, finer_b) = (finer.geometry.s(), finer.geometry.b());
+        b == finer_b && s <= finer_s || s == 0 && b <= finer_b
     }
 
     /// Feeds a reference to a block that is not the front of its set's list, or not in it at all.

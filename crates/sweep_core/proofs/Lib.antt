@@ -17,5 +17,6 @@ pub mod Making
 pub mod Serving
 pub mod Writing
 pub mod Sweeping
+pub mod Catching
 pub mod WorkLaws
 mod Examples

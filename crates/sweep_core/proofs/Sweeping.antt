@@ -1,6 +1,6 @@
 -- What a sweep has read, fed and written when it ends.
-use Rattle.std.proofs.Common.{◌≡◌, ℕ, ◌+◌, List, [], ◌∷◌, ◌++◌, map, refl, sym, ap, ◌∙◌, subst, arith, get_or}
-use Rattle.std.specs.Prelude.{All, flat_map, sum_by}
+use Rattle.std.proofs.Common.{◌≡◌, ℕ, ◌+◌, List, [], ◌∷◌, ◌++◌, map, refl, sym, ap, ◌∙◌, subst, arith}
+use Rattle.std.specs.Prelude.{flat_map, sum_by}
 use Rattle.std.specs.Option.{IfSome}
 use Rattle.std.proofs.lemmas.Simd.{map-map}
 use Rattle.std.specs.List.{AllByRecursion as Each}
@@ -24,21 +24,13 @@ use Rattle.profile_core.specs.State.{empty, fed_of}
 use Rattle.sweep_core.specs.declared.request.Request.{Request}
 use Rattle.sweep_core.specs.declared.profiles.PairProfile.{PairProfile}
 use Rattle.sweep_core.specs.SweepText.{table_text, configs_of, rows_of, sweep_text, sweep_task}
-use Rattle.sweep_core.specs.Work.{pair_of, geometry_of_pair, work, sweep_work}
+use Rattle.sweep_core.specs.Work.{pair_of, work, sweep_work}
 use Rattle.sweep_core.specs.Runs.{rows_of_profile}
 use Rattle.sweep_core.specs.Pass.{SweepStandsFor, Feeds, WasFed, pair_after_events, all_after}
-use Rattle.sweep_core.proofs.Lists.{Each-get_or}
 use Rattle.sweep_core.proofs.Standing.{work-is, fed-after}
 
-empty-fed : (g : GeometryValue) → fed_of (empty g) ≡ 0
+pub empty-fed : (g : GeometryValue) → fed_of (empty g) ≡ 0
 empty-fed g = omega (arith, sum_by-replicate (λ x. x) g.e 0, sum_by-replicate (λ x. x) (g.e + 1) 0)
-
--- new profiles were fed nothing
-pub unfed : (r : Request) (xs : List PairProfile) → SweepStandsFor r [] xs → All (λ x. fed_of x.profile ≡ 0) xs
-unfed r xs swept k d h =
-    let x = get_or xs k d in
-    let fed = Each-get_or (WasFed (configs_of r) []) xs k d h swept.fed in
-    omega (arith, ap fed_of fed.is, empty-fed (geometry_of_pair (configs_of r) (pair_of x.first)))
 
 -- the events of what was read
 abbrev pub fed_events : Request → List (ℕ × Entry) → List Event

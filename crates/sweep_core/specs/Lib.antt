@@ -5,3 +5,4 @@ pub mod SweepText
 pub mod Work
 pub mod Runs
 pub mod Pass
+pub mod Implied

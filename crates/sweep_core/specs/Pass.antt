@@ -1,5 +1,5 @@
 -- What the profiles of a sweep hold.
-use Rattle.std.specs.Prelude.{◌≡◌, ℕ, ◌+◌, ◌≤◌, All, None, List, map, filter, flat_map, fold, Result, Ok, Err}
+use Rattle.std.specs.Prelude.{◌≡◌, ℕ, None, List, map, filter, flat_map, fold, Result, Ok, Err}
 use Rattle.std.specs.List.{AllByRecursion}
 use Rattle.trace_core.specs.declared.events.Ref.{Ref}
 use Rattle.trace_core.specs.declared.events.Event.{Event}
@@ -14,9 +14,8 @@ use Rattle.trace_core.specs.declared.line.Format.{Format}
 use Rattle.trace_core.specs.declared.fault.TraceFault.{TraceFault}
 use Rattle.trace_core.specs.declared.state.ReaderState.{ReaderState}
 use Rattle.trace_core.specs.declared.state.ReaderState.TheVariants as state
-use Rattle.profile_core.specs.declared.profile.TheConstants.{MAX_REFERENCES}
 use Rattle.cache_core.specs.Geometry.{IsGeometry, block_of}
-use Rattle.profile_core.specs.State.{empty, fed_of, after_reference, after_flush, after_event}
+use Rattle.profile_core.specs.State.{empty, after_reference, after_flush, after_event}
 use Rattle.sweep_core.specs.declared.space.Config.{Config}
 use Rattle.sweep_core.specs.declared.request.Request.{Request}
 use Rattle.sweep_core.specs.declared.profiles.PairProfile.{PairProfile}
@@ -24,10 +23,6 @@ use Rattle.sweep_core.specs.Space.{space_fault}
 use Rattle.sweep_core.specs.SweepText.{configs_of, rows_of}
 use Rattle.sweep_core.specs.Work.{pair_of, pairs, geometry_of_pair}
 use Rattle.sweep_core.specs.Runs.{rows_of_profile}
-
--- each profile can be fed so many references more
-abbrev pub CanTake : ℕ → List PairProfile → Type 0
-CanTake n profiles = All (λ x. fed_of x.profile + n ≤ MAX_REFERENCES) profiles
 
 -- the profile of a pair after a reference to an address
 abbrev pub pair_after_reference : ℕ → PairProfile → PairProfile

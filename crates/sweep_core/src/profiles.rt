@@ -8,6 +8,7 @@ ghost use Rattle.sweep_core.specs.Table.{table, first_rows, is_after};
 ghost use Rattle.sweep_core.specs.Work.{pair_of, geometry_of_pair};
 ghost use Rattle.sweep_core.specs.Runs.{BeginsWith};
 ghost use Rattle.sweep_core.specs.Pass.{SweepStandsFor};
+ghost use Rattle.sweep_core.specs.Implied.{IsLinked, linked, implied_by};
 ghost use Rattle.sweep_core.specs.declared.space.Config.{Config};
 
 use crate::request::Request;
@@ -23,6 +24,8 @@ pub(crate) struct PairProfile {
     pub(crate) first: Config,
     /// How many rows there are; each has the next associativity.
     pub(crate) rows: u64,
+    /// How many of the next profiles find a block in front wherever this one does.
+    pub(crate) implied: usize,
     pub(crate) profile: Profile,
 }
 
@@ -32,7 +35,8 @@ pub(crate) fn make_profiles(
     alloc: Global,
     request: &Request,
 ) -> Result<Vec<PairProfile>, AllocError>
-    ensures { IfOk result (λ made. SweepStandsFor request.now [] made.items) }
+    ensures stands { IfOk result (λ made. SweepStandsFor request.now [] made.items) }
+    ensures linked { IfOk result (λ made. IsLinked made.items) }
 {
     request.space.limits();
     let mut made = Vec::new(alloc);
@@ -43,10 +47,37 @@ pub(crate) fn make_profiles(
         made.push(PairProfile {
             first,
             rows,
+            implied: 0,
             profile,
         })?;
     }
+    link(&mut made);
     Ok(made)
+}
+
+/// Has each profile say how many of the next its own front implies.
+fn link(profiles: &mut [PairProfile])
+    ensures { profiles.new ≡ linked profiles.old }
+{
+    for at in 0..profiles.len() {
+        let all = &profiles[..];
+        let implied = implied_by(&all[at].profile, &all[at + 1..]);
+        profiles[at].implied = implied;
+    }
+}
+
+/// How many of the first of some profiles refine another.
+fn implied_by(profile: &Profile, others: &[PairProfile]) -> usize
+    ensures { result ≡ implied_by profile.now.geometry others.now }
+{
+    let mut count = 0;
+    for other in others {
+        if !profile.is_refined_by(&other.profile) {
+            return count;
+        }
+        count += 1;
+    }
+    count
 }
 
 /// Takes the next pair that has a row after `after`: returns its first row, and how many it has.

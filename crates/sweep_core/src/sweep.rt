@@ -25,9 +25,10 @@ pub type SweepFault = RunFault;
 /// such as a file or a socket, brings a buffer of its own: `ToWrite` over a `BufWriter`.
 ///
 /// Each pair of block size and set count that has a row costs one profile, as deep as the pair's
-/// greatest associativity in the space, and every reference is fed to each of them as it is read.
-/// It returns how many comparisons of a block with an entry of a recency list the profiles made: at
-/// most the depth for each reference and profile.
+/// greatest associativity in the space, and every reference is fed to each of them as it is read,
+/// but where the front of one list implies that of another. It returns how many comparisons of a
+/// block with an entry of a recency list the profiles make: at most the depth for each reference and
+/// profile. An implied one counts as made.
 ///
 /// Errors: `Memory`, with nothing read or written; `Trace` where the trace has a fault or the
 /// source failed, with nothing written; `Write` where the sink failed, after the whole trace was

@@ -1,14 +1,15 @@
 -- A sweep does its task: it reads and feeds, writes the table of what was read, and answers the comparisons.
-use Rattle.std.proofs.Common.{◌≡◌, List, refl, sym, ap, ◌∙◌, subst, arith}
-use Rattle.std.specs.Prelude.{All, sum_by}
+use Rattle.std.proofs.Common.{refl, sym, ap, ◌∙◌, subst, arith}
+use Rattle.std.specs.Prelude.{sum_by}
 use Rattle.std.proofs.lemmas.List.{take_at}
 use Rattle.trace_core.proofs.Performing.{err_is, Finished-written, WriteFailed-late, Performs-ok, Performs-trace, Performs-write}
 use Rattle.trace_core.proofs.Tasks.{ReadWhole}
-use Rattle.profile_core.specs.State.{fed_of}
-use Rattle.sweep_core.specs.declared.profiles.PairProfile.{PairProfile}
 use Rattle.sweep_core.specs.Pass.{SweepStandsFor}
 use Rattle.sweep_core.specs.SweepText.{sweep_task, table_text}
-use Rattle.sweep_core.proofs.Sweeping.{unfed, fed_events, swept-after, sweep-stopped, sweep-whole, sweep-works}
+use Rattle.std.specs.List.{AllByRecursion as Each}
+use Rattle.sweep_core.specs.Implied.{IsFresh, IsLinked}
+use Rattle.sweep_core.proofs.Catching.{fresh-sweep}
+use Rattle.sweep_core.proofs.Sweeping.{fed_events, swept-after, sweep-stopped, sweep-whole, sweep-works}
 use Rattle.sweep_core.proofs.sweep.sweep.Given as given
 use Rattle.sweep_core.proofs.sweep.sweep.Goals as goal
 use Rattle.sweep_core.proofs.sweep.sweep.Goals.{After-deref}
@@ -17,7 +18,7 @@ use Rattle.sweep_core.proofs.sweep.sweep.Goals.{After-deref}
 swept : (g : given.Over) (c : After-deref g)
     → SweepStandsFor c.args.request.now (fed_events c.args.request.now c.read_trace.ensures.fed.read) c.deref.result.now
 swept g c =
-    swept-after c.in_ok-profiles.ensures c.deref_mut.ensures.value c.read_trace.ensures.fed
+    swept-after c.in_ok-profiles.ensures.stands c.deref_mut.ensures.value c.read_trace.ensures.fed
     (c.deref.ensures.value ∙ take_at _ _ _ (omega arith))
 
 -- all was read, and the table is left to be written
@@ -26,10 +27,12 @@ whole : (g : given.Over) (c : After-deref g)
     (table_text c.args.request.now (fed_events c.args.request.now c.read_trace.ensures.fed.read))
 whole g c = sweep-whole c.args.request.now c.in_ok-lines.ensures c.read_trace.ensures.fed c.in_ok-read_trace.ensures.reports
 
-pub read_trace-requires-clause-unfed : goal.read_trace-requires-clause-unfed
-read_trace-requires-clause-unfed g c =
-    subst (λ (l : List PairProfile). All (λ x. fed_of x.profile ≡ 0) l) (sym c.deref_mut.ensures.value)
-    (unfed c.args.request.now c.in_ok-profiles.profiles.items c.in_ok-profiles.ensures)
+pub read_trace-requires-clause-fresh : goal.read_trace-requires-clause-fresh
+read_trace-requires-clause-fresh g c =
+    subst (Each IsFresh) (sym c.deref_mut.ensures.value) (fresh-sweep c.args.request.now c.in_ok-profiles.profiles.items c.in_ok-profiles.ensures.stands.fed)
+
+pub read_trace-requires-clause-linked : goal.read_trace-requires-clause-linked
+read_trace-requires-clause-linked g c = subst IsLinked (sym c.deref_mut.ensures.value) c.in_ok-profiles.ensures.linked
 
 pub returns-in_err-read_trace-clause-performs : goal.returns-in_err-read_trace-clause-performs
 returns-in_err-read_trace-clause-performs g c =

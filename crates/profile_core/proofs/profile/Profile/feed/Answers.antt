@@ -1,0 +1,30 @@
+-- A reference is fed, and counted where it finds its block in front.
+use Rattle.std.proofs.Common.{◌≡◌, ◌∙◌, cond, sym, ap}
+use Rattle.cache_core.specs.Geometry.{block_of}
+use Rattle.profile_core.specs.State.{after_reference, fed_of}
+use Rattle.profile_core.specs.Fronts.{after_fronts}
+use Rattle.profile_core.proofs.Fronts.{fit_inside, front_reference, reference_fed}
+use Rattle.profile_core.proofs.profile.Profile.feed.Goals as goal
+use Rattle.profile_core.proofs.profile.Profile.feed.Goals.{After-count_fronts, After-feed_unless_front}
+
+front_fed : (c : After-count_fronts) → c.count_fronts.new.self ≡ after_reference c.args.self.now (block_of c.args.self.now.geometry c.args.addr)
+front_fed c =
+    let v = c.args.self.now in let x = block_of c.args.self.now.geometry c.args.addr in
+    let front = sym c.feed_unless_front.ensures.front ∙ c.if-feed_unless_front.true in
+    c.count_fronts.ensures
+    ∙ ap (after_fronts 1) (c.feed_unless_front.ensures.step ∙ ap (λ b. cond b v (after_reference v x)) front)
+    ∙ sym (front_reference v x (fit_inside c.self.invariant c.self.view_is) front)
+
+pub returns-then-feed_unless_front-clause-step : goal.returns-then-feed_unless_front-clause-step
+returns-then-feed_unless_front-clause-step c = front_fed (goal.at.returns-then-feed_unless_front-clause-step c).After-count_fronts
+
+pub returns-then-feed_unless_front-clause-one_more : goal.returns-then-feed_unless_front-clause-one_more
+returns-then-feed_unless_front-clause-one_more c =
+    ap fed_of (front_fed (goal.at.returns-then-feed_unless_front-clause-one_more c).After-count_fronts)
+    ∙ reference_fed c.args.self.now (block_of c.args.self.now.geometry c.args.addr) (fit_inside c.self.invariant c.self.view_is)
+
+pub returns-else-feed_unless_front-clause-one_more : goal.returns-else-feed_unless_front-clause-one_more
+returns-else-feed_unless_front-clause-one_more c =
+    let v = c.args.self.now in let x = block_of c.args.self.now.geometry c.args.addr in
+    ap fed_of (c.feed_unless_front.ensures.step ∙ ap (λ b. cond b v (after_reference v x)) (sym c.feed_unless_front.ensures.front ∙ c.if-feed_unless_front.false))
+    ∙ reference_fed v x (fit_inside c.self.invariant c.self.view_is)

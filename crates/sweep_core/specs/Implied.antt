@@ -1,0 +1,52 @@
+-- Where a profile finds a block in front, the next that refine it do so too. So a reference is not fed to them, and is counted later.
+use Rattle.std.specs.Prelude.{◌≡◌, ⊤, ℕ, ◌≤◌, true, not, List, [], ◌∷◌, length, take, map}
+use Rattle.std.specs.List.{AllByRecursion, position_or_len}
+use Rattle.cache_core.specs.Geometry.{GeometryValue, IsGeometry, block_of}
+use Rattle.profile_core.specs.State.{empty, fed_of}
+use Rattle.profile_core.specs.Fronts.{after_unless_front, caught_up, is_refined, IsFit, Leads}
+use Rattle.sweep_core.specs.declared.profiles.PairProfile.{PairProfile}
+
+-- how many of the first of some profiles refine a geometry
+abbrev pub implied_by : GeometryValue → List PairProfile → ℕ
+implied_by g xs = position_or_len (λ y. not (is_refined g y.profile.geometry)) xs
+
+-- some profiles, of which each says how many of the next its front implies
+unfoldable pub linked : List PairProfile → List PairProfile
+linked [] = []
+linked (x ∷ xs) = record x { implied = implied_by x.profile.geometry xs } ∷ linked xs
+
+-- as many of the next as each says refine it
+abbrev pub IsLinked : List PairProfile → Type 0
+IsLinked [] = ⊤
+IsLinked (x ∷ xs) = (x.implied ≤ length xs) × AllByRecursion (λ y. is_refined x.profile.geometry y.profile.geometry ≡ true) (take x.implied xs) × IsLinked xs
+
+-- what is in front in a profile is so in as many of the next as it says
+abbrev pub AreLed : List PairProfile → Type 0
+AreLed [] = ⊤
+AreLed (x ∷ xs) = (x.implied ≤ length xs) × AllByRecursion (λ y. Leads x.profile y.profile) (take x.implied xs) × AreLed xs
+
+-- a profile to which nothing was fed
+pub record IsFresh (x : PairProfile) : Type 0 where
+  pub geometry : IsGeometry x.profile.geometry
+  pub is : x.profile ≡ empty x.profile.geometry
+
+-- the profile of a pair after a reference to an address, unless it finds its block in front
+abbrev pub pair_unless_front : ℕ → PairProfile → PairProfile
+pair_unless_front addr x = record x { profile = after_unless_front x.profile (block_of x.profile.geometry addr) }
+
+-- profiles that were fed all of n references but some that found their block in front, once these are counted
+abbrev pub pair_caught_up : ℕ → PairProfile → PairProfile
+pair_caught_up n x = record x { profile = caught_up n x.profile }
+
+abbrev pub all_caught_up : ℕ → List PairProfile → List PairProfile
+all_caught_up n xs = map (pair_caught_up n) xs
+
+-- profiles that were fed at most n references
+abbrev pub FedAtMost : ℕ → List PairProfile → Type 0
+FedAtMost n xs = AllByRecursion (λ x. fed_of x.profile ≤ n) xs
+
+-- Profiles that may be fed all of n references but some that found their block in front.
+pub record AreBehind (n : ℕ) (xs : List PairProfile) : Type 0 where
+  pub fed : FedAtMost n xs
+  pub fit : AllByRecursion (λ x. IsFit x.profile) xs
+  pub led : AreLed xs
