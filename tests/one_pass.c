@@ -22,8 +22,9 @@ typedef struct {
     int block_bits;
     uint64_t *lists;       // a set's blocks, the most recent first, from set * depth on
     uint32_t *lengths;     // of each set's list
-    uint64_t *distances;   // references found at a place
+    uint64_t *distances;   // references found at a place; those in front are counted at the end
     uint64_t *fills;       // references not found in a list of a length
+    int next;              // the first profile after it in which the block that is in front here need not be so too
 } profile;
 
 static range bsizes, sets_range, assocs, sizes;
@@ -55,24 +56,41 @@ static void make_profile(uint64_t bsize, uint64_t sets) {
     if (!depth || depth < assocs.lowest) return;
     profiles[profile_count++] = (profile){
         bsize, sets, depth, __builtin_ctzll(bsize), zeros(sets * depth, sizeof(uint64_t)), zeros(sets, sizeof(uint32_t)),
-        zeros(depth, sizeof(uint64_t)), zeros(depth + 1, sizeof(uint64_t)),
+        zeros(depth, sizeof(uint64_t)), zeros(depth + 1, sizeof(uint64_t)), 0,
     };
 }
 
-// Brings a block to the front of its set's list: each entry moves one index on, up to where the block was.
-static inline void feed(profile *p, uint64_t address) {
+// Brings a block to the front of its set's list: each entry moves one index on, up to where the block was. Whether it was in front.
+static inline int feed(profile *p, uint64_t address) {
     uint64_t block = address >> p->block_bits, set = block & (p->sets - 1), carried = block;
     uint64_t *list = p->lists + set * p->depth;
     uint32_t length = p->lengths[set];
-    if (length && list[0] == block) { p->distances[0]++; return; }
+    if (length && list[0] == block) return 1;
     for (uint32_t place = 0; place < length; place++) {
         uint64_t other = list[place];
         list[place] = carried;
         carried = other;
-        if (other == block) { p->distances[place]++; return; }
+        if (other == block) { p->distances[place]++; return 0; }
     }
     p->fills[length]++;
     if (length < p->depth) { list[length] = carried; p->lengths[set] = length + 1; }
+    return 0;
+}
+
+// What was used last in its set was so with more sets of the same block size, and with one set with all larger blocks.
+static void link_profiles(void) {
+    for (int i = 0; i < profile_count; i++) {
+        int next = i + 1;
+        while (next < profile_count && (profiles[i].sets == 1 || profiles[next].bsize == profiles[i].bsize)) next++;
+        profiles[i].next = next;
+    }
+}
+
+static void count_fronts(profile *p) {
+    uint64_t others = 0;
+    for (uint64_t place = 1; place < p->depth; place++) others += p->distances[place];
+    for (uint64_t length = 0; length <= p->depth; length++) others += p->fills[length];
+    p->distances[0] = references - others;
 }
 
 static int8_t digit_of[256];
@@ -100,7 +118,7 @@ static void read_trace(const char *name) {
         while ((line_end = memchr(at, '\n', (size_t)(end - at)))) {
             uint64_t address = address_in(at);
             references++;
-            for (int i = 0; i < profile_count; i++) feed(&profiles[i], address);
+            for (int i = 0; i < profile_count;) i = feed(&profiles[i], address) ? profiles[i].next : i + 1;
             at = line_end + 1;
         }
         held = (size_t)(end - at);
@@ -124,8 +142,9 @@ int main(int count, char **words) {
     bsizes = range_of(words[1]); sets_range = range_of(words[2]); assocs = range_of(words[3]); sizes = range_of(words[4]);
     for (uint64_t bsize = bsizes.lowest; bsize <= bsizes.greatest; bsize *= 2)
         for (uint64_t sets = sets_range.lowest; sets <= sets_range.greatest; sets *= 2) make_profile(bsize, sets);
+    link_profiles();
     read_trace(words[5]);
     puts("bsize,sets,assoc,size,hits,misses,evictions");
-    for (int i = 0; i < profile_count; i++) write_rows(&profiles[i]);
+    for (int i = 0; i < profile_count; i++) { count_fronts(&profiles[i]); write_rows(&profiles[i]); }
     return 0;
 }
