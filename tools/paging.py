@@ -34,8 +34,29 @@ class Pair:
         return f"{self.bsize},{self.sets},{self.assoc}"
 
     @property
-    def cost(self):
-        return 1 + 8 * math.log2(1 + int(self.assoc)) / (int(self.bsize) * int(self.sets)) ** (2 / 3)
+    def size(self):
+        """The bytes of one block in each set."""
+        return int(self.bsize) * int(self.sets)
+
+    def cost(self, before):
+        """What a pair adds to a page behind another pair, or None: the part of the references that it looks at, and its
+        searches for those that it does not find in front. What the pair before it finds in front it need not look at."""
+        looks = min(1, 2 / before.size**0.35) if before and before.bsize == self.bsize else 1
+        return looks + 9 * math.log2(1 + int(self.assoc)) / self.size**0.55
+
+
+class Page:
+    """The pairs that one run sweeps, and what they cost."""
+
+    def __init__(self):
+        self.pairs, self.cost = [], 0
+
+    def cost_of(self, pair):
+        return pair.cost(self.pairs[-1] if self.pairs else None)
+
+    def add(self, pair):
+        self.cost += self.cost_of(pair)
+        self.pairs.append(pair)
 
 
 def pairs_of(program, options):
@@ -64,27 +85,25 @@ def pairs_of(program, options):
 
 
 def within(pairs, bound):
-    """Pages, each a list of pairs, of which none costs more than the bound, but a pair alone."""
-    pages, spent = [], math.inf
+    """Pages of which none costs more than the bound, but a pair alone."""
+    pages = []
     for pair in pairs:
-        if spent + pair.cost > bound:
-            pages.append([])
-            spent = 0
-        pages[-1].append(pair)
-        spent += pair.cost
+        if not pages or pages[-1].cost + pages[-1].cost_of(pair) > bound:
+            pages.append(Page())
+        pages[-1].add(pair)
     return pages
 
 
 def cut(pairs, most):
-    """At most so many pages, the dearest of which costs as little as it can."""
-    least, enough = max(pair.cost for pair in pairs), sum(pair.cost for pair in pairs)
+    """The pairs of at most so many pages, the dearest of which costs as little as it can."""
+    least, enough = 0, within(pairs, math.inf)[0].cost
     for _ in range(60):
         bound = (least + enough) / 2
         if len(within(pairs, bound)) > most:
             least = bound
         else:
             enough = bound
-    return within(pairs, enough)
+    return [page.pairs for page in within(pairs, enough)]
 
 
 def split(options):
