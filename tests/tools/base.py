@@ -12,6 +12,7 @@ import unittest
 
 TOP = pathlib.Path(__file__).resolve().parent.parent.parent
 TOOLS = TOP / "tools"
+PACKAGING = TOP / "package"
 EXAMPLES = TOP / "examples"
 PROGRAM = pathlib.Path(os.environ.get("CACHESIM") or TOP / "crates/cachesim/out/cachesim").resolve()
 
@@ -100,6 +101,13 @@ class Lru:
     def counts(self):
         """Hits, misses and evictions, as in a row of a table."""
         return self.went["hit"], self.went["miss"] + self.went["miss eviction"], self.went["miss eviction"]
+
+
+def copy_tools(to, *tools):
+    """Copies tools to another folder, with the parts of all tools, but nothing that was compiled."""
+    shutil.copytree(TOOLS / "lib", to / "lib", ignore=shutil.ignore_patterns("__pycache__"))
+    for tool in tools:
+        shutil.copy(TOOLS / tool, to)
 
 
 def is_there(package):

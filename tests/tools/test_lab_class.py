@@ -8,7 +8,7 @@ import shutil
 import signal
 import subprocess
 
-from base import EXAMPLES, PROGRAM, TOOLS, Lru, needs
+from base import EXAMPLES, PROGRAM, TOOLS, Lru, copy_tools, needs
 from lab_base import LAB, STUDENTS, StudentTest, comes, is_running
 
 CACHES = "1,1,1 4,2,4 2,1,4 2,1,3 2,2,3 2,4,3 5,1,5 4,1,4 0,1,0 0,2,4 3,3,6 6,8,6 14,2,2".split()
@@ -285,14 +285,14 @@ class Confined(ClassTest):
     @needs("bubblewrap")
     def test_tools_below_the_folder_of_the_program_are_hidden(self):
         """Some of them simulate caches too. The grader is a copy, so that it stands there."""
-        shutil.copytree(LAB, self.folder / "students/ann/lib/lab")
-        shutil.copy(TOOLS / "tool.py", self.folder / "students/ann/lib")
+        shutil.copytree(LAB, self.folder / "students/ann/tools/lab")
+        copy_tools(self.folder / "students/ann/tools")
         program = self.folder / "students/ann/csim"
-        program.write_text(f"#!/bin/bash\n[ -z \"$(ls '{program.parent}/lib')\" ] && exec '{program.parent}/right' \"$@\"\n")
+        program.write_text(f"#!/bin/bash\n[ -z \"$(ls '{program.parent}/tools')\" ] && exec '{program.parent}/right' \"$@\"\n")
         program.chmod(0o755)
         shutil.copy(self.student(), program.parent / "right")
         for confine, right in (([], 0), (["--confine"], 6)):
-            ran = self.run_command(program.parent / "lib/lab/grade", "--geometry", "4,1,4", "--verbose-lines=no", *confine, program)
+            ran = self.run_command(program.parent / "tools/lab/grade", "--geometry", "4,1,4", "--verbose-lines=no", *confine, program)
             self.assertEqual(ran.stdout.decode().splitlines()[-1], f"{right} of 6 right")
 
     @needs("bubblewrap")

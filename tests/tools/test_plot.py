@@ -8,7 +8,7 @@ import subprocess
 import time
 
 import base
-import table
+from lib import table
 
 # Eight caches and 100 references, so that misses are per cent. 32 and 2 are the block size and the ways nearest to 64 and 4.
 EIGHT = base.rows_of(100, {

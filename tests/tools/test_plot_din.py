@@ -4,7 +4,7 @@ import itertools
 import re
 
 import base
-import table
+from lib import table
 from test_plot import PlotTest, data_of, rows_of
 
 # Two sizes and three policies over 1,000 references. Random replacement has three seeds: 30, 42 and 33 misses are 35 in the mean

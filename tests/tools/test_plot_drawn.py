@@ -15,8 +15,8 @@ import xml.etree.ElementTree
 import zlib
 
 import base
-import table
 from base import needs
+from lib import table
 from test_plot import ALL, AXES, TITLES, PlotTest, rows_of
 from test_plot_din import COLUMNS, POLICIES, din_rows
 

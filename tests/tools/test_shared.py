@@ -8,7 +8,7 @@ import signal
 import subprocess
 import time
 
-from base import EXAMPLES, PROGRAM, TOOLS, ToolTest
+from base import EXAMPLES, PROGRAM, TOOLS, ToolTest, copy_tools
 
 SPACE = "--bsize 16 --sets 1-4 --assoc 1-2 --size 64".split()
 CACHE = "-l1-dsize 128 -l1-dbsize 16 -l1-dassoc 2".split()
@@ -150,15 +150,14 @@ class Program(Shared):
         script = '. "$1"; for size in "${@:2}"; do size_of "$size" && echo "$bytes" || echo none; done'
         sizes = {"0": 0, "00512": 512, "4294967295g": 4294967295 << 30, "4294967296g": "none", "999999999999999999": 10**18 - 1,
                  "9999999999999999999": "none", "9007199254740992m": "none", "-1": "none"}
-        told = self.good(self.run_command("bash", "-c", script, "bash", TOOLS / "lib.bash", *sizes))
+        told = self.good(self.run_command("bash", "-c", script, "bash", TOOLS / "lib/lib.bash", *sizes))
         self.assertEqual(told.split(), [str(size) for size in sizes.values()])
 
 
 class Compiling(Shared):
     def test_a_folder_that_cannot_be_written(self):
         """The message names what to do."""
-        for name in ("to-din", "to-din.c", "lib.bash"):
-            shutil.copy(TOOLS / name, self.folder)
+        copy_tools(self.folder, "to-din")
         (self.folder / "out").write_text("a file in the way\n")
         ran = self.run_command(self.folder / "to-din", "addresses", EXAMPLES / "formats/addresses.txt")
         told = f"to-din: {self.folder}/out can't be written: 'make tools' compiles the C parts, by someone who may write there\n"

@@ -1,8 +1,8 @@
 """Reading a sweep's table."""
 
 import unittest
+from lib import table
 
-import table
 
 
 class Reading(unittest.TestCase):

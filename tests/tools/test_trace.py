@@ -8,7 +8,7 @@ import shutil
 import signal
 import subprocess
 
-from base import PROGRAM, TOOLS
+from base import PROGRAM, TOOLS, copy_tools
 from trace_base import SPACE, TRACED, TraceTest, program_of
 
 QEMU = f"qemu-{platform.machine()}"
@@ -250,9 +250,7 @@ class StandIn(TraceTest):
 
     def test_a_folder_with_a_comma(self):
         tools = self.folder / "a,b c"
-        tools.mkdir()
-        for name in ("trace", "lib.bash", "trace-run.c", "trace-plugin.c", "trace-memory.h"):
-            shutil.copy(TOOLS / name, tools)
+        copy_tools(tools, "trace")
         self.assertEqual(self.good(self.run_command(tools / "trace", self.program, "2:1")), "2 1\n")
 
     def test_what_is_missing(self):
@@ -267,8 +265,7 @@ class StandIn(TraceTest):
         self.assertEqual(self.good(self.steps("2:1", env={"PATH": str(bin_)})), "2 1\n")
         ran = self.steps(options=("--to", "main"), env={"PATH": str(bin_)})
         self.fault(ran, 125, "nm is missing: apt-get install binutils")
-        for name in ("trace", "lib.bash", "trace-run.c", "trace-plugin.c", "trace-memory.h"):
-            shutil.copy(TOOLS / name, self.folder)
+        copy_tools(self.folder, "trace")
         ran = self.run_command(self.folder / "trace", self.program, env={"PATH": str(bin_)})
         self.fault(ran, 125, "cc is missing: apt-get install gcc")
 
@@ -327,5 +324,5 @@ class StandIn(TraceTest):
         self.assertEqual(self.good(self.steps("2:1", options=["--"])), "2 1\n")
 
     def test_it_compiles_without_a_warning(self):
-        program_of(TOOLS / "trace-plugin.c", "-shared", "-fPIC")
-        program_of(TOOLS / "trace-run.c")
+        program_of(TOOLS / "lib/trace/trace-plugin.c", "-shared", "-fPIC")
+        program_of(TOOLS / "lib/trace/trace-run.c")

@@ -8,7 +8,7 @@ import signal
 import subprocess
 import termios
 
-from base import EXAMPLES, TOOLS, needs
+from base import EXAMPLES, copy_tools, needs
 from trace_base import SPACE, TRACED, TraceTest, program_of, symbols_of, traced, within
 
 
@@ -201,8 +201,7 @@ class ByLackey(Both, TraceTest):
     with_ = "lackey"
 
     def test_lines_that_cannot_be_converted(self):
-        for name in ("trace", "lib.bash", "trace-run.c", "trace-memory.h"):
-            shutil.copy(TOOLS / name, self.folder)
+        copy_tools(self.folder, "trace")
         converter = self.folder / "to-din"
         for way, status in (("exit 1", 125), ("kill -9 $$", 125)):
             converter.write_text(f"#!/bin/sh\nhead -n 1 > /dev/null\necho 2 401000\n{way}\n")

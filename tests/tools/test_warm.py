@@ -4,7 +4,7 @@ import csv
 import random
 
 import base
-import table
+from lib import table
 
 SPACE = "--bsize 8-32 --sets 1-8 --assoc 1-3 --size 64-512".split()
 LACKEY = b"""==7== Lackey, a Valgrind tool
