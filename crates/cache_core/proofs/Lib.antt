@@ -34,6 +34,8 @@ pub mod MachineRows
 mod SystemRows
 pub mod LogLaw
 pub mod SecondLevelLaw
+pub mod LogParts
+pub mod MemoryLaw
 mod ArrivalRows
 pub mod SlotSums
 pub mod AnyLaw

@@ -15,6 +15,7 @@ ghost use Rattle.cache_core.specs.Plans.{GeometryLaw};
 ghost use Rattle.cache_core.specs.SystemStands.{NewSystemLaw, StepLaw, SystemFlushLaw};
 ghost use Rattle.cache_core.specs.SystemStands.{SystemRunLaw};
 ghost use Rattle.cache_core.specs.ArrivalStats.{LogLaw, SecondLevelLaw};
+ghost use Rattle.cache_core.specs.LogLaws.{MemoryLaw, BypassedLaw};
 
 /// A reference puts its block in front of the window, and a flush empties it.
 pub fn window_grows()
@@ -131,4 +132,14 @@ pub fn stats_count_the_log()
 /// What arrives at the second level is what the first level sends down, in order.
 pub fn second_level_gets_what_is_sent()
     ensures { SecondLevelLaw }
+{}
+
+/// What arrives at memory is, in order, what the last level sends.
+pub fn memory_gets_what_is_sent()
+    ensures { MemoryLaw }
+{}
+
+/// The bypassed references are, in order, those that no first-level cache takes.
+pub fn bypassed_are_the_untaken()
+    ensures { BypassedLaw }
 {}
