@@ -36,6 +36,8 @@ pub mod LogLaw
 pub mod SecondLevelLaw
 pub mod LogParts
 pub mod MemoryLaw
+pub mod TakenLaw
+pub mod FollowLaw
 mod ArrivalRows
 pub mod SlotSums
 pub mod AnyLaw

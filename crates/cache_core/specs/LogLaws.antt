@@ -1,14 +1,23 @@
 -- What the log must show, said of its lines alone and of the references that come to the system: which come to which cache, to
 -- memory, and to none.
-use Rattle.std.specs.Prelude.{◌≡◌, ℕ, Bool, true, false, not, List, [], ◌∷◌, Option, Some, None, is_some, is_none, filter, flat_map, if◌then◌else◌}
+use Rattle.std.specs.Prelude.{◌≡◌, ℕ, ◌-◌, ◌%◌, ◌^◌, Bool, true, false, not, List, [], ◌∷◌, ◌++◌, Option, Some, None, is_some, is_none, filter, flat_map}
+use Rattle.std.specs.Prelude.{if◌then◌else◌}
 use Rattle.trace_core.specs.declared.events.Ref.{Ref}
+use Rattle.trace_core.specs.declared.events.Access.TheVariants.{Fetch, Read, Write}
 use Rattle.trace_core.specs.declared.events.Event.{Event}
+use Rattle.cache_core.specs.declared.outcome.Design.{Design}
+use Rattle.cache_core.specs.declared.outcome.WriteMode.{WriteMode}
+use Rattle.cache_core.specs.declared.outcome.WriteMode.TheVariants.{Back, Through}
+use Rattle.cache_core.specs.declared.outcome.AllocMode.{AllocMode}
+use Rattle.cache_core.specs.declared.outcome.AllocMode.TheVariants.{Always, Never}
 use Rattle.cache_core.specs.declared.plan.PlannedCache.{PlannedCache}
 use Rattle.cache_core.specs.declared.plan.CacheName.{CacheName}
 use Rattle.cache_core.specs.declared.plan.CacheName.TheVariants.{L1I, L1D, L1U, L2U}
+use Rattle.cache_core.specs.declared.arrival.Victim.{Victim}
 use Rattle.cache_core.specs.declared.arrival.Arrival.{Arrival}
-use Rattle.cache_core.specs.declared.arrival.Arrival.TheVariants.{Cache, Memory, Bypassed}
-use Rattle.cache_core.specs.Plans.{PlannedCaches}
+use Rattle.cache_core.specs.declared.arrival.Arrival.TheVariants.{Cache, Memory, Bypassed, Flush}
+use Rattle.cache_core.specs.Outcomes.{is_write}
+use Rattle.cache_core.specs.Plans.{PlannedCaches, IsPlan}
 use Rattle.cache_core.specs.Systems.{is_fetch, below, references_in, to_memory}
 use Rattle.cache_core.specs.Arrivals.{arrivals}
 
@@ -68,3 +77,66 @@ DataCacheLaw = (plan : PlannedCaches) (seed : ℕ) (events : List Event) →
 abbrev pub UnifiedCacheLaw : Type 0
 UnifiedCacheLaw = (plan : PlannedCaches) (seed : ℕ) (events : List Event) →
     flat_map (refs_at L1U) (arrivals plan seed events) ≡ if_there plan.u (λ ref. true) (references_in events)
+
+-- a dirty victim is written back at its address
+abbrev pub victim_write : Option Victim → List Ref
+victim_write None = []
+victim_write (Some victim) = if victim.dirty then record { access = Write; addr = victim.addr } ∷ [] else []
+
+-- a block is loaded from the first of its addresses, by a fetch for a fetch, and else by a read
+abbrev pub load : ℕ → Ref → Ref
+load b ref = record { access = (if is_fetch ref.access then Fetch else Read); addr = ref.addr - ref.addr % 2 ^ b }
+
+-- a write goes on unchanged where the cache writes through
+abbrev pub goes_on : WriteMode → Ref → List Ref
+goes_on Back ref = []
+goes_on Through ref = if is_write ref.access then ref ∷ [] else []
+
+-- whether a reference that misses goes on alone: a write, where the cache allocates no block for it
+abbrev pub goes_alone : AllocMode → Ref → Bool
+goes_alone Always ref = false
+goes_alone Never ref = is_write ref.access
+
+-- What a cache must send to the next level by its line: at a hit the write that goes on; at a miss first the write of a dirty victim, then
+-- the load of the block, and then that write; or the write alone.
+abbrev pub must_send : Design → Ref → Bool → Option Victim → List Ref
+must_send design ref true victim = goes_on design.write ref
+must_send design ref false victim =
+    if goes_alone design.allocate ref then ref ∷ []
+    else victim_write victim ++ load design.geometry.b ref ∷ goes_on design.write ref
+
+-- the same by the line of a cache of a plan
+abbrev pub sends_by_line : Option PlannedCache → Ref → Bool → Option Victim → List Ref
+sends_by_line None ref hit victim = []
+sends_by_line (Some planned) ref hit victim = must_send planned.design ref hit victim
+
+-- what the first level sends is on its way to memory where there is no second level
+abbrev pub direct : Option PlannedCache → List Ref → List Ref
+direct None down = down
+direct (Some second) down = []
+
+-- and else to the second level
+abbrev pub indirect : Option PlannedCache → List Ref → List Ref
+indirect None down = []
+indirect (Some second) down = down
+
+-- The lines of a log follow from one another, where the first references are on their way to memory, and the others to the second level. One
+-- to memory arrives first; then the next at the second level, which may send more to memory. Only where none is on its way another
+-- reference comes to the first level, or is bypassed, or a cache is flushed.
+abbrev pub Follow : PlannedCaches → List Ref → List Ref → List Arrival → Type 0
+Follow plan [] [] [] = Unit {0}
+Follow plan [] [] (Cache L1I ref hit victim ∷ lines) =
+    (let down = sends_by_line plan.i ref hit victim in Follow plan (direct plan.second down) (indirect plan.second down) lines)
+Follow plan [] [] (Cache L1D ref hit victim ∷ lines) =
+    (let down = sends_by_line plan.d ref hit victim in Follow plan (direct plan.second down) (indirect plan.second down) lines)
+Follow plan [] [] (Cache L1U ref hit victim ∷ lines) =
+    (let down = sends_by_line plan.u ref hit victim in Follow plan (direct plan.second down) (indirect plan.second down) lines)
+Follow plan [] [] (Bypassed ref ∷ lines) = Follow plan [] [] lines
+Follow plan [] [] (Flush name dirty ∷ lines) = Follow plan [] [] lines
+Follow plan [] (next ∷ down) (Cache L2U ref hit victim ∷ lines) = (ref ≡ next) × Follow plan (sends_by_line plan.second ref hit victim) down lines
+Follow plan (next ∷ writes) down (Memory ref ∷ lines) = (ref ≡ next) × Follow plan writes down lines
+Follow plan _ _ _ = ⊥
+
+-- each line follows from those before it, and nothing is left on its way
+abbrev pub FollowLaw : Type 0
+FollowLaw = (plan : PlannedCaches) (seed : ℕ) (events : List Event) → IsPlan plan → Follow plan [] [] (arrivals plan seed events)

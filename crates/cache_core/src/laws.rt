@@ -15,7 +15,8 @@ ghost use Rattle.cache_core.specs.Plans.{GeometryLaw};
 ghost use Rattle.cache_core.specs.SystemStands.{NewSystemLaw, StepLaw, SystemFlushLaw};
 ghost use Rattle.cache_core.specs.SystemStands.{SystemRunLaw};
 ghost use Rattle.cache_core.specs.ArrivalStats.{LogLaw, SecondLevelLaw};
-ghost use Rattle.cache_core.specs.LogLaws.{MemoryLaw, BypassedLaw};
+ghost use Rattle.cache_core.specs.LogLaws.{MemoryLaw, BypassedLaw, FetchCacheLaw, DataCacheLaw};
+ghost use Rattle.cache_core.specs.LogLaws.{UnifiedCacheLaw, FollowLaw};
 
 /// A reference puts its block in front of the window, and a flush empties it.
 pub fn window_grows()
@@ -142,4 +143,17 @@ pub fn memory_gets_what_is_sent()
 /// The bypassed references are, in order, those that no first-level cache takes.
 pub fn bypassed_are_the_untaken()
     ensures { BypassedLaw }
+{}
+
+/// What arrives at a first-level cache is, in order, the references that it takes.
+pub fn first_level_gets_what_it_takes()
+    ensures fetches { FetchCacheLaw }
+    ensures data { DataCacheLaw }
+    ensures unified { UnifiedCacheLaw }
+{}
+
+/// What a line of a cache must send arrives next at the level below: the write of a dirty victim's
+/// address, the load of the block's address, and the write that goes on.
+pub fn lines_follow()
+    ensures { FollowLaw }
 {}
