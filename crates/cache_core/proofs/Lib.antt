@@ -38,6 +38,7 @@ pub mod LogParts
 pub mod MemoryLaw
 pub mod TakenLaw
 pub mod FollowLaw
+pub mod LinesLaw
 mod ArrivalRows
 pub mod SlotSums
 pub mod AnyLaw

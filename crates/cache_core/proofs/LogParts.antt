@@ -2,6 +2,7 @@
 use Rattle.std.proofs.Common.{◌≡◌, ℕ, Bool, true, false, cond, List, [], ◌∷◌, ◌++◌, Option, Some, None, refl, sym, ap, ◌∙◌}
 use Rattle.std.proofs.Common.{append_assoc, append-nil}
 use Rattle.std.specs.Prelude.{flat_map}
+use Rattle.std.proofs.lemmas.Bool.{true≢false}
 use Rattle.std.proofs.lemmas.Grind.{flat_map-append}
 use Rattle.trace_core.specs.declared.events.Ref.{Ref}
 use Rattle.trace_core.specs.declared.events.Event.{Event}
@@ -12,6 +13,7 @@ use Rattle.cache_core.specs.declared.arrival.Arrival.TheVariants.{Cache, Memory,
 use Rattle.cache_core.specs.declared.plan.PlannedCache.{PlannedCache}
 use Rattle.cache_core.specs.declared.plan.CacheName.{CacheName}
 use Rattle.cache_core.specs.declared.plan.CacheName.TheVariants.{L1I, L1D, L1U, L2U}
+use Rattle.cache_core.specs.LogLaws.{is_same, cache_of, events_at}
 use Rattle.cache_core.specs.Plans.{PlannedCaches}
 use Rattle.cache_core.specs.Systems.{takes, events_for, sent, below, is_taken}
 use Rattle.cache_core.specs.Arrivals.{arrives, arrives_first, arrives_below, arrive_below, at_memory, passes, flushes}
@@ -118,6 +120,56 @@ module _ {X : Type 0} (p : Arrival → List X) where
           flat_map p (cond b (arrive_below seed plan.second (below plan seed earlier) (sent plan seed earlier ref)) (Bypassed ref ∷ [])) ≡ []
       by_test true = quiet_below seed plan.second q m (below plan seed earlier) (sent plan seed earlier ref)
       by_test false = ap (λ xs. xs ++ []) n
+
+  -- what is picked from the lines of no cache but one, nor of memory, nor of what is bypassed
+  abbrev pub OnlyAt : CacheName → Type 0
+  OnlyAt name = ((other : CacheName) → is_same name other ≡ false → QuietAt other) × QuietAtMemory × ((ref : Ref) → p (Bypassed ref) ≡ [])
+
+  pub at_first : (plan : PlannedCaches) (seed : ℕ) (earlier : List Event) (ref : Ref) (name : CacheName) → is_same name L2U ≡ false → OnlyAt name →
+      flat_map p (arrivals_of plan seed earlier (event.Reference ref)) ≡ flat_map p (arrives_first seed name (cache_of plan name) earlier ref)
+  at_first plan seed earlier ref L1I first (q, m, n) =
+      reference_parts plan seed earlier ref
+      ∙ only_first (flat_map p (arrives_first seed L1I plan.i earlier ref)) _ _ _ (quiet_first seed L1D plan.d earlier ref (q L1D refl))
+      (quiet_first seed L1U plan.u earlier ref (q L1U refl)) (quiet_lower plan seed earlier ref (q L2U refl) m (n ref))
+  at_first plan seed earlier ref L1D first (q, m, n) =
+      reference_parts plan seed earlier ref
+      ∙ only_second _ (flat_map p (arrives_first seed L1D plan.d earlier ref)) _ _ (quiet_first seed L1I plan.i earlier ref (q L1I refl))
+      (quiet_first seed L1U plan.u earlier ref (q L1U refl)) (quiet_lower plan seed earlier ref (q L2U refl) m (n ref))
+  at_first plan seed earlier ref L1U first (q, m, n) =
+      reference_parts plan seed earlier ref
+      ∙ only_third _ _ (flat_map p (arrives_first seed L1U plan.u earlier ref)) _ (quiet_first seed L1I plan.i earlier ref (q L1I refl))
+      (quiet_first seed L1D plan.d earlier ref (q L1D refl)) (quiet_lower plan seed earlier ref (q L2U refl) m (n ref))
+  at_first plan seed earlier ref L2U first o = absurd (true≢false first)
+
+  -- from the lines of a reference below the first level alone
+  pub at_lower : (plan : PlannedCaches) (seed : ℕ) (earlier : List Event) (ref : Ref) → QuietAt L1I → QuietAt L1D → QuietAt L1U →
+      flat_map p (arrivals_of plan seed earlier (event.Reference ref)) ≡ flat_map p (lower_arrivals plan seed earlier ref)
+  at_lower plan seed earlier ref i d u =
+      reference_parts plan seed earlier ref
+      ∙ only_fourth _ _ _ (flat_map p (lower_arrivals plan seed earlier ref)) (quiet_first seed L1I plan.i earlier ref i)
+      (quiet_first seed L1D plan.d earlier ref d) (quiet_first seed L1U plan.u earlier ref u)
+
+  -- from the line of a flush of one cache alone
+  pub at_flush : (plan : PlannedCaches) (seed : ℕ) (earlier : List Event) (name : CacheName) →
+      ((other : CacheName) → is_same name other ≡ false → QuietAtFlush other) →
+      flat_map p (arrivals_of plan seed earlier event.Flush)
+      ≡ flat_map p (flushes seed name (cache_of plan name) (events_at plan seed name earlier))
+  at_flush plan seed earlier L1I q =
+      flush_parts plan seed earlier
+      ∙ only_first (flat_map p (flushes seed L1I plan.i (events_for L1I earlier))) _ _ _ (quiet_flush seed L1D plan.d (events_for L1D earlier) (q L1D refl))
+      (quiet_flush seed L1U plan.u (events_for L1U earlier) (q L1U refl)) (quiet_flush seed L2U plan.second (below plan seed earlier) (q L2U refl))
+  at_flush plan seed earlier L1D q =
+      flush_parts plan seed earlier
+      ∙ only_second _ (flat_map p (flushes seed L1D plan.d (events_for L1D earlier))) _ _ (quiet_flush seed L1I plan.i (events_for L1I earlier) (q L1I refl))
+      (quiet_flush seed L1U plan.u (events_for L1U earlier) (q L1U refl)) (quiet_flush seed L2U plan.second (below plan seed earlier) (q L2U refl))
+  at_flush plan seed earlier L1U q =
+      flush_parts plan seed earlier
+      ∙ only_third _ _ (flat_map p (flushes seed L1U plan.u (events_for L1U earlier))) _ (quiet_flush seed L1I plan.i (events_for L1I earlier) (q L1I refl))
+      (quiet_flush seed L1D plan.d (events_for L1D earlier) (q L1D refl)) (quiet_flush seed L2U plan.second (below plan seed earlier) (q L2U refl))
+  at_flush plan seed earlier L2U q =
+      flush_parts plan seed earlier
+      ∙ only_fourth _ _ _ (flat_map p (flushes seed L2U plan.second (below plan seed earlier))) (quiet_flush seed L1I plan.i (events_for L1I earlier) (q L1I refl))
+      (quiet_flush seed L1D plan.d (events_for L1D earlier) (q L1D refl)) (quiet_flush seed L1U plan.u (events_for L1U earlier) (q L1U refl))
 
 -- What is picked from the whole log, where each event adds what is picked from its lines.
 module _ {X : Type 0} (p : Arrival → List X) (plan : PlannedCaches) (seed : ℕ) (whole : List Event → List X) (none : whole [] ≡ [])

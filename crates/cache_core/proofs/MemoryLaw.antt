@@ -10,7 +10,7 @@ use Rattle.trace_core.specs.declared.events.Event.TheVariants as event
 use Rattle.cache_core.specs.declared.arrival.Arrival.{Arrival}
 use Rattle.cache_core.specs.declared.arrival.Arrival.TheVariants.{Bypassed}
 use Rattle.cache_core.specs.declared.plan.PlannedCache.{PlannedCache}
-use Rattle.cache_core.specs.declared.plan.CacheName.TheVariants.{L1I, L1D, L1U, L2U}
+use Rattle.cache_core.specs.declared.plan.CacheName.TheVariants.{L2U}
 use Rattle.cache_core.specs.Plans.{PlannedCaches}
 use Rattle.cache_core.specs.Systems.{is_fetch, sent, below, is_taken, references_in, to_memory}
 use Rattle.cache_core.specs.Arrivals.{arrives, arrives_below, arrive_below, at_memory, passes, lower_arrivals, arrivals_of}
@@ -18,7 +18,7 @@ use Rattle.cache_core.specs.LogLaws.{refs_at_memory, refs_past, is_left_out, Mem
 use Rattle.cache_core.proofs.SystemPushes.{references_push, references_flush, below_push, below_flush, memory_push, memory_flush, down_if_planned}
 use Rattle.cache_core.proofs.LowerLaw.{with_refs, with_refs-cons}
 use Rattle.cache_core.proofs.LogLaw.{passes_is, untaken_sent, none_reached}
-use Rattle.cache_core.proofs.LogParts.{only_fourth, none_then, quiet_arrives, quiet_first, quiet_below, quiet_flushes, reference_parts, whole_log}
+use Rattle.cache_core.proofs.LogParts.{none_then, quiet_arrives, quiet_below, quiet_flushes, at_lower, whole_log}
 
 abbrev at : List Arrival → List Ref
 at xs = flat_map refs_at_memory xs
@@ -70,9 +70,7 @@ module _ (plan : PlannedCaches) (seed : ℕ) where
   more earlier (event.Reference ref) =
       lower earlier ref
       ∙ ap (λ xs. whole earlier ++ xs)
-      (sym (reference_parts refs_at_memory plan seed earlier ref
-      ∙ only_fourth _ _ _ (at (lower_arrivals plan seed earlier ref)) (quiet_first refs_at_memory seed L1I plan.i earlier ref (λ r h v. refl))
-      (quiet_first refs_at_memory seed L1D plan.d earlier ref (λ r h v. refl)) (quiet_first refs_at_memory seed L1U plan.u earlier ref (λ r h v. refl))))
+      (sym (at_lower refs_at_memory plan seed earlier ref (λ r h v. refl) (λ r h v. refl) (λ r h v. refl)))
   more earlier event.Flush =
       ap (to_memory seed plan.second) (below_flush plan seed earlier) ∙ memory_flush seed plan.second (below plan seed earlier)
       ∙ sym (append-nil (whole earlier))
@@ -111,10 +109,7 @@ module _ (plan : PlannedCaches) (seed : ℕ) where
   past_more earlier (event.Reference ref) =
       ap (filter (is_left_out plan)) (references_push earlier ref) ∙ filter-append (is_left_out plan) (references_in earlier) (ref ∷ [])
       ∙ ap (λ xs. past earlier ++ xs)
-      (past_lower earlier ref
-      ∙ sym (reference_parts refs_past plan seed earlier ref
-      ∙ only_fourth _ _ _ (flat_map refs_past (lower_arrivals plan seed earlier ref)) (quiet_first refs_past seed L1I plan.i earlier ref (λ r h v. refl))
-      (quiet_first refs_past seed L1D plan.d earlier ref (λ r h v. refl)) (quiet_first refs_past seed L1U plan.u earlier ref (λ r h v. refl))))
+      (past_lower earlier ref ∙ sym (at_lower refs_past plan seed earlier ref (λ r h v. refl) (λ r h v. refl) (λ r h v. refl)))
   past_more earlier event.Flush =
       ap (filter (is_left_out plan)) (references_flush earlier) ∙ sym (append-nil (past earlier))
       ∙ ap (λ xs. past earlier ++ xs) (sym (quiet_flushes refs_past plan seed earlier (λ n. refl) (λ n. refl) (λ n. refl) (λ n. refl)))

@@ -17,7 +17,7 @@ use Rattle.cache_core.specs.Systems.{machine_of, takes, events_for, references_i
 use Rattle.cache_core.specs.Arrivals.{victim_of, arrives, arrives_first, arrivals_of}
 use Rattle.cache_core.specs.LogLaws.{refs_at, if_there, FetchCacheLaw, DataCacheLaw, UnifiedCacheLaw}
 use Rattle.cache_core.proofs.SystemPushes.{references_push, references_flush}
-use Rattle.cache_core.proofs.LogParts.{only_first, only_second, only_third, quiet_first, quiet_lower, quiet_flushes, reference_parts, whole_log}
+use Rattle.cache_core.proofs.LogParts.{OnlyAt, at_first, quiet_flushes, whole_log}
 
 if_there-append : (planned : Option PlannedCache) (p : Ref → Bool) (xs ys : List Ref) →
     if_there planned p (xs ++ ys) ≡ if_there planned p xs ++ if_there planned p ys
@@ -60,32 +60,20 @@ none_taken : (planned : Option PlannedCache) (p : Ref → Bool) → if_there pla
 none_taken None p = refl
 none_taken (Some planned) p = refl
 
+only_refs : (name : CacheName) → OnlyAt (refs_at name) name
+only_refs name = (λ other e r h v. ap (λ b. cond b (r ∷ []) []) e, λ r. refl, λ r. refl)
+
 pub fetch_cache_law : FetchCacheLaw
 fetch_cache_law plan seed =
-    let at = refs_at L1I in
-    whole_log at plan seed (λ events. if_there plan.i (takes L1I) (references_in events)) (none_taken plan.i (takes L1I))
-    (taken L1I (λ r h v. refl) plan seed plan.i
-    (λ earlier ref. reference_parts at plan seed earlier ref
-    ∙ only_first (flat_map at (arrives_first seed L1I plan.i earlier ref)) _ _ _
-    (quiet_first at seed L1D plan.d earlier ref (λ r h v. refl)) (quiet_first at seed L1U plan.u earlier ref (λ r h v. refl))
-    (quiet_lower at plan seed earlier ref (λ r h v. refl) (λ r. refl) refl)))
+    whole_log (refs_at L1I) plan seed (λ events. if_there plan.i (takes L1I) (references_in events)) (none_taken plan.i (takes L1I))
+    (taken L1I (λ r h v. refl) plan seed plan.i (λ earlier ref. at_first (refs_at L1I) plan seed earlier ref L1I refl (only_refs L1I)))
 
 pub data_cache_law : DataCacheLaw
 data_cache_law plan seed =
-    let at = refs_at L1D in
-    whole_log at plan seed (λ events. if_there plan.d (takes L1D) (references_in events)) (none_taken plan.d (takes L1D))
-    (taken L1D (λ r h v. refl) plan seed plan.d
-    (λ earlier ref. reference_parts at plan seed earlier ref
-    ∙ only_second _ (flat_map at (arrives_first seed L1D plan.d earlier ref)) _ _
-    (quiet_first at seed L1I plan.i earlier ref (λ r h v. refl)) (quiet_first at seed L1U plan.u earlier ref (λ r h v. refl))
-    (quiet_lower at plan seed earlier ref (λ r h v. refl) (λ r. refl) refl)))
+    whole_log (refs_at L1D) plan seed (λ events. if_there plan.d (takes L1D) (references_in events)) (none_taken plan.d (takes L1D))
+    (taken L1D (λ r h v. refl) plan seed plan.d (λ earlier ref. at_first (refs_at L1D) plan seed earlier ref L1D refl (only_refs L1D)))
 
 pub unified_cache_law : UnifiedCacheLaw
 unified_cache_law plan seed =
-    let at = refs_at L1U in
-    whole_log at plan seed (λ events. if_there plan.u (takes L1U) (references_in events)) (none_taken plan.u (takes L1U))
-    (taken L1U (λ r h v. refl) plan seed plan.u
-    (λ earlier ref. reference_parts at plan seed earlier ref
-    ∙ only_third _ _ (flat_map at (arrives_first seed L1U plan.u earlier ref)) _
-    (quiet_first at seed L1I plan.i earlier ref (λ r h v. refl)) (quiet_first at seed L1D plan.d earlier ref (λ r h v. refl))
-    (quiet_lower at plan seed earlier ref (λ r h v. refl) (λ r. refl) refl)))
+    whole_log (refs_at L1U) plan seed (λ events. if_there plan.u (takes L1U) (references_in events)) (none_taken plan.u (takes L1U))
+    (taken L1U (λ r h v. refl) plan seed plan.u (λ earlier ref. at_first (refs_at L1U) plan seed earlier ref L1U refl (only_refs L1U)))

@@ -1,10 +1,12 @@
 -- What the log must show, said of its lines alone and of the references that come to the system: which come to which cache, to
 -- memory, and to none.
-use Rattle.std.specs.Prelude.{◌≡◌, ℕ, ◌-◌, ◌%◌, ◌^◌, Bool, true, false, not, List, [], ◌∷◌, ◌++◌, Option, Some, None, is_some, is_none, filter, flat_map}
+use Rattle.std.specs.Prelude.{◌≡◌, ℕ, ◌*◌, ◌-◌, ◌%◌, ◌^◌, Bool, true, false, not, List, [], ◌∷◌, ◌++◌, Option, Some, None, is_some, is_none, filter, map, flat_map}
 use Rattle.std.specs.Prelude.{if◌then◌else◌}
+use Rattle.std.specs.Option.{option_map}
 use Rattle.trace_core.specs.declared.events.Ref.{Ref}
 use Rattle.trace_core.specs.declared.events.Access.TheVariants.{Fetch, Read, Write}
 use Rattle.trace_core.specs.declared.events.Event.{Event}
+use Rattle.trace_core.specs.declared.events.Event.TheVariants as event
 use Rattle.cache_core.specs.declared.outcome.Design.{Design}
 use Rattle.cache_core.specs.declared.outcome.WriteMode.{WriteMode}
 use Rattle.cache_core.specs.declared.outcome.WriteMode.TheVariants.{Back, Through}
@@ -16,10 +18,12 @@ use Rattle.cache_core.specs.declared.plan.CacheName.TheVariants.{L1I, L1D, L1U, 
 use Rattle.cache_core.specs.declared.arrival.Victim.{Victim}
 use Rattle.cache_core.specs.declared.arrival.Arrival.{Arrival}
 use Rattle.cache_core.specs.declared.arrival.Arrival.TheVariants.{Cache, Memory, Bypassed, Flush}
-use Rattle.cache_core.specs.Outcomes.{is_write}
+use Rattle.cache_core.specs.Geometry.{GeometryValue}
+use Rattle.cache_core.specs.Outcomes.{Effect, is_write}
+use Rattle.cache_core.specs.Machine.{Machine, run, dirty_count, with_effects}
 use Rattle.cache_core.specs.Plans.{PlannedCaches, IsPlan}
-use Rattle.cache_core.specs.Systems.{is_fetch, below, references_in, to_memory}
-use Rattle.cache_core.specs.Arrivals.{arrivals}
+use Rattle.cache_core.specs.Systems.{machine_of, events_for, is_fetch, below, references_in, to_memory}
+use Rattle.cache_core.specs.Arrivals.{arrivals_from, arrivals}
 
 -- whether two names are the same
 abbrev pub is_same : CacheName → CacheName → Bool
@@ -140,3 +144,84 @@ Follow plan _ _ _ = ⊥
 -- each line follows from those before it, and nothing is left on its way
 abbrev pub FollowLaw : Type 0
 FollowLaw = (plan : PlannedCaches) (seed : ℕ) (events : List Event) → IsPlan plan → Follow plan [] [] (arrivals plan seed events)
+
+-- the cache of this name, if the plan has it
+abbrev pub cache_of : PlannedCaches → CacheName → Option PlannedCache
+cache_of plan L1I = plan.i
+cache_of plan L1D = plan.d
+cache_of plan L1U = plan.u
+cache_of plan L2U = plan.second
+
+-- the events that come to it
+abbrev pub events_at : PlannedCaches → ℕ → CacheName → List Event → List Event
+events_at plan seed L1I events = events_for L1I events
+events_at plan seed L1D events = events_for L1D events
+events_at plan seed L1U events = events_for L1U events
+events_at plan seed L2U events = below plan seed events
+
+-- a line, if it is one of this cache
+abbrev pub lines_at : CacheName → Arrival → List Arrival
+lines_at name (Cache at ref hit victim) = if is_same name at then Cache at ref hit victim ∷ [] else []
+lines_at name _ = []
+
+-- the line that shows a reference with its effect: whether it hit, and the first address of the block that it evicted
+abbrev pub line_of : CacheName → GeometryValue → Ref × Effect → Arrival
+line_of name g access =
+    Cache name access.0 access.1.hit (option_map (λ slot. record { addr = slot.block * 2 ^ g.b; dirty = slot.dirty }) access.1.evicted)
+
+-- the lines that show what a cache does for its events, if there is one
+abbrev pub lines_of : ℕ → CacheName → Option PlannedCache → List Event → List Arrival
+lines_of seed name None events = []
+lines_of seed name (Some planned) events = map (line_of name planned.design.geometry) (with_effects (machine_of seed planned) events)
+
+-- the lines of each cache show, in order, the references that come to it, each with its effect
+abbrev pub LinesLaw : Type 0
+LinesLaw = (name : CacheName) (plan : PlannedCaches) (seed : ℕ) (events : List Event) →
+    flat_map (lines_at name) (arrivals plan seed events) ≡ lines_of seed name (cache_of plan name) (events_at plan seed name events)
+
+-- the log of more events begins with that of fewer
+abbrev pub GrowthLaw : Type 0
+GrowthLaw = (plan : PlannedCaches) (seed : ℕ) (events more : List Event) →
+    arrivals plan seed (events ++ more) ≡ arrivals plan seed events ++ arrivals_from plan seed events more
+
+-- the cache that a line of a flush names
+abbrev pub names_in : Arrival → List CacheName
+names_in (Flush name dirty) = name ∷ []
+names_in _ = []
+
+-- the name of a cache, if there is one
+abbrev pub name_if_there : CacheName → Option PlannedCache → List CacheName
+name_if_there name None = []
+name_if_there name (Some planned) = name ∷ []
+
+-- a flush empties each cache of the plan, the first level before the second
+abbrev pub names_of : PlannedCaches → Event → List CacheName
+names_of plan (event.Reference ref) = []
+names_of plan event.Flush =
+    name_if_there L1I plan.i ++ name_if_there L1D plan.d ++ name_if_there L1U plan.u ++ name_if_there L2U plan.second
+
+-- the lines of the flushes name, in order, each cache once for each flush
+abbrev pub FlushNamesLaw : Type 0
+FlushNamesLaw = (plan : PlannedCaches) (seed : ℕ) (events : List Event) →
+    flat_map names_in (arrivals plan seed events) ≡ flat_map (names_of plan) events
+
+-- how many dirty blocks a line of a flush shows, if it is one of this cache
+abbrev pub dirty_at : CacheName → Arrival → List ℕ
+dirty_at name (Flush at dirty) = if is_same name at then dirty ∷ [] else []
+dirty_at name _ = []
+
+-- how many dirty blocks each flush finds, where it comes after these events
+abbrev pub found_from : Machine → List Event → List Event → List ℕ
+found_from m before [] = []
+found_from m before (event.Reference ref ∷ events) = found_from m (before ++ event.Reference ref ∷ []) events
+found_from m before (event.Flush ∷ events) = dirty_count (run m before) ∷ found_from m (before ++ event.Flush ∷ []) events
+
+-- the same of all events of a cache, if there is one
+abbrev pub found : ℕ → Option PlannedCache → List Event → List ℕ
+found seed None events = []
+found seed (Some planned) events = found_from (machine_of seed planned) [] events
+
+-- the lines of the flushes of a cache show, in order, how many dirty blocks each finds
+abbrev pub FlushCountsLaw : Type 0
+FlushCountsLaw = (name : CacheName) (plan : PlannedCaches) (seed : ℕ) (events : List Event) →
+    flat_map (dirty_at name) (arrivals plan seed events) ≡ found seed (cache_of plan name) (events_at plan seed name events)

@@ -16,7 +16,7 @@ ghost use Rattle.cache_core.specs.SystemStands.{NewSystemLaw, StepLaw, SystemFlu
 ghost use Rattle.cache_core.specs.SystemStands.{SystemRunLaw};
 ghost use Rattle.cache_core.specs.ArrivalStats.{LogLaw, SecondLevelLaw};
 ghost use Rattle.cache_core.specs.LogLaws.{MemoryLaw, BypassedLaw, FetchCacheLaw, DataCacheLaw};
-ghost use Rattle.cache_core.specs.LogLaws.{UnifiedCacheLaw, FollowLaw};
+ghost use Rattle.cache_core.specs.LogLaws.{UnifiedCacheLaw, FollowLaw, LinesLaw, GrowthLaw};
 
 /// A reference puts its block in front of the window, and a flush empties it.
 pub fn window_grows()
@@ -156,4 +156,14 @@ pub fn first_level_gets_what_it_takes()
 /// address, the load of the block's address, and the write that goes on.
 pub fn lines_follow()
     ensures { FollowLaw }
+{}
+
+/// The lines of each cache show, in order, the references that come to it, each with its effect.
+pub fn lines_show_the_accesses()
+    ensures { LinesLaw }
+{}
+
+/// The log of more events begins with that of fewer.
+pub fn log_grows()
+    ensures { GrowthLaw }
 {}
