@@ -39,6 +39,7 @@ pub mod MemoryLaw
 pub mod TakenLaw
 pub mod FollowLaw
 pub mod LinesLaw
+pub mod FlushLines
 mod ArrivalRows
 pub mod SlotSums
 pub mod AnyLaw

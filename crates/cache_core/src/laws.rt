@@ -17,6 +17,7 @@ ghost use Rattle.cache_core.specs.SystemStands.{SystemRunLaw};
 ghost use Rattle.cache_core.specs.ArrivalStats.{LogLaw, SecondLevelLaw};
 ghost use Rattle.cache_core.specs.LogLaws.{MemoryLaw, BypassedLaw, FetchCacheLaw, DataCacheLaw};
 ghost use Rattle.cache_core.specs.LogLaws.{UnifiedCacheLaw, FollowLaw, LinesLaw, GrowthLaw};
+ghost use Rattle.cache_core.specs.LogLaws.{FlushNamesLaw, FlushCountsLaw};
 
 /// A reference puts its block in front of the window, and a flush empties it.
 pub fn window_grows()
@@ -166,4 +167,11 @@ pub fn lines_show_the_accesses()
 /// The log of more events begins with that of fewer.
 pub fn log_grows()
     ensures { GrowthLaw }
+{}
+
+/// The lines of the flushes name, in order, each cache once for each flush, and show how many dirty
+/// blocks it finds there.
+pub fn each_flush_names_each_cache()
+    ensures names { FlushNamesLaw }
+    ensures counts { FlushCountsLaw }
 {}
