@@ -24,7 +24,8 @@ MISTAKES = {
     "long": "SHORT_CLOCK SHORT_COUNTS FEW_LINES",
 }
 RIGHT = {"stamps": "", "list": "STYLE=LIST", "ages": "STYLE=AGES", "shift": "STYLE=SHIFT", "python": "csim.py"}
-FIRST, FINE = "wrong: -s 1 -E 1 -b 1 -t order.trace", "with -v the line of each access is right"
+BLOCKS = EXAMPLES / "blocks.lackey"
+FIRST, FINE = "wrong: -s 1 -E 1 -b 1 -t blocks.trace", "with -v the line of each access is right"
 HEADER = "name,right,of,points,reason"
 
 
@@ -58,35 +59,61 @@ class ClassTest(StudentTest):
 class Planted(ClassTest):
     """By the traces of hard-traces, with all caches."""
 
-    def test_each_mistake_is_found_and_each_style_is_right(self):
-        mistakes = {mistake: trace for trace, names in MISTAKES.items() for mistake in names.split()}
-        self.assertGreater(len(mistakes), 40)
+    def setUp(self):
+        super().setUp()
+        self.good(self.run_tool("lab/hard-traces", "."))
+
+    def judged(self, mistakes, *traces):
+        """The rows of programs with these mistakes, by these traces, or else by those of grade-class."""
         for mistake in mistakes:
-            self.enrol(mistake, self.student(mistake))
-        for name, given in RIGHT.items():
-            source = "styles.c" if "STYLE" in given else "student.c"
-            self.enrol(name, STUDENTS / given if given == "csim.py" else self.student(*given.split(), source=source))
+            if not (self.folder / "students" / mistake).exists():
+                self.enrol(mistake, self.student(mistake))
+        named = [word for trace in traces for word in ("--trace", f"{trace}.trace")]
         env = {"PATH": f"{PROGRAM.parent}:{os.environ['PATH']}"}
-        rows = self.table(self.grade_class(*sorted((self.folder / "students").iterdir()), env=env))
-        self.assertEqual(sorted(rows), sorted([*mistakes, *RIGHT]))
-        for name in RIGHT:
-            self.assertEqual(rows[name], dict(zip(HEADER.split(","), [name, "78", "78", "234", ""])))
-        for mistake, trace in mistakes.items():
-            with self.subTest(mistake):
-                self.assertLess(int(rows[mistake]["right"]), 78)
-                self.assertLess(int(rows[mistake]["points"]), 234)
-                self.assertRegex(rows[mistake]["reason"], r"^wrong: -s \d+ -E \d+ -b \d+ -t \w+\.trace; ")
-                self.assertIn(trace, self.traces_in(mistake))
+        folders = [f"students/{mistake}" for mistake in mistakes]
+        return self.table(self.grade_class(*named, *folders, env=env))
+
+    def test_each_mistake_is_found_by_its_trace(self):
+        self.assertEqual(sorted(MISTAKES), sorted(TRACES))
+        self.assertGreater(sum(len(names.split()) for names in MISTAKES.values()), 40)
+        rows = {}
+        for trace, names in MISTAKES.items():
+            rows |= self.judged(names.split(), trace)
+            for mistake in names.split():
+                with self.subTest(mistake):
+                    row = rows[mistake]
+                    self.assertLess(int(row["right"]), 13)
+                    self.assertLess(int(row["points"]), 39)
+                    wrong = rf"^wrong: -s \d+ -E \d+ -b \d+ -t {trace}\.trace; "
+                    self.assertRegex(row["reason"], wrong)
+                    self.assertEqual(self.traces_in(mistake), {trace})
         self.figures(rows)
 
     def figures(self, rows):
         """What some mistakes cost, by hand."""
-        self.assertEqual((rows["EVICTS_ALWAYS"]["right"], rows["EVICTS_ALWAYS"]["points"]), ("0", "156"), "two numbers of three are right")
-        self.assertEqual((rows["CRASHES_LATE"]["right"], rows["CRASHES_LATE"]["points"]), ("0", "0"))
-        self.assertGreaterEqual(int(rows["FIFO"]["right"]), 36, "six caches of thirteen have one way")
+        always, late = ([rows[name][key] for key in ("right", "points")] for name in ("EVICTS_ALWAYS", "CRASHES_LATE"))
+        self.assertEqual(always, ["0", "26"], "two numbers of three are right")
+        self.assertEqual(late, ["0", "0"])
         self.assertEqual(rows["STATUS"]["reason"], f"{FIRST}; ended with status 3; {FINE}")
-        for mistake in ("FORGETS_STORE", "NARROW", "NARROW_TAG", "SHORT_CLOCK"):
-            self.assertEqual(self.traces_in(mistake) & {"rows", "blocks"}, set(), "that is why there are others")
+
+    def test_why_there_are_others(self):
+        """Traces of a program's own accesses miss these mistakes."""
+        mistakes = ("FORGETS_STORE", "NARROW", "NARROW_TAG", "SHORT_CLOCK")
+        for name, row in self.judged(mistakes, "rows", "blocks").items():
+            self.assertEqual([row[key] for key in HEADER.split(",")], [name, "26", "26", "78", ""])
+
+    def test_each_style_is_right(self):
+        """And a mistake by all traces."""
+        for name, given in RIGHT.items():
+            source = "styles.c" if "STYLE" in given else "student.c"
+            self.enrol(name, STUDENTS / given if given == "csim.py" else self.student(*given.split(), source=source))
+        rows = self.judged([*RIGHT, "FIFO"])
+        wrong = rows.pop("FIFO")
+        for name, row in rows.items():
+            self.assertEqual(row, dict(zip(HEADER.split(","), [name, "78", "78", "234", ""])))
+        self.assertEqual(list(rows), list(RIGHT))
+        self.assertEqual(self.traces_in("FIFO"), set(TRACES))
+        self.assertGreaterEqual(int(wrong["right"]), 36, "six caches of thirteen have one way")
 
 
 class HardTraces(StudentTest):
@@ -153,7 +180,7 @@ class GradeClass(ClassTest):
         folders = [self.enrol("zoe/lab", self.student()), self.enrol("ann/lab", self.student("COUNTS"))]
         (self.folder / "mine").write_text("kept\n")
         (folders[0] / "grade.txt").symlink_to(self.folder / "mine")
-        ran = self.grade_class(*self.SHORT, "--trace", EXAMPLES / "blocks.lackey", *folders, f"{folders[0]}/", "--jobs", 1)
+        ran = self.grade_class(*self.SHORT, "--trace", BLOCKS, *folders, f"{folders[0]}/", "--jobs", 1)
         said = "wanted hits:720 misses:1328 evictions:1312; got hits:721 misses:1328 evictions:1312"
         row = f"ann/lab,0,1,2,wrong: -s 4 -E 1 -b 4 -t {EXAMPLES}/blocks.lackey; {said}; {FINE}"
         self.assertEqual(self.good(ran), f"{HEADER}\nzoe/lab,1,1,3,\n{row}\n")
@@ -165,7 +192,7 @@ class GradeClass(ClassTest):
     def test_points(self):
         """One for each number that is right, in .csim_results too, where hits and evictions are exchanged; none where a run fails."""
         folders = [self.enrol(name, self.student(*[name] * (name != "right"))) for name in ("right", "COUNTS", "RESULTS", "STATUS")]
-        rows = self.table(self.grade_class(*self.SHORT, "--trace", EXAMPLES / "blocks.lackey", *folders))
+        rows = self.table(self.grade_class(*self.SHORT, "--trace", BLOCKS, *folders))
         self.assertEqual({name: row["points"] for name, row in rows.items()}, {"right": "3", "COUNTS": "2", "RESULTS": "1", "STATUS": "0"})
 
     def test_programs_that_cannot_be_run(self):
@@ -265,7 +292,7 @@ class Confined(ClassTest):
 
     def test_cachesim_is_not_on_the_path(self):
         self.enrol("ann", self.student("CALLS_CACHESIM"))
-        self.assertEqual(self.points(env={"PATH": f"{PROGRAM.parent}:{os.environ['PATH']}"}), {"ann": 0})
+        self.assertEqual(self.points("--trace", BLOCKS, env={"PATH": f"{PROGRAM.parent}:{os.environ['PATH']}"}), {"ann": 0})
 
     @needs("bubblewrap")
     def test_what_cannot_be_done(self):
@@ -300,7 +327,8 @@ class Confined(ClassTest):
         for name in ("LEAVES_CHILD", "LEAVES_DAEMON"):
             self.enrol(name, self.student(name))
         for confine in ([], ["--confine"]):
-            self.assertEqual(self.points(*confine), {"LEAVES_CHILD": 18, "LEAVES_DAEMON": 18})
+            points = self.points("--trace", BLOCKS, *confine)
+            self.assertEqual(points, {"LEAVES_CHILD": 3, "LEAVES_DAEMON": 3})
             for name in ("LEAVES_CHILD", "LEAVES_DAEMON"):
                 self.assertFalse(is_running(self.folder / "students" / name / "csim"))
 
@@ -311,10 +339,11 @@ class Confined(ClassTest):
             self.enrol(mistake, self.student(mistake))
             texts = []
             for confine in ([], ["--confine"]):
-                self.good(self.grade_class("--geometry", "4,1,4", "--seconds", seconds, *confine, f"students/{mistake}"))
+                options = ["--trace", BLOCKS, "--geometry", "4,1,4", "--seconds", seconds, *confine]
+                self.good(self.grade_class(*options, f"students/{mistake}"))
                 texts.append(self.text_of(mistake))
             self.assertEqual(texts[0], texts[1])
-            self.assertIn("\n0 of 6 right, 0 of 18 points\n", texts[0])
+            self.assertIn("\n0 of 1 right, 0 of 3 points\n", texts[0])
 
     def test_bubblewrap_that_does_not_work(self):
         self.enrol("ann", self.student())
