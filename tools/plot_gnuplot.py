@@ -57,7 +57,8 @@ def place_of(picture, frame, canvas, widest):
     """Where a picture stands in its frame: right of it or above the legend, left and below what is written on the axes. No text of
     a tick has more letters than `widest`."""
     title = title_of(picture, int((frame.right - frame.left) / canvas.letter) - (0 if canvas.is_text else 2))
-    has_names, sample, right, legend = any(line.name for line in picture.lines), 11 if canvas.is_text else 9, 2, 0
+    has_names, right, legend = any(line.name for line in picture.lines), 2, 0
+    sample = 11 if canvas.is_text or canvas.is_mono else 9
     if picture.cloud:
         legend = 2 * canvas.is_narrow if canvas.is_text else 1 + canvas.is_narrow
     elif has_names and canvas.is_narrow:
@@ -106,8 +107,17 @@ def block(name, runs, up):
 def bars(name, line, up):
     """The data of the bars from the least to the greatest of several seeds, where there are some."""
     spread = [point for run in line.runs for point in run if point.ends]
-    rows = [f"{point.x} {up.height(point.y):.10g} " + " ".join(f"{up.height(end):.10g}" for end in point.ends) for point in spread]
+    heights = [map(up.height, (point.y, *point.ends)) for point in spread]
+    rows = [" ".join(f"{value:.10g}" for value in (point.x, *three))
+            for point, three in zip(spread, heights)]
     return [f"${name} << END", *rows, "END"] if rows else []
+
+
+def plot_of_bars(name, canvas, drawn):
+    """The plot of such bars, each an arrow with a flat head at both ends. With `yerrorbars` gnuplot
+    5.4 blanks a box at each point, which cuts the bar and hides the marks of other lines."""
+    head = f"heads size screen {0.35 * canvas.letter / canvas.width:.4g},90"
+    return f"${name} using 1:3:(0):($4 - $3) with vectors {head}{drawn} notitle"
 
 
 def plot(plots):
@@ -148,7 +158,7 @@ def of_lines(picture, up, place, canvas):
         marks = "" if canvas.is_text or picture.is_curve else f" pointtype {MARKS[number]} pointsize {canvas.mark:.3g}"
         style = "lines" if picture.is_curve else "linespoints"
         if spread and not canvas.is_text:
-            plots.append(f"${name}_ends with yerrorbars pointtype 7 pointsize 0{drawn.replace(DASHES[number], 'solid')} notitle")
+            plots.append(plot_of_bars(f"{name}_ends", canvas, drawn.replace(DASHES[number], "solid")))
         titled = f"title {quoted(' ' * canvas.is_text + line.name)}" if line.name else "notitle"
         plots.append(f"${name} with {style}{drawn}{marks} {titled}")
     return data + plot(plots)
@@ -225,7 +235,7 @@ def beginning(canvas, title):
     if canvas.is_text:
         return lines + ["set tics nomirror scale 0"]
     lines += ["set tics nomirror textcolor rgb 'black'", "set border linecolor rgb '#606060'"]
-    lines += [f"set key samplen {4 if canvas.is_mono else 2.5}", f"set bars {0.6 * canvas.mark:.3g}"]
+    lines += [f"set key samplen {4 if canvas.is_mono else 2.5}"]
     lines += ["set grid linetype 1 linewidth 1 linecolor rgb '#e4e4e4'"]
     large = max(canvas.small, canvas.large * min(1, 0.75 * canvas.columns / max(1, len(title))))
     return lines + ["set multiplot" + f" title {quoted(title)} font ',{large:.3g}'" * bool(title)]

@@ -81,6 +81,14 @@ class Drawn(PlotTest):
             self.assertIn(text, texts)
         self.assertEqual(len(marks["rgb(187,187,187)"]), len(ALL) + 1)
 
+    def test_bars(self):
+        """Each goes from the least to the greatest in one piece; nothing white hides other marks."""
+        self.write("din.csv", f"{COLUMNS}\n{din_rows(POLICIES)}")
+        drawn = self.drawn("din.csv", "a.svg")
+        self.assertNotIn("#FFFFFF", svg_of(drawn)[1])
+        bars = re.search(r"d='([^']*)'", drawn.decode().split("gnuplot_plot_3a<")[1])[1]
+        self.assertEqual(len(re.findall(r"M([0-9.]+),[0-9.]+ L\1,[0-9.]+\s", bars)), 2, bars)
+
     def test_the_script_is_what_is_run(self):
         ran = self.run_command("gnuplot", "-d", stdin=self.script("eight.csv", "a.svg").encode())
         self.assertEqual(self.good(ran), self.drawn("eight.csv", "a.svg").decode())

@@ -57,7 +57,7 @@ class Script(LooksTest):
         colours = set(re.findall("rgb '#([0-9a-f]{6})'", whole))
         self.assertTrue(all(colour[:2] == colour[2:4] == colour[4:] for colour in colours), colours)
         self.assertNotIn("dashtype", self.script(self.sort, "a.svg"))
-        bars = re.findall(r"_ends with yerrorbars (.*) notitle", self.script("--mono", "din.csv", "a.svg"))
+        bars = re.findall(r"_ends using .* with vectors (.*) notitle", self.script("--mono", "din.csv", "a.svg"))
         self.assertTrue(len(bars) == 1 and "dashtype solid" in bars[0], bars)
 
     def test_sizes(self):
