@@ -6,10 +6,9 @@ import re
 import plot_pictures as pictures
 from plot_pictures import MOST_LINES, Line, Measure, Picture, Point, bytes_text, short, ways_text
 from table import pareto
-from table_din import WORDS, cache, kind, usual_measure
+from table_din import NUMBERS, WORDS, cache, kind, usual_measure
 from tool import fail
 
-NUMBERS = ("size", "bsize", "assoc")
 ACROSS = {"size": "cache size in bytes", "bsize": "block size in bytes", "assoc": "ways"}
 
 

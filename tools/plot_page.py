@@ -192,7 +192,7 @@ def page(drawn, measure, title, counts, choices, mono):
         picture.name: {fixed: figure(chosen, up, measure, mono) for fixed, chosen in several.items()}
         for picture, several in zip(drawn, offered)
     }
-    heading = html.escape(title or "Miss ratios of caches")
+    heading = html.escape(title or measure.heading)
     return f"""<!DOCTYPE html>
 <html lang="en">
 <head>

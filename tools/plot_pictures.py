@@ -39,6 +39,11 @@ class Measure(NamedTuple):
     is_percent: bool = True
 
     @property
+    def heading(self):
+        """What stands above a page of several pictures."""
+        return "Miss ratios of caches" if self.name == "Miss ratio" else self.name
+
+    @property
     def least(self):
         """The title of the Pareto front."""
         if self.name == "Miss ratio":
@@ -131,9 +136,9 @@ def linear_axis(greatest, closest, most):
 def number_text(value):
     """A number in few letters: 0.05, 2000, 20M."""
     for unit, letter in ((1e12, "T"), (1e9, "G"), (1e6, "M"), (1e3, "k")):
-        if value >= unit:
+        if unit <= value < 1e15:
             return f"{value / unit:.6g}{letter}"
-    return f"{value:.6g}".replace("e-0", "e-")
+    return f"{value:.6g}".replace("e-0", "e-").replace("e+", "e")
 
 
 def log_ticks(low, high, closest):
@@ -165,7 +170,8 @@ def log_axis(values, closest, most):
 def value_axis(points, measure, closest):
     """The axis of the measure: logarithmic where the greatest value is five times the least or more."""
     values = [value for point in points for value in (point.y, *point.ends)]
-    above, most = [value for value in values if value], 100 if measure.is_percent else math.inf
+    above = [value for value in values if value]
+    most = 100 if measure.is_percent and max(values) <= 100 else math.inf
     if above and max(above) >= 5 * min(above):
         return log_axis(values, closest, most)
     return linear_axis(max(values), 1.5 * closest, most)

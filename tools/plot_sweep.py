@@ -1,8 +1,10 @@
 """The pictures of a sweep's table."""
 
+import html
+
 import plot_pictures as pictures
 from plot_pictures import Line, Measure, Picture, Point, bytes_text, handful, short, ways_text
-from table import pareto
+from table import COUNTS, pareto
 from tool import fail
 
 ABOUT = (
@@ -28,15 +30,18 @@ def judge(rows, name):
 
 
 def measure_of(column):
-    """How the measure is called. It is drawn in per cent of the references."""
+    """How the measure is called. It is drawn in per cent of the references where it counts some."""
     if column == "misses":
         return Measure(about=ABOUT + "miss ratio %{customdata[7]:.4~g} %<extra></extra>")
-    up = f"{column} in per cent of references"
-    return Measure(up, column[0].upper() + column[1:], f"{ABOUT}{up}: %{{customdata[7]:.4~g}}<extra></extra>")
+    name, is_count = column[:1].upper() + column[1:], column in COUNTS
+    up = f"{column} in per cent of references" if is_count else column
+    value = f"%{{customdata[7]:{'.4' if is_count else '.10'}~g}}"
+    return Measure(up, name, f"{ABOUT}{html.escape(up)}: {value}<extra></extra>", is_count)
 
 
 def point(row, x):
-    return Point(x, row.percent, (*row[:7], row.percent), ",".join(map(str, row.cache)))
+    shown = float(row.share)
+    return Point(x, shown, (*row[:7], shown), ",".join(map(str, row.cache)))
 
 
 def cut(rows, step, steps):

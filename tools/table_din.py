@@ -4,10 +4,13 @@ import re
 import statistics
 from typing import NamedTuple
 
-from table import BadTable, column_of, number_of
+from table import WHOLE, BadTable, column_of, number_of
 
 # an option of a cache, as a column has it
 OPTION = re.compile("(l[12]-[diu])(size|bsize|assoc|repl|walloc|wback)")
+# a count of the report, or what din-table makes of these: it has a share of the references
+COUNT = re.compile("l[12]-[diu]-.+|memory-(reads|writes)|bypassed")
+NUMBERS = ("size", "bsize", "assoc")
 WORDS = {
     "repl": {"l": "LRU", "f": "FIFO", "r": "random"},
     "walloc": {"a": "write-allocate", "n": "no write-allocate"},
@@ -17,7 +20,7 @@ WORDS = {
 
 class Case(NamedTuple):
     """A combination of values: the texts of its options, the bytes of all its caches, the measure for each seed, and its place. Last
-    the measure for each seed in per cent of references."""
+    what is shown of it, in per cent of references where it is a count."""
 
     given: tuple
     size: int
@@ -32,7 +35,7 @@ class Case(NamedTuple):
 
     @property
     def share(self):
-        """The mean over the seeds in per cent of references, exactly."""
+        """The mean of that, exactly."""
         return sum(self.shares) / len(self.shares)
 
     @property
@@ -48,6 +51,11 @@ class Table(NamedTuple):
     measure: str
     references: int
     cases: list
+
+    @property
+    def is_count(self):
+        """Whether the measure is a count of references, which has a share of them."""
+        return bool(COUNT.fullmatch(self.measure))
 
     @property
     def has_seeds(self):
@@ -79,8 +87,9 @@ def references_of(columns, fields):
 
 
 def share_of(columns, fields, measure, value, references):
-    """A measure in per cent, exactly: what a cache counts by the cache's own references, and all else by those of the trace."""
-    if measure.endswith("-percent"):
+    """A measure in per cent, exactly: what a cache counts by the cache's own references, and other
+    counts by those of the trace. What is no count, such as cycles, stays in its own unit."""
+    if measure.endswith("-percent") or not COUNT.fullmatch(measure):
         return value
     own = "-".join(measure.split("-")[:2]) + "-references"
     count = int(fields[columns.index(own)]) if own in columns else references
@@ -89,10 +98,15 @@ def share_of(columns, fields, measure, value, references):
 
 def read_rows(lines, name, columns):
     """The fields of each row, which are as many as the columns, and where they stand."""
-    numbers = [at for at, column in enumerate(columns) if column.endswith(("size", "assoc", "-references")) or column == "bypassed"]
+    options = [column for column in columns if OPTION.fullmatch(column)]
+    sizes = [columns.index(option) for option in options if kind(option) in NUMBERS]
+    counts = [at for at, column in enumerate(columns) if column.endswith("-references")]
+    counts += [at for at, column in enumerate(columns) if column == "bypassed"]
     for number, line in enumerate(lines[1:], 2):
         fields = line.rstrip("\r\n").split(",")
-        if len(fields) != len(columns) or not all(fields[at].isascii() and fields[at].isdigit() for at in numbers):
+        is_row = len(fields) == len(columns)
+        is_row = is_row and all(WHOLE.fullmatch(fields[at]) for at in [*sizes, *counts])
+        if not is_row or not all(0 < int(fields[at]) < 1 << 64 for at in sizes):
             raise BadTable(f"{name}: line {number}: no row of a table of din")
         yield f"{name}: line {number}", fields
 

@@ -61,7 +61,11 @@ class Drawn(PlotTest):
         self.assertEqual(png_of(self.drawn("--only", "size", "--", "eight.csv", "-a.png"))[:2], (860, 480))
         mask = os.umask(0)
         os.umask(mask)
-        self.assertEqual((self.folder / "-a.png").stat().st_mode & 0o777, 0o666 & ~mask)
+        drawn = self.folder / "-a.png"
+        self.assertEqual(drawn.stat().st_mode & 0o777, 0o666 & ~mask)
+        drawn.chmod(0o600)
+        self.drawn("--only", "size", "--", "eight.csv", "-a.png")
+        self.assertEqual(drawn.stat().st_mode & 0o777, 0o600)
         self.assertEqual(self.names(), ["-a.png", "an out.png", "eight.csv"])
 
     def test_svg(self):
@@ -205,7 +209,8 @@ class Page(PlotTest):
         self.assertEqual(list(zip(front["x"], front["y"])), [(32, 40), (64, 25), (128, 8)])
 
     def test_counts_of_the_table(self):
-        self.assertIn("<p>8 caches, 100 references. ", self.page("eight.csv"))
+        page = self.page("--measure", "evictions", "eight.csv")
+        self.assertIn("<h1>Evictions</h1>\n<p>8 caches, 100 references. ", page)
         self.write("din.csv", f"{COLUMNS}\n" + din_rows(POLICIES).replace(",0\n", ",30\n"))
         self.assertIn("<p>18 runs, 1,030 references. ", self.page("din.csv"), "also those that no cache takes")
 
