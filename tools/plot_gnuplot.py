@@ -9,7 +9,7 @@ import textwrap
 from typing import NamedTuple
 
 import plot_pictures as pictures
-from plot_canvas import Frame, frames
+from plot_canvas import NARROW, Frame, frames
 from tool import NAME, fail
 
 MARKS = (7, 5, 9, 11, 13, 6, 4)
@@ -60,7 +60,8 @@ def place_of(picture, frame, canvas, widest):
     has_names, right, legend = any(line.name for line in picture.lines), 2, 0
     sample = 11 if canvas.is_text or canvas.is_mono else 9
     if picture.cloud:
-        legend = 2 * canvas.is_narrow if canvas.is_text else 1 + canvas.is_narrow
+        is_narrow = frame.right - frame.left < NARROW * canvas.letter
+        legend = 2 * is_narrow if canvas.is_text else 1 + is_narrow
     elif has_names and canvas.is_narrow:
         legend = legend_columns(picture, canvas)[1]
     elif has_names:
@@ -184,9 +185,10 @@ def labelled(front, across, up, area, canvas):
     return kept
 
 
-def front_as_text(named, area, canvas):
+def front_as_text(named, place, canvas):
     """The commands for the legend of the Pareto front as text, and what is plotted."""
-    if canvas.is_narrow:
+    area = place.area
+    if place.legend:
         rows = enumerate((f"o {named}", ". all caches"), 2)
         legend = [f"set label {quoted(words)} at screen {canvas.at(3, area.top + row)}" for row, words in rows]
     else:
@@ -196,14 +198,15 @@ def front_as_text(named, area, canvas):
     return [*legend, "unset key"], ["$pareto_steps with steps"] + points
 
 
-def front_in_colours(named, area, canvas):
+def front_in_colours(named, place, canvas):
     """The same in colours."""
-    place = canvas.at((area.left + area.right) / 2, area.top + 0.2 * canvas.line)
+    area = place.area
+    middle = canvas.at((area.left + area.right) / 2, area.top + 0.2 * canvas.line)
     colour = pictures.BLACK if canvas.is_mono else pictures.FRONT
     pale, dark = f"linecolor rgb '{pictures.PALE}'", f"linecolor rgb '{colour}'"
     every, each, ring = (f"{part * canvas.mark:.3g}" for part in (0.5, 0.7, 1.1))
-    way = "vertical" if canvas.is_narrow else "horizontal"
-    return [f"set key at screen {place} center bottom {way} Left reverse title ''"], [
+    way = "vertical" if place.legend > 1 else "horizontal"
+    return [f"set key at screen {middle} center bottom {way} Left reverse title ''"], [
         f"$pareto_all with points pointtype 7 pointsize {every} {pale} title 'all caches'",
         f"$pareto_steps with steps linewidth {canvas.stroke:.3g} {dark} title {quoted(named)}",
         f"$pareto_front with points pointtype 7 pointsize {each} {dark} notitle",
@@ -225,7 +228,7 @@ def of_front(picture, across, up, place, canvas):
     for point in chosen:
         where = f"{point.x},{up.height(point.y):.10g}"
         lines += [f"set label {quoted(point.label)} at {where} right offset character {offset}{font}"]
-    legend, plots = (front_as_text if canvas.is_text else front_in_colours)(named, area, canvas)
+    legend, plots = (front_as_text if canvas.is_text else front_in_colours)(named, place, canvas)
     return lines + legend + plot(plots if chosen else plots[:-1])
 
 

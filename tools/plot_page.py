@@ -10,7 +10,6 @@ from tool import fail
 
 SYMBOLS = ("circle", "square", "triangle-up", "triangle-down", "diamond", "circle-open", "square-open")
 DASHES = ("solid", "dash", "dot", "dashdot", "longdash", "longdashdot", "8px,3px,2px,3px,2px,3px")
-MOST_CHOICES = 64
 MOST_POINTS = 4000
 # what may be chosen for a picture: its word, its name after the page's '#', and the texts of the choices
 BLOCK_SIZE = ("Block size", "bsize", pictures.bytes_text)
@@ -218,7 +217,11 @@ const darkColours = {as_script(DARK)};
 def of_sweep(drawn, rows, measure, title, mono):
     """The page for a table of a sweep."""
     counts = f"{len(rows):,} cache{'s' * (len(rows) > 1)}, {rows[0].references:,} references"
-    return page(drawn, measure, title, counts, lambda picture: plot_sweep.choices(picture, rows, measure, MOST_CHOICES), mono)
+
+    def choices(picture):
+        return plot_sweep.choices(picture, rows, measure)
+
+    return page(drawn, measure, title, counts, choices, mono)
 
 
 def of_din(drawn, table, measure, title, mono):

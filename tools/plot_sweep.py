@@ -12,6 +12,7 @@ ABOUT = (
     "hits %{customdata[4]:,}, misses %{customdata[5]:,}, evictions %{customdata[6]:,}<br>"
 )
 MANY = 32  # from so many points on a curve has no marks
+MOST_CHOICES = 64  # of a menu of a page
 
 
 def judge(rows, name):
@@ -126,8 +127,14 @@ def is_curve(rows):
     return len({row.sets for row in rows}) == 1 and len({row.assoc for row in rows}) > 1
 
 
+def is_broad(picture):
+    """Whether its axis has more than one size: else its points stand in a column."""
+    return len({point.x for point in picture.points}) > 1
+
+
 def drawn(asked, rows, measure):
-    """The pictures that are asked for; the first of the three is a curve where there is one number of sets."""
+    """The pictures that are asked for. Without a wish these are three, of which the first is a curve
+    where there is one number of sets, without those that are a column whatever is chosen in a page."""
     bsize = fixed((row.bsize for row in rows), asked.bsize, 64, asked.table, "the block size")
     ways = fixed((row.assoc for row in rows), asked.ways, 4, asked.table, "the associativity")
     first = "curve" if is_curve(rows) else "size"
@@ -137,15 +144,21 @@ def drawn(asked, rows, measure):
         "block": lambda: by_block(rows, ways, measure),
         "pareto": lambda: by_front(rows, measure),
     }
-    return [made[name]() for name in ([asked.only] if asked.only else [first, "block", "pareto"])]
+    if asked.only:
+        return [made[asked.only]()]
+    usual = [made[name]() for name in (first, "block", "pareto")]
+    offered = {picture.name: [picture] for picture in usual}
+    if asked.ending == ".html":
+        offered = {picture.name: choices(picture, rows, measure).values() for picture in usual}
+    return [picture for picture in usual if any(map(is_broad, offered[picture.name]))] or usual[:1]
 
 
-def choices(picture, rows, measure, most):
+def choices(picture, rows, measure):
     """The pictures that may be chosen in place of one: by what they fix."""
     if picture.name == "size":
         return {bsize: by_size(rows, bsize, measure) for bsize in sorted({row.bsize for row in rows})}
     if picture.name == "block":
-        values = handful((row.assoc for row in rows), most)
+        values = handful((row.assoc for row in rows), MOST_CHOICES)
         return {ways: by_block(rows, ways, measure) for ways in sorted({*values, picture.fixed})}
     if picture.name == "curve" and len({row.sets for row in rows}) > 1:
         return {bsize: by_ways(rows, bsize, measure) for bsize in sorted({row.bsize for row in rows})}

@@ -43,7 +43,7 @@ class Curve(PlotTest):
         self.assertIn("'Miss ratio by cache size: fully associative, blocks of 64 bytes'", script)
         self.assertRegex(script, r"\$curve_1 with lines .* notitle")
         whole = self.script("t.csv", "a.svg")
-        self.assertEqual({name.split("_")[0] for name in data_of(whole)}, {"curve", "block", "pareto"})
+        self.assertEqual({name.split("_")[0] for name in data_of(whole)}, {"curve", "pareto"})
 
     def test_few_ways_have_marks(self):
         self.write("t.csv", self.curve(ways=6))

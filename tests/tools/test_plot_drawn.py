@@ -136,8 +136,8 @@ class Drawn(PlotTest):
             self.write(f"tables/{name}", text)
             for out in ("-", "a.svg"):
                 drawn = self.good(self.plot(f"tables/{name}", out))
-                for text in [TITLES[0][:24], TITLES[1][:24], TITLES[2]]:
-                    self.assertIn(text, drawn or (self.folder / out).read_text())
+                for title in [TITLES[0][:24]] + [TITLES[2]] * (text.count("\n") > 1):
+                    self.assertIn(title, drawn or (self.folder / out).read_text())
 
     def test_picture_of_the_documents(self):
         """It can be drawn anew, by the command beside it, as large as it is."""
