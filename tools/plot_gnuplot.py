@@ -156,12 +156,19 @@ def of_lines(picture, up, place, canvas):
         name, drawn = f"{picture.name}_{number + 1}", looks(number, canvas)
         spread = bars(f"{name}_ends", line, up)
         data += block(name, line.runs, up) + spread
-        marks = "" if canvas.is_text or picture.is_curve else f" pointtype {MARKS[number]} pointsize {canvas.mark:.3g}"
+        marks = f" pointtype {MARKS[number]} pointsize {canvas.mark:.3g}"
+        marks = "" if canvas.is_text or picture.is_curve else marks
         style = "lines" if picture.is_curve else "linespoints"
         if spread and not canvas.is_text:
             plots.append(plot_of_bars(f"{name}_ends", canvas, drawn.replace(DASHES[number], "solid")))
         titled = f"title {quoted(' ' * canvas.is_text + line.name)}" if line.name else "notitle"
-        plots.append(f"${name} with {style}{drawn}{marks} {titled}")
+        if picture.is_front and canvas.is_text:
+            plots.append(f"${name} with steps {titled}")
+        elif picture.is_front:
+            plots += [f"${name} with steps{drawn} notitle", f"${name} with points{drawn}{marks} notitle"]
+            plots.append(f"keyentry with {style}{drawn}{marks} {titled}")
+        else:
+            plots.append(f"${name} with {style}{drawn}{marks} {titled}")
     return data + plot(plots)
 
 

@@ -110,6 +110,8 @@ def of_lines(picture, up, about, mono):
         some = [point for run in line.runs for point in [None, *run]][1:]
         colour = pictures.BLACK if mono else colour
         looks = {"line": {"color": colour, **({"dash": dash} if mono else {})}, "marker": {"color": colour, "symbol": symbol, "size": 8}}
+        if picture.is_front:
+            looks["line"]["shape"] = "hv"
         mode = "lines" if picture.is_curve else "lines+markers"
         traces.append({**points(some, up, about), "mode": mode, "name": line.name, **looks, **bars(some, up, colour)})
     return traces
@@ -229,6 +231,11 @@ def of_din(drawn, table, measure, title, mono):
     runs = sum(len(case.values) for case in table.cases)
     counts = f"{runs:,} run{'s' * (runs > 1)}, {table.references:,} references"
     return page(drawn, measure, title, counts, lambda picture: {picture.fixed: picture}, mono)
+
+
+def of_tables(drawn, count, measure, title, mono):
+    """The page for several tables."""
+    return page(drawn, measure, title, f"{count} tables", lambda picture: {picture.fixed: picture}, mono)
 
 
 def as_script(data):

@@ -53,7 +53,8 @@ class Measure(NamedTuple):
 
 class Picture(NamedTuple):
     """A picture of some caches. `fixed` is the block size, or the ways, that all its caches have. The picture of a Pareto front has
-    one line, the front, above a cloud of all caches, and says what their labels are. A curve is a line without marks."""
+    one line, the front, above a cloud of all caches, and says what their labels are; those of several
+    tables have a line for each, and no cloud. A curve is a line without marks."""
 
     name: str
     fixed: int
@@ -64,6 +65,7 @@ class Picture(NamedTuple):
     cloud: list = []
     labels: str = ""
     is_curve: bool = False
+    is_front: bool = False
 
     @property
     def points(self):
