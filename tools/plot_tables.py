@@ -9,7 +9,7 @@ import plot_pictures as pictures
 import plot_sweep
 import table
 import table_din
-from plot_pictures import MOST_LINES, Line, Picture, bytes_text, ways_text
+from plot_pictures import Line, Picture, bytes_text, ways_text
 from tool import fail
 
 LONGEST = 24  # letters of a table's name in the legend
