@@ -14,7 +14,8 @@ NARROW = 72  # in fewer letters a legend has no room beside its picture
 
 
 class Canvas(NamedTuple):
-    """A terminal of gnuplot: how it is set, its width and height, those of a letter, and the sizes of large and small type."""
+    """A terminal of gnuplot: how it is set, its width and height, those of a letter, and the sizes
+    of large and small type."""
 
     setting: str
     width: float
@@ -29,7 +30,8 @@ class Canvas(NamedTuple):
     is_mono: bool = False
 
     def at(self, x, y):
-        """A place as gnuplot has it, as parts of the width and the height. Of text, the whole is at the last column and line."""
+        """A place as gnuplot has it, as parts of the width and the height. Of text, the whole is at
+        the last column and line."""
         return f"{x / (self.width - self.is_text):.5f},{y / (self.height - self.is_text):.5f}"
 
     @property
@@ -38,7 +40,8 @@ class Canvas(NamedTuple):
 
     @property
     def is_narrow(self):
-        """Whether there is no room for a legend beside a picture, or for two pictures side by side."""
+        """Whether there is no room for a legend beside a picture, or for two pictures side by
+        side."""
         return self.columns < NARROW
 
 
@@ -52,7 +55,8 @@ class Frame(NamedTuple):
 
 
 class Size(NamedTuple):
-    """What --size says, in pixels of 1/96 inch, with no height where none is said, and whether it is a length for print."""
+    """What --size says, in pixels of 1/96 inch, with no height where none is said, and whether it
+    is a length for print."""
 
     width: float
     height: float
@@ -142,8 +146,8 @@ KINDS = {".png": png, ".svg": svg, ".pdf": pdf}
 
 
 def frames(canvas, count, title):
-    """Where the pictures stand: two side by side, and a third below them, or all one above the other
-    where it is narrow; as text each on a page of its own."""
+    """Where the pictures stand: two side by side, and a third below them, or all one above the
+    other where it is narrow; as text each on a page of its own."""
     top = canvas.height - title * (1 if canvas.is_text else 1.8) * canvas.line
     if count == 1 or canvas.is_text:
         return [Frame(0, 0, canvas.width, top)] * count

@@ -46,7 +46,8 @@ def point(row, x):
 
 
 def cut(rows, step, steps):
-    """The rows of a line in runs: a run ends where there is a step, which other lines have, between a row and the next one."""
+    """The rows of a line in runs: a run ends where there is a step, which other lines have, between
+    a row and the next one."""
     runs = [[]]
     for row in rows:
         if runs[-1] and any(step(runs[-1][-1]) < other < step(row) for other in steps):
@@ -72,7 +73,8 @@ def by_size(rows, bsize, measure):
 
 
 def by_ways(rows, bsize, measure):
-    """The curve of each number of sets at one block size, over all ways; with one number of sets the curve of each block size."""
+    """The curve of each number of sets at one block size, over all ways; with one number of sets
+    the curve of each block size."""
     across, sets = "cache size in bytes", sorted({row.sets for row in rows})
     if len(sets) > 1:
         rows = [row for row in rows if row.bsize == bsize]
@@ -91,7 +93,8 @@ def by_ways(rows, bsize, measure):
 
 
 def by_block(rows, ways, measure):
-    """By block size at one associativity, a line for each cache size; a size of several block sizes is preferred."""
+    """By block size at one associativity, a line for each cache size; a size of several block sizes
+    is preferred."""
     rows = sorted(row for row in rows if row.assoc == ways)
     blocks = {row.bsize for row in rows}
     sizes = [row.size for row in rows]
@@ -112,7 +115,8 @@ def by_front(rows, measure):
 
 
 def fixed(values, wanted, usual, name, what):
-    """The block size or associativity that a picture is for: the wanted one, or the usual one or the nearest to it."""
+    """The block size or associativity that a picture is for: the wanted one, or the usual one or
+    the nearest to it."""
     values = sorted(set(values))
     if wanted is None:
         return pictures.nearest(values, usual)
@@ -133,8 +137,9 @@ def is_broad(picture):
 
 
 def drawn(asked, rows, measure):
-    """The pictures that are asked for. Without a wish these are three, of which the first is a curve
-    where there is one number of sets, without those that are a column whatever is chosen in a page."""
+    """The pictures that are asked for. Without a wish these are three, of which the first is a
+    curve where there is one number of sets, without those that are a column whatever is chosen in a
+    page."""
     bsize = fixed((row.bsize for row in rows), asked.bsize, 64, asked.table, "the block size")
     ways = fixed((row.assoc for row in rows), asked.ways, 4, asked.table, "the associativity")
     first = "curve" if is_curve(rows) else "size"

@@ -24,7 +24,8 @@ class Rows(NamedTuple):
 
 
 def names_of(files):
-    """What the legend calls some tables: their files without folders and endings, where these differ."""
+    """What the legend calls some tables: their files without folders and endings, where these
+    differ."""
     short = [os.path.splitext(os.path.basename(file))[0] for file in files]
     names = short if len(set(short)) == len(short) else files
     names = ["standard input" if name == "-" else name for name in names]
@@ -98,8 +99,8 @@ def of_sweeps(asked, tables, measure):
 
 
 def of_dins(asked, tables):
-    """The same of tables of din, given the lines and the name of each. What is on the axes is by the
-    first of them."""
+    """The same of tables of din, given the lines and the name of each. What is on the axes is by
+    the first of them."""
     lines, _ = tables[0]
     asked = argparse.Namespace(**vars(asked))
     first = table_din.read_table(*tables[0])

@@ -16,8 +16,8 @@ NUMBER = re.compile("[0-9]{1,64}([.][0-9]{1,64})?")
 
 
 class Row(NamedTuple):
-    """A cache, and what a sweep counted for it. `value` is that of the measure, where this is not its
-    misses, and `is_count` whether it counts references."""
+    """A cache, and what a sweep counted for it. `value` is that of the measure, where this is not
+    its misses, and `is_count` whether it counts references."""
 
     bsize: int
     sets: int
@@ -40,8 +40,8 @@ class Row(NamedTuple):
 
     @property
     def share(self):
-        """What is shown of the measure, exactly: per cent of the references, 0 where there are none,
-        or its value where it counts none."""
+        """What is shown of the measure, exactly: per cent of the references, 0 where there are
+        none, or its value where it counts none."""
         if not self.is_count:
             return self.measured
         if not self.references:
@@ -81,8 +81,9 @@ def column_of(columns, measure, name):
 
 
 def read_table(lines, name, measure="misses"):
-    """The rows of a table, given its lines. A page without a header will do; `name` is for the fault. A header may name more
-    columns after those of a sweep, which some tools add: of these only the measure is read."""
+    """The rows of a table, given its lines. A page without a header will do; `name` is for the
+    fault. A header may name more columns after those of a sweep, which some tools add: of these
+    only the measure is read."""
     rows = []
     columns = HEADER.split(",")
     own = len(columns)
@@ -120,8 +121,9 @@ def lines_of(name):
 
 
 def pareto(rows):
-    """The smallest caches that miss least, by size: each misses less often than every other cache that is not larger. Of caches
-    that are alike in both, the one of the fewest ways stands here, and of these the one of the smallest blocks."""
+    """The smallest caches that miss least, by size: each misses less often than every other cache
+    that is not larger. Of caches that are alike in both, the one of the fewest ways stands here,
+    and of these the one of the smallest blocks."""
     front = []
     for row in sorted(rows, key=lambda row: (row.size, row.measured, row.ties)):
         if not front or row.measured < front[-1].measured:

@@ -19,8 +19,9 @@ WORDS = {
 
 
 class Case(NamedTuple):
-    """A combination of values: the texts of its options, the bytes of all its caches, the measure for each seed, and its place. Last
-    what is shown of it, in per cent of references where it is a count."""
+    """A combination of values: the texts of its options, the bytes of all its caches, the measure
+    for each seed, and its place. Last what is shown of it, in per cent of references where it is a
+    count."""
 
     given: tuple
     size: int
@@ -45,7 +46,8 @@ class Case(NamedTuple):
 
 
 class Table(NamedTuple):
-    """The options, those of a cache alone, the measure, how many references the trace has, and the cases."""
+    """The options, those of a cache alone, the measure, how many references the trace has, and the
+    cases."""
 
     options: list
     measure: str
@@ -81,7 +83,8 @@ def usual_measure(columns):
 
 
 def references_of(columns, fields):
-    """How many references a trace has, by a row: those of the first level, and those that no cache takes."""
+    """How many references a trace has, by a row: those of the first level, and those that no cache
+    takes."""
     counted = [column for column in columns if re.fullmatch("l1-[diu]-references|bypassed", column)]
     return sum(int(fields[columns.index(column)]) for column in counted)
 
@@ -112,13 +115,15 @@ def read_rows(lines, name, columns):
 
 
 def judge_columns(columns, measure, name):
-    """Refuses a table without a size or, where no measure is asked for, without the misses of a cache."""
+    """Refuses a table without a size or, where no measure is asked for, without the misses of a
+    cache."""
     if not measure or not any(OPTION.fullmatch(column) and kind(column) == "size" for column in columns):
         raise BadTable(f"{name}: no table of din: a cache's size or misses are not among its columns")
 
 
 def read_table(lines, name, measure=None):
-    """The table that some lines are. Without a measure it is that of the misses of the last cache."""
+    """The table that some lines are. Without a measure it is that of the misses of the last
+    cache."""
     columns = lines[0].rstrip("\r\n").split(",")
     measure = measure or usual_measure(columns)
     judge_columns(columns, measure, name)
