@@ -7,11 +7,17 @@ from typing import NamedTuple
 from lib.tool import fail
 
 HEADER = "bsize,sets,assoc,size,hits,misses,evictions"
-NUMBER = re.compile("[0-9]+([.][0-9]+)?")
+# columns that count references, those of `three-c` too: they are shown in per cent of all
+# references, and any other column, such as one of cycles, in its own unit
+COUNTS = ("hits", "misses", "evictions", "compulsory", "capacity", "conflict")
+# no longer than a picture's axis can bear
+WHOLE = re.compile("[0-9]{1,64}")
+NUMBER = re.compile("[0-9]{1,64}([.][0-9]{1,64})?")
 
 
 class Row(NamedTuple):
-    """A cache, and what a sweep counted for it. `value` is that of the measure, where this is not its misses."""
+    """A cache, and what a sweep counted for it. `value` is that of the measure, where this is not
+    its misses, and `is_count` whether it counts references."""
 
     bsize: int
     sets: int
@@ -21,6 +27,7 @@ class Row(NamedTuple):
     misses: int
     evictions: int
     value: fractions.Fraction = None
+    is_count: bool = True
 
     @property
     def references(self):
@@ -32,18 +39,14 @@ class Row(NamedTuple):
         return self.misses if self.value is None else self.value
 
     @property
-    def ratio(self):
-        """The measure by references; 0 where there are none."""
-        return float(self.measured / self.references) if self.references else 0.0
-
-    @property
     def share(self):
-        """The measure in per cent of the references, exactly."""
-        return fractions.Fraction(100 * self.measured, self.references) if self.references else fractions.Fraction()
-
-    @property
-    def percent(self):
-        return float(100 * self.measured / self.references) if self.references else 0.0
+        """What is shown of the measure, exactly: per cent of the references, 0 where there are
+        none, or its value where it counts none."""
+        if not self.is_count:
+            return self.measured
+        if not self.references:
+            return fractions.Fraction()
+        return fractions.Fraction(100 * self.measured, self.references)
 
     @property
     def cache(self):
@@ -63,7 +66,8 @@ class BadTable(Exception):
 def number_of(text, column, place):
     """The exact number that a field of a measure says."""
     if not NUMBER.fullmatch(text):
-        raise BadTable(f"{place}: {column} is no number")
+        is_long = re.fullmatch("[0-9.]{65,}", text)
+        raise BadTable(f"{place}: {column} is {'too long a' if is_long else 'no'} number")
     return fractions.Fraction(text)
 
 
@@ -77,8 +81,9 @@ def column_of(columns, measure, name):
 
 
 def read_table(lines, name, measure="misses"):
-    """The rows of a table, given its lines. A page without a header will do; `name` is for the fault. A header may name more
-    columns after those of a sweep, which some tools add: of these only the measure is read."""
+    """The rows of a table, given its lines. A page without a header will do; `name` is for the
+    fault. A header may name more columns after those of a sweep, which some tools add: of these
+    only the measure is read."""
     rows = []
     columns = HEADER.split(",")
     own = len(columns)
@@ -88,13 +93,15 @@ def read_table(lines, name, measure="misses"):
         if number == 1 and ",".join(fields[:own]) == HEADER:
             columns = fields
             continue
-        if len(fields) != len(columns) or not all(field.isascii() and field.isdigit() for field in fields[:own]):
+        if len(fields) != len(columns) or not all(map(WHOLE.fullmatch, fields[:own])):
             raise BadTable(f"{name}: line {number}: no row of a sweep's table")
         row = Row(*map(int, fields[:own]))
         if row.size != row.bsize * row.sets * row.assoc:
             raise BadTable(f"{name}: line {number}: size is not bsize * sets * assoc")
         if measure != "misses":
-            row = row._replace(value=number_of(fields[column_of(columns, measure, name)], measure, f"{name}: line {number}"))
+            field = fields[column_of(columns, measure, name)]
+            value = number_of(field, measure, f"{name}: line {number}")
+            row = row._replace(value=value, is_count=measure in COUNTS)
         rows.append(row)
     if not rows:
         raise BadTable(f"{name}: a table without a row")
@@ -102,18 +109,21 @@ def read_table(lines, name, measure="misses"):
 
 
 def lines_of(name):
-    """The lines of a table, and its name for faults; '-' is standard input. Ends the tool with one line where that fails."""
+    """The lines of a table, and its name for faults; '-' is standard input. Ends the tool with one
+    line where that fails. A spreadsheet may have put a byte order mark in front."""
     shown = "standard input" if name == "-" else name
+    text = {"encoding": "utf-8-sig", "errors": "replace"}
     try:
-        with open(0 if name == "-" else name, encoding="ascii", errors="replace", closefd=name != "-") as file:
+        with open(0 if name == "-" else name, closefd=name != "-", **text) as file:
             return list(file), shown
     except OSError as fault:
         fail(f"{shown}: {fault.strerror}")
 
 
 def pareto(rows):
-    """The smallest caches that miss least, by size: each misses less often than every other cache that is not larger. Of caches
-    that are alike in both, the one of the fewest ways stands here, and of these the one of the smallest blocks."""
+    """The smallest caches that miss least, by size: each misses less often than every other cache
+    that is not larger. Of caches that are alike in both, the one of the fewest ways stands here,
+    and of these the one of the smallest blocks."""
     front = []
     for row in sorted(rows, key=lambda row: (row.size, row.measured, row.ties)):
         if not front or row.measured < front[-1].measured:

@@ -4,10 +4,13 @@ import re
 import statistics
 from typing import NamedTuple
 
-from lib.table import BadTable, column_of, number_of
+from lib.table import WHOLE, BadTable, column_of, number_of
 
 # an option of a cache, as a column has it
 OPTION = re.compile("(l[12]-[diu])(size|bsize|assoc|repl|walloc|wback)")
+# a count of the report, or what din-table makes of these: it has a share of the references
+COUNT = re.compile("l[12]-[diu]-.+|memory-(reads|writes)|bypassed")
+NUMBERS = ("size", "bsize", "assoc")
 WORDS = {
     "repl": {"l": "LRU", "f": "FIFO", "r": "random"},
     "walloc": {"a": "write-allocate", "n": "no write-allocate"},
@@ -16,8 +19,9 @@ WORDS = {
 
 
 class Case(NamedTuple):
-    """A combination of values: the texts of its options, the bytes of all its caches, the measure for each seed, and its place. Last
-    the measure for each seed in per cent of references."""
+    """A combination of values: the texts of its options, the bytes of all its caches, the measure
+    for each seed, and its place. Last what is shown of it, in per cent of references where it is a
+    count."""
 
     given: tuple
     size: int
@@ -32,7 +36,7 @@ class Case(NamedTuple):
 
     @property
     def share(self):
-        """The mean over the seeds in per cent of references, exactly."""
+        """The mean of that, exactly."""
         return sum(self.shares) / len(self.shares)
 
     @property
@@ -42,12 +46,18 @@ class Case(NamedTuple):
 
 
 class Table(NamedTuple):
-    """The options, those of a cache alone, the measure, how many references the trace has, and the cases."""
+    """The options, those of a cache alone, the measure, how many references the trace has, and the
+    cases."""
 
     options: list
     measure: str
     references: int
     cases: list
+
+    @property
+    def is_count(self):
+        """Whether the measure is a count of references, which has a share of them."""
+        return bool(COUNT.fullmatch(self.measure))
 
     @property
     def has_seeds(self):
@@ -73,14 +83,16 @@ def usual_measure(columns):
 
 
 def references_of(columns, fields):
-    """How many references a trace has, by a row: those of the first level, and those that no cache takes."""
+    """How many references a trace has, by a row: those of the first level, and those that no cache
+    takes."""
     counted = [column for column in columns if re.fullmatch("l1-[diu]-references|bypassed", column)]
     return sum(int(fields[columns.index(column)]) for column in counted)
 
 
 def share_of(columns, fields, measure, value, references):
-    """A measure in per cent, exactly: what a cache counts by the cache's own references, and all else by those of the trace."""
-    if measure.endswith("-percent"):
+    """A measure in per cent, exactly: what a cache counts by the cache's own references, and other
+    counts by those of the trace. What is no count, such as cycles, stays in its own unit."""
+    if measure.endswith("-percent") or not COUNT.fullmatch(measure):
         return value
     own = "-".join(measure.split("-")[:2]) + "-references"
     count = int(fields[columns.index(own)]) if own in columns else references
@@ -89,22 +101,29 @@ def share_of(columns, fields, measure, value, references):
 
 def read_rows(lines, name, columns):
     """The fields of each row, which are as many as the columns, and where they stand."""
-    numbers = [at for at, column in enumerate(columns) if column.endswith(("size", "assoc", "-references")) or column == "bypassed"]
+    options = [column for column in columns if OPTION.fullmatch(column)]
+    sizes = [columns.index(option) for option in options if kind(option) in NUMBERS]
+    counts = [at for at, column in enumerate(columns) if column.endswith("-references")]
+    counts += [at for at, column in enumerate(columns) if column == "bypassed"]
     for number, line in enumerate(lines[1:], 2):
         fields = line.rstrip("\r\n").split(",")
-        if len(fields) != len(columns) or not all(fields[at].isascii() and fields[at].isdigit() for at in numbers):
+        is_row = len(fields) == len(columns)
+        is_row = is_row and all(WHOLE.fullmatch(fields[at]) for at in [*sizes, *counts])
+        if not is_row or not all(0 < int(fields[at]) < 1 << 64 for at in sizes):
             raise BadTable(f"{name}: line {number}: no row of a table of din")
         yield f"{name}: line {number}", fields
 
 
 def judge_columns(columns, measure, name):
-    """Refuses a table without a size or, where no measure is asked for, without the misses of a cache."""
+    """Refuses a table without a size or, where no measure is asked for, without the misses of a
+    cache."""
     if not measure or not any(OPTION.fullmatch(column) and kind(column) == "size" for column in columns):
         raise BadTable(f"{name}: no table of din: a cache's size or misses are not among its columns")
 
 
 def read_table(lines, name, measure=None):
-    """The table that some lines are. Without a measure it is that of the misses of the last cache."""
+    """The table that some lines are. Without a measure it is that of the misses of the last
+    cache."""
     columns = lines[0].rstrip("\r\n").split(",")
     measure = measure or usual_measure(columns)
     judge_columns(columns, measure, name)

@@ -10,10 +10,12 @@ LETTER, LINE = 0.586, 1.21
 UNITS = {"in": 96, "cm": 96 / 2.54, "mm": 96 / 25.4, "px": 1, "": 1}
 PNG_SCALE = 300 / 96  # of a PNG whose size is given as a length: 300 pixels an inch
 LEAST = 36, 11  # letters and lines that a picture needs
+NARROW = 72  # in fewer letters a legend has no room beside its picture
 
 
 class Canvas(NamedTuple):
-    """A terminal of gnuplot: how it is set, its width and height, those of a letter, and the sizes of large and small type."""
+    """A terminal of gnuplot: how it is set, its width and height, those of a letter, and the sizes
+    of large and small type."""
 
     setting: str
     width: float
@@ -28,7 +30,8 @@ class Canvas(NamedTuple):
     is_mono: bool = False
 
     def at(self, x, y):
-        """A place as gnuplot has it, as parts of the width and the height. Of text, the whole is at the last column and line."""
+        """A place as gnuplot has it, as parts of the width and the height. Of text, the whole is at
+        the last column and line."""
         return f"{x / (self.width - self.is_text):.5f},{y / (self.height - self.is_text):.5f}"
 
     @property
@@ -37,8 +40,9 @@ class Canvas(NamedTuple):
 
     @property
     def is_narrow(self):
-        """Whether there is no room for a legend beside a picture, or for two pictures side by side."""
-        return self.columns < 72
+        """Whether there is no room for a legend beside a picture, or for two pictures side by
+        side."""
+        return self.columns < NARROW
 
 
 class Frame(NamedTuple):
@@ -51,7 +55,8 @@ class Frame(NamedTuple):
 
 
 class Size(NamedTuple):
-    """What --size says, in pixels of 1/96 inch, with no height where none is said, and whether it is a length for print."""
+    """What --size says, in pixels of 1/96 inch, with no height where none is said, and whether it
+    is a length for print."""
 
     width: float
     height: float
@@ -67,51 +72,68 @@ def size(text):
     return Size(float(match[1]) * unit, match[2] and float(match[2]) * unit, match[3] not in ("px", ""))
 
 
-def pixels(count, asked, type_size):
-    """The width and height for so many pictures."""
+def factor(text):
+    """How many times as large letters are, as --scale says."""
+    if not re.fullmatch("[0-9]{1,2}([.][0-9]{1,9})?", text) or not 0.2 <= float(text) <= 20:
+        misused(f"{text!r} is no scale from 0.2 to 20, such as 2")
+    return float(text)
+
+
+def pixels(count, asked, em, scale):
+    """The width and height for so many pictures with letters of a size."""
     if not asked:
-        return (920, 800) if count == 3 else (860, 480)
+        return tuple(scale * side for side in {1: (860, 480), 2: (920, 420), 3: (920, 800)}[count])
     width, height = asked.width, asked.height
-    is_narrow = width < 72 * LETTER * type_size
+    is_narrow = width < NARROW * LETTER * em
+    above = count if is_narrow else 1 + (count == 3)  # pictures above each other
     if not height:
-        height = width * (0.8 * count if is_narrow else 0.87 if count == 3 else 0.56)
-    if width < LEAST[0] * LETTER * type_size or height < count ** is_narrow * LEAST[1] * LINE * type_size:
-        misused(f"--size is too small for {count} picture{'s' * (count > 1)} with type that can be read")
+        height = width * (0.8 * count if is_narrow else (0.56, 0.46, 0.87)[count - 1])
+    if width < LEAST[0] * LETTER * em or height < above * LEAST[1] * LINE * em:
+        pictures = f"{count} picture{'s' * (count > 1)}"
+        misused(f"--size is too small for {pictures} with type that can be read")
     return width, height
 
 
-def png(count, asked, mono):
-    scale = PNG_SCALE if asked and asked.is_length else 1
-    em = print_type(asked) if asked and asked.is_length else 14
-    width, height = (side * scale for side in pixels(count, asked, em))
-    points = em * 0.75
-    setting = f"pngcairo size {width:.0f},{height:.0f} font 'Sans,{points:.4g}' fontscale {scale:.4g} linewidth {scale:.4g}"
-    mark = scale * em / 14
-    unit = em * scale
-    return Canvas(setting, round(width), round(height), LETTER * unit, LINE * unit, large=1.24 * points, small=0.86 * points,
-                  mark=mark, stroke=2 * em / 14, is_mono=mono)
+def png(count, asked, mono, scale):
+    dense = PNG_SCALE if asked and asked.is_length else 1
+    em = type_size(asked, scale)
+    width, height = (side * dense for side in pixels(count, asked, em, scale))
+    points, unit = em * 0.75, em * dense
+    font = f"font 'Sans,{points:.4g}' fontscale {dense:.4g} linewidth {dense:.4g}"
+    setting = f"pngcairo size {width:.0f},{height:.0f} {font}"
+    return Canvas(setting, round(width), round(height), LETTER * unit, LINE * unit,
+                  large=1.24 * points, small=0.86 * points,
+                  mark=unit / 14, stroke=2 * em / 14, is_mono=mono)
 
 
-def svg(count, asked, mono):
-    em = print_type(asked) if asked and asked.is_length else 14
-    width, height = pixels(count, asked, em)
+def svg(count, asked, mono, scale):
+    em = type_size(asked, scale)
+    width, height = pixels(count, asked, em, scale)
     setting = f"svg size {width:.0f},{height:.0f} font 'DejaVu Sans,Verdana,sans-serif,{em:.4g}' background rgb 'white'"
     return Canvas(setting, round(width), round(height), LETTER * em, 1.39 * em, large=1.21 * em, small=0.86 * em,
-                  mark=0.7 * em / 14, stroke=2 * em / 14, is_mono=mono)
+                  mark=0.7, stroke=2 * em / 14, is_mono=mono)  # gnuplot enlarges these marks with letters
+
+
+def type_size(asked, scale):
+    """The size of letters, in pixels: 14; for print 8 points, and 7 in a column."""
+    if not asked or not asked.is_length:
+        return 14 * scale
+    return print_type(asked) * scale
 
 
 def print_type(asked):
-    """The size of type for print, in pixels: 8 points, in a column 7."""
     return (7 if asked.width < 4.5 * 96 else 8) / 0.75
 
 
-def pdf(count, asked, mono):
-    asked = asked or Size(672, None, True)
-    em = print_type(asked)
-    width, height = pixels(count, asked, em)
+def pdf(count, asked, mono, scale):
+    em = scale * print_type(asked or Size(672, None, True))
+    width, height = pixels(count, asked or Size(672 * scale, None, True), em, scale)
     points = em * 0.75
-    setting = f"pdfcairo size {width / 96:.4g}in,{height / 96:.4g}in font 'DejaVu Sans,{points:.4g}' fontscale 0.75 linewidth 0.7"
-    return Canvas(setting, width, height, LETTER * em, LINE * em, large=1.2 * points, small=0.86 * points, mark=0.4 * em / 10, is_mono=mono)
+    font = f"font 'DejaVu Sans,{points:.4g}' fontscale 0.75 linewidth 0.7"
+    setting = f"pdfcairo size {width / 96:.4g}in,{height / 96:.4g}in {font}"
+    return Canvas(setting, width, height, LETTER * em, LINE * em,
+                  large=1.2 * points, small=0.86 * points,
+                  mark=0.4 * em / 10, stroke=2 * scale, is_mono=mono)
 
 
 def text(columns, lines):
@@ -124,12 +146,14 @@ KINDS = {".png": png, ".svg": svg, ".pdf": pdf}
 
 
 def frames(canvas, count, title):
-    """Where the pictures stand: three as two above a broad one, or one above the other where it is narrow; as text each on a page
-    of its own."""
+    """Where the pictures stand: two side by side, and a third below them, or all one above the
+    other where it is narrow; as text each on a page of its own."""
     top = canvas.height - title * (1 if canvas.is_text else 1.8) * canvas.line
-    middle, half = canvas.width / 2, 0.52 * top
-    if count < 3 or canvas.is_text:
+    if count == 1 or canvas.is_text:
         return [Frame(0, 0, canvas.width, top)] * count
     if canvas.is_narrow:
-        return [Frame(0, top * (2 - number) / 3, canvas.width, top * (3 - number) / 3) for number in range(3)]
-    return [Frame(0, half, middle, top), Frame(middle, half, canvas.width, top), Frame(0, 0, canvas.width, half)]
+        ends = [top * (count - number) / count for number in range(count + 1)]
+        return [Frame(0, low, canvas.width, high) for high, low in zip(ends, ends[1:])]
+    middle, low = canvas.width / 2, 0.52 * top * (count == 3)
+    side_by_side = [Frame(0, low, middle, top), Frame(middle, low, canvas.width, top)]
+    return side_by_side + [Frame(0, 0, canvas.width, low)] * (count == 3)

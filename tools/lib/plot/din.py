@@ -6,10 +6,9 @@ import re
 from lib.plot import pictures
 from lib.plot.pictures import MOST_LINES, Line, Measure, Picture, Point, bytes_text, short, ways_text
 from lib.table import pareto
-from lib.table_din import WORDS, cache, kind, usual_measure
+from lib.table_din import NUMBERS, WORDS, cache, kind, usual_measure
 from lib.tool import fail
 
-NUMBERS = ("size", "bsize", "assoc")
 ACROSS = {"size": "cache size in bytes", "bsize": "block size in bytes", "assoc": "ways"}
 
 
@@ -19,7 +18,8 @@ def varied(table):
 
 
 def across_of(asked, options, several, name):
-    """The option on the horizontal axis: the asked one, else the last size that varies, else the last other number that does."""
+    """The option on the horizontal axis: the asked one, else the last size that varies, else the
+    last other number that does."""
     if asked.across:
         if asked.across not in options or kind(asked.across) not in NUMBERS:
             numbers = [option for option in options if kind(option) in NUMBERS]
@@ -33,7 +33,8 @@ def across_of(asked, options, several, name):
 
 
 def of_measure(table, several):
-    """The options that change the measure: what a first-level cache counts depends on its own alone."""
+    """The options that change the measure: what a first-level cache counts depends on its own
+    alone."""
     if not table.measure.startswith("l1-"):
         return several
     return [option for option in several if table.measure.startswith(f"{cache(option)}-")]
@@ -79,7 +80,8 @@ def point(table, case, x, lines, has_caches):
 
 
 def fix(table, option, wanted, usual, name):
-    """The cases with one value of an option, the wanted one or that nearest to the usual one, and what the title says of it."""
+    """The cases with one value of an option, the wanted one or that nearest to the usual one, and
+    what the title says of it."""
     at = table.options.index(option)
     values = sorted({int(case.given[at]) for case in table.cases})
     value = pictures.nearest(values, usual) if wanted is None else wanted
@@ -89,8 +91,8 @@ def fix(table, option, wanted, usual, name):
 
 
 def fixed(asked, table, across, several, has_caches):
-    """The table with one associativity or block size where these are asked for, of the cache on the horizontal axis, or where there
-    would be too many lines."""
+    """The table with one associativity or block size where these are asked for, of the cache on the
+    horizontal axis, or where there would be too many lines."""
     told = []
     for word, wanted, usual in (("assoc", asked.ways, 4), ("bsize", asked.bsize, 64)):
         for option in [option for option in table.options if kind(option) == word and option != across]:
@@ -111,7 +113,8 @@ def groups(table, across, several):
 
 
 def by_across(asked, table, across, several, measure):
-    """The measure by the option on the horizontal axis, a line for each combination of the others."""
+    """The measure by the option on the horizontal axis, a line for each combination of the
+    others."""
     several = of_measure(table, several)
     has_caches = len({cache(option) for option in [across, *several]}) > 1
     table, told = fixed(asked, table, across, several, has_caches)
@@ -131,7 +134,8 @@ def by_across(asked, table, across, several, measure):
 
 
 def by_front(table, several, measure):
-    """The cases of which no smaller one is as good, before all others. The size is that of all caches together."""
+    """The cases of which no smaller one is as good, before all others. The size is that of all
+    caches together."""
     sizes = [option for option in table.options if kind(option) == "size"]
     lines = [option for option in several if kind(option) != "size" or len(sizes) > 1]
     has_caches = len({cache(option) for option in lines}) > 1

@@ -9,7 +9,7 @@ import textwrap
 from typing import NamedTuple
 
 from lib.plot import pictures
-from lib.plot.canvas import Frame, frames
+from lib.plot.canvas import NARROW, Frame, frames
 from lib.tool import NAME, fail
 
 MARKS = (7, 5, 9, 11, 13, 6, 4)
@@ -17,7 +17,8 @@ DASHES = ("solid", "(9,4)", "(2,3)", "(9,3,2,3)", "(16,5)", "(5,3)", "(9,3,2,3,2
 
 
 class Place(NamedTuple):
-    """Where a picture stands: what its axes enclose, the lines of its title, and how many lines of a legend are below these."""
+    """Where a picture stands: what its axes enclose, the lines of its title, and how many lines of
+    a legend are below these."""
 
     area: Frame
     title: list
@@ -31,12 +32,14 @@ class Place(NamedTuple):
 
 
 def quoted(words):
-    """A text as gnuplot's string, in which nothing is special. An SVG by gnuplot may not have `]]>`, so that is parted."""
+    """A text as gnuplot's string, in which nothing is special. An SVG by gnuplot may not have
+    `]]>`, so that is parted."""
     return "'" + words.replace("'", "''").replace("]]>", "]] >") + "'"
 
 
 def title_of(picture, columns):
-    """The lines of a title. Where it is too long, what the picture fixes or its labels are stands in a line of its own."""
+    """The lines of a title. Where it is too long, what the picture fixes or its labels are stands
+    in a line of its own."""
     labels = f"({picture.labels})" * bool(picture.labels)
     whole = f"{picture.title} {labels}".strip()
     if len(whole) <= columns:
@@ -46,7 +49,8 @@ def title_of(picture, columns):
 
 
 def legend_columns(picture, canvas):
-    """How many names of a legend stand side by side above a narrow picture, and how many lines it then has."""
+    """How many names of a legend stand side by side above a narrow picture, and how many lines it
+    then has."""
     sample = 9 if canvas.is_text else 10 if canvas.is_mono else 8
     broadest = max(len(line.name) for line in picture.lines) + sample
     beside = max(1, int((canvas.columns - (8 if canvas.is_text else 10)) / broadest))
@@ -54,12 +58,14 @@ def legend_columns(picture, canvas):
 
 
 def place_of(picture, frame, canvas, widest):
-    """Where a picture stands in its frame: right of it or above the legend, left and below what is written on the axes. No text of
-    a tick has more letters than `widest`."""
+    """Where a picture stands in its frame: right of it or above the legend, left and below what is
+    written on the axes. No text of a tick has more letters than `widest`."""
     title = title_of(picture, int((frame.right - frame.left) / canvas.letter) - (0 if canvas.is_text else 2))
-    has_names, sample, right, legend = any(line.name for line in picture.lines), 11 if canvas.is_text else 9, 2, 0
+    has_names, right, legend = any(line.name for line in picture.lines), 2, 0
+    sample = 11 if canvas.is_text or canvas.is_mono else 9
     if picture.cloud:
-        legend = 2 * canvas.is_narrow if canvas.is_text else 1 + canvas.is_narrow
+        is_narrow = frame.right - frame.left < NARROW * canvas.letter
+        legend = 2 * is_narrow if canvas.is_text else 1 + is_narrow
     elif has_names and canvas.is_narrow:
         legend = legend_columns(picture, canvas)[1]
     elif has_names:
@@ -104,10 +110,20 @@ def block(name, runs, up):
 
 
 def bars(name, line, up):
-    """The data of the bars from the least to the greatest of several seeds, where there are some."""
+    """The data of the bars from the least to the greatest of several seeds, where there are
+    some."""
     spread = [point for run in line.runs for point in run if point.ends]
-    rows = [f"{point.x} {up.height(point.y):.10g} " + " ".join(f"{up.height(end):.10g}" for end in point.ends) for point in spread]
+    heights = [map(up.height, (point.y, *point.ends)) for point in spread]
+    rows = [" ".join(f"{value:.10g}" for value in (point.x, *three))
+            for point, three in zip(spread, heights)]
     return [f"${name} << END", *rows, "END"] if rows else []
+
+
+def plot_of_bars(name, canvas, drawn):
+    """The plot of such bars, each an arrow with a flat head at both ends. With `yerrorbars` gnuplot
+    5.4 blanks a box at each point, which cuts the bar and hides the marks of other lines."""
+    head = f"heads size screen {0.35 * canvas.letter / canvas.width:.4g},90"
+    return f"${name} using 1:3:(0):($4 - $3) with vectors {head}{drawn} notitle"
 
 
 def plot(plots):
@@ -145,18 +161,26 @@ def of_lines(picture, up, place, canvas):
         name, drawn = f"{picture.name}_{number + 1}", looks(number, canvas)
         spread = bars(f"{name}_ends", line, up)
         data += block(name, line.runs, up) + spread
-        marks = "" if canvas.is_text or picture.is_curve else f" pointtype {MARKS[number]} pointsize {canvas.mark:.3g}"
+        marks = f" pointtype {MARKS[number]} pointsize {canvas.mark:.3g}"
+        marks = "" if canvas.is_text or picture.is_curve else marks
         style = "lines" if picture.is_curve else "linespoints"
         if spread and not canvas.is_text:
-            plots.append(f"${name}_ends with yerrorbars pointtype 7 pointsize 0{drawn.replace(DASHES[number], 'solid')} notitle")
+            plots.append(plot_of_bars(f"{name}_ends", canvas, drawn.replace(DASHES[number], "solid")))
         titled = f"title {quoted(' ' * canvas.is_text + line.name)}" if line.name else "notitle"
-        plots.append(f"${name} with {style}{drawn}{marks} {titled}")
+        if picture.is_front and canvas.is_text:
+            plots.append(f"${name} with steps {titled}")
+        elif picture.is_front:
+            plots += [f"${name} with steps{drawn} notitle", f"${name} with points{drawn}{marks} notitle"]
+            plots.append(f"keyentry with {style}{drawn}{marks} {titled}")
+        else:
+            plots.append(f"${name} with {style}{drawn}{marks} {titled}")
     return data + plot(plots)
 
 
 def labelled(front, across, up, area, canvas):
-    """The caches of the front whose labels, below them to the left, stay clear of each other: nothing else is there. The one that
-    misses least comes first, and then sizes that are powers of two."""
+    """The caches of the front whose labels, below them to the left, stay clear of each other:
+    nothing else is there. The one that misses least comes first, and then sizes that are powers of
+    two."""
 
     def apart(box, other):
         return box.left > other.right or other.left > box.right or box.bottom > other.top or other.bottom > box.top
@@ -174,9 +198,10 @@ def labelled(front, across, up, area, canvas):
     return kept
 
 
-def front_as_text(named, area, canvas):
+def front_as_text(named, place, canvas):
     """The commands for the legend of the Pareto front as text, and what is plotted."""
-    if canvas.is_narrow:
+    area = place.area
+    if place.legend:
         rows = enumerate((f"o {named}", ". all caches"), 2)
         legend = [f"set label {quoted(words)} at screen {canvas.at(3, area.top + row)}" for row, words in rows]
     else:
@@ -186,14 +211,15 @@ def front_as_text(named, area, canvas):
     return [*legend, "unset key"], ["$pareto_steps with steps"] + points
 
 
-def front_in_colours(named, area, canvas):
+def front_in_colours(named, place, canvas):
     """The same in colours."""
-    place = canvas.at((area.left + area.right) / 2, area.top + 0.2 * canvas.line)
+    area = place.area
+    middle = canvas.at((area.left + area.right) / 2, area.top + 0.2 * canvas.line)
     colour = pictures.BLACK if canvas.is_mono else pictures.FRONT
     pale, dark = f"linecolor rgb '{pictures.PALE}'", f"linecolor rgb '{colour}'"
     every, each, ring = (f"{part * canvas.mark:.3g}" for part in (0.5, 0.7, 1.1))
-    way = "vertical" if canvas.is_narrow else "horizontal"
-    return [f"set key at screen {place} center bottom {way} Left reverse title ''"], [
+    way = "vertical" if place.legend > 1 else "horizontal"
+    return [f"set key at screen {middle} center bottom {way} Left reverse title ''"], [
         f"$pareto_all with points pointtype 7 pointsize {every} {pale} title 'all caches'",
         f"$pareto_steps with steps linewidth {canvas.stroke:.3g} {dark} title {quoted(named)}",
         f"$pareto_front with points pointtype 7 pointsize {each} {dark} notitle",
@@ -202,7 +228,8 @@ def front_in_colours(named, area, canvas):
 
 
 def of_front(picture, across, up, place, canvas):
-    """The data of the Pareto front, its labels, and the command that plots it. The step of its last cache goes on to the end."""
+    """The data of the Pareto front, its labels, and the command that plots it. The step of its last
+    cache goes on to the end."""
     front, named, area = picture.lines[0].runs[0], picture.lines[0].name, place.area
     steps = front + [front[-1]._replace(x=max(point.x for point in picture.cloud))]
     cells = (area.right - area.left) / canvas.letter * 4, (area.top - area.bottom) / canvas.line * 8
@@ -215,7 +242,7 @@ def of_front(picture, across, up, place, canvas):
     for point in chosen:
         where = f"{point.x},{up.height(point.y):.10g}"
         lines += [f"set label {quoted(point.label)} at {where} right offset character {offset}{font}"]
-    legend, plots = (front_as_text if canvas.is_text else front_in_colours)(named, area, canvas)
+    legend, plots = (front_as_text if canvas.is_text else front_in_colours)(named, place, canvas)
     return lines + legend + plot(plots if chosen else plots[:-1])
 
 
@@ -225,7 +252,7 @@ def beginning(canvas, title):
     if canvas.is_text:
         return lines + ["set tics nomirror scale 0"]
     lines += ["set tics nomirror textcolor rgb 'black'", "set border linecolor rgb '#606060'"]
-    lines += [f"set key samplen {4 if canvas.is_mono else 2.5}", f"set bars {0.6 * canvas.mark:.3g}"]
+    lines += [f"set key samplen {4 if canvas.is_mono else 2.5}"]
     lines += ["set grid linetype 1 linewidth 1 linecolor rgb '#e4e4e4'"]
     large = max(canvas.small, canvas.large * min(1, 0.75 * canvas.columns / max(1, len(title))))
     return lines + ["set multiplot" + f" title {quoted(title)} font ',{large:.3g}'" * bool(title)]
@@ -259,7 +286,8 @@ def check():
 
 
 def drawn_by(script):
-    """What gnuplot draws by a script, as bytes. In another encoding than UTF-8 it warns of letters that it can't convert."""
+    """What gnuplot draws by a script, as bytes. In another encoding than UTF-8 it warns of letters
+    that it can't convert."""
     ran = subprocess.run(["gnuplot", "-d"], input=script.encode(), capture_output=True, env={**os.environ, "LC_ALL": "C.UTF-8"})
     told = " ".join(ran.stderr.decode(errors="replace").split())
     if ran.returncode or not ran.stdout:
@@ -270,6 +298,7 @@ def drawn_by(script):
 
 
 def lines_of(drawn):
-    """The lines of a text picture without the blanks at their ends, an empty one between two pages."""
+    """The lines of a text picture without the blanks at their ends, an empty one between two
+    pages."""
     pages = [page.rstrip().splitlines() for page in drawn.decode(errors="replace").split("\f") if page.strip()]
     return [line.rstrip() for number, page in enumerate(pages) for line in [""] * bool(number) + page]

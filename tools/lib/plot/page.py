@@ -10,9 +10,9 @@ from lib.tool import fail
 
 SYMBOLS = ("circle", "square", "triangle-up", "triangle-down", "diamond", "circle-open", "square-open")
 DASHES = ("solid", "dash", "dot", "dashdot", "longdash", "longdashdot", "8px,3px,2px,3px,2px,3px")
-MOST_CHOICES = 64
 MOST_POINTS = 4000
-# what may be chosen for a picture: its word, its name after the page's '#', and the texts of the choices
+# what may be chosen for a picture: its word, its name after the page's '#', and the texts of the
+# choices
 BLOCK_SIZE = ("Block size", "bsize", pictures.bytes_text)
 MENUS = {"size": BLOCK_SIZE, "curve": BLOCK_SIZE, "block": ("Associativity", "ways", pictures.ways_text)}
 FONT = "system-ui, 'DejaVu Sans', Verdana, sans-serif"
@@ -85,7 +85,8 @@ for (const query of [narrow, dark]) query.onchange = () => shows.forEach(show =>
 
 
 def points(some, up, about):
-    """The places of some caches, and what is told about each where the pointer is over it. None cuts a line."""
+    """The places of some caches, and what is told about each where the pointer is over it. None
+    cuts a line."""
     return {
         "x": [point and point.x for point in some],
         "y": [point and up.height(point.y) for point in some],
@@ -111,6 +112,8 @@ def of_lines(picture, up, about, mono):
         some = [point for run in line.runs for point in [None, *run]][1:]
         colour = pictures.BLACK if mono else colour
         looks = {"line": {"color": colour, **({"dash": dash} if mono else {})}, "marker": {"color": colour, "symbol": symbol, "size": 8}}
+        if picture.is_front:
+            looks["line"]["shape"] = "hv"
         mode = "lines" if picture.is_curve else "lines+markers"
         traces.append({**points(some, up, about), "mode": mode, "name": line.name, **looks, **bars(some, up, colour)})
     return traces
@@ -152,7 +155,8 @@ def ticks(ends):
 
 
 def figure(picture, up, measure, mono):
-    """A picture as plotly has it, with its title, and the ticks of its horizontal axis for a narrow page and a wide one."""
+    """A picture as plotly has it, with its title, and the ticks of its horizontal axis for a narrow
+    page and a wide one."""
     few, many = (pictures.size_axis([point.x for point in picture.points], closest) for closest in (0.15, 0.05))
     picture = pictures.thinned_lines(picture, many, up, 1000, 500)
     places, words = ticks(up)
@@ -184,7 +188,8 @@ def section(picture, offered):
 
 
 def page(drawn, measure, title, counts, choices, mono):
-    """The page with these pictures of a table. `choices` answers what may be chosen in place of one."""
+    """The page with these pictures of a table. `choices` answers what may be chosen in place of
+    one."""
     offered = [choices(picture) for picture in drawn]
     shown = [point for several in offered for picture in several.values() for point in picture.points]
     up = pictures.value_axis(shown, measure, 0.062)
@@ -192,7 +197,7 @@ def page(drawn, measure, title, counts, choices, mono):
         picture.name: {fixed: figure(chosen, up, measure, mono) for fixed, chosen in several.items()}
         for picture, several in zip(drawn, offered)
     }
-    heading = html.escape(title or "Miss ratios of caches")
+    heading = html.escape(title or measure.heading)
     return f"""<!DOCTYPE html>
 <html lang="en">
 <head>
@@ -218,7 +223,11 @@ const darkColours = {as_script(DARK)};
 def of_sweep(drawn, rows, measure, title, mono):
     """The page for a table of a sweep."""
     counts = f"{len(rows):,} cache{'s' * (len(rows) > 1)}, {rows[0].references:,} references"
-    return page(drawn, measure, title, counts, lambda picture: plot_sweep.choices(picture, rows, measure, MOST_CHOICES), mono)
+
+    def choices(picture):
+        return plot_sweep.choices(picture, rows, measure)
+
+    return page(drawn, measure, title, counts, choices, mono)
 
 
 def of_din(drawn, table, measure, title, mono):
@@ -226,6 +235,11 @@ def of_din(drawn, table, measure, title, mono):
     runs = sum(len(case.values) for case in table.cases)
     counts = f"{runs:,} run{'s' * (runs > 1)}, {table.references:,} references"
     return page(drawn, measure, title, counts, lambda picture: {picture.fixed: picture}, mono)
+
+
+def of_tables(drawn, count, measure, title, mono):
+    """The page for several tables."""
+    return page(drawn, measure, title, f"{count} tables", lambda picture: {picture.fixed: picture}, mono)
 
 
 def as_script(data):

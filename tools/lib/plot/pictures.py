@@ -7,13 +7,15 @@ from lib.tool import size_text
 
 NAMES = ("size", "block", "pareto", "curve")
 MOST_LINES = 7
-# of Okabe and Ito: people see them apart whatever colours they are blind to. Their yellow is too pale on white.
+# of Okabe and Ito: people see them apart whatever colours they are blind to. Their yellow is too
+# pale on white.
 COLOURS = ("#0072b2", "#d55e00", "#009e73", "#cc79a7", "#e69f00", "#56b4e9", "#000000")
 PALE, FRONT, BLACK = "#bbbbbb", "#d55e00", "#000000"
 
 
 class Point(NamedTuple):
-    """A cache in a picture: its place, what is told about it, its label, and the least and greatest of several seeds."""
+    """A cache in a picture: its place, what is told about it, its label, and the least and greatest
+    of several seeds."""
 
     x: int
     y: float
@@ -23,20 +25,26 @@ class Point(NamedTuple):
 
 
 class Line(NamedTuple):
-    """A line of a picture: its name in the legend, and its points, cut where one is missing between two of them."""
+    """A line of a picture: its name in the legend, and its points, cut where one is missing between
+    two of them."""
 
     name: str
     runs: list
 
 
 class Measure(NamedTuple):
-    """What stands on the vertical axis: its name there and above the pictures, what is told of a point, and whether it is in per
-    cent."""
+    """What stands on the vertical axis: its name there and above the pictures, what is told of a
+    point, and whether it is in per cent."""
 
     up: str = "miss ratio in per cent"
     name: str = "Miss ratio"
     about: str = ""
     is_percent: bool = True
+
+    @property
+    def heading(self):
+        """What stands above a page of several pictures."""
+        return "Miss ratios of caches" if self.name == "Miss ratio" else self.name
 
     @property
     def least(self):
@@ -47,8 +55,10 @@ class Measure(NamedTuple):
 
 
 class Picture(NamedTuple):
-    """A picture of some caches. `fixed` is the block size, or the ways, that all its caches have. The picture of a Pareto front has
-    one line, the front, above a cloud of all caches, and says what their labels are. A curve is a line without marks."""
+    """A picture of some caches. `fixed` is the block size, or the ways, that all its caches have.
+    The picture of a Pareto front has one line, the front, above a cloud of all caches, and says
+    what their labels are; those of several tables have a line for each, and no cloud. A curve is a
+    line without marks."""
 
     name: str
     fixed: int
@@ -59,6 +69,7 @@ class Picture(NamedTuple):
     cloud: list = []
     labels: str = ""
     is_curve: bool = False
+    is_front: bool = False
 
     @property
     def points(self):
@@ -67,7 +78,8 @@ class Picture(NamedTuple):
 
 
 class Axis(NamedTuple):
-    """An axis: its ends, whether it is logarithmic, its ticks with their texts, the ticks without, and where 0 stands on it."""
+    """An axis: its ends, whether it is logarithmic, its ticks with their texts, the ticks without,
+    and where 0 stands on it."""
 
     low: float
     high: float
@@ -105,7 +117,8 @@ def nearest(values, wanted):
 
 
 def handful(values, most=MOST_LINES):
-    """Some numbers in order: all where they are few, else the powers of two where they are several; if need be evenly thinned."""
+    """Some numbers in order: all where they are few, else the powers of two where they are several;
+    if need be evenly thinned."""
     values = sorted(set(values))
     powers = [value for value in values if value & (value - 1) == 0]
     if len(values) > most and len(powers) > 2:
@@ -120,7 +133,8 @@ def evenly(values, most=MOST_LINES):
 
 
 def linear_axis(greatest, closest, most):
-    """An axis from 0 to a bit above a value. No two ticks are closer than a part `closest` of it."""
+    """An axis from 0 to a bit above a value. No two ticks are closer than a part `closest` of
+    it."""
     high = 1.05 * greatest or 1.0
     power = 10.0 ** math.floor(math.log10(high * closest))
     step = next(step * power for step in (1, 2, 5, 10, 20) if step * power >= high * closest)
@@ -131,13 +145,14 @@ def linear_axis(greatest, closest, most):
 def number_text(value):
     """A number in few letters: 0.05, 2000, 20M."""
     for unit, letter in ((1e12, "T"), (1e9, "G"), (1e6, "M"), (1e3, "k")):
-        if value >= unit:
+        if unit <= value < 1e15:
             return f"{value / unit:.6g}{letter}"
-    return f"{value:.6g}".replace("e-0", "e-")
+    return f"{value:.6g}".replace("e-0", "e-").replace("e+", "e")
 
 
 def log_ticks(low, high, closest):
-    """The most ticks for an axis between two values of which no two are closer than a part `closest` of it."""
+    """The most ticks for an axis between two values of which no two are closer than a part
+    `closest` of it."""
     decades = range(math.floor(math.log10(low)), math.ceil(math.log10(high)) + 1)
     whole = [10.0 ** decade for decade in decades]
     span = math.log10(high / low)
@@ -149,7 +164,8 @@ def log_ticks(low, high, closest):
 
 
 def log_axis(values, closest, most):
-    """A logarithmic axis around some values. Where 0 is among them it stands at the foot of the axis."""
+    """A logarithmic axis around some values. Where 0 is among them it stands at the foot of the
+    axis."""
     least, greatest = min(value for value in values if value), max(values)
     span = greatest / least
     foot = least / span ** 0.12 if 0 in values else 0.0
@@ -163,9 +179,11 @@ def log_axis(values, closest, most):
 
 
 def value_axis(points, measure, closest):
-    """The axis of the measure: logarithmic where the greatest value is five times the least or more."""
+    """The axis of the measure: logarithmic where the greatest value is five times the least or
+    more."""
     values = [value for point in points for value in (point.y, *point.ends)]
-    above, most = [value for value in values if value], 100 if measure.is_percent else math.inf
+    above = [value for value in values if value]
+    most = 100 if measure.is_percent and max(values) <= 100 else math.inf
     if above and max(above) >= 5 * min(above):
         return log_axis(values, closest, most)
     return linear_axis(max(values), 1.5 * closest, most)
@@ -184,7 +202,8 @@ def size_axis(sizes, closest):
 
 
 def thinned(points, across, up, columns, lines):
-    """Some points without those that would stand in one and the same cell of so many columns and lines."""
+    """Some points without those that would stand in one and the same cell of so many columns and
+    lines."""
     cells = {}
     for point in points:
         cell = round(columns * across.fraction(point.x)), round(lines * up.fraction(up.height(point.y)))

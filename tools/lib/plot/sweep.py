@@ -1,8 +1,10 @@
 """The pictures of a sweep's table."""
 
+import html
+
 from lib.plot import pictures
 from lib.plot.pictures import Line, Measure, Picture, Point, bytes_text, handful, short, ways_text
-from lib.table import pareto
+from lib.table import COUNTS, pareto
 from lib.tool import fail
 
 ABOUT = (
@@ -10,6 +12,7 @@ ABOUT = (
     "hits %{customdata[4]:,}, misses %{customdata[5]:,}, evictions %{customdata[6]:,}<br>"
 )
 MANY = 32  # from so many points on a curve has no marks
+MOST_CHOICES = 64  # of a menu of a page
 
 
 def judge(rows, name):
@@ -28,19 +31,23 @@ def judge(rows, name):
 
 
 def measure_of(column):
-    """How the measure is called. It is drawn in per cent of the references."""
+    """How the measure is called. It is drawn in per cent of the references where it counts some."""
     if column == "misses":
         return Measure(about=ABOUT + "miss ratio %{customdata[7]:.4~g} %<extra></extra>")
-    up = f"{column} in per cent of references"
-    return Measure(up, column[0].upper() + column[1:], f"{ABOUT}{up}: %{{customdata[7]:.4~g}}<extra></extra>")
+    name, is_count = column[:1].upper() + column[1:], column in COUNTS
+    up = f"{column} in per cent of references" if is_count else column
+    value = f"%{{customdata[7]:{'.4' if is_count else '.10'}~g}}"
+    return Measure(up, name, f"{ABOUT}{html.escape(up)}: {value}<extra></extra>", is_count)
 
 
 def point(row, x):
-    return Point(x, row.percent, (*row[:7], row.percent), ",".join(map(str, row.cache)))
+    shown = float(row.share)
+    return Point(x, shown, (*row[:7], shown), ",".join(map(str, row.cache)))
 
 
 def cut(rows, step, steps):
-    """The rows of a line in runs: a run ends where there is a step, which other lines have, between a row and the next one."""
+    """The rows of a line in runs: a run ends where there is a step, which other lines have, between
+    a row and the next one."""
     runs = [[]]
     for row in rows:
         if runs[-1] and any(step(runs[-1][-1]) < other < step(row) for other in steps):
@@ -66,7 +73,8 @@ def by_size(rows, bsize, measure):
 
 
 def by_ways(rows, bsize, measure):
-    """The curve of each number of sets at one block size, over all ways; with one number of sets the curve of each block size."""
+    """The curve of each number of sets at one block size, over all ways; with one number of sets
+    the curve of each block size."""
     across, sets = "cache size in bytes", sorted({row.sets for row in rows})
     if len(sets) > 1:
         rows = [row for row in rows if row.bsize == bsize]
@@ -85,7 +93,8 @@ def by_ways(rows, bsize, measure):
 
 
 def by_block(rows, ways, measure):
-    """By block size at one associativity, a line for each cache size; a size of several block sizes is preferred."""
+    """By block size at one associativity, a line for each cache size; a size of several block sizes
+    is preferred."""
     rows = sorted(row for row in rows if row.assoc == ways)
     blocks = {row.bsize for row in rows}
     sizes = [row.size for row in rows]
@@ -106,7 +115,8 @@ def by_front(rows, measure):
 
 
 def fixed(values, wanted, usual, name, what):
-    """The block size or associativity that a picture is for: the wanted one, or the usual one or the nearest to it."""
+    """The block size or associativity that a picture is for: the wanted one, or the usual one or
+    the nearest to it."""
     values = sorted(set(values))
     if wanted is None:
         return pictures.nearest(values, usual)
@@ -121,8 +131,15 @@ def is_curve(rows):
     return len({row.sets for row in rows}) == 1 and len({row.assoc for row in rows}) > 1
 
 
+def is_broad(picture):
+    """Whether its axis has more than one size: else its points stand in a column."""
+    return len({point.x for point in picture.points}) > 1
+
+
 def drawn(asked, rows, measure):
-    """The pictures that are asked for; the first of the three is a curve where there is one number of sets."""
+    """The pictures that are asked for. Without a wish these are three, of which the first is a
+    curve where there is one number of sets, without those that are a column whatever is chosen in a
+    page."""
     bsize = fixed((row.bsize for row in rows), asked.bsize, 64, asked.table, "the block size")
     ways = fixed((row.assoc for row in rows), asked.ways, 4, asked.table, "the associativity")
     first = "curve" if is_curve(rows) else "size"
@@ -132,15 +149,21 @@ def drawn(asked, rows, measure):
         "block": lambda: by_block(rows, ways, measure),
         "pareto": lambda: by_front(rows, measure),
     }
-    return [made[name]() for name in ([asked.only] if asked.only else [first, "block", "pareto"])]
+    if asked.only:
+        return [made[asked.only]()]
+    usual = [made[name]() for name in (first, "block", "pareto")]
+    offered = {picture.name: [picture] for picture in usual}
+    if asked.ending == ".html":
+        offered = {picture.name: choices(picture, rows, measure).values() for picture in usual}
+    return [picture for picture in usual if any(map(is_broad, offered[picture.name]))] or usual[:1]
 
 
-def choices(picture, rows, measure, most):
+def choices(picture, rows, measure):
     """The pictures that may be chosen in place of one: by what they fix."""
     if picture.name == "size":
         return {bsize: by_size(rows, bsize, measure) for bsize in sorted({row.bsize for row in rows})}
     if picture.name == "block":
-        values = handful((row.assoc for row in rows), most)
+        values = handful((row.assoc for row in rows), MOST_CHOICES)
         return {ways: by_block(rows, ways, measure) for ways in sorted({*values, picture.fixed})}
     if picture.name == "curve" and len({row.sets for row in rows}) > 1:
         return {bsize: by_ways(rows, bsize, measure) for bsize in sorted({row.bsize for row in rows})}
