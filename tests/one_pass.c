@@ -2,8 +2,8 @@
 //
 //     one_pass [--each] BSIZE SETS ASSOC SIZE TRACE     each of the four as LOWEST-GREATEST, in plain decimal numbers
 //
-// With --each every profile looks at every reference, and none is left out where another one decides for it. TRACE is a din trace of labels 0 to 2, a space after each, and 1 to 16 digits up to the line's end. The table goes to standard
-// output.
+// With --each every profile looks at every reference, and none is left out where another one decides for it. TRACE is a din trace
+// of labels 0 to 2, a space after each, and 1 to 16 digits up to the line's end. The table goes to standard output.
 #define _DEFAULT_SOURCE
 #include <fcntl.h>
 #include <stdint.h>
