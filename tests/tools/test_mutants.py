@@ -66,7 +66,7 @@ class TheTable(ToolTest):
         tests = [found for row in self.rows for found in re.findall(r"`(\w+)::(\w+)`", row[1])]
         self.assertGreater(len(tests), 0)
         for module, name in tests:
-            source = (TOP / "crates/worked_examples/src" / f"{module}.rt").read_text()
+            source = next(TOP.glob(f"crates/worked_*/src/{module}.rt")).read_text()
             self.assertIn(f"#[test]\nfn {name}(", source)
             self.assertIn(f'"{module}::{name}"', (TOP / "tests/refusals-library").read_text())
 

@@ -2,8 +2,7 @@
 ghost use Rattle.std.specs.Prelude.{◌<◌, ◌≤◌, length};
 ghost use Rattle.arguments.specs.Job.{max_lines_of};
 
-use crate::samples::{HANDOUT, HANDOUT_TEXT, NINE};
-use crate::sweeps::{TABLE, request};
+use crate::samples::{HANDOUT, HANDOUT_TEXT, NINE, TABLE};
 use arguments::job::Job;
 use cache_core::geometry::Geometry;
 use cache_core::outcome::{AllocMode, Repl, WriteMode};
@@ -15,7 +14,10 @@ use commands::log::log;
 use std::alloc::Global;
 use std::process::Abort;
 use std::test::Fail;
+use sweep_core::request::Request;
+use sweep_core::space::Space;
 use trace_core::devices::{ArraySink, LoopSource, TapeSource};
+use trace_core::events::Kind;
 use trace_core::fault::{RunFault, TraceFault};
 use trace_core::line::{Format, LineFault};
 use trace_core::reader::MAX_LINES;
@@ -317,7 +319,14 @@ fn expect_done(
 
 #[test]
 fn a_job_of_sweep(rt: HostRuntime) -> Result<(), Fail> {
-    let request = request(2, (1, 2), (16, 64))?;
+    let request = Request {
+        space: Space::new((16, 16), (1, 2), (1, 2), (16, 64), false)?,
+        kind: Kind::All,
+        format: Format::Din,
+        after: None,
+        rows: None,
+        max_lines: MAX_LINES,
+    };
     expect_done(&rt, rt.alloc(), &Job::Sweep { request }, NINE, TABLE)
 }
 
