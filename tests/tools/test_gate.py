@@ -1,30 +1,20 @@
 """What the gate, tests/all, makes of what the kit's command rt says."""
 
 import contextlib
-import importlib.machinery
-import importlib.util
 import io
 from unittest import mock
 
-from base import TOP, ToolTest
+from base import TOP, ToolTest, script
 
 CRATES = len(list(TOP.glob("crates/*/src")))
 EDITS = len(list(TOP.glob("crates/*/must-fail/*.edit")))
 ALL = f"{CRATES + EDITS} passed, 0 failed"
 
 
-def load():
-    """The script as a module."""
-    loader = importlib.machinery.SourceFileLoader("gate", str(TOP / "tests/all"))
-    module = importlib.util.module_from_spec(importlib.util.spec_from_loader("gate", loader))
-    loader.exec_module(module)
-    return module
-
-
 class Gate(ToolTest):
     def judge(self, lines, status, wanted):
         """Compares the sum of the gate, where rt ci writes these lines, with the sum that is wanted."""
-        gate = load()
+        gate = script("all")
         with mock.patch.object(gate, "shown", lambda command: (lines, status)), contextlib.redirect_stdout(io.StringIO()):
             self.assertEqual(gate.gate(), wanted)
 
