@@ -14,7 +14,7 @@
    KEEPS      each of the first hundred reads asks for a megabyte of memory, and keeps it
    GREEDY     with 2^20 sets among its arguments the program takes four megabytes more than it needs
    PIECES     no read and no write moves more than 4,096 bytes
-   SLOW       each read takes a millisecond, and -v half a second */
+   SLOW       the 300th read takes 0.3 s of the processor, and -v a second */
 #define _GNU_SOURCE
 #include <ctype.h>
 #include <dlfcn.h>
@@ -43,7 +43,7 @@ int main(int argc, char **argv) {
 #define JOINED(value) IS(COMMA_##value)
 #define HAS(name) JOINED(name)
 
-static int is_of_command, has_written, megabytes;
+static int is_of_command, has_written, reads;
 
 static int is_among(const char *text, char **words) {
     for (; *words; words++)
@@ -78,7 +78,7 @@ __attribute__((constructor)) static void begin(int argc, char **argv) {
     const char *command = getenv("WRONG_COMMAND");
     is_of_command = !command || is_among(command, argv);
     if (HAS(STATUS)) on_exit(end, NULL);
-    if (HAS(SLOW) && is_among("-v", argv)) work(500);
+    if (HAS(SLOW) && is_among("-v", argv)) work(1000);
     if (HAS(GREEDY) && has_many_sets(argv)) take(4 << 20);
 }
 
@@ -86,8 +86,9 @@ static size_t at_most(size_t size) { return HAS(PIECES) && size > 4096 ? 4096 : 
 
 ssize_t read(int file, void *into, size_t size) {
     ssize_t (*next)(int, void *, size_t) = dlsym(RTLD_NEXT, "read");
-    if (HAS(SLOW)) work(1);
-    if (HAS(KEEPS) && megabytes++ < 100) take(1 << 20);
+    reads++;
+    if (HAS(SLOW) && reads == 300) work(300);
+    if (HAS(KEEPS) && reads <= 100) take(1 << 20);
     ssize_t got = next(file, into, at_most(size));
     return HAS(AGAIN) && !got ? next(file, into, size) : got;
 }
