@@ -2,6 +2,8 @@
 
 import collections
 import importlib
+import importlib.machinery
+import importlib.util
 import os
 import pathlib
 import shutil
@@ -56,6 +58,14 @@ PLAIN = bool(os.environ.get("CACHESIM_PLAIN_TESTS"))
 # the model of the program, which shares nothing with it
 sys.path.append(str(TOP / "tests"))
 model = importlib.import_module("model")
+
+
+def script(name):
+    """A script of tests/ as a module."""
+    loader = importlib.machinery.SourceFileLoader(name.replace("-", "_"), str(TOP / "tests" / name))
+    module = importlib.util.module_from_spec(importlib.util.spec_from_loader(loader.name, loader))
+    loader.exec_module(module)
+    return module
 
 
 def references(text, format="d", kind="u"):

@@ -5,6 +5,8 @@ import shutil
 
 from base import TOP, ToolTest
 
+ROWS, WORKED = "cache_core/proofs/WindowRows.antt", "worked_examples/src/profiles.rt"
+EDIT = "crates/sweep_core/must-fail/kind_is_ignored.edit"
 READ, TASK, LAWS = "trace_core/src/io.rt", "trace_core/specs/Task.antt", "sweep_core/src/laws.rt"
 FLUSHED = "  pub flushes : sink'.flushes ≡ one_more sink.flushes\n"
 
@@ -15,9 +17,10 @@ class TheLedger(ToolTest):
         self.assertEqual(ran.returncode, 0, ran.stdout.decode()[-2000:])
 
     def copy(self):
-        """A copy of the contracts and the ledger."""
-        ignored = shutil.ignore_patterns("out", "proofs", "must-fail")
-        shutil.copytree(TOP / "crates", self.folder / "crates", ignore=ignored, dirs_exist_ok=True)
+        """A copy of the contracts, the ledger, and what it counts."""
+        ignored = shutil.ignore_patterns("out")
+        for name in ("crates", "tests/cases"):
+            shutil.copytree(TOP / name, self.folder / name, ignore=ignored, dirs_exist_ok=True)
         for name in ("tests/ledger", "tests/common.py", "docs/proofs.md"):
             (self.folder / name).parent.mkdir(exist_ok=True)
             shutil.copy(TOP / name, self.folder / name)
@@ -64,6 +67,27 @@ class TheLedger(ToolTest):
         self.fails_after("sweep_core/src/sweep.rt", work, r"    /*\n\1    */\n{", "FAILED sweep.work: there is no such clause")
         size = r" +ensures \{ result ≡ size_of self\.now \}\n"
         self.fails_after("cache_core/src/geometry.rt", size, "", "cache_core::Geometry::size: gone")
+
+    def test_what_is_counted(self):
+        """A file of cases, a case, a worked row of each kind, an edit and a condition are missed."""
+        self.copy()
+        cases = self.folder / "tests/cases"
+        for path, text in (
+            (cases / "log.cases", "tests/cases/log.cases: gone or changed"),
+            (self.folder / EDIT, f"{EDIT}: gone or changed"),
+        ):
+            path.rename(self.folder / "away")
+            ran = self.run_command(self.folder / "tests/ledger")
+            self.assertEqual(ran.returncode, 1)
+            self.assertIn(f"FAILED {text}", ran.stdout.decode())
+            (self.folder / "away").rename(path)
+        self.fails_after("../tests/cases/din.cases", r"== din-lru\n.*?\n\n", "", "FAILED tests/cases/din.cases: new")
+        rows = f"FAILED crates/{ROWS}: new or changed"
+        self.fails_after(ROWS, r"nine_held : .*?refl\n", "", rows)
+        self.fails_after(ROWS, r"(nine_held : .*?) ∷ 5 ∷ \[\]\) ≡ 1 ∷ 3 ∷ 4", r"\1 ∷ []) ≡ 1 ∷ 3", rows)
+        worked = f"FAILED crates/{WORKED}: new or changed"
+        self.fails_after(WORKED, r"#\[test\]\n", "", worked)
+        self.fails_after(WORKED, r"profile\.probes\(\)\.saturating_sub\(before\) == \*wanted", "true", worked)
 
     def test_a_change_is_acknowledged(self):
         self.copy()
