@@ -190,6 +190,14 @@ class ToolTest(unittest.TestCase):
         os.close(reader)
         self.assertEqual((running.communicate(timeout=20)[1], running.returncode), (b"", 141))
 
+    def stand_in(self, command, *lines):
+        """Puts a script for bash into a folder of its own, to be found in place of a command. Returns the path to be searched."""
+        folder = self.folder / "stand-ins"
+        folder.mkdir(exist_ok=True)
+        (folder / command).write_text("\n".join(["#!/bin/bash", *lines, ""]))
+        (folder / command).chmod(0o755)
+        return {"PATH": f"{folder}:{PROGRAM.parent}:{os.environ['PATH']}"}
+
     def packed(self, trace):
         """Puts a trace into the folder, packed by xz and by zstd."""
         (self.folder / "t.xz").write_bytes(self.run_command("xz", "-c", trace).stdout)

@@ -3,7 +3,6 @@
 import gzip
 import os
 import pathlib
-import shutil
 import signal
 import subprocess
 import time
@@ -58,14 +57,30 @@ class Traces(Shared):
 
     def test_a_signal(self):
         """Also where the tool alone is ended: its reader must not take a part for the whole."""
-        command = [TOOLS / "second-level", "-", *CACHE]
-        running = subprocess.Popen(command, stdin=subprocess.PIPE, stdout=subprocess.PIPE, **self.in_folder())
-        running.stdin.write(LINES)
-        running.stdin.flush()
-        time.sleep(0.5)
-        running.send_signal(signal.SIGTERM)
-        written = running.communicate(timeout=20)[0]
-        self.assertTrue(written.endswith(b"second-level failed: what stands above is not all\n"), written[-100:])
+        for tool in TRACES:
+            before, behind = READERS[tool]
+            for number in (signal.SIGTERM, signal.SIGHUP, signal.SIGINT):
+                command = [TOOLS / tool, *before, "-", *behind]
+                running = subprocess.Popen(command, stdin=subprocess.PIPE, stdout=subprocess.PIPE, **self.in_folder())
+                running.stdin.write(LINES)
+                running.stdin.flush()
+                time.sleep(0.5)
+                running.send_signal(number)
+                written = running.stdout.read()  # while its input goes on
+                self.assertTrue(written.endswith(f"{tool} failed: what stands above is not all\n".encode()), written[-100:])
+                self.assertNotEqual(running.wait(timeout=20), 0)
+                running.stdin.close()
+                running.stdout.close()
+
+    def test_a_converter_that_is_killed(self):
+        copy_tools(self.folder, "to-din")
+        self.good(self.run_command(self.folder / "to-din", "--build"))
+        (self.folder / "out/to-din").write_text("#!/bin/bash\nread -r; echo 0 10; kill -KILL $$\n")
+        for words, stdin in ((["addresses"], b"10\n20\n"), (["addresses", "file"], b""), (["addresses", "file.gz"], b"")):
+            (self.folder / "file").write_text("10\n20\n")
+            self.run_command("gzip", "-kf", "file")
+            ran = self.run_command(self.folder / "to-din", *words, stdin=stdin)
+            self.assertEqual((ran.returncode, ran.stdout), (1, b"0 10\n" + b"to-din failed: what stands above is not all\n"))
 
 
 class Signals(Shared):

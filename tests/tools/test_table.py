@@ -5,7 +5,6 @@ import unittest
 from lib import table
 
 
-
 class Reading(unittest.TestCase):
     def test_rows(self):
         rows = table.read_table([table.HEADER + "\n", "16,1,2,32,4,5,3\n"], "t")

@@ -135,12 +135,26 @@ stop() {
 
 stop_jobs() { stop "$BASHPID"; }
 
-# watched COMMAND..: runs a command. If a signal ends it, one line says so, instead of bash's, which names a line of this file
+# watched COMMAND..: runs a command. If a signal ends it, one line says so, instead of bash's, which names a line of this file. It fails
+# also where the command can't be run so, as with a closed standard error
 watched() {
     local status=0
-    { "$@" 2>&8 8>&- || status=$?; } 8>&2 2> /dev/null
-    [ $status -gt 128 ] && [ $status != 141 ] || return $status
-    printf '%s: %s ended with signal %s\n' "$name" "${1##*/}" $((status - 128)) >&2
+    { "$@" 2>&8 8>&-; } 8>&2 2> /dev/null || status=$?
+    [ "$1" != command ] || shift
+    tell_signal $status "$1"
+}
+
+# beside COMMAND..: the same beside this shell, which then heeds each signal at once: it would wait for a command in front
+beside() {
+    local status=0
+    { "$@" <&0 2>&8 8>&- & wait $!; } 8>&2 2> /dev/null || status=$?
+    tell_signal $status "$1"
+}
+
+# tell_signal STATUS COMMAND: answers the status of a command that has ended; that of a signal is told, and 1
+tell_signal() {
+    [ "$1" -gt 128 ] && [ "$1" != 141 ] || return "$1"
+    printf '%s: %s ended with signal %s\n' "$name" "${2##*/}" $(($1 - 128)) >&2
     return 1
 }
 
@@ -166,8 +180,8 @@ unpacked() {
 }
 
 # awk, sorted: where these fail, it is a fault of the run; the status of awk and sort, 2, is that of wrong arguments here
-awk() { command awk "$@" || return $(($? == 2 ? 1 : $?)); }
-sorted() { sort "$@" || return $(($? == 2 ? 1 : $?)); }
+awk() { watched command awk "$@" || return $(($? == 2 ? 1 : $?)); }
+sorted() { watched sort "$@" || return $(($? == 2 ? 1 : $?)); }
 
 # find_compiler: sets `compiler` to the words of CC, or else to cc; ends where it is missing
 find_compiler() {

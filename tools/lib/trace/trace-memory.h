@@ -9,7 +9,7 @@
 #include <stdint.h>
 
 // LAYOUT changes with this file, so that two halves that were compiled from different ones don't meet.
-enum { LAYOUT = 2, BLOCKS = 64, REFERENCES = 4096 };
+enum { LAYOUT = 3, BLOCKS = 64, REFERENCES = 4096 };
 
 // references of one thread, in their order
 struct block {
@@ -25,6 +25,8 @@ struct memory {
     _Atomic bool ran;             // the program's code was seen
     _Atomic bool began;           // so did the trace
     _Atomic bool exited;          // the program ended by itself, so it is not another program since
+    _Atomic bool forked;          // it has had children
+    _Atomic int map_fault;        // why the map lacks something, as in errno; 0 where it lacks nothing
     sem_t full, empty;            // how many blocks wait to be written, and to be filled
     _Atomic uint64_t empty_ones;  // a bit for each block
     _Atomic uint32_t handed_over; // so many were, and block N of them is order[N % BLOCKS]

@@ -5,6 +5,7 @@
 // trace-run starts QEMU so, FD being the memory's descriptor; trace has the help. FILE gets what was loaded where. HEX is how far a
 // function is behind the start of the program's code. No descriptor is kept: the program may close those that it doesn't know, and open
 // its own files under their numbers.
+#include <errno.h>
 #include <limits.h>
 #include <pthread.h>
 #include <stddef.h>
@@ -120,6 +121,7 @@ static const char *map_name;  // NULL where no map is wanted
 static struct { uint64_t from, to; } mapped[MAPPINGS];  // in QEMU's addresses
 static unsigned mapped_count;
 static bool has_stack;
+static bool lacks_lines;     // they could not be written
 static uint64_t first_data;  // the address of the program's very first data reference, which is of its stack
 
 static bool is_mapped(uint64_t address) {
@@ -129,10 +131,12 @@ static bool is_mapped(uint64_t address) {
 }
 
 // Remembers the files that were loaded since, and adds them to a map if it is there. So is the stack, of which an address is given.
-static void follow_mappings(FILE *map, uint64_t moved, uint64_t stack) {
+// Returns whether what is loaded could be read.
+static bool follow_mappings(FILE *map, uint64_t moved, uint64_t stack) {
     FILE *present = fopen("/proc/self/maps", "re");
     char line[PATH_MAX + 128];
-    while (present && fgets(line, sizeof line, present)) {
+    if (!present) return false;
+    while (fgets(line, sizeof line, present)) {
         uint64_t from, to;
         int rest;
         if (sscanf(line, "%lx-%lx%n", &from, &to, &rest) < 2) continue;
@@ -145,7 +149,8 @@ static void follow_mappings(FILE *map, uint64_t moved, uint64_t stack) {
             fprintf(map, "%lx-%lx%.*s [stack]\n", from - moved, to - moved, (int)strcspn(line + rest, "\n"), line + rest);
         }
     }
-    if (present) fclose(present);
+    fclose(present);
+    return true;
 }
 
 static void on_first_data(unsigned cpu, uint32_t access, uint64_t address, void *own) {
@@ -158,8 +163,11 @@ static void add_to_map(const struct qemu_plugin_insn *instruction) {
     if (!stack && is_mapped(here)) return;
     pthread_mutex_lock(&lock);
     FILE *map = fopen(map_name, "ae");
-    if (map) follow_mappings(map, here - qemu_plugin_insn_vaddr(instruction), stack);
-    if (map) fclose(map);
+    bool followed = map && follow_mappings(map, here - qemu_plugin_insn_vaddr(instruction), stack);
+    if (!followed) memory->map_fault = errno;  // it is tried again with the next code
+    else if (!lacks_lines) memory->map_fault = 0;
+    bool failed = map && ferror(map);
+    if (map && (fclose(map) || failed)) lacks_lines = memory->map_fault = errno ? errno : EIO;
     pthread_mutex_unlock(&lock);
 }
 
@@ -215,6 +223,7 @@ static void on_exit_of_program(plugin_id id, void *own) {
 
 // A trace is of one address space, so a forked child has no part in it.
 static void in_forked_child(void) {
+    if (!left_out) memory->forked = true;
     left_out = true;
     mine = NULL;
 }

@@ -17,6 +17,7 @@
 #include <string.h>
 #include <sys/mman.h>
 #include <sys/prctl.h>
+#include <sys/stat.h>
 #include <sys/wait.h>
 #include <unistd.h>
 #include "trace-memory.h"
@@ -36,6 +37,8 @@ static int trace;
 static const char *trace_name;
 static char kind;
 static uint64_t skip, count;  // how many references are to be left out still, and how many to be written
+static bool skips;            // some were to be left out
+static bool wrote;            // a reference was not
 static char text[TEXT];
 static size_t used;
 static bool closed;           // nothing more is written, ..
@@ -62,14 +65,36 @@ static void drain(void) {
     used = 0;
 }
 
-// Ends with a message. The trace ends in it too: as it is no din line, what reads the trace doesn't take it for a whole one.
+// Ends the trace in a line that is no din line: what reads the trace doesn't take it for a whole one.
+static void put_mark(const char *message) {
+    used = (size_t)snprintf(text, TEXT, "%s: %s\n", program_invocation_short_name, message);
+    drain();
+}
+
+// Ends with a message, in which the trace ends too.
 static _Noreturn void fail(int own_status, const char *message) {
     warnx("%s", message);
-    if (!isatty(trace)) {
-        used = (size_t)snprintf(text, TEXT, "%s: %s\n", program_invocation_short_name, message);
-        drain();
-    }
+    if (!isatty(trace)) put_mark(message);
     exit(own_status);
+}
+
+// Whether a reader may take what was written for the whole trace without knowing how this process ended.
+static bool goes_to_a_pipe(void) {
+    struct stat of;
+    return !fstat(trace, &of) && (S_ISFIFO(of.st_mode) || S_ISSOCK(of.st_mode));
+}
+
+// Leaves a process that ends the trace in a line which is not a din line, when its reader has room for that. Called in a handler.
+static void leave_mark(void) {
+    static const char mark[] = "\ntrace: a signal ended it: what stands above is not all\n";  // what was written may end within a line
+    sigset_t none;
+    if (!goes_to_a_pipe() || fork()) return;
+    for (int standard = 0; standard < 3; standard++) close(standard);
+    signal(SIGHUP, SIG_DFL), signal(SIGINT, SIG_DFL), signal(SIGTERM, SIG_DFL);
+    sigemptyset(&none);
+    sigprocmask(SIG_SETMASK, &none, NULL);
+    ssize_t wrote = write(trace, mark, sizeof mark - 1);
+    _exit(wrote < 0);
 }
 
 static char three_digits[4096][4];  // of each number below 4096, and a byte of no use
@@ -103,6 +128,7 @@ static void choose(size_t came, size_t *from, size_t *to) {
     *to = came - *from < count ? came : *from + (size_t)count;
     skip -= *from;
     count -= *to - *from;
+    wrote = wrote || *from < *to;
 }
 
 static void end_at_count(void) {
@@ -188,6 +214,7 @@ static void follow_lines(int in) {
 // ---- The program
 
 static const int passed_on[] = {SIGHUP, SIGINT, SIGQUIT, SIGTERM, SIGUSR1, SIGUSR2};
+static volatile sig_atomic_t stopped;  // the last of these that came
 
 static void take_ended(void) {
     int how;
@@ -213,9 +240,10 @@ static void on_signal(int number, siginfo_t *info, void *context) {
     int before = errno;
     if (number == SIGALRM) {
         if (program) kill(program, SIGKILL);
-        else if (late) _exit(128 + late);
+        else if (late) leave_mark(), _exit(128 + late);
     } else {
         take_ended();  // which may be told only after this signal
+        if (number != SIGCHLD) stopped = number;
         if (number != SIGCHLD && !program) {
             late = number;
             alarm(PATIENCE);
@@ -257,9 +285,20 @@ static void start(char **words) {
 
 // ---- The whole
 
+// Whether a signal to this process kept the program from going to its end.
+static bool is_cut(void) {
+    bool is_own = stopped == SIGUSR1 || stopped == SIGUSR2;  // which programs take for their own purposes
+    return stopped && !closed && (WIFSIGNALED(status) || (!is_own && WEXITSTATUS(status)));
+}
+
 static int judged(void) {
     if (converter_failed) fail(OWN_FAULT, "the tracer's lines can't be converted");
     if (!closed && !ran) fail(CANNOT_RUN, "the program can't be run: see the message of its tracer");
+    if (is_cut() && goes_to_a_pipe()) {
+        put_mark("a signal ended it: what stands above is not all");
+    } else if (skips && !wrote && !fault && !stopped) {
+        fail(OWN_FAULT, "--skip omits all references of the program");
+    }
     if (close(trace) && !fault) fault = errno;
     if (fault == EPIPE) {
         signal(SIGPIPE, SIG_DFL);
@@ -271,13 +310,14 @@ static int judged(void) {
     if (closed) return 0;
     if (WIFSIGNALED(status)) return 128 + WTERMSIG(status);
     if (memory && !memory->exited) warnx("the program became another by exec, and what that did is not in the trace");
+    if (memory && memory->forked) warnx("the program forked, and what its children did is not in the trace");
     return WEXITSTATUS(status);
 }
 
 // words: qemu FROM PLUGIN QEMU WORD..
 static void trace_by_qemu(char **words) {
     int descriptor = share_memory();
-    char *plugin, *never;
+    char *plugin, *never, *no_map;
     if (asprintf(&plugin, "%s,memory=%d", words[2], descriptor) < 0 ||
         asprintf(&never, "%s was never called, or only inlined", words[1]) < 0) fail(OWN_FAULT, "no memory");
     char *first[] = {words[3], "-plugin", plugin};
@@ -289,6 +329,9 @@ static void trace_by_qemu(char **words) {
     if (!memory->loaded) fail(OWN_FAULT, "QEMU didn't take the plugin: see its message");
     ran = memory->ran;
     if (ran && !memory->began) fail(OWN_FAULT, never);
+    if (!memory->map_fault) return;
+    if (asprintf(&no_map, "the map can't be written: %s", strerror(memory->map_fault)) < 0) fail(OWN_FAULT, "no memory");
+    fail(OWN_FAULT, no_map);
 }
 
 // words: lines IN OUT CONVERTER TRACER WORD..
@@ -308,6 +351,7 @@ int main(int words_count, char **words) {
     trace_name = words[2];
     kind = *words[3];
     skip = strtoull(words[4], NULL, 10);
+    skips = skip > 0;
     count = strtoull(words[5], NULL, 10);
     if (!count) count = UINT64_MAX;
     fcntl(trace, F_SETFD, FD_CLOEXEC);
