@@ -26,18 +26,24 @@ PR_SET_CHILD_SUBREAPER = 36
 # What a confined program sees beside its own folder: enough for programs in any language that Debian packages.
 SYSTEM = ["/usr", "/bin", "/sbin", "/lib", "/lib32", "/lib64", "/libx32", "/etc/alternatives", "/etc/ld.so.cache"]
 PATH = "/usr/local/bin:/usr/bin:/bin"
+# has glibc fill memory of malloc, so that who takes it for zeros is found
+FILLED = {"MALLOC_PERTURB_": "165"}
+UNFILLED = ["env", "MALLOC_PERTURB_=0"]
 
 
 class Case(NamedTuple):
-    """A cache, as '4,2,4', a trace, and the name that is shown for the trace."""
+    """A cache, as '4,2,4', a trace, the name that is shown for the trace, and whether the options
+    come in another order than the lab's own."""
 
     cache: str
     trace: str
     name: str
+    is_turned: bool = False
 
     def arguments(self, trace):
         set_bits, lines, block_bits = self.cache.split(",")
-        return ["-s", set_bits, "-E", lines, "-b", block_bits, "-t", trace]
+        pairs = [("-s", set_bits), ("-E", lines), ("-b", block_bits), ("-t", trace)]
+        return [word for pair in pairs[::-1 if self.is_turned else 1] for word in pair]
 
     def __str__(self):
         return " ".join(self.arguments(self.name))
@@ -61,17 +67,19 @@ class Student:
         self.seconds, self.few_seconds, self.slow_runs = seconds, min(seconds, max(1, seconds / 10)), 0
         ctypes.CDLL(None).prctl(PR_SET_CHILD_SUBREAPER, 1, 0, 0, 0)  # what it leaves behind becomes a child of this process
 
-    def run(self, case, *flags, by_line=False):
-        """Runs the program on a case; by line, so that a crash loses none. After a run that was too slow there is less time, so that a
-        program that hangs costs its time once; one that hangs only with flags keeps its time for runs without them."""
+    def run(self, case, *flags, by_line=False, is_filled=True):
+        """Runs the program on a case; by line, so that a crash loses none; with memory of malloc
+        filled, or as it comes. After a run that was too slow there is less time, so that a program
+        that hangs costs its time once; one that hangs only with flags keeps its time for runs
+        without them."""
         seconds = self.few_seconds if flags and self.slow_runs else self.seconds
         output, messages = self.folder / "output", self.folder / "messages"
         trace = os.path.join("traces", os.path.basename(case.trace))
         with tempfile.TemporaryDirectory(dir=self.folder, ignore_cleanup_errors=True) as room:
             os.mkdir(os.path.join(room, "traces"))
             shutil.copyfile(case.trace, os.path.join(room, trace))
-            lines = ["stdbuf", "-oL"] if by_line else []
-            command = [*self.around(room), *lines, self.program, *flags, *case.arguments(trace)]
+            before = ["stdbuf", "-oL"] if by_line else [] if is_filled else UNFILLED
+            command = [*self.around(room), *before, self.program, *flags, *case.arguments(trace)]
             limit = max(LEAST_LIMIT, 16 * os.path.getsize(case.trace))
             with open(output, "wb") as out, open(messages, "wb") as err:
                 status = status_of(command, limit, seconds, cwd=room, stdout=out, stderr=err)
@@ -153,7 +161,8 @@ def environment():
     """That of a student's program: nothing in it leads to cachesim, unless that is among the system's own programs."""
     folders = os.environ.get("PATH", PATH).split(":")
     kept = [folder for folder in folders if folder in PATH.split(":") or not holds_cachesim(folder)]
-    return {**{name: value for name, value in os.environ.items() if name != "CACHESIM"}, "PATH": ":".join(kept)}
+    own = {name: value for name, value in os.environ.items() if name != "CACHESIM"}
+    return {**own, **FILLED, "PATH": ":".join(kept)}
 
 
 def without_links(program):
@@ -177,7 +186,9 @@ def bubblewrap(program, cachesim):
     """What stands before a confined run, as a function of its room, the only folder that it can write to. It reads the system's
     folders and its own, and finds no cachesim there; it reaches no network and no other process, and leaves none behind."""
     own = os.path.dirname(without_links(program))
-    begin = ["bwrap", "--unshare-all", "--die-with-parent", "--clearenv", "--setenv", "PATH", PATH, "--setenv", "LANG", "C.UTF-8"]
+    begin = ["bwrap", "--unshare-all", "--die-with-parent", "--clearenv"]
+    for name, value in {"PATH": PATH, "LANG": "C.UTF-8", **FILLED}.items():
+        begin += ["--setenv", name, value]
     for path in filter(os.path.exists, SYSTEM):
         begin += ["--symlink", os.readlink(path), path] if os.path.islink(path) else ["--ro-bind", path, path]
     begin += ["--dev", "/dev", "--proc", "/proc", "--ro-bind", own, own]
