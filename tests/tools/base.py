@@ -33,6 +33,7 @@ PACKAGES = {
     "git": "git",
     "gnuplot-nox": "gnuplot",
     "lintian": "lintian",
+    "llvm": "llvm-addr2line",
     "lowdown": "lowdown",
     "man-db": "man",
     "miller": "mlr",

@@ -174,8 +174,43 @@ def texts_of(numbers, all_of_them):
     return [f"{number:,}{share}" for number, share in zip(numbers, [*shares, "", "", ""])]
 
 
+def warn(text):
+    print(f"{tool.NAME}: {text}", file=sys.stderr)
+
+
+def length_of(path):
+    """How many lines a source file has, or None where it can't be read."""
+    try:
+        with open(path, "rb") as source:
+            text = source.read()
+    except OSError:
+        return None
+    return text.count(b"\n") + (not text.endswith(b"\n"))
+
+
+def warn_of_lines(cells):
+    """Warns of lines that may be wrong: those behind the end of their file, and of another finder."""
+    lines = collections.Counter()
+    for cell in cells:
+        for place in {(frame.file, frame.line) for frame in cell.frames if frame.file}:
+            lines[place] += cell.counts[0]
+    if lines and elf.line_finder() != elf.LLVM:
+        warn("llvm-addr2line is missing: apt-get install llvm; addr2line may name a wrong file for"
+             " code of headers")
+    for path in sorted({path for path, _ in lines}):
+        length = length_of(path)
+        if length is None:
+            continue
+        behind = sum(count for (file, line), count in lines.items() if file == path and line > length)
+        if behind:
+            warn(f"{path}: {behind} references are at lines behind its end, {length}: is it the file"
+                 " that was compiled?")
+
+
 def report(asked, layout):
     cells, pairs = read_counts(asked, layout)
+    if asked.annotate or "line" in asked.by:
+        warn_of_lines(cells)
     sys.stdout.reconfigure(encoding="utf-8", errors="surrogateescape")
     if asked.annotate:
         tool.write_lines(annotated(asked, cells))
@@ -187,8 +222,8 @@ def report(asked, layout):
 def warn_of_new_files(layout, map_file):
     """Warns of programs that are not what was traced: the addresses in the trace are of an earlier build."""
     for path in layout.newer_than(map_file):
-        text = f"{path} is newer than {map_file}: if it was built again since, its names and lines are wrong; then trace it again"
-        print(f"{tool.NAME}: {text}", file=sys.stderr)
+        warn(f"{path} is newer than {map_file}: if it was built again since, its names and lines are"
+             " wrong; then trace it again")
 
 
 def main():

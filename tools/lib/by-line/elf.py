@@ -1,9 +1,11 @@
-"""The programs and libraries of a traced process: what was loaded where, and the names and lines in it, as binutils tell them."""
+"""The programs and libraries of a traced process: what was loaded where, and the names and lines
+in it, as binutils and llvm-addr2line tell them."""
 
 import bisect
 import functools
 import os
 import re
+import shutil
 import subprocess
 from typing import NamedTuple
 
@@ -15,6 +17,8 @@ SEGMENT = re.compile(r"\s*LOAD\s+0x(\w+) 0x(\w+) 0x\w+ 0x\w+ 0x(\w+)")
 SYMBOL = re.compile(r"([0-9a-f]+) ([0-9a-f]+) (\w) (.+)")
 # of programs for other machines the prefix of their binutils
 PREFIXES = {40: "arm-linux-gnueabihf", 183: "aarch64-linux-gnu", 243: "riscv64-linux-gnu"}
+# LLVM's is asked for lines, since that of binutils 2.40 takes one file for another in DWARF 5
+LLVM = "llvm-addr2line"
 # where Valgrind and Linux put the stack on x86-64, for a trace without a map
 STACKS = [(0x1FFE000000, 0x2000000000), (0x7FF000000000, 0x800000000000)]
 
@@ -48,8 +52,9 @@ def prefix_of(path):
 
 
 def output_of(command, path, *options, text=None):
-    """What a command of binutils, with options of which the last may take the path, writes of a file; nothing where it can't read it."""
-    prefix = prefix_of(path)
+    """What a command of binutils or LLVM, with options of which the last may take the path, writes
+    of a file; nothing where it can't read it."""
+    prefix = "" if command == LLVM else prefix_of(path)
     words = [f"{prefix}-{command}" if prefix else command, *options, path]
     try:
         known = {**os.environ, "LC_ALL": "C"}
@@ -64,6 +69,12 @@ def segments_of(path):
     """Of each loaded segment of an ELF file its offset in the file, its address and its size in memory."""
     lines = output_of("readelf", path, "-lW", "--").splitlines()
     return [tuple(int(number, 16) for number in found.groups()) for found in map(SEGMENT.match, lines) if found]
+
+
+@functools.cache
+def line_finder():
+    """The command that tells the lines of addresses."""
+    return LLVM if shutil.which(LLVM) else "addr2line"
 
 
 class Loaded:
@@ -104,7 +115,8 @@ class Loaded:
     def frames(self, addresses):
         """Of each address its frames, the function that has the instruction first, then those inlined there."""
         asked = "".join(f"{address - self.base:x}\n" for address in addresses)
-        lines = output_of("addr2line", self.path, "-a", "-i", "-f", "-C", "-e", text=asked).splitlines()
+        told = output_of(line_finder(), self.path, "-a", "-i", "-f", "-C", "-e", text=asked)
+        lines = told.splitlines()
         found, current = {}, None
         for at, line in enumerate(lines):
             if line.startswith("0x"):
@@ -114,8 +126,10 @@ class Loaded:
         unknown = {address: [Frame(self.function_at(address), None, 0)] for address in addresses if not found.get(address)}
         named = {address: frames for address, frames in found.items() if frames}
         for address, frames in named.items():
-            if frames[0].function == "??" or frames[0].file is None:
-                frames[0] = frames[0]._replace(function=self.function_at(address))
+            # where something is inlined, the command has another name for the function
+            symbol = self.function_at(address)
+            if symbol != f"({self.name})" or frames[0].function == "??" or not frames[0].file:
+                frames[0] = frames[0]._replace(function=symbol)
         return {**named, **unknown}
 
     @staticmethod
@@ -193,7 +207,3 @@ class Layout:
             if own:
                 found.update(file.frames(own))
         return {address: found.get(address) or [Frame("?", None, 0)] for address in addresses}
-
-    def name_at(self, address):
-        """The name of the file that has an address."""
-        return next((region.name for file in self.files for region in file.regions if region.start <= address < region.end), "?")
