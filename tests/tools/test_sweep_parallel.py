@@ -6,12 +6,14 @@ import math
 import os
 import pathlib
 import pty
+import re
+import select
 import shlex
 import signal
 import subprocess
 import time
 
-from base import EXAMPLES, PROGRAM, TOOLS, TOP, ToolTest, needs
+from base import EXAMPLES, PROGRAM, TOOLS, TOP, ToolTest, ended, needs
 
 HEADER = "bsize,sets,assoc,size,hits,misses,evictions\n"
 SPACE = "--bsize 16-128 --sets 1-4096 --assoc 1-16 --size 1k-1m".split()
@@ -213,21 +215,36 @@ class SameBytes(ParallelTest):
 
     def test_progress(self):
         """On a terminal, what is read is told each second; elsewhere nothing is."""
-        for trace, shown in (("-", rb"\rsweep-parallel: 0 MB of the trace read"), ("slow", rb"\rsweep-parallel: \d+ % of the trace read")):
+        # a page is not done before it is told
+        env = {**os.environ, **self.program('[[ $* != *" slow"* ]] || until [ -e go ]; do sleep 0.01; done')}
+        told_of = {"-": rb"\rsweep-parallel: 0 MB of the trace read", "slow": rb"\rsweep-parallel: \d+ % of the trace read"}
+        for trace, shown in told_of.items():
             self.write("slow", DIN.read_bytes())
+            (self.folder / "go").unlink(missing_ok=True)
             master, terminal = pty.openpty()
             arguments = [TOOLS / "sweep-parallel", "2", trace, *SMALL]
-            env = {**os.environ, **self.program('[[ $* != *" slow"* ]] || sleep 2')}
-            ran = subprocess.Popen(arguments, stdin=subprocess.PIPE, stdout=subprocess.PIPE, stderr=terminal, cwd=self.folder, env=env)
-            os.close(terminal)
-            time.sleep(1.5)
-            self.assertEqual(ran.communicate(DIN.read_bytes())[0].decode(), self.sweep(*SMALL, "-t", DIN))
-            self.assertEqual(ran.returncode, 0)
-            told = os.read(master, 10000)
+            pipes = {"stdin": subprocess.PIPE, "stdout": subprocess.PIPE, "stderr": terminal}
+            with ended(subprocess.Popen(arguments, **pipes, cwd=self.folder, env=env)) as ran:
+                os.close(terminal)
+                told = self.read_until(master, shown)
+                self.write("go", b"")
+                self.assertEqual(ran.communicate(DIN.read_bytes(), 60)[0].decode(), self.sweep(*SMALL, "-t", DIN))
+                self.assertEqual(ran.returncode, 0)
+            told += self.read_until(master, rb"\r\033\[K\Z", told)
             os.close(master)
             self.assertRegex(told, shown)
             self.assertTrue(told.endswith(b"\r\033[K"))
         self.same(2, "slow", *SMALL, single=DIN, env=env)
+
+    def read_until(self, terminal, shown, told=b""):
+        """What more a terminal shows, until all that it has shown has this."""
+        more = b""
+        while not re.search(shown, told + more) and select.select([terminal], [], [], 20)[0]:
+            try:
+                more += os.read(terminal, 10000)
+            except OSError:  # the tool has ended
+                break
+        return more
 
 
 class Faults(ParallelTest):
