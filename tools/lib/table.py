@@ -105,7 +105,7 @@ def lines_of(name):
     """The lines of a table, and its name for faults; '-' is standard input. Ends the tool with one line where that fails."""
     shown = "standard input" if name == "-" else name
     try:
-        with open(0 if name == "-" else name, encoding="ascii", errors="replace", closefd=name != "-") as file:
+        with open(0 if name == "-" else name, encoding="utf-8-sig", errors="replace", closefd=name != "-") as file:
             return list(file), shown
     except OSError as fault:
         fail(f"{shown}: {fault.strerror}")
