@@ -83,7 +83,7 @@ class Filtering:
         os.mkfifo(self.folder / "pipe")
         with subprocess.Popen(["cp", base.EXAMPLES / "sort.din", self.folder / "pipe"]):
             self.assertEqual(self.good(self.run_on("pipe", *self.CACHE)), expected)
-        for name in ("./-a trace", "./-a trace.gz"):
+        for name in ("./-a trace", "-a trace", "-a trace.gz"):
             self.assertEqual(self.good(self.run_tool(self.TOOL, name, *self.CACHE, *self.OWN)), expected)
 
     @base.needs("xz-utils", "zstd")

@@ -14,6 +14,7 @@ import subprocess
 import time
 
 from base import EXAMPLES, PROGRAM, TOOLS, TOP, ToolTest, ended, needs
+from lib import paging
 
 HEADER = "bsize,sets,assoc,size,hits,misses,evictions\n"
 SPACE = "--bsize 16-128 --sets 1-4096 --assoc 1-16 --size 1k-1m".split()
@@ -279,6 +280,11 @@ class Faults(ParallelTest):
         ran = self.run_command("bash", "-c", f'"{TOOLS}/sweep-parallel" 4 - {" ".join(SPACE)} <&-')
         self.failed(ran, 1, "sweep-parallel: standard input can't be read: Bad file descriptor\n")
 
+    def test_flags_of_a_later_program(self):
+        """A word that no value follows is one."""
+        words = ["--new", "--bsize", "16", "--after", "1,1,1", "--sets=1", "--rows", "2", "--last"]
+        self.assertEqual(paging.split(words), (["--new", "--bsize", "16", "--sets", "1", "--last"], "1,1,1"))
+
     def test_arguments(self):
         self.refused(self.tool(4, "none", "--bsize", "24", *SPACE[2:]), 2, "cachesim: bsize: not a power of two\n")
         self.refused(self.tool(4, "-", *SPACE[2:]), 2, "cachesim: error: ")
@@ -336,9 +342,10 @@ class Faults(ParallelTest):
         self.assertEqual((ran.returncode, ran.stderr), (1, b"sweep-parallel: write failed\n"))
 
     def test_no_output(self):
-        for place in ("> /dev/full", ">&-", "| true"):
+        failed = "sweep-parallel: write failed\n"
+        for place, status, told in (("> /dev/full", 1, failed), (">&-", 1, failed), ("| true", 141, "")):
             script = f'set -o pipefail; "{TOOLS}/sweep-parallel" 2 "$1" {" ".join(SMALL)} {place}'
-            self.failed(self.run_command("bash", "-c", script, "-", DIN), 1, "sweep-parallel: write failed\n")
+            self.failed(self.run_command("bash", "-c", script, "-", DIN), status, told)
 
     def test_interrupted(self):
         """No process and no file is left, whatever stage the run is at."""

@@ -113,7 +113,7 @@ def split(options):
         name, equals, value = left.pop(0).partition("=")
         if name == "--":
             continue
-        if name == "--pow2":
+        if not equals and (not left or left[0].startswith("-")):  # as --pow2
             arguments.append(name)
             continue
         value = value if equals else left.pop(0)
