@@ -96,6 +96,8 @@ def read_counts(asked, layout):
         objects = [line.rstrip("\n").split(" ", 2)[2] for line in lines] + ["(heap)"]
     with open(asked.counts, encoding="ascii") as lines:
         rows = [line.split() for line in lines]
+    if not rows or rows.pop() != ["end"]:
+        tool.fail("the references can't be counted")
     counted = [row for row in rows if row[0] == "cell"]
     frames = layout.frames(sorted({int(row[1], 16) for row in counted if row[1] != "-"}))
     cells = []

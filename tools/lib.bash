@@ -217,6 +217,9 @@ swept() { watched "$cachesim" sweep "$@"; }
 # make_pipes FILE..: makes these named pipes, without a word where a signal has removed their folder
 make_pipes() { mkfifo -- "$@" 2> /dev/null || fail "$1: no named pipe can be made there"; }
 
+# hand_out PIPE..: copies standard input to each of these
+hand_out() { tee -p -- "${@:2}" > "$1"; }
+
 # side_by_side TRACE STEP..: runs functions side by side over one reading of a trace. Each has it as standard input and writes to
 # $folder/STEP. Where one fails, its message is told and the tool ends with its status.
 side_by_side() {
@@ -228,7 +231,7 @@ side_by_side() {
         { "$step" 2> "$folder/$step.fault" > "$folder/$step" < "$folder/$step.pipe" & } 2> /dev/null
         jobs+=($!)
     done
-    unpacked "$1" | tee -p -- "${pipes[@]:1}" > "${pipes[0]}" || {
+    unpacked "$1" | hand_out "${pipes[@]}" || {
         ends=("${PIPESTATUS[@]}")
         [ "${ends[1]}" = 0 ] || exit 1 # a step may still wait for it
         status=${ends[0]}
