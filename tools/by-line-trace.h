@@ -1,9 +1,9 @@
 // The trace that by-line hands out to the logs: which lines, and the program counter of each
 // reference in them. A part of by-line.c, which has read what it needs.
 //
-// The logs get each line, but for references that no first-level cache takes: of those only the
-// line's end is left, so that the numbers of lines in faults stay. A line that is in any way unusual
-// is handed out as it is, and judged by `cachesim log`.
+// The logs get each line, but for references that no first-level cache takes. A line that is in any
+// way unusual is handed out as it is, and judged by `cachesim log`: behind as many empty lines as
+// were left out before it, so that the numbers of lines in faults stay.
 
 // ---- References that were handed out and have not yet come in the first log
 
@@ -67,26 +67,36 @@ static void take_references(const char *line) {
     while (references--) hand(address, present_counter());
 }
 
-// Past what stands between the address and the end of a plain line; elsewhere where it is none.
-static const char *past_size(const char *at) {
-    if (!is_lackey || *at++ != ',' || *at < '1' || *at > '9') return at;
-    const char *from = at;
-    while (*at >= '0' && *at <= '9' && at - from < 9) at++;
-    return at;
+// The end of a plain line, in the form in which tracers write it, or NULL where it is no such line.
+// Of a plain line `*from` and `*address` are where its address begins and what it is.
+static const char *plain_end(const char *line, const char **from, uint64_t *address) {
+    const char *at = line + (is_lackey && *line == ' ');
+    if (is_lackey ? !*at || !strchr("ILSM", *at) : (unsigned char)(*at - '0') > 2) return NULL;
+    if (at[1] != ' ') return NULL;
+    *from = at + 2 + (is_lackey && at[2] == ' ');
+    at = hexadecimal(*from, address);
+    if (at == *from || at - *from > 16) return NULL;
+    if (is_lackey) {
+        if (*at++ != ',' || *at < '1' || *at > '9') return NULL;
+        for (const char *size = at; *at >= '0' && *at <= '9' && at - size < 9;) at++;
+    }
+    return *at == '\n' ? at : NULL;
 }
 
-// Whether a line is plain, and of what no first-level cache takes. A fetch is the last one now.
-static bool is_left_out(const char *line, const char *end) {
-    const char *kinds = is_lackey ? "ILS" : "201", *from = line + (is_lackey && *line == ' ');
-    bool is_fetch = *from == kinds[0];
-    if (!(is_fetch ? !takes_fetches : !takes_data && (*from == kinds[1] || *from == kinds[2])) || from[1] != ' ')
-        return false;
+// Takes a line that may be plain, and answers its end, or NULL where it is not. `*is_left_out` is
+// whether no first-level cache takes it.
+static const char *take_plain(const char *line, bool *is_left_out) {
+    const char *from;
     uint64_t address;
-    from += from[2] == ' ' && is_lackey ? 3 : 2;
-    const char *at = hexadecimal(from, &address);
-    if (at == from || at - from > 16 || past_size(at) != end) return false;
+    const char *end = plain_end(line, &from, &address);
+    if (!end) return NULL;
+    char label = *line == ' ' ? line[1] : *line;
+    bool is_fetch = label == (is_lackey ? 'I' : '2');
     if (is_fetch) set_fetched(address);
-    return true;
+    *is_left_out = is_fetch ? !takes_fetches : !takes_data;
+    if (!*is_left_out) hand(address, present_counter());
+    if (!*is_left_out && label == 'M') hand(address, present_counter());
+    return end;
 }
 
 // ---- Reading and handing out
@@ -94,48 +104,69 @@ static bool is_left_out(const char *line, const char *end) {
 static struct {
     char text[ROOM + 1];
     size_t ready, rest, used;  // what is to be handed out; where what is not yet taken begins, and ends
-    bool has_ended, in_long_line;
+    size_t blanks;             // how many empty lines are to be handed out behind this
+    size_t left_out;           // how many lines have been left out since the last such
+    bool has_ended;
     uint64_t lines;
 } trace;
+static char blank_lines[ROOM];
 static struct hand {
     int descriptor;  // or -1
     size_t written;
 } hands[2] = {{-1, 0}, {-1, 0}};
 
-static void take_trace(void) {
-    char *line = trace.text, *end = trace.text + trace.used, *to = trace.text;
-    for (char *next; (next = memchr(line, '\n', (size_t)(end - line))); line = next + 1) {
-        trace.lines++;
-        if (is_left_out(line, next)) {
-            *to++ = '\n';
-            continue;
-        }
-        take_references(line);
-        if (to != line) memmove(to, line, (size_t)(next + 1 - line));
-        to += next + 1 - line;
+// Makes room for an unusual line behind as many empty lines as were left out, so that its number is
+// right. Where there is none before the line, they are handed out first, and the line is taken then.
+static bool make_room_for(const char *line, char **to) {
+    if (trace.left_out > (size_t)(line - *to)) {
+        trace.blanks = trace.left_out, trace.left_out = 0;
+        return false;
     }
-    // the last line may have no end; one that fills all the room is longer than any may be
-    if (line != end && (trace.has_ended || end - line == ROOM)) {
-        *end = '\n';
-        take_references(line);
-        memmove(to, line, (size_t)(end - line));
-        to += end - line;
-        line = end;
+    memset(*to, '\n', trace.left_out);
+    *to += trace.left_out, trace.left_out = 0;
+    return true;
+}
+
+static void take_trace(void) {
+    char *line = trace.text + trace.rest, *end = trace.text + trace.used, *to = trace.text;
+    *end = '\0';
+    while (line < end) {
+        bool is_left_out = false;
+        const char *last = take_plain(line, &is_left_out);
+        if (is_left_out) trace.left_out++;
+        if (!last) {
+            // the last line may have no end; one that fills all the room is longer than any may be
+            last = memchr(line, '\n', (size_t)(end - line));
+            if (!last && !trace.has_ended && (line != trace.text || end - line < ROOM)) break;
+            if (!make_room_for(line, &to)) break;
+            if (!last) *end = '\n', last = end - 1, take_references(line);
+            else take_references(line);
+        }
+        size_t length = (size_t)(last + 1 - line);
+        if (!is_left_out && to != line) memmove(to, line, length);
+        if (!is_left_out) to += length;
+        line += length, trace.lines++;
     }
     trace.ready = (size_t)(to - trace.text);
     trace.rest = (size_t)(line - trace.text);
+    hands[0].written = hands[1].written = 0;
 }
 
+// Reads more, or takes what has been read.
 static void read_trace(void) {
+    if (trace.blanks) {
+        trace.blanks = 0;
+        take_trace();
+        return;
+    }
     memmove(trace.text, trace.text + trace.rest, trace.used - trace.rest);
     trace.used -= trace.rest, trace.rest = trace.ready = 0;
     ssize_t got = read(STDIN_FILENO, trace.text + trace.used, ROOM - trace.used);
-    if (got < 0 && errno == EINTR) got = 0;
-    else if (got < 0) err(FAILED, "the trace can't be read");
-    else if (got == 0) trace.has_ended = true;
+    if (got < 0 && errno != EINTR) err(FAILED, "the trace can't be read");
+    if (got < 0) return;
+    trace.has_ended = got == 0;
     trace.used += (size_t)got;
     take_trace();
-    hands[0].written = hands[1].written = 0;
 }
 
 static void close_hand(struct hand *one) {
@@ -145,14 +176,20 @@ static void close_hand(struct hand *one) {
 
 // A log that has gone away has told why; the trace is not read on.
 static void write_trace(struct hand *one) {
-    ssize_t put = write(one->descriptor, trace.text + one->written, trace.ready - one->written);
+    size_t left = trace.ready - one->written;
+    const char *from = trace.text + one->written;
+    if (one->written >= trace.ready) {
+        left = trace.ready + trace.blanks - one->written;
+        from = blank_lines, left = left > ROOM ? ROOM : left;
+    }
+    ssize_t put = write(one->descriptor, from, left);
     if (put >= 0) one->written += (size_t)put;
     else if (errno == EPIPE) exit(0);
     else if (errno != EAGAIN && errno != EINTR) err(FAILED, "the trace can't be handed out");
 }
 
 static bool is_handed_out(const struct hand *one) {
-    return one->descriptor < 0 || one->written == trace.ready;
+    return one->descriptor < 0 || one->written == trace.ready + trace.blanks;
 }
 
 static void open_hand(struct hand *one, const char *path) {

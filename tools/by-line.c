@@ -39,7 +39,8 @@ static void *grown(void *memory, size_t size) {
 }
 
 static const char *hexadecimal(const char *at, uint64_t *number) {
-    static const signed char values[256] = {['0'] = 1, 2, 3, 4, 5, 6, 7, 8, 9, 10, ['a'] = 11, 12, 13, 14, 15, 16};
+    static const signed char values[256] = {['0'] = 1, 2, 3, 4, 5, 6, 7, 8, 9, 10,
+                                            ['A'] = 11, 12, 13, 14, 15, 16, ['a'] = 11, 12, 13, 14, 15, 16};
     for (*number = 0; values[(unsigned char)*at]; at++) *number = *number << 4 | (uint64_t)(values[(unsigned char)*at] - 1);
     return at;
 }
@@ -296,6 +297,10 @@ static void show_progress(bool has_ended) {
 static void work(void) {
     for (;;) {
         bool all_out = is_handed_out(&hands[0]) && is_handed_out(&hands[1]);
+        if (all_out && trace.blanks) {
+            read_trace();
+            continue;
+        }
         for (int i = 0; i < 2; i++)
             if (all_out && trace.has_ended && hands[i].descriptor >= 0) close_hand(&hands[i]);
         struct pollfd asked[5] = {{all_out && !trace.has_ended ? STDIN_FILENO : -1, POLLIN, 0}};
@@ -348,6 +353,7 @@ int main(int count, char **words) {
     shift = (unsigned)atoi(words[4]);
     read_objects(words[5]);
     has_full = count > 9;
+    memset(blank_lines, '\n', sizeof blank_lines);
     open_both(0, words + 6);
     if (has_full) open_both(1, words + 8);
     else logs[1].has_ended = true;
