@@ -16,6 +16,7 @@ import tool
 
 KEYS = ("line", "function", "object")
 COUNTS = ("references", "misses", "compulsory", "capacity", "conflict")
+MOST_INLINED = 8
 NO_FETCH = elf.Frame("(no fetch before it)", None, 0)
 
 
@@ -65,24 +66,31 @@ def arguments():
 
 
 class Names:
-    """How lines are called: by the name of the file alone, or by its path where several files have this name."""
+    """How lines are called: by the name of the file, with as much of its path as tells it from others."""
 
     def __init__(self, cells):
-        self.paths = collections.defaultdict(set)
-        for cell in cells:
-            for frame in cell.frames:
-                if frame.file:
-                    self.paths[os.path.basename(frame.file)].add(frame.file)
+        paths = {frame.file for cell in cells for frame in cell.frames if frame.file}
+        self.names, parts = {}, 0
+        while paths:
+            parts += 1
+            names = {path: "/".join(path.split("/")[-parts:]) for path in paths}
+            often = collections.Counter(names.values())
+            self.names.update((path, name) for path, name in names.items() if often[name] == 1)
+            paths = {path for path in paths if path not in self.names}
 
     def line(self, frame):
-        name = os.path.basename(frame.file)
-        return f"{name if len(self.paths[name]) == 1 else frame.file}:{frame.line}"
+        return f"{self.names[frame.file]}:{frame.line}"
+
+    @staticmethod
+    def cut(lines):
+        """The lines of functions inlined in one another, without the middle ones of many."""
+        return lines if len(lines) <= MOST_INLINED else [*lines[:MOST_INLINED // 2], "..", *lines[-MOST_INLINED // 2:]]
 
     def columns(self, cell, by):
         """What tells a row from others, in its columns."""
         outer, inlined = cell.frames[0], [self.line(frame) for frame in cell.frames[1:] if frame.file]
         line = self.line(outer) if outer.file else outer.function if outer.function.startswith("(") else f"({outer.function})"
-        all_of_them = {"line": [line, " ".join(inlined)], "function": [outer.function], "object": [cell.object]}
+        all_of_them = {"line": [line, " ".join(self.cut(inlined))], "function": [outer.function], "object": [cell.object]}
         return tuple(text for key in by for text in all_of_them[key])
 
 

@@ -200,7 +200,7 @@ class Sources(Hand):
         ])
 
     def test_files_of_one_name(self):
-        """They are called by their paths, and each keeps its counts."""
+        """They are called by as much of their paths as tells them apart, and each keeps its counts."""
         for folder, function in (("a", "int main(void)"), ("b", "int other(void)")):
             (self.folder / folder).mkdir()
             (self.folder / folder / "same.c").write_text(f"/*\f*/ {function} {{ return 1; }}\n")
@@ -209,7 +209,7 @@ class Sources(Hand):
         text = f"2 {first:x}\n0 10\n0 10\n2 {other:x}\n0 20\n".encode()
         rows = self.rows("-", "--program", program, *ONE_LINE, "--by", "line", stdin=text)
         self.assertEqual({row["line"]: row["references"] for row in rows},
-                         {f"{self.folder}/a/same.c:1": 2, f"{self.folder}/b/same.c:1": 1})
+                         {"a/same.c:1": 2, "b/same.c:1": 1})
         annotated = self.good(self.run_tool("by-line", "-", "--program", program, *ONE_LINE, "--annotate", "b/same.c", stdin=text))
         # a form feed ends no line
         self.assertEqual(annotated.rstrip("\n").split("\n")[-1].split()[:4], ["1", "(33.3%)", "1", "(50.0%)"])
@@ -231,6 +231,48 @@ class Sources(Hand):
         at, = (int(name.split()[0], 16) for name in names if name.endswith(" own(int)"))
         source = self.good(self.run_tool("by-line", *given, "--annotate", "own.h", stdin=f"2 {at:x}\n0 10\n".encode()))
         self.assertEqual([line.split()[0] for line in source.splitlines()[4:]], [".", "1", ".", "."])
+
+    def test_variables_of_one_name(self):
+        """Static ones have their file behind the name, and their address if that is the same too; thread-local ones are elsewhere."""
+        for path in ("a.c", "b.c", "in/a.c"):
+            (self.folder / path).parent.mkdir(exist_ok=True)
+            name = re.sub(r"\W", "", path)
+            (self.folder / path).write_text(f"static int table[4]; int *{name}(void) {{ static int only_{name}; table[0]++; "
+                                            f"return only_{name}++ ? &table[1] : table; }}\n")
+        (self.folder / "m.c").write_text("__thread int own[4];\nint main(void) { return own[0]; }\n")
+        self.good(self.run_command("cc", "-g", "-O0", "-fpie", "-pie", "-o", "program", "m.c", "a.c", "b.c", "in/a.c"))
+        base_of = 0x10000000000
+        names = [line.split() for line in self.good(self.run_command("nm", "-S", "-p", "program")).splitlines()]
+        tables = [int(one[0], 16) + base_of for one in names if one[-1] == "table"]
+        alone, = (int(one[0], 16) + base_of for one in names if one[-1].startswith("only_bc"))
+        own, = (int(one[0], 16) + base_of for one in names if one[-1] == "own")
+        text = "".join(f"0 {at:x}\n" for at in [*tables, alone, own]).encode()
+        rows = self.rows("-", "--program", "program", "--base", f"{base_of:x}", *ONE_LINE, "--by", "object", stdin=text)
+        self.assertEqual({row["object"] for row in rows},
+                         {f"table (a.c at {tables[0]:x})", "table (b.c)", f"table (a.c at {tables[2]:x})", "only_bc.0", "(program)"})
+
+    @base.needs("g++")
+    def test_one_row_for_a_function(self):
+        """Also where another is inlined in it, and where the compiler has moved a part of it away. Of a long chain of inlined
+        functions the middle ones are left out."""
+        chain = "".join(f"template <typename T> inline __attribute__((always_inline)) T f{n}(T *a) {{\n    return f{n - 1}(a) + a[{n}];\n}}\n"
+                        for n in range(1, 11))
+        (self.folder / "w.cc").write_text(
+            f"template <typename T> inline __attribute__((always_inline)) T f0(T *a) {{\n    return a[0];\n}}\n{chain}"
+            "__attribute__((cold, noinline)) void rare(int *a) { a[0]++; }\n"
+            "__attribute__((noinline)) int all(int *a) {\n    if (a[20]) rare(a + 1), a[3]++;\n    return f10(a);\n}\n"
+            "int main() {\n    static int a[21];\n    return all(a);\n}\n")
+        self.good(self.run_command("g++", "-g", "-O2", "-no-pie", "-o", "program", "w.cc"))
+        lines = self.good(self.run_command("objdump", "-d", "-C", "--no-show-raw-insn", "program"))
+        parts = dict(re.findall(r"(?ms)^[0-9a-f]+ <([^\n]*)>:\n(.*?)\n(?:\n|\Z)", lines))
+        own = [[int(at, 16) for at in re.findall(r"(?m)^ +([0-9a-f]+):\t(?!nop|cs nop|xchg|data16)", parts[name])] for name in ("all(int*)", "all(int*) [clone .cold]")]
+        places = own[0] + own[1]
+        text = "".join(f"2 {at:x}\n0 10\n" for at in places).encode()
+        given = "-", "--program", self.folder / "program", *ONE_LINE
+        rows = self.rows(*given, "--by", "function", stdin=text)
+        self.assertEqual([(row["function"], row["references"]) for row in rows], [("all(int*)", len(places))])
+        inlined = [row["inlined"] for row in self.rows(*given, "--by", "line", stdin=text)]
+        self.assertIn(" ".join([*(f"w.cc:{line}" for line in (32, 29, 26, 23)), "..", *(f"w.cc:{line}" for line in (11, 8, 5, 2))]), inlined)
 
     def test_without_llvm(self):
         """Binutils' own command names lines too; a warning tells of it, and of lines that are not there."""
