@@ -7,6 +7,7 @@
 import argparse
 import collections
 import csv
+import io
 import os
 import sys
 from typing import NamedTuple
@@ -217,6 +218,13 @@ def warn_of_lines(cells):
                  " that was compiled?")
 
 
+def lines_of(rows):
+    """Rows as lines of CSV."""
+    text = io.StringIO()
+    csv.writer(text, lineterminator="\n").writerows(rows)
+    return text.getvalue().split("\n")[:-1]
+
+
 def report(asked, layout):
     cells, pairs = read_counts(asked, layout)
     if asked.annotate or "line" in asked.by:
@@ -226,7 +234,7 @@ def report(asked, layout):
         tool.write_lines(annotated(asked, cells))
     else:
         rows = table_of_evictions(asked, cells, pairs) if asked.evicted_by else table(asked, cells)
-        csv.writer(sys.stdout, lineterminator="\n").writerows(rows)
+        tool.write_lines(lines_of(rows))
 
 
 def warn_of_new_files(layout, map_file):

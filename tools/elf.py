@@ -163,7 +163,8 @@ class Layout:
 
     def __init__(self, program=None, base=0, map_file=None):
         self.stacks = [Range(start, end, "(stack)") for start, end in ([] if map_file else STACKS)]
-        self.files = [Loaded(program, base)] if program else []
+        # a path, and no option, where its name begins with a dash
+        self.files = [Loaded(os.path.join(".", program), base)] if program else []
         self.others = []  # mapped files that are not ELF
         if program and not self.files[0].regions:
             tool.fail(f"{program}: no ELF program that can be read")

@@ -113,7 +113,7 @@ spoil_trace() {
 
 # at_end: what is done when the tool ends, also by a signal. In a subshell it only ends what that has started
 at_end() {
-    exec 2> /dev/null  # bash would report the end of each process
+    exec 2>&-  # bash would report the end of each process; a redirection may have no descriptor left
     trap '' HUP INT PIPE TERM
     stop_jobs
     [ $BASHPID = $$ ] || return 0
@@ -193,6 +193,9 @@ compiled() {
     mv -- "$compiling" "$binary"
     compiling=''
 }
+
+# is_option WORD: whether the first argument is an option where a trace is wanted. A file's name may begin with a dash
+is_option() { [[ $1 = -?* && ! -e $1 ]]; }
 
 # readable TRACE: ends where a trace is neither '-' nor something that can be read
 readable() { [ "$1" = - ] || { [ -r "$1" ] && [ ! -d "$1" ]; } || fail "$1: no file that can be read"; }

@@ -93,6 +93,11 @@ class Totals(ByLineTest):
                 rows = self.rows(trace, "-l1-dsize", 256, "-l1-dbsize", 16, "-l1-dassoc", assoc)
                 self.assertEqual(self.sums(rows)[1:], [int(wanted[at]) for at in (5, 7, 8, 9)])
 
+    def test_a_name_that_begins_with_a_dash(self):
+        options = ("-l1-dsize", "256", "-l1-dbsize", "16", "--by", "object")
+        (self.folder / "-a trace").write_bytes(SORT.read_bytes())
+        self.assertEqual(self.rows("-a trace", *options), self.rows(SORT, *options))
+
     def test_pipes(self):
         options = ("-l1-dsize", "256", "-l1-dbsize", "16", "--by", "object")
         self.assertEqual(self.rows("-", *options, stdin=SORT.read_bytes()), self.rows(SORT, *options))
@@ -366,6 +371,17 @@ class Faults(ByLineTest):
 
     def test_nothing(self):
         self.assertEqual(self.rows("-", "-l1-dsize", "64", "-l1-dbsize", "16", stdin=b""), [])
+
+    def test_no_room_for_the_table(self):
+        """It is told in a line."""
+        (self.folder / "counts").write_text("cell - -1 1 1 1 0\nend\n")
+        (self.folder / "cut").write_text("cell - -1 1 1 1 0\n")
+        (self.folder / "objects").write_text("")
+        part, = base.TOOLS.rglob("by_line.py")
+        given = f"python3 -B {part} by-line report --objects objects --counts"
+        for words, fault in (("counts > /dev/full", "standard output: No space left on device"), ("cut", "the references can't be counted")):
+            ran = self.run_command("bash", "-c", f"{given} {words}")
+            self.assertEqual((ran.stdout, ran.stderr.decode(), ran.returncode), (b"", f"by-line: {fault}\n", 1))
 
     def test_full_device(self):
         self.on_full_device("by-line", SORT, "-l1-dsize", "64", "-l1-dbsize", "16")

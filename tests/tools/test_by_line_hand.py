@@ -272,7 +272,7 @@ class Sources(Hand):
         rows = self.rows(*given, "--by", "function", stdin=text)
         self.assertEqual([(row["function"], row["references"]) for row in rows], [("all(int*)", len(places))])
         inlined = [row["inlined"] for row in self.rows(*given, "--by", "line", stdin=text)]
-        self.assertIn(" ".join([*(f"w.cc:{line}" for line in (32, 29, 26, 23)), "..", *(f"w.cc:{line}" for line in (11, 8, 5, 2))]), inlined)
+        self.assertIn(" ".join([*(f"w.cc:{line}" for line in (32, 29, 26, 23)), "..", *(f"w.cc:{line}" for line in (14, 11, 8, 5))]), inlined)
 
     def test_without_llvm(self):
         """Binutils' own command names lines too; a warning tells of it, and of lines that are not there."""
