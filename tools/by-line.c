@@ -283,14 +283,21 @@ static void read_log(struct log *log) {
 
 // ---- Both
 
-static void show_progress(bool has_ended) {
-    static time_t shown;
+static time_t shown;  // when progress was shown last, or 0
+
+static void clear_progress(void) {
+    if (shown) fputs("\r\033[K", stderr);
+    shown = 0;
+}
+
+// Once in a second, on a terminal.
+static void show_progress(void) {
+    static time_t began;
     time_t now = time(NULL);
-    if (!shown) shown = isatty(STDERR_FILENO) ? now : -1;
-    if (shown < 0 || (now == shown && !has_ended)) return;
+    if (!began) began = now;
+    if (now == (shown ? shown : began) || !isatty(STDERR_FILENO)) return;
     shown = now;
-    if (has_ended) fputs("\r\033[K", stderr);
-    else fprintf(stderr, "\r%s: %.1f million lines ", program_invocation_short_name, (double)trace.lines / 1e6);
+    fprintf(stderr, "\r%s: %.1f million lines ", program_invocation_short_name, (double)trace.lines / 1e6);
 }
 
 // Reads, hands out and counts, until the trace and the logs have ended.
@@ -314,9 +321,9 @@ static void work(void) {
             if (asked[3 + i].revents) read_log(&logs[i]);
             if (asked[1 + i].revents) write_trace(&hands[i]);
         }
-        if (asked[0].revents) read_trace(), show_progress(false);
+        if (asked[0].revents) read_trace(), show_progress();
     }
-    show_progress(true);
+    clear_progress();
     if ((has_full && first != last) || handed_first != handed_last) exit(0);  // a log has gone away
 }
 
@@ -359,6 +366,7 @@ int main(int count, char **words) {
     else logs[1].has_ended = true;
     // number 0, with an address of no instruction
     number_of(&counter_numbers, UINT64_MAX, &counters, sizeof(struct counter));
+    atexit(clear_progress);
     work();
     write_answer();
     return 0;

@@ -52,6 +52,7 @@ def arguments():
     parser.add_argument("--by", type=keys)
     parser.add_argument("--evicted-by", action="store_true")
     parser.add_argument("--annotate")
+    parser.add_argument("--callgrind")
     parser.add_argument("--counts")
     parser.add_argument("--objects")
     parser.add_argument("--only-compulsory", action="store_true")
@@ -185,6 +186,40 @@ def texts_of(numbers, all_of_them):
     return [f"{number:,}{share}" for number, share in zip(numbers, [*shares, "", "", ""])]
 
 
+def in_callgrind_format(asked, cells):
+    """The counts by function and innermost line. Conflict misses are not among them, since the format
+    has no numbers below 0."""
+    used = COUNTS[:3 if asked.only_compulsory else 4]
+    files = {cell.frames[0].function: cell.frames[0].file for cell in cells if cell.frames[0].file}
+    rows = []
+    for cell in cells:
+        function = cell.frames[0].function
+        inner = next((frame for frame in reversed(cell.frames) if frame.file), NO_FETCH)
+        key = files.get(function, "???"), function, inner.file or "???", inner.line
+        rows.append((key, cell.counts[:len(used)]))
+    totals = " ".join(str(sum(counts[at] for _, counts in rows)) for at in range(len(used)))
+    yield from ("# callgrind format", "version: 1", "creator: by-line of cachesim", "positions: line",
+                f"events: {' '.join(map(str.capitalize, used))}", f"summary: {totals}")
+    last, present = None, None
+    for (file, function, inner, line), counts in sorted(sums(rows).items()):
+        if (file, function) != last:
+            yield from ("", f"fl={file}", f"fn={function}")
+            last, present = (file, function), file
+        if inner != present:
+            yield f"{'fe' if inner == file else 'fi'}={inner}"
+            present = inner
+        yield " ".join(map(str, (line, *counts)))
+    yield from ("", f"totals: {totals}")
+
+
+def write_callgrind(asked, cells):
+    try:
+        with open(asked.callgrind, "w", encoding="utf-8", errors="surrogateescape") as file:
+            file.writelines(f"{line}\n" for line in in_callgrind_format(asked, cells))
+    except OSError as fault:
+        tool.fail(f"{asked.callgrind}: {fault.strerror}")
+
+
 def warn(text):
     print(f"{tool.NAME}: {text}", file=sys.stderr)
 
@@ -227,7 +262,9 @@ def lines_of(rows):
 
 def report(asked, layout):
     cells, pairs = read_counts(asked, layout)
-    if asked.annotate or "line" in asked.by:
+    if asked.callgrind:
+        write_callgrind(asked, cells)
+    if asked.annotate or asked.callgrind or "line" in asked.by:
         warn_of_lines(cells)
     sys.stdout.reconfigure(encoding="utf-8", errors="surrogateescape")
     if asked.annotate:

@@ -199,6 +199,39 @@ class Sources(Hand):
                 ["", "", "2 (25.0%) 1 (16.7%) 1 0 0", "", "", "", "2 (25.0%) 1 (16.7%) 1 0 0", ""], INLINED.splitlines())),
         ])
 
+    @base.needs("valgrind")
+    def test_callgrind(self):
+        """By function and innermost line, as callgrind_annotate reads it; an empty trace is one too."""
+        (self.folder / "inlined.c").write_text(INLINED)
+        program = self.compiled("inlined.c")
+        inner, outer = self.address_of(program, 3, 6), self.address_of(program, 7)
+        text = f"0 10\n2 {inner:x}\n1 1000\n1 1000\n2 {outer:x}\n0 1000\n0 2000\n2 10\n0 10\n".encode()
+        given = "by-line", "-", "--program", program, *cache("1k", 16, "-l1-dassoc", "64"), "--callgrind", "out"
+        table = self.good(self.run_tool(*given, stdin=text))
+        self.assertEqual(table, self.good(self.run_tool(*given[:-2], stdin=text)))
+        source = f"{self.folder}/inlined.c"
+        self.assertEqual((self.folder / "out").read_text().splitlines(), [
+            "# callgrind format", "version: 1", "creator: by-line of cachesim", "positions: line",
+            "events: References Misses Compulsory Capacity", "summary: 6 3 3 0", "",
+            f"fl={source}", "fn=main", "3 2 1 1 0", "7 2 1 1 0", "",
+            "fl=???", "fn=(no fetch before it)", "0 1 1 1 0", "", "fl=???", "fn=?", "0 1 0 0 0", "", "totals: 6 3 3 0"])
+        told = self.good(self.run_command("callgrind_annotate", "--auto=yes", "--threshold=100", "out"))
+        lines = {" ".join(line.split()[-3:]): re.findall(r"(\d+) *(?:\([^)]*\))?", line)[:4] for line in told.splitlines()}
+        self.assertEqual(lines["numbers[at] = at;"], ["2", "1", "1", "0"])
+        self.good(self.run_tool(*given, stdin=b""))
+        self.assertEqual((self.folder / "out").read_text().splitlines()[5:], ["summary: 0 0 0 0", "", "totals: 0 0 0 0"])
+        for path, fault in (("none/out", "No such file or directory"), ("/dev/full", "No space left on device")):
+            self.refused(self.run_tool(*given[:-1], path, stdin=text), 1, f"by-line: {path}: {fault}\n")
+
+    def test_progress(self):
+        """On a terminal the lines read so far are told, and taken away at the end."""
+        words = " ".join(str(base.TOOLS / "by-line") if word == "by-line" else word for word in ("by-line", "-", *ONE_LINE, "--by", "object"))
+        feed = "for i in 1 2 3; do echo 0 10; sleep 0.8; done"
+        ran = self.run_command("script", "-qec", f"({feed}) | {words}", "/dev/null")
+        table = "object,references,misses,compulsory,capacity,conflict,share\r\n(heap),3,1,1,0,0,100.000\r\n"
+        self.assertRegex(ran.stdout.decode(), r"\A(\rby-line: 0\.0 million lines )+\r\x1b\[K" + re.escape(table) + r"\Z")
+        self.good(self.run_command("bash", "-c", f"({feed}) | {words}"))
+
     def test_files_of_one_name(self):
         """They are called by as much of their paths as tells them apart, and each keeps its counts."""
         for folder, function in (("a", "int main(void)"), ("b", "int other(void)")):
