@@ -2,6 +2,8 @@
 
 import collections
 import importlib
+import importlib.machinery
+import importlib.util
 import os
 import pathlib
 import shutil
@@ -12,6 +14,7 @@ import unittest
 
 TOP = pathlib.Path(__file__).resolve().parent.parent.parent
 TOOLS = TOP / "tools"
+PACKAGING = TOP / "package"
 EXAMPLES = TOP / "examples"
 PROGRAM = pathlib.Path(os.environ.get("CACHESIM") or TOP / "crates/cachesim/out/cachesim").resolve()
 
@@ -30,6 +33,7 @@ PACKAGES = {
     "git": "git",
     "gnuplot-nox": "gnuplot",
     "lintian": "lintian",
+    "llvm": "llvm-addr2line",
     "lowdown": "lowdown",
     "man-db": "man",
     "miller": "mlr",
@@ -55,6 +59,14 @@ PLAIN = bool(os.environ.get("CACHESIM_PLAIN_TESTS"))
 # the model of the program, which shares nothing with it
 sys.path.append(str(TOP / "tests"))
 model = importlib.import_module("model")
+
+
+def script(name):
+    """A script of tests/ as a module."""
+    loader = importlib.machinery.SourceFileLoader(name.replace("-", "_"), str(TOP / "tests" / name))
+    module = importlib.util.module_from_spec(importlib.util.spec_from_loader(loader.name, loader))
+    loader.exec_module(module)
+    return module
 
 
 def references(text, format="d", kind="u"):
@@ -100,6 +112,13 @@ class Lru:
     def counts(self):
         """Hits, misses and evictions, as in a row of a table."""
         return self.went["hit"], self.went["miss"] + self.went["miss eviction"], self.went["miss eviction"]
+
+
+def copy_tools(to, *tools):
+    """Copies tools to another folder, with the parts of all tools, but nothing that was compiled."""
+    shutil.copytree(TOOLS / "lib", to / "lib", ignore=shutil.ignore_patterns("__pycache__"))
+    for tool in tools:
+        shutil.copy(TOOLS / tool, to)
 
 
 def is_there(package):
@@ -171,6 +190,14 @@ class ToolTest(unittest.TestCase):
         os.read(reader, reads)
         os.close(reader)
         self.assertEqual((running.communicate(timeout=20)[1], running.returncode), (b"", 141))
+
+    def stand_in(self, command, *lines):
+        """Puts a script for bash into a folder of its own, to be found in place of a command. Returns the path to be searched."""
+        folder = self.folder / "stand-ins"
+        folder.mkdir(exist_ok=True)
+        (folder / command).write_text("\n".join(["#!/bin/bash", *lines, ""]))
+        (folder / command).chmod(0o755)
+        return {"PATH": f"{folder}:{PROGRAM.parent}:{os.environ['PATH']}"}
 
     def packed(self, trace):
         """Puts a trace into the folder, packed by xz and by zstd."""

@@ -5,7 +5,7 @@ import os
 import subprocess
 
 import base
-import table
+from lib import table
 
 CACHES = {
     (16, 1, 4): 200, (16, 4, 1): 200, (32, 1, 2): 100,

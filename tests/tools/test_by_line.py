@@ -110,7 +110,7 @@ class Totals(ByLineTest):
         self.assertEqual(rows[0]["misses"], rows[0]["compulsory"])
 
 
-@base.needs("binutils", "gcc")
+@base.needs("binutils", "gcc", "llvm")
 class Rows(ByLineTest):
     """Each row by itself, of a random trace with the addresses of a program."""
 
@@ -182,7 +182,7 @@ class Rows(ByLineTest):
         self.assertEqual([self.key(row) for row in mapped], [self.key(row) for row in plain])
 
 
-@base.needs("binutils", "gcc", "valgrind")
+@base.needs("binutils", "gcc", "llvm", "valgrind")
 class Cachegrind(ByLineTest):
     """Line by line as Valgrind's Cachegrind has it. A modify is a read there, and a read and a write here."""
 
@@ -229,7 +229,7 @@ class Cachegrind(ByLineTest):
             self.assertEqual(got, {line: counts for line, counts in wanted.items() if counts[0]})
 
 
-@base.needs("binutils", "gcc", "g++", "qemu-user")
+@base.needs("binutils", "gcc", "g++", "llvm", "qemu-user")
 class Programs(ByLineTest):
     """Programs at addresses of their own, traced with a map."""
 

@@ -2,6 +2,7 @@
 
 import collections
 import os
+import pathlib
 import re
 import subprocess
 
@@ -21,6 +22,22 @@ static inline __attribute__((always_inline)) void set(int at) {
 int main(void) {
     set(1);
     return numbers[0];
+}
+"""
+# most of what this runs without optimization is code of headers, in functions of their own
+SORTED = """\
+#include <algorithm>
+#include "own.h"
+int main() {
+    int numbers[] = {3, 1, 2};
+    std::sort(numbers, numbers + 3);
+    return own(numbers[0]);
+}
+"""
+OWN = """\
+#pragma once
+static int own(int number) {
+    return number + 1;
 }
 """
 # data with and without a name
@@ -145,7 +162,7 @@ class Evictions(Hand):
         self.assertEqual(self.evictions(text, *ONE_LINE), [("(heap)", "(stack)", 1, "33.333")])
 
 
-@base.needs("binutils", "gcc")
+@base.needs("binutils", "gcc", "llvm")
 class Sources(Hand):
     def compiled(self, *sources):
         self.good(self.run_command("cc", "-g", "-O0", "-no-pie", "-o", "program", *sources))
@@ -196,6 +213,42 @@ class Sources(Hand):
         annotated = self.good(self.run_tool("by-line", "-", "--program", program, *ONE_LINE, "--annotate", "b/same.c", stdin=text))
         # a form feed ends no line
         self.assertEqual(annotated.rstrip("\n").split("\n")[-1].split()[:4], ["1", "(33.3%)", "1", "(50.0%)"])
+
+    @base.needs("g++")
+    def test_code_of_headers(self):
+        """Each function of a header is in this header, also where it is not inlined."""
+        (self.folder / "own.h").write_text(OWN)
+        (self.folder / "w.cc").write_text(SORTED)
+        self.good(self.run_command("g++", "-g", "-O0", "-no-pie", "-o", "program", "w.cc"))
+        program = self.folder / "program"
+        names = self.good(self.run_command("nm", "-C", program)).splitlines()
+        own = [int(name.split()[0], 16) for name in names if re.match(r"\w+ \w (bool )?__gnu_cxx::__ops::", name)]
+        self.assertGreater(len(own), 5)
+        text = "".join(f"2 {at:x}\n0 10\n" for at in own).encode()
+        given = "-", "--program", program, *ONE_LINE
+        rows = self.rows(*given, "--by", "line", stdin=text)
+        self.assertEqual({row["line"].split(":")[0] for row in rows}, {"predefined_ops.h"})
+        at, = (int(name.split()[0], 16) for name in names if name.endswith(" own(int)"))
+        source = self.good(self.run_tool("by-line", *given, "--annotate", "own.h", stdin=f"2 {at:x}\n0 10\n".encode()))
+        self.assertEqual([line.split()[0] for line in source.splitlines()[4:]], [".", "1", ".", "."])
+
+    def test_without_llvm(self):
+        """Binutils' own command names lines too; a warning tells of it, and of lines that are not there."""
+        (self.folder / "inlined.c").write_text(INLINED)
+        program = self.compiled("inlined.c")
+        (self.folder / "bin").mkdir()
+        for path in pathlib.Path("/usr/bin").iterdir():
+            if not path.name.startswith("llvm-"):
+                (self.folder / "bin" / path.name).symlink_to(path)
+        text, given = f"2 {self.address_of(program, 7):x}\n0 10\n0 10\n".encode(), ("-", "--program", program, *ONE_LINE)
+        expected = self.good(self.run_tool("by-line", *given, stdin=text))
+        warning = ("by-line: llvm-addr2line is missing: apt-get install llvm; addr2line may name a wrong file for code of headers\n")
+        ran = self.run_tool("by-line", *given, stdin=text, env={"PATH": str(self.folder / "bin")})
+        self.assertEqual((ran.stdout.decode(), ran.stderr.decode(), ran.returncode), (expected, warning, 0))
+        (self.folder / "inlined.c").write_text("int main(void);\n\n\n\n\n\n")
+        ran = self.run_tool("by-line", *given, stdin=text)
+        warning = f"by-line: {self.folder}/inlined.c: 2 references are at lines behind its end, 6: is it the file that was compiled?\n"
+        self.assertEqual((ran.stdout.decode(), ran.stderr.decode(), ran.returncode), (expected, warning, 0))
 
     def test_a_program_newer_than_the_map(self):
         """It is told by name, and the table comes all the same. It may be as old as the map, and other files newer."""

@@ -1,30 +1,21 @@
 """What the gate, tests/all, makes of what the kit's command rt says."""
 
 import contextlib
-import importlib.machinery
-import importlib.util
 import io
+import sys
 from unittest import mock
 
-from base import TOP, ToolTest
+from base import TOP, ToolTest, script
 
 CRATES = len(list(TOP.glob("crates/*/src")))
 EDITS = len(list(TOP.glob("crates/*/must-fail/*.edit")))
 ALL = f"{CRATES + EDITS} passed, 0 failed"
 
 
-def load():
-    """The script as a module."""
-    loader = importlib.machinery.SourceFileLoader("gate", str(TOP / "tests/all"))
-    module = importlib.util.module_from_spec(importlib.util.spec_from_loader("gate", loader))
-    loader.exec_module(module)
-    return module
-
-
 class Gate(ToolTest):
     def judge(self, lines, status, wanted):
         """Compares the sum of the gate, where rt ci writes these lines, with the sum that is wanted."""
-        gate = load()
+        gate = script("all")
         with mock.patch.object(gate, "shown", lambda command: (lines, status)), contextlib.redirect_stdout(io.StringIO()):
             self.assertEqual(gate.gate(), wanted)
 
@@ -43,3 +34,31 @@ class Gate(ToolTest):
         self.judge(["rt: FAILED: sweep_core", f"{CRATES} passed, 1 failed"], 1, (CRATES, 1))
         self.judge(["rt: FAILED: sweep_core"], 1, (0, 1))
         self.judge([ALL], 1, (CRATES + EDITS, 1))
+
+    def test_it_runs_each_script(self):
+        """On what one of the compilers made the cases, and on what the other made all."""
+        gate, ran = script("all"), []
+
+        def judged(*command):
+            ran.append(command[1:])
+            return 1, 0
+
+        # in the place of those that the gate removes first
+        program, second = mock.MagicMock(), mock.MagicMock()
+        for it, name in ((program, "first"), (second, "second")):
+            it.relative_to.return_value = name
+            it.__str__.return_value = name
+        stand_ins = {"judged": judged, "gate": lambda: (2, 0), "PROGRAM": program, "SECOND": second}
+        told = io.StringIO()
+        with mock.patch.multiple(gate, **stand_ins), mock.patch.object(sys, "argv", ["all"]):
+            with contextlib.redirect_stdout(told):
+                self.assertEqual(gate.main(), 0)
+        wanted = [("tests/spec-names",), ("tests/run", "--program", "second")]
+        for name, *arguments in (
+            ["run"], ["fuzz", "--cases", "10000"], ["refusals"], ["devices"], ["limits"],
+            ["test-tools", "--plain"],
+        ):
+            wanted.append((f"tests/{name}", "--program", "first", *arguments))
+        self.assertEqual(ran, wanted)
+        self.assertTrue(told.getvalue().endswith(f"\n{2 + len(wanted)} passed, 0 failed\n"))
+        self.assertEqual([it.unlink.call_count for it in (program, second)], [1, 1])

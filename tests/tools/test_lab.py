@@ -6,7 +6,7 @@ import shutil
 import signal
 import subprocess
 
-from base import EXAMPLES, PROGRAM, TOOLS, TOP, needs
+from base import EXAMPLES, PROGRAM, TOP, copy_tools, needs
 from lab_base import LAB, STUDENTS, LabTest, StudentTest, comes, is_running
 
 YI = TOP / "tests/cases/inputs/handout.lackey"
@@ -211,9 +211,9 @@ class Grade(StudentTest):
 
     def test_where_cachesim_is(self):
         """On the path, where the tools stand alone."""
-        shutil.copytree(LAB, self.folder / "lib/lab")
-        shutil.copy(TOOLS / "tool.py", self.folder / "lib")
-        arguments = [self.folder / "lib/lab/grade", self.student(), "yi.trace"]
+        shutil.copytree(LAB, self.folder / "tools/lab")
+        copy_tools(self.folder / "tools")
+        arguments = [self.folder / "tools/lab/grade", self.student(), "yi.trace"]
         self.says(self.run_command(*arguments, env={"CACHESIM": ""}), "15 of 15 right\n", 0)
         self.refused(self.run_command(*arguments, env={"CACHESIM": "", "PATH": "/nowhere"}), 2, "grade: no program cachesim")
 

@@ -8,7 +8,7 @@ import shutil
 import signal
 import subprocess
 
-from base import EXAMPLES, PROGRAM, TOOLS, Lru, needs
+from base import EXAMPLES, PROGRAM, TOOLS, Lru, copy_tools, needs
 from lab_base import LAB, STUDENTS, StudentTest, comes, is_running
 
 CACHES = "1,1,1 4,2,4 2,1,4 2,1,3 2,2,3 2,4,3 5,1,5 4,1,4 0,1,0 0,2,4 3,3,6 6,8,6 14,2,2".split()
@@ -24,8 +24,10 @@ MISTAKES = {
     "long": "SHORT_CLOCK SHORT_COUNTS FEW_LINES",
 }
 RIGHT = {"stamps": "", "list": "STYLE=LIST", "ages": "STYLE=AGES", "shift": "STYLE=SHIFT", "python": "csim.py"}
-FIRST, FINE = "wrong: -s 1 -E 1 -b 1 -t order.trace", "with -v the line of each access is right"
+BLOCKS = EXAMPLES / "blocks.lackey"
+FIRST, FINE = "wrong: -s 1 -E 1 -b 1 -t blocks.trace", "with -v the line of each access is right"
 HEADER = "name,right,of,points,reason"
+HARD = HEADER.replace("reason", ",".join(f"{name}.trace" for name in TRACES) + ",reason")
 
 
 class ClassTest(StudentTest):
@@ -43,7 +45,7 @@ class ClassTest(StudentTest):
     def table(self, ran):
         """The rows of a table, by name."""
         text = self.good(ran)
-        self.assertTrue(text.startswith(f"{HEADER}\n"), text)
+        self.assertRegex(text, r"\Aname,right,of,points,[^\n]+,reason\n")
         self.assertEqual(list(self.private.iterdir()), [])
         return {row["name"]: row for row in csv.DictReader(text.splitlines())}
 
@@ -58,35 +60,63 @@ class ClassTest(StudentTest):
 class Planted(ClassTest):
     """By the traces of hard-traces, with all caches."""
 
-    def test_each_mistake_is_found_and_each_style_is_right(self):
-        mistakes = {mistake: trace for trace, names in MISTAKES.items() for mistake in names.split()}
-        self.assertGreater(len(mistakes), 40)
+    def setUp(self):
+        super().setUp()
+        self.good(self.run_tool("lab/hard-traces", "."))
+
+    def judged(self, mistakes, *traces):
+        """The rows of programs with these mistakes, by these traces, or else by those of grade-class."""
         for mistake in mistakes:
-            self.enrol(mistake, self.student(mistake))
-        for name, given in RIGHT.items():
-            source = "styles.c" if "STYLE" in given else "student.c"
-            self.enrol(name, STUDENTS / given if given == "csim.py" else self.student(*given.split(), source=source))
+            if not (self.folder / "students" / mistake).exists():
+                self.enrol(mistake, self.student(mistake))
+        named = [word for trace in traces for word in ("--trace", f"{trace}.trace")]
         env = {"PATH": f"{PROGRAM.parent}:{os.environ['PATH']}"}
-        rows = self.table(self.grade_class(*sorted((self.folder / "students").iterdir()), env=env))
-        self.assertEqual(sorted(rows), sorted([*mistakes, *RIGHT]))
-        for name in RIGHT:
-            self.assertEqual(rows[name], dict(zip(HEADER.split(","), [name, "90", "90", "270", ""])))
-        for mistake, trace in mistakes.items():
-            with self.subTest(mistake):
-                self.assertLess(int(rows[mistake]["right"]), 90)
-                self.assertLess(int(rows[mistake]["points"]), 270)
-                self.assertRegex(rows[mistake]["reason"], r"^wrong: -s \d+ -E \d+ -b \d+ -t \w+\.trace; ")
-                self.assertIn(trace, self.traces_in(mistake))
+        folders = [f"students/{mistake}" for mistake in mistakes]
+        return self.table(self.grade_class(*named, *folders, env=env))
+
+    def test_each_mistake_is_found_by_its_trace(self):
+        self.assertEqual(sorted(MISTAKES), sorted(TRACES))
+        self.assertGreater(sum(len(names.split()) for names in MISTAKES.values()), 40)
+        rows = {}
+        for trace, names in MISTAKES.items():
+            rows |= self.judged(names.split(), trace)
+            for mistake in names.split():
+                with self.subTest(mistake):
+                    row = rows[mistake]
+                    self.assertLess(int(row["right"]), 15)
+                    self.assertLess(int(row["points"]), 45)
+                    wrong = rf"^wrong: -s \d+ -E \d+ -b \d+ -t {trace}\.trace; "
+                    self.assertRegex(row["reason"], wrong)
+                    self.assertEqual(self.traces_in(mistake), {trace})
         self.figures(rows)
 
     def figures(self, rows):
         """What some mistakes cost, by hand."""
-        self.assertEqual((rows["EVICTS_ALWAYS"]["right"], rows["EVICTS_ALWAYS"]["points"]), ("0", "180"), "two numbers of three are right")
-        self.assertEqual((rows["CRASHES_LATE"]["right"], rows["CRASHES_LATE"]["points"]), ("0", "0"))
-        self.assertGreaterEqual(int(rows["FIFO"]["right"]), 36, "six caches of fifteen have one way")
+        always, late = ([rows[name][key] for key in ("right", "points")] for name in ("EVICTS_ALWAYS", "CRASHES_LATE"))
+        self.assertEqual(always, ["0", "30"], "two numbers of three are right")
+        self.assertEqual(late, ["0", "0"])
         self.assertEqual(rows["STATUS"]["reason"], f"{FIRST}; ended with status 3; {FINE}")
-        for mistake in ("FORGETS_STORE", "NARROW", "NARROW_TAG", "SHORT_CLOCK"):
-            self.assertEqual(self.traces_in(mistake) & {"rows", "blocks"}, set(), "that is why there are others")
+
+    def test_why_there_are_others(self):
+        """Traces of a program's own accesses miss these mistakes."""
+        mistakes = ("FORGETS_STORE", "NARROW", "NARROW_TAG", "SHORT_CLOCK")
+        for name, row in self.judged(mistakes, "rows", "blocks").items():
+            self.assertEqual([row[key] for key in HEADER.split(",")], [name, "30", "30", "90", ""])
+
+    def test_each_style_is_right(self):
+        """And a mistake by all traces."""
+        for name, given in RIGHT.items():
+            source = "styles.c" if "STYLE" in given else "student.c"
+            self.enrol(name, STUDENTS / given if given == "csim.py" else self.student(*given.split(), source=source))
+        rows = self.judged([*RIGHT, "FIFO"])
+        wrong = rows.pop("FIFO")
+        for name, row in rows.items():
+            values = [name, "90", "90", "270", *["15"] * 6, ""]
+            self.assertEqual(row, dict(zip(HARD.split(","), values)))
+        self.assertEqual(wrong["order.trace"], "8", "those of six caches of one way, of 6,8,6 and 1,65,3")
+        self.assertEqual(list(rows), list(RIGHT))
+        self.assertEqual(self.traces_in("FIFO"), set(TRACES))
+        self.assertGreaterEqual(int(wrong["right"]), 36, "six caches of fifteen have one way")
 
 
 class HardTraces(StudentTest):
@@ -153,10 +183,13 @@ class GradeClass(ClassTest):
         folders = [self.enrol("zoe/lab", self.student()), self.enrol("ann/lab", self.student("COUNTS"))]
         (self.folder / "mine").write_text("kept\n")
         (folders[0] / "grade.txt").symlink_to(self.folder / "mine")
-        ran = self.grade_class(*self.SHORT, "--trace", EXAMPLES / "blocks.lackey", *folders, f"{folders[0]}/", "--jobs", 1)
+        ran = self.grade_class(*self.SHORT, "--trace", BLOCKS, *folders, f"{folders[0]}/", "--jobs", 1)
         said = "wanted hits:720 misses:1328 evictions:1312; got hits:721 misses:1328 evictions:1312"
-        row = f"ann/lab,0,1,2,wrong: -s 4 -E 1 -b 4 -t {EXAMPLES}/blocks.lackey; {said}; {FINE}"
-        self.assertEqual(self.good(ran), f"{HEADER}\nzoe/lab,1,1,3,\n{row}\n")
+        why = ("why: the result is that of a program in which the last line of the trace counts twice (while !feof), "
+               "or of one in which hits are one too many")
+        row = f'ann/lab,0,1,2,0,"wrong: -s 4 -E 1 -b 4 -t {EXAMPLES}/blocks.lackey; {said}; {FINE}; {why}"'
+        header = f"name,right,of,points,{EXAMPLES}/blocks.lackey,reason"
+        self.assertEqual(self.good(ran), f"{header}\nzoe/lab,1,1,3,1,\n{row}\n")
         self.assertEqual((self.folder / "mine").read_text(), "kept\n")
         self.assertEqual(self.text_of("zoe/lab"), "1 of 1 right, 3 of 3 points\n")
         self.assertIn("\n0 of 1 right, 2 of 3 points\n", self.text_of("ann/lab"))
@@ -165,7 +198,7 @@ class GradeClass(ClassTest):
     def test_points(self):
         """One for each number that is right, in .csim_results too, where hits and evictions are exchanged; none where a run fails."""
         folders = [self.enrol(name, self.student(*[name] * (name != "right"))) for name in ("right", "COUNTS", "RESULTS", "STATUS")]
-        rows = self.table(self.grade_class(*self.SHORT, "--trace", EXAMPLES / "blocks.lackey", *folders))
+        rows = self.table(self.grade_class(*self.SHORT, "--trace", BLOCKS, *folders))
         self.assertEqual({name: row["points"] for name, row in rows.items()}, {"right": "3", "COUNTS": "2", "RESULTS": "1", "STATUS": "0"})
 
     def test_programs_that_cannot_be_run(self):
@@ -178,7 +211,7 @@ class GradeClass(ClassTest):
         rows = self.table(self.grade_class(*self.SHORT, *sorted((self.folder / "students").iterdir())))
         said = {"none": "csim: no such file", "plain": "csim: Permission denied", "text": "csim: Exec format error"}
         for name, reason in said.items():
-            self.assertEqual(list(rows[name].values()), [name, "0", "6", "0", reason])
+            self.assertEqual(list(rows[name].values()), [name, "0", "6", "0", *["0"] * 6, reason])
             self.assertEqual(self.text_of(name), f"{reason}\n")
 
     def test_a_program_that_hangs_costs_its_time_once(self):
@@ -221,15 +254,15 @@ class GradeClass(ClassTest):
             file.touch()
         ran = self.grade_class(*self.SHORT, *sorted([*students, *files]))
         message = "".join(f"grade-class: {file}: left out, as it is no folder\n" for file in files)
-        rows = "ann,6,6,18,\nzoe,6,6,18,\n"
-        self.assertEqual((ran.stdout.decode(), ran.stderr.decode(), ran.returncode), (f"{HEADER}\n{rows}", message, 1))
+        rows = "ann,6,6,18,1,1,1,1,1,1,\nzoe,6,6,18,1,1,1,1,1,1,\n"
+        self.assertEqual((ran.stdout.decode(), ran.stderr.decode(), ran.returncode), (f"{HARD}\n{rows}", message, 1))
         self.refused(self.grade_class(*files), 2, f"grade-class: {files[0]}: no folder\n")
 
     def test_a_text_that_cannot_be_written(self):
         (self.enrol("ann", self.student()) / "grade.txt").mkdir()
         ran = self.grade_class(*self.SHORT, "students/ann")
         message = f"grade-class: {self.folder}/students/ann: grade.txt can't be written: Is a directory\n"
-        self.assertEqual((ran.stdout.decode(), ran.stderr.decode(), ran.returncode), (f"{HEADER}\nann,6,6,18,\n", message, 1))
+        self.assertEqual((ran.stdout.decode(), ran.stderr.decode(), ran.returncode), (f"{HARD}\nann,6,6,18,1,1,1,1,1,1,\n", message, 1))
 
     def test_outputs_that_fail(self):
         self.enrol("ann", self.student())
@@ -265,7 +298,7 @@ class Confined(ClassTest):
 
     def test_cachesim_is_not_on_the_path(self):
         self.enrol("ann", self.student("CALLS_CACHESIM"))
-        self.assertEqual(self.points(env={"PATH": f"{PROGRAM.parent}:{os.environ['PATH']}"}), {"ann": 0})
+        self.assertEqual(self.points("--trace", BLOCKS, env={"PATH": f"{PROGRAM.parent}:{os.environ['PATH']}"}), {"ann": 0})
 
     @needs("bubblewrap")
     def test_what_cannot_be_done(self):
@@ -285,14 +318,14 @@ class Confined(ClassTest):
     @needs("bubblewrap")
     def test_tools_below_the_folder_of_the_program_are_hidden(self):
         """Some of them simulate caches too. The grader is a copy, so that it stands there."""
-        shutil.copytree(LAB, self.folder / "students/ann/lib/lab")
-        shutil.copy(TOOLS / "tool.py", self.folder / "students/ann/lib")
+        shutil.copytree(LAB, self.folder / "students/ann/tools/lab")
+        copy_tools(self.folder / "students/ann/tools")
         program = self.folder / "students/ann/csim"
-        program.write_text(f"#!/bin/bash\n[ -z \"$(ls '{program.parent}/lib')\" ] && exec '{program.parent}/right' \"$@\"\n")
+        program.write_text(f"#!/bin/bash\n[ -z \"$(ls '{program.parent}/tools')\" ] && exec '{program.parent}/right' \"$@\"\n")
         program.chmod(0o755)
         shutil.copy(self.student(), program.parent / "right")
         for confine, right in (([], 0), (["--confine"], 6)):
-            ran = self.run_command(program.parent / "lib/lab/grade", "--geometry", "4,1,4", "--verbose-lines=no", *confine, program)
+            ran = self.run_command(program.parent / "tools/lab/grade", "--geometry", "4,1,4", "--verbose-lines=no", *confine, program)
             self.assertEqual(ran.stdout.decode().splitlines()[-1], f"{right} of 6 right")
 
     @needs("bubblewrap")
@@ -300,7 +333,8 @@ class Confined(ClassTest):
         for name in ("LEAVES_CHILD", "LEAVES_DAEMON"):
             self.enrol(name, self.student(name))
         for confine in ([], ["--confine"]):
-            self.assertEqual(self.points(*confine), {"LEAVES_CHILD": 18, "LEAVES_DAEMON": 18})
+            points = self.points("--trace", BLOCKS, *confine)
+            self.assertEqual(points, {"LEAVES_CHILD": 3, "LEAVES_DAEMON": 3})
             for name in ("LEAVES_CHILD", "LEAVES_DAEMON"):
                 self.assertFalse(is_running(self.folder / "students" / name / "csim"))
 
@@ -311,10 +345,11 @@ class Confined(ClassTest):
             self.enrol(mistake, self.student(mistake))
             texts = []
             for confine in ([], ["--confine"]):
-                self.good(self.grade_class("--geometry", "4,1,4", "--seconds", seconds, *confine, f"students/{mistake}"))
+                options = ["--trace", BLOCKS, "--geometry", "4,1,4", "--seconds", seconds, *confine]
+                self.good(self.grade_class(*options, f"students/{mistake}"))
                 texts.append(self.text_of(mistake))
             self.assertEqual(texts[0], texts[1])
-            self.assertIn("\n0 of 6 right, 0 of 18 points\n", texts[0])
+            self.assertIn("\n0 of 1 right, 0 of 3 points\n", texts[0])
 
     def test_bubblewrap_that_does_not_work(self):
         self.enrol("ann", self.student())

@@ -5,6 +5,8 @@ import shutil
 
 from base import TOP, ToolTest
 
+ROWS, WORKED = "cache_core/proofs/WindowRows.antt", "worked_examples/src/profiles.rt"
+EDIT = "crates/sweep_core/must-fail/kind_is_ignored.edit"
 READ, TASK, LAWS = "trace_core/src/io.rt", "trace_core/specs/Task.antt", "sweep_core/src/laws.rt"
 FLUSHED = "  pub flushes : sink'.flushes ≡ one_more sink.flushes\n"
 
@@ -15,9 +17,10 @@ class TheLedger(ToolTest):
         self.assertEqual(ran.returncode, 0, ran.stdout.decode()[-2000:])
 
     def copy(self):
-        """A copy of the contracts and the ledger."""
-        ignored = shutil.ignore_patterns("out", "proofs", "must-fail")
-        shutil.copytree(TOP / "crates", self.folder / "crates", ignore=ignored, dirs_exist_ok=True)
+        """A copy of the contracts, the ledger, and what it counts."""
+        ignored = shutil.ignore_patterns("out")
+        for name in ("crates", "tests/cases"):
+            shutil.copytree(TOP / name, self.folder / name, ignore=ignored, dirs_exist_ok=True)
         for name in ("tests/ledger", "tests/common.py", "docs/proofs.md"):
             (self.folder / name).parent.mkdir(exist_ok=True)
             shutil.copy(TOP / name, self.folder / name)
@@ -45,6 +48,14 @@ class TheLedger(ToolTest):
         self.fails_after(LAWS, r"pub fn pages\(\)", "pub fn pages_of()", "FAILED sweep_core::laws::pages: there is no such law")
         self.fails_after("cache_core/specs/Windows.antt", r"nat_lt \(", "nat_le (", r"FAILED cache_core.Windows \w+: new or changed")
 
+    def test_names_without_a_clause(self):
+        """A function, a record or a definition that a row names, and that has another name now."""
+        self.copy()
+        told = "there is no such function, record or definition"
+        self.fails_after("sweep_core/src/pass.rt", r"fn catch_up\(", "fn catch_all_up(", f"FAILED catch_up: {told}")
+        self.fails_after("sweep_core/src/space/configs.rt", r"fn next\(", "fn following(", f"FAILED Configs::next: {told}")
+        self.fails_after("sweep_core/specs/SweepText.antt", r"\bsweep_task :", "task_of_sweep :", f"FAILED sweep_task: {told}")
+
     def test_changes_of_what_clauses_cite(self):
         """A clause may say another thing in the same words: by a view, a constant, an import or a comment."""
         self.copy()
@@ -56,6 +67,27 @@ class TheLedger(ToolTest):
         self.fails_after("sweep_core/src/sweep.rt", work, r"    /*\n\1    */\n{", "FAILED sweep.work: there is no such clause")
         size = r" +ensures \{ result ≡ size_of self\.now \}\n"
         self.fails_after("cache_core/src/geometry.rt", size, "", "cache_core::Geometry::size: gone")
+
+    def test_what_is_counted(self):
+        """A file of cases, a case, a worked row of each kind, an edit and a condition are missed."""
+        self.copy()
+        cases = self.folder / "tests/cases"
+        for path, text in (
+            (cases / "log.cases", "tests/cases/log.cases: gone or changed"),
+            (self.folder / EDIT, f"{EDIT}: gone or changed"),
+        ):
+            path.rename(self.folder / "away")
+            ran = self.run_command(self.folder / "tests/ledger")
+            self.assertEqual(ran.returncode, 1)
+            self.assertIn(f"FAILED {text}", ran.stdout.decode())
+            (self.folder / "away").rename(path)
+        self.fails_after("../tests/cases/din.cases", r"== din-lru\n.*?\n\n", "", "FAILED tests/cases/din.cases: new")
+        rows = f"FAILED crates/{ROWS}: new or changed"
+        self.fails_after(ROWS, r"nine_held : .*?refl\n", "", rows)
+        self.fails_after(ROWS, r"(nine_held : .*?) ∷ 5 ∷ \[\]\) ≡ 1 ∷ 3 ∷ 4", r"\1 ∷ []) ≡ 1 ∷ 3", rows)
+        worked = f"FAILED crates/{WORKED}: new or changed"
+        self.fails_after(WORKED, r"#\[test\]\n", "", worked)
+        self.fails_after(WORKED, r"profile\.probes\(\)\.saturating_sub\(before\) == \*wanted", "true", worked)
 
     def test_a_change_is_acknowledged(self):
         self.copy()

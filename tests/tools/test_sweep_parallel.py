@@ -29,12 +29,24 @@ def pair(row):
     return tuple(map(int, row.split(",")[:2]))
 
 
-def dearest_page(costs, most):
-    """The cost of the dearest page, where `costs` are cut into at most so many pages so that it is least: by dynamic programming."""
-    sums = list(itertools.accumulate(costs, initial=0))
-    least = [0] + [math.inf] * len(costs)
+def cost(pairs):
+    """The cost of a page of pairs, each with its greatest associativity, as `pages --help` says."""
+    whole, last = 0, None
+    for bsize, sets, assoc in pairs:
+        behind = last and last[0] == bsize
+        looks = min(1, 2 / (last[0] * last[1]) ** 0.35) if behind else 1
+        whole += looks + 9 * math.log2(1 + assoc) / (bsize * sets) ** 0.55
+        last = bsize, sets
+    return whole
+
+
+def dearest_page(pairs, most):
+    """The cost of the dearest page, where pairs are cut into at most so many pages so that it is least: by dynamic programming."""
+    ends = range(1, len(pairs) + 1)
+    costs = {(cut, end): cost(pairs[cut:end]) for end in ends for cut in range(end)}
+    least = [0] + [math.inf] * len(pairs)
     for _ in range(most):
-        least = [0] + [min(max(least[cut], sums[end] - sums[cut]) for cut in range(end)) for end in range(1, len(sums))]
+        least = [0] + [min(max(least[cut], costs[cut, end]) for cut in range(end)) for end in ends]
     return least[-1]
 
 
@@ -92,9 +104,7 @@ class Pages(ParallelTest):
         """Pages are cut between pairs, make up the table, and the dearest costs no more than it must."""
         for space, most in itertools.product(SPACES, (1, 2, 3, 4, 7, 16, 500)):
             table = self.sweep(*space, "-t", "/dev/null").splitlines()[1:]
-            costs = {pair(row): 0 for row in table}
-            for bsize, sets, assoc in (map(int, row.split(",")[:3]) for row in table):
-                costs[bsize, sets] = 1 + 8 * math.log2(1 + assoc) / (bsize * sets) ** (2 / 3)
+            deepest = {pair(row): int(row.split(",")[2]) for row in table}
             taken = [pair(row) for row in table]
             pages, dearest, after = self.pages(most, *space), 0, ""
             for page in pages:
@@ -103,10 +113,10 @@ class Pages(ParallelTest):
                 after = " --after " + ",".join(table[len(table) - len(taken) + rows - 1].split(",")[:3])
                 here, taken = taken[:rows], taken[rows:]
                 self.assertNotEqual(here[-1], taken[0] if taken else None, page)
-                dearest = max(dearest, sum(costs[name] for name in dict.fromkeys(here)))
+                dearest = max(dearest, cost([(*name, deepest[name]) for name in dict.fromkeys(here)]))
             self.assertEqual(taken, [])
             self.assertLessEqual(len(pages), most)
-            self.assertAlmostEqual(dearest, dearest_page(list(costs.values()), most))
+            self.assertAlmostEqual(dearest, dearest_page([(*name, deepest[name]) for name in deepest], min(most, len(deepest))))
         self.assertEqual(len(self.pages("auto", *SPACE)), min(49, len(os.sched_getaffinity(0))))
         # the processors that it may use, and not all that are there
         one = ("taskset", "-c", min(os.sched_getaffinity(0)))

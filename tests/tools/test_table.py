@@ -1,15 +1,15 @@
 """Reading a sweep's table."""
 
+import fractions
 import unittest
-
-import table
+from lib import table
 
 
 class Reading(unittest.TestCase):
     def test_rows(self):
         rows = table.read_table([table.HEADER + "\n", "16,1,2,32,4,5,3\n"], "t")
         self.assertEqual(rows, [table.Row(16, 1, 2, 32, 4, 5, 3)])
-        self.assertEqual((rows[0].references, rows[0].ratio, rows[0].cache), (9, 5 / 9, (16, 1, 2)))
+        self.assertEqual((rows[0].references, rows[0].share, rows[0].cache), (9, fractions.Fraction(500, 9), (16, 1, 2)))
 
     def test_a_page_has_no_header(self):
         self.assertEqual(len(table.read_table(["16,1,2,32,4,5,3\n", "16,2,1,32,4,5,3\n"], "t")), 2)

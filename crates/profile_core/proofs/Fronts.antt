@@ -16,8 +16,7 @@ use Rattle.cache_core.specs.Windows.{Occurrence, distinct_of_set, window, has_la
 use Rattle.cache_core.specs.LruLaws.{occurrence_after}
 use Rattle.cache_core.proofs.Lists.{cases}
 use Rattle.profile_core.specs.Moves.{is_front, move_to_front, is_in, index_of}
-use Rattle.profile_core.specs.declared.profile.TheConstants.{MAX_REFERENCES}
-use Rattle.profile_core.specs.State.{ProfileState, IsSound, empty, list_of, raise, fed_of, after_reference, after_flush, after_event}
+use Rattle.profile_core.specs.State.{ProfileState, IsSound, empty, list_of, raise, fed_of, after_reference, after_flush, after_event, most_references}
 use Rattle.profile_core.specs.State.{compared_behind, distances_of}
 use Rattle.profile_core.specs.Fronts.{finds_front, after_unless_front, after_fronts, caught_up, is_refined, IsFit, Leads}
 use Rattle.profile_core.specs.ProfileStandsFor.{ProfileStandsFor}
@@ -126,7 +125,7 @@ module _ {g : GeometryValue} {lists : Lists} {behind missed : List ℕ} {probes 
     occupancy_count = h.occupancy_count;
   })
 
-  pub counted_sound : (n : ℕ) → fed_of v + n ≤ MAX_REFERENCES → IsSound g lists behind missed (probes + n)
+  pub counted_sound : (n : ℕ) → fed_of v + n ≤ most_references → IsSound g lists behind missed (probes + n)
   counted_sound n few =
       let was : fed_of v ≡ sum (distances_of probes behind missed) + sum missed = sym (ap fed_of view_is) in
       let before = sum-distances probes behind missed h.none_in_front in

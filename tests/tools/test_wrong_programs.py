@@ -1,0 +1,160 @@
+"""The tests of the program fail on programs that are wrong, and name what is wrong.
+
+So a test that is disarmed is seen here. The programs are the right one with the mistakes of
+wrong_program.c.
+"""
+
+import re
+import subprocess
+import unittest
+
+import base
+
+# what passed and what failed, without what was seen
+SEEN = r": (?:wanted |at most |no refusal|\(|\d+ KiB|\d+\.\d+ s|\d+ growths).*"
+NAMED = re.compile(rf"^(ok|FAILED) (.*?)(?:{SEEN})?$", re.M)
+SUM = re.compile(r"(\d+) passed, (\d+) failed\n\Z")
+
+
+class Wrong(base.ToolTest):
+    """Tests that run scripts on wrong programs."""
+
+    def program(self, *mistakes):
+        """The program with these mistakes."""
+        source = base.TOP / "tests/tools/wrong_program.c"
+        library, program = self.folder / "wrong.so", self.folder / "wrong"
+        strict = ["cc", "-O1", "-Wall", "-Wextra", "-Werror"]
+        named = [f"-D{mistake}" for mistake in mistakes]
+        paths = [f'-DRIGHT="{base.PROGRAM}"', f'-DLIBRARY="{library}"']
+        subprocess.run([*strict, "-shared", "-fPIC", *named, "-o", library, source], check=True)
+        # static, so that what a test puts in front of the program's library is not in this one
+        subprocess.run([*strict, "-static", *paths, "-o", program, source], check=True)
+        return program
+
+    def fails(self, script, mistakes, *arguments, env=None):
+        """What a script writes of a program with these mistakes: it must have failed."""
+        command = [base.TOP / "tests" / script, "--program", self.program(*mistakes), *arguments]
+        ran = self.run_command(*command, env=env, seconds=900)
+        text = ran.stdout.decode(errors="replace")
+        self.assertEqual((ran.returncode, ran.stderr), (1, b""), text)
+        return text
+
+    def failed(self, text):
+        """How many failed, by the last line."""
+        return int(SUM.search(text)[2])
+
+
+class Fuzz(Wrong):
+    CASES = 15
+
+    def wanted(self, command, run_as=None):
+        """What the model makes of the first cases of a command, which may be run as another."""
+        fuzz = base.script("fuzz")
+        cases = [fuzz.case(1, index, [command]) for index in range(self.CASES)]
+        return [fuzz.by_model([run_as or words[0], *words[1:]], text) for words, text in cases]
+
+    def test_of_log(self):
+        """Each case whose output, message or status differs is found, and no other."""
+        wanted = self.wanted("log")
+        for mistake, stream, is_wrong in (
+            ("BYTE", "stdout", [re.search("[0-9]", out) for out, *_ in wanted]),
+            ("MESSAGE", "stderr", [message for _, message, _ in wanted]),
+            ("STATUS", "status", [True] * self.CASES),
+        ):
+            text = self.fails("fuzz", [mistake], "--commands", "log", "--cases", self.CASES)
+            found = {index for index in range(self.CASES) if is_wrong[index]}
+            self.assertGreater(len(found), 2)
+            self.assertEqual(self.failed(text), len(found), text)
+            told = set(map(int, re.findall(r"^FAILED case (\d+) of seed 1$", text, re.M)))
+            self.assertEqual(len(told), min(10, len(found)))
+            self.assertLessEqual(told, found)
+            self.assertEqual(text.count(f"    {stream} of the model "), len(told))
+
+    def test_of_each_command(self):
+        for command in ("sweep", "csim", "din"):
+            index = next(at for at, (out, *_) in enumerate(self.wanted(command)) if "1" in out)
+            text = self.fails("fuzz", ["BYTE"], "--commands", command, "--only", index)
+            self.assertIn(f"FAILED case {index} of seed 1\n", text)
+            self.assertEqual(self.failed(text), 1)
+
+    def test_a_report_that_does_not_count_the_log(self):
+        """Where din alone is wrong, in the name of a cache, it is found of each that is reached."""
+        reports = self.wanted("log", run_as="din")
+        reached = [report for report, *_ in reports if re.match("l1.*=[1-9]", report)]
+        self.assertGreater(len(reached), 2)
+        arguments = ["--commands", "log", "--cases", self.CASES]
+        text = self.fails("fuzz", ["BYTE"], *arguments, env={"WRONG_COMMAND": "din"})
+        self.assertEqual(self.failed(text), len(reached))
+
+
+class Run(Wrong):
+    FILES = ["sweep-words", "lines-lackey", "csim", "din", "log", "help"]
+
+    def test_cases(self):
+        run = base.script("run")
+        inputs = base.TOP / "tests/cases/inputs"
+        cases, _ = run.chosen(run.read_all(inputs.parent, inputs), self.FILES)
+        wanted = {
+            case.name: [it.whole or it.begins or b"" for it in case.streams.values()]
+            for case in cases
+        }
+        for mistake, found in (
+            ("BYTE", {name for name, (out, _) in wanted.items() if re.search(rb"\d", out)}),
+            ("MESSAGE", {name for name, (_, message) in wanted.items() if message}),
+            ("STATUS", set(wanted)),
+        ):
+            text = self.fails("run", [mistake], *self.FILES)
+            told = set(re.findall(r"^FAILED (\S+) \(tests/cases/", text, re.M))
+            self.assertGreater(len(found), 2)
+            self.assertLessEqual(found, told)
+            self.assertEqual(self.failed(text), len(told))
+
+    def test_examples_of_documents(self):
+        text = self.fails("run", ["BYTE"], "README.md")
+        self.assertRegex(text, r"(?m)^FAILED \S*README.md:\d+ ")
+
+
+class Others(Wrong):
+    def named(self, script, mistakes, *arguments):
+        """The names of what passed, and of what failed."""
+        told = NAMED.findall(self.fails(script, mistakes, *arguments))
+        return [[name for word, name in told if word == each] for each in ("ok", "FAILED")]
+
+    def test_devices_of_a_program_whose_bytes_are_wrong(self):
+        """Nothing passes but help, of which nothing comes out."""
+        mistakes = ["BYTE", "MESSAGE", "KEEPS"]
+        good, bad = self.named("devices", mistakes, "--commands", "din")
+        self.assertEqual(good, ["help: a full device changes nothing"])
+        self.assertGreater(len(bad), 70)
+
+    def test_devices_of_a_program_that_does_not_heed_failures(self):
+        """What fails is each write that it doesn't heed, and the end of its input."""
+        devices = base.script("devices")
+        din = devices.COMMANDS["din"]
+        calls = [{"WRITE_MOST": 1, "WRITE_FAILS": at + 1} for at in range(len(din.text))]
+        calls.append({"READ_MOST": 1, "READ_FAILS": len(din.trace) + 2})
+        outputs = ["a full device", "a pipe that nobody reads", "stream 1 is closed"]
+        bad = self.named("devices", ["SILENT", "AGAIN"], "--commands", "din")[1]
+        wanted = [f"din {call}" for call in calls] + [f"din: {output}" for output in outputs]
+        self.assertEqual(bad, wanted)
+
+    def test_refusals(self):
+        """Nothing passes but what is compared with itself: growths of runs that read the same."""
+        good, bad = self.named("refusals", ["MESSAGE", "KEEPS", "PIECES"])
+        self.assertEqual([name[:9] for name in good], ["four rows"] * 2)
+        self.assertEqual(len(bad), 2 * len(base.script("refusals").RUNS) + 4 + 2 + 4)
+
+    def test_limits(self):
+        """Each kind of limit is found: of tables, times, memory and calls."""
+        bad = self.named("limits", ["BYTE", "GREEDY", "PIECES", "SLOW"])[1]
+        for name in (
+            "441 pairs of block size and set count", "65536 associativities",
+            "100,000 verbose lines, and none", "plain lines, and lines with every check",
+            "a sweep of eight block sizes and 2^20 sets", "din with 2^20 sets",
+            "csim with 2^20 sets", "a table of 65,536 rows", "20,000 references of log",
+        ):
+            self.assertIn(name, bad)
+
+
+if __name__ == "__main__":
+    unittest.main()
