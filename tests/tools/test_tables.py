@@ -130,6 +130,10 @@ class Reports(base.ToolTest):
         self.assertEqual({word for line in lines for word in line[3:]} - {"0"}, told)
 
 
+def seconds(cell):
+    return float(re.fullmatch(r"([\d.]+) s", cell)[1])
+
+
 class Speed(base.ToolTest):
     TEXT = (base.TOP / "docs/speed.md").read_text()
 
@@ -138,19 +142,20 @@ class Speed(base.ToolTest):
         spaces = base.script("against_c").SPACES
         rows = table(self.TEXT, "Space")
         self.assertEqual([row[0] for row in rows], list(spaces))
-        for name, arguments, count, ours, theirs, ratio in rows:
+        for name, arguments, count, ours, *others in rows:
             written = arguments.strip("`").split()
             shown = self.sweep(*written)
             asked = zip(("--bsize", "--sets", "--assoc", "--size"), spaces[name])
             self.assertEqual(self.sweep(*(word for pair in asked for word in pair)), shown, name)
             self.assertEqual(len(shown.splitlines()) - 1, int(count.replace(",", "")))
-            seconds = [float(re.fullmatch(r"([\d.]+) s", time)[1]) for time in (ours, theirs)]
-            told = float(re.fullmatch(r"([\d.]+) \([\d.]+\)", ratio)[1])
-            self.assertAlmostEqual(told, seconds[0] / seconds[1], delta=0.05)
+            here = seconds(ours)
+            for theirs, ratio in zip(others[::2], others[1::2]):
+                told = float(re.fullmatch(r"([\d.]+) \([\d.]+\)", ratio)[1])
+                self.assertAlmostEqual(told, here / seconds(theirs), delta=0.05)
 
     def test_shapes(self):
         """Each row has as many cells as its head; times are in seconds, memory in KiB."""
-        for heading, cells in (("Space", 6), ("Command", 4), ("What", 2)):
+        for heading, cells in (("Space", 8), ("Command", 4), ("What", 2)):
             for row in table(self.TEXT, heading):
                 self.assertEqual(len(row), cells, row)
         for _, _, time, memory in table(self.TEXT, "Command"):
@@ -167,6 +172,7 @@ class Scripts(base.ToolTest):
             self.assertGreater(len(called), 5)
             for name, *arguments in (words.split(maxsplit=1) for words in called):
                 told = self.good(self.run_command(base.TOP / folder / name, "--help"))
+                told = re.sub(r" \[(\w+) \.\.\.\]", "", told)
                 words, usage = self.words("".join(arguments)), self.usage(name, told)
                 if arguments and arguments[0].endswith(" .."):
                     usage = usage[: len(words)]

@@ -36,8 +36,12 @@ pub fit_of : {es : List Event} {v : ProfileState} → ProfileStandsFor es v → 
 fit_of {es = es} {v = v} h = record {
   some = h.geometry.some;
   set_count = h.set_count;
-  short = short_all v.lists v.geometry.e (λ k lt. omega (arith, ap length (h.lists k (omega (arith, lt, h.set_count))), length-take v.geometry.e
-      (distinct_of_set v.geometry k (window v.geometry es))));
+  short = short_all v.lists v.geometry.e (λ k lt. omega (
+    arith,
+    ap length (h.lists k (omega (arith, lt, h.set_count))),
+    length-take v.geometry.e
+        (distinct_of_set v.geometry k (window v.geometry es)),
+  ));
   distance_count = h.distance_count;
   occupancy_count = h.occupancy_count;
 }
@@ -268,7 +272,7 @@ leads_empty v w none = λ a front.
     let x : ℕ = block_of v.geometry a in
     let outside : false ≡ true =
     sym (no_front (2 ^ v.geometry.s) (set_of_block v.geometry x) x) ∙ sym (ap (λ (ls : List (List ℕ)). is_front x
-        (get_or ls (set_of_block v.geometry x) [])) none) ∙ front in
+    (get_or ls (set_of_block v.geometry x) [])) none) ∙ front in
     absurd (cc)
 
 leads_event : (v w : ProfileState) → IsFit v → IsFit w → IsFiner v.geometry w.geometry → Leads v w → (e : Event) → Leads (after_event v e) (after_event w e)
