@@ -22,13 +22,13 @@ PROGRAM := crates/cachesim/out/cachesim
 .PHONY: build demo tools test test-tools strain refusals mutants install uninstall deb clean help kit
 
 build:
-	@tools/package/build
+	@package/build
 
 demo:
-	@tools/package/build --demo
+	@package/build --demo
 
 tools:
-	@tools/package/compile
+	@package/compile
 
 test: kit
 	@python3 tests/all
@@ -49,13 +49,13 @@ mutants: kit build
 	@python3 tests/try-mutants
 
 install: build
-	@tools/package/install "$(DESTDIR)$(PREFIX)"
+	@package/install "$(DESTDIR)$(PREFIX)"
 
 uninstall:
-	@tools/package/install --remove "$(DESTDIR)$(PREFIX)"
+	@package/install --remove "$(DESTDIR)$(PREFIX)"
 
 deb: build
-	@tools/package/deb
+	@package/deb
 
 clean:
 	rm -rf crates/*/out tools/out out
@@ -67,4 +67,4 @@ help:
 
 # fails with one line where the kit's command is missing
 kit:
-	@tools/package/build --kit
+	@package/build --kit

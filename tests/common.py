@@ -58,10 +58,15 @@ def is_newer(path, other):
     return is_program(path) and (not is_program(other) or path.stat().st_mtime > other.stat().st_mtime)
 
 
+def is_worked(path):
+    """Whether it belongs to a crate that has tests alone, of which nothing is built."""
+    return any(part.startswith("worked_") for part in path.parts)
+
+
 def changed_since(program):
     """A file of the code or the definitions that the program is built of and that changed after it, or None."""
     built = program.stat().st_mtime
-    files = (path for path in sorted(TOP.glob("crates/*/s*/**/*.*t")) if "worked_examples" not in path.parts)
+    files = (path for path in sorted(TOP.glob("crates/*/s*/**/*.*t")) if not is_worked(path))
     return next((path for path in files if path.stat().st_mtime > built), None)
 
 

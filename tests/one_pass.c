@@ -1,9 +1,9 @@
 // The one-pass sweep by hand, to compare tables and times with: the same lists as the program's.
 //
-//     one_pass BSIZE SETS ASSOC SIZE TRACE     each of the four as LOWEST-GREATEST, in plain decimal numbers
+//     one_pass [--each] BSIZE SETS ASSOC SIZE TRACE     each of the four as LOWEST-GREATEST, in plain decimal numbers
 //
-// TRACE is a din trace of labels 0 to 2, a space after each, and 1 to 16 digits up to the line's end. The table goes to standard
-// output.
+// With --each every profile looks at every reference, and none is left out where another one decides for it. TRACE is a din trace
+// of labels 0 to 2, a space after each, and 1 to 16 digits up to the line's end. The table goes to standard output.
 #define _DEFAULT_SOURCE
 #include <fcntl.h>
 #include <stdint.h>
@@ -77,11 +77,12 @@ static inline int feed(profile *p, uint64_t address) {
     return 0;
 }
 
-// What was used last in its set was so with more sets of the same block size, and with one set with all larger blocks.
-static void link_profiles(void) {
+// What was used last in its set was so with more sets of the same block size, and with one set with all larger blocks. With `each`
+// no profile decides for another.
+static void link_profiles(int each) {
     for (int i = 0; i < profile_count; i++) {
         int next = i + 1;
-        while (next < profile_count && (profiles[i].sets == 1 || profiles[next].bsize == profiles[i].bsize)) next++;
+        while (!each && next < profile_count && (profiles[i].sets == 1 || profiles[next].bsize == profiles[i].bsize)) next++;
         profiles[i].next = next;
     }
 }
@@ -138,11 +139,13 @@ static void write_rows(const profile *p) {
 }
 
 int main(int count, char **words) {
-    if (count != 6) { fprintf(stderr, "one_pass BSIZE SETS ASSOC SIZE TRACE\n"); return 2; }
+    int each = count > 1 && !strcmp(words[1], "--each");
+    words += each;
+    if (count - each != 6) { fprintf(stderr, "one_pass [--each] BSIZE SETS ASSOC SIZE TRACE\n"); return 2; }
     bsizes = range_of(words[1]); sets_range = range_of(words[2]); assocs = range_of(words[3]); sizes = range_of(words[4]);
     for (uint64_t bsize = bsizes.lowest; bsize <= bsizes.greatest; bsize *= 2)
         for (uint64_t sets = sets_range.lowest; sets <= sets_range.greatest; sets *= 2) make_profile(bsize, sets);
-    link_profiles();
+    link_profiles(each);
     read_trace(words[5]);
     puts("bsize,sets,assoc,size,hits,misses,evictions");
     for (int i = 0; i < profile_count; i++) { count_fronts(&profiles[i]); write_rows(&profiles[i]); }

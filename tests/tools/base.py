@@ -16,6 +16,7 @@ import unittest
 
 TOP = pathlib.Path(__file__).resolve().parent.parent.parent
 TOOLS = TOP / "tools"
+PACKAGING = TOP / "package"
 EXAMPLES = TOP / "examples"
 PROGRAM = pathlib.Path(os.environ.get("CACHESIM") or TOP / "crates/cachesim/out/cachesim").resolve()
 
@@ -34,6 +35,7 @@ PACKAGES = {
     "git": "git",
     "gnuplot-nox": "gnuplot",
     "lintian": "lintian",
+    "llvm": "llvm-addr2line",
     "lowdown": "lowdown",
     "man-db": "man",
     "miller": "mlr",
@@ -135,6 +137,13 @@ class Lru:
         return self.went["hit"], self.went["miss"] + self.went["miss eviction"], self.went["miss eviction"]
 
 
+def copy_tools(to, *tools):
+    """Copies tools to another folder, with the parts of all tools, but nothing that was compiled."""
+    shutil.copytree(TOOLS / "lib", to / "lib", ignore=shutil.ignore_patterns("__pycache__"))
+    for tool in tools:
+        shutil.copy(TOOLS / tool, to)
+
+
 def is_there(package):
     shown_by = PACKAGES[package]
     if shown_by.startswith("/"):
@@ -204,6 +213,14 @@ class ToolTest(unittest.TestCase):
         os.read(reader, reads)
         os.close(reader)
         self.assertEqual((running.communicate(timeout=20)[1], running.returncode), (b"", 141))
+
+    def stand_in(self, command, *lines):
+        """Puts a script for bash into a folder of its own, to be found in place of a command. Returns the path to be searched."""
+        folder = self.folder / "stand-ins"
+        folder.mkdir(exist_ok=True)
+        (folder / command).write_text("\n".join(["#!/bin/bash", *lines, ""]))
+        (folder / command).chmod(0o755)
+        return {"PATH": f"{folder}:{PROGRAM.parent}:{os.environ['PATH']}"}
 
     def packed(self, trace):
         """Puts a trace into the folder, packed by xz and by zstd."""

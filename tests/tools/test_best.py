@@ -6,8 +6,8 @@ import re
 import subprocess
 
 import base
-import table
 from din_base import COLUMNS, POLICIES, din_rows
+from lib import table
 
 CACHES = {
     (16, 1, 4): 200, (16, 4, 1): 200, (32, 1, 2): 100,
@@ -218,13 +218,16 @@ class OfDin(base.ToolTest):
 
     def test_below_of_a_cache_and_of_the_trace(self):
         """20 of the 50 references to the second level, and of the 109 of the trace: 40 and 18.349 per cent."""
-        rows = "64,256,100,50,50.000,50,20,40.000,20,9\n128,256,100,40,40.000,40,25,62.500,25,9\n"
+        rows = "64,256,100,50,50.000,50,20,40.000,20,9,90\n"
+        rows += "128,256,100,40,40.000,40,25,62.500,25,9,80\n"
         header = "l1-dsize,l2-usize,l1-d-references,l1-d-misses,l1-d-percent,l2-u-references,l2-u-misses,l2-u-percent,memory-reads,bypassed"
+        header += ",cycles"
         for arguments, row in (
             (["--below", "40"], "64,256,320,20,40.000"),
             (["--below", "20", "--measure", "memory-reads"], "64,256,320,20,18.349"),
             (["--below", "40", "--measure", "l1-d-misses"], "128,256,384,40,40.000"),
             (["--below", "41", "--measure", "l2-u-percent"], "64,256,320,40,40.000"),
+            (["--below", "90", "--measure", "cycles"], "64,256,320,90"),
         ):
             self.assertEqual(self.best(f"{header}\n{rows}", *arguments)[1:], [row])
         self.refused(self.run_tool("best", "t.csv", "--below", "39.999"), 1, "at most 39.999 per cent misses; the least is 40\n")
@@ -236,4 +239,10 @@ class OfDin(base.ToolTest):
         self.assertEqual(self.best(given, "--measure", "hits"), [f"{table.HEADER},percent", "64,1,1,64,500,500,0,50.000"])
         more = f"{table.HEADER},conflict\n64,1,1,64,50,50,49,7\n64,2,1,128,60,40,38,9\n"
         self.assertEqual(self.best(more, "--measure", "conflict"), [f"{table.HEADER},conflict,percent", "64,1,1,64,50,50,49,7,7.000"])
+        cost = f"{table.HEADER},cost\n64,1,1,64,50,50,49,7.5\n64,2,1,128,60,40,38,4.25\n"
+        header, *rows = cost.replace("7.5", "7.500").replace("4.25", "4.250").splitlines()
+        self.assertEqual(self.best(cost, "--measure", "cost", "--below", "7.5"), [header, rows[0]])
+        self.assertEqual(self.best(cost, "--measure", "cost", "--below", "7.49"), [header, rows[1]])
+        self.refused(self.run_tool("best", "t.csv", "--measure", "cost", "--below", "4"), 1,
+                     "best: t.csv: no cache has at most 4 cost; the least is 4.25\n")
         self.refused(self.run_tool("best", "t.csv", "--measure", "x"), 1, "best: t.csv: no column x; there are ")

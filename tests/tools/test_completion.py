@@ -8,7 +8,7 @@ import select
 import subprocess
 import time
 
-from base import PROGRAM, TOOLS, ToolTest, needs
+from base import PACKAGING, PROGRAM, ToolTest, needs
 
 # The commands with their options, from the manual
 OF_A_CACHE = ("size", "bsize", "assoc", "repl", "walloc", "wback")
@@ -36,7 +36,7 @@ ONE_OF = {
 @functools.cache
 def written(shell, script="completion"):
     """The completion of the program for a shell, or that of the tools."""
-    words = [TOOLS / "package" / script, shell, PROGRAM]
+    words = [PACKAGING / script, shell, PROGRAM]
     return subprocess.run(words, stdout=subprocess.PIPE, check=True, text=True, timeout=120).stdout
 
 
@@ -111,8 +111,8 @@ class Generated(ToolTest):
 
     def test_a_program_without_such_a_help(self):
         for program, text in (("/bin/true", "tells no command"), (self.folder / "none", "none")):
-            self.refused(self.run_tool("package/completion", "bash", program), 1, "completion: ", text)
-        self.refused(self.run_tool("package/completion", "csh", PROGRAM), 2, "csh")
+            self.refused(self.run_command(PACKAGING / "completion", "bash", program), 1, "completion: ", text)
+        self.refused(self.run_command(PACKAGING / "completion", "csh", PROGRAM), 2, "csh")
 
 
 class Shells(ToolTest):

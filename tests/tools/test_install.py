@@ -20,7 +20,7 @@ def installed():
     atexit.register(shutil.rmtree, folder, ignore_errors=True)
     copy_repository(folder / "a copy")
     put_program(folder / "a copy")
-    subprocess.run([folder / "a copy/tools/package/install", folder / "usr"], check=True, stdout=subprocess.DEVNULL)
+    subprocess.run([folder / "a copy/package/install", folder / "usr"], check=True, stdout=subprocess.DEVNULL)
     return folder / "usr"
 
 
@@ -35,7 +35,7 @@ class Installing(MakeTest):
     def few_tools(self):
         """Leaves few tools in the copy, so that a test is quick."""
         for path in [*(self.top / "tools").iterdir(), *(self.top / "tools/lab").iterdir()]:
-            if path.is_file() and path.name not in ("best", "lib.bash", "table.py", "table_din.py", "tool.py"):
+            if path.is_file() and path.name != "best":
                 path.unlink()
 
     def below(self):
@@ -58,7 +58,7 @@ class Installing(MakeTest):
         program = self.to / "usr/bin/cachesim"
         self.assertEqual((program.read_bytes(), program.stat().st_mode & 0o777), (PROGRAM.read_bytes(), 0o755))
         self.assertEqual(os.readlink(self.to / "usr/bin/cachesim-best"), "../lib/cachesim/best")
-        for name in ("lib/cachesim/lib.bash", "share/bash-completion/completions/cachesim", "share/doc/cachesim/docs/manual.md"):
+        for name in ("lib/cachesim/lib/lib.bash", "share/bash-completion/completions/cachesim", "share/doc/cachesim/docs/manual.md"):
             self.assertTrue((self.to / "usr" / name).is_file(), name)
         self.assertFalse((self.to / "usr/share/man/man1/cachesim.1.gz").exists())
         self.uninstall()
@@ -134,7 +134,7 @@ class Installing(MakeTest):
     def test_each_c_part_is_compiled(self):
         parts = set()
         for path in (TOP / "tools").rglob("*"):
-            if path.is_file() and "package" not in path.parts and os.access(path, os.X_OK) and path.parent.name != "out":
+            if path.is_file() and os.access(path, os.X_OK) and path.parent.name != "out":
                 parts |= set(re.findall(r"^ *compiled ([\w.-]+) ", path.read_text(errors="replace"), re.M))
         self.assertIn("to-din", parts)
         ran = self.make("tools")
@@ -152,7 +152,7 @@ class Installing(MakeTest):
 
     def test_no_program_is_built(self):
         (self.top / "crates/cachesim/out/cachesim").unlink()
-        ran = self.run_command(self.top / "tools/package/stage", self.folder / "tree")
+        ran = self.run_command(self.top / "package/stage", self.folder / "tree")
         self.refused(ran, 1, "stage: no program ", "crates/cachesim/out/cachesim: make builds it\n")
 
     def test_a_place_that_cannot_be_written(self):
@@ -201,9 +201,9 @@ class Installed(ToolTest):
             (("bin/cachesim-sweep-parallel", 2, din, *space), self.run_command(PROGRAM, "sweep", *space, "-t", din).stdout.decode()),
             (("bin/cachesim-pages", 1, "--pow2", "--bsize", 16, "--sets", 1, "--assoc", "1-4", "--size", "0-1k"), pages),
             (("bin/cachesim-replay", *replayed), self.run_tool("lab/replay", *replayed).stdout.decode()),
-            (("bin/cachesim-grade", lab / "lab-csim", lackey), "13 of 13 right\n"),
-            (("lib/cachesim/lab/grade", installed() / "bin/cachesim-lab-csim", lackey), "13 of 13 right\n"),
-            (("lib/cachesim/lab/grade", lab / "lab-csim"), "78 of 78 right\n"),
+            (("bin/cachesim-grade", lab / "lab-csim", lackey), "15 of 15 right\n"),
+            (("lib/cachesim/lab/grade", installed() / "bin/cachesim-lab-csim", lackey), "15 of 15 right\n"),
+            (("lib/cachesim/lab/grade", lab / "lab-csim"), "90 of 90 right\n"),
         ):
             ran = self.run_command(installed() / arguments[0], *arguments[1:], env=env)
             self.assertEqual((ran.returncode, ran.stdout.decode(), ran.stderr), (0, text, b""))

@@ -6,7 +6,7 @@ import shutil
 import signal
 import subprocess
 
-from base import EXAMPLES, PROGRAM, TOOLS, TOP, needs
+from base import EXAMPLES, PROGRAM, TOP, copy_tools, needs
 from lab_base import LAB, STUDENTS, LabTest, StudentTest, comes, is_running
 
 YI = TOP / "tests/cases/inputs/handout.lackey"
@@ -111,11 +111,11 @@ class Grade(StudentTest):
     def test_a_right_program(self):
         """A simulator that shares nothing with cachesim."""
         ran = self.grade(self.student(), "yi.trace", EXAMPLES / "blocks.lackey", EXAMPLES / "transpose.lackey")
-        self.says(ran, "39 of 39 right\n", 0)
+        self.says(ran, "45 of 45 right\n", 0)
 
     def test_the_labs_caches_are_among_those_tried(self):
         said = self.good(self.grade("--all", self.student(), "yi.trace")).splitlines()
-        self.assertEqual((len(said), said[-1]), (14, "13 of 13 right"))
+        self.assertEqual((len(said), said[-1]), (16, "15 of 15 right"))
         for cache in "1 1 1, 4 2 4, 2 1 4, 2 1 3, 2 2 3, 2 4 3, 5 1 5".split(", "):
             self.assertIn("right: -s {} -E {} -b {} -t yi.trace".format(*cache.split()), said)
 
@@ -140,7 +140,7 @@ class Grade(StudentTest):
     def test_what_plays_no_part(self):
         """Other output, files and folders that are left behind, an emptied copy of the trace, a process that goes on."""
         for mistake in ("CHATTY", "JUNK", "LEAVES_CHILD", "LEAVES_DAEMON"):
-            self.says(self.grade(self.student(mistake), "order.trace"), "13 of 13 right\n", 0)
+            self.says(self.grade(self.student(mistake), "order.trace"), "15 of 15 right\n", 0)
             self.assertTrue(comes(lambda: not is_running(self.student(mistake))))
         self.assertEqual({path.name: path.read_text() for path in self.folder.glob("*.trace")}, TRACES)
         self.assertEqual(len(list(self.folder.iterdir())), len(TRACES) + 1)
@@ -159,8 +159,12 @@ class Grade(StudentTest):
         for name in names:
             (self.folder / name).write_text(TRACES["order.trace"])
         ran = self.grade("--geometry=0,2,4", "--verbose-lines=no", "--", "-my csim", *names)
-        said = "wrong: -s 0 -E 2 -b 4 -t {}\n    wanted hits:1 misses:4 evictions:2\n    got    hits:2 misses:3 evictions:1\n"
-        self.says(ran, said.format("-a trace") + said.format(r"tr\xffce") + "0 of 2 right\n", 1)
+        said = ["wrong: -s 0 -E 2 -b 4 -t -a trace", "    wanted hits:1 misses:4 evictions:2",
+                "    got    hits:2 misses:3 evictions:1",
+                "wrong in the same way as -s 0 -E 2 -b 4 -t -a trace, with s,E,b:",
+                r"    0,2,4 -t tr\xffce",
+                "0 of 1 right on -a trace", r"0 of 1 right on tr\xffce", "0 of 2 right"]
+        self.says(ran, "".join(f"{line}\n" for line in said), 1)
 
     def test_nothing_to_judge(self):
         (self.folder / "bad.trace").write_text(" L 10,1\n X 10,1\n")
@@ -207,10 +211,10 @@ class Grade(StudentTest):
 
     def test_where_cachesim_is(self):
         """On the path, where the tools stand alone."""
-        shutil.copytree(LAB, self.folder / "lib/lab")
-        shutil.copy(TOOLS / "tool.py", self.folder / "lib")
-        arguments = [self.folder / "lib/lab/grade", self.student(), "yi.trace"]
-        self.says(self.run_command(*arguments, env={"CACHESIM": ""}), "13 of 13 right\n", 0)
+        shutil.copytree(LAB, self.folder / "tools/lab")
+        copy_tools(self.folder / "tools")
+        arguments = [self.folder / "tools/lab/grade", self.student(), "yi.trace"]
+        self.says(self.run_command(*arguments, env={"CACHESIM": ""}), "15 of 15 right\n", 0)
         self.refused(self.run_command(*arguments, env={"CACHESIM": "", "PATH": "/nowhere"}), 2, "grade: no program cachesim")
 
 

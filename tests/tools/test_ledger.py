@@ -6,7 +6,7 @@ import shutil
 from base import TOP, ToolTest
 
 ROWS, WORKED = "cache_core/proofs/WindowRows.antt", "worked_examples/src/profiles.rt"
-EDIT = "crates/sweep_core/must-fail/kind_is_ignored.edit"
+EDIT = "crates/sweep_core/must-fail/named_row_again.edit"
 READ, TASK, LAWS = "trace_core/src/io.rt", "trace_core/specs/Task.antt", "sweep_core/src/laws.rt"
 FLUSHED = "  pub flushes : sink'.flushes ≡ one_more sink.flushes\n"
 
@@ -47,6 +47,14 @@ class TheLedger(ToolTest):
         self.fails_after(LAWS, r"pub fn pages\(\)\n", r"\g<0>    requires { 1 ≡ 2 }\n", r"sweep_core::laws::pages \(requires\)")
         self.fails_after(LAWS, r"pub fn pages\(\)", "pub fn pages_of()", "FAILED sweep_core::laws::pages: there is no such law")
         self.fails_after("cache_core/specs/Windows.antt", r"nat_lt \(", "nat_le (", r"FAILED cache_core.Windows \w+: new or changed")
+
+    def test_names_without_a_clause(self):
+        """A function, a record or a definition that a row names, and that has another name now."""
+        self.copy()
+        told = "there is no such function, record or definition"
+        self.fails_after("sweep_core/src/pass.rt", r"fn catch_up\(", "fn catch_all_up(", f"FAILED catch_up: {told}")
+        self.fails_after("sweep_core/src/space/configs.rt", r"fn next\(", "fn following(", f"FAILED Configs::next: {told}")
+        self.fails_after("sweep_core/specs/SweepText.antt", r"\bsweep_task :", "task_of_sweep :", f"FAILED sweep_task: {told}")
 
     def test_changes_of_what_clauses_cite(self):
         """A clause may say another thing in the same words: by a view, a constant, an import or a comment."""

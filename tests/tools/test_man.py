@@ -5,7 +5,7 @@ import re
 import shutil
 import subprocess
 
-from base import PROGRAM, TOOLS, TOP, ToolTest, needs
+from base import PACKAGING, PROGRAM, TOOLS, TOP, ToolTest, needs
 from test_make import copy_repository
 
 # as a terminal of 80 columns shows a page
@@ -17,7 +17,7 @@ class Page(ToolTest):
 
     def shown(self):
         """The name and what it does, as whatis finds them, and the lines of the page."""
-        (self.folder / "cachesim.1").write_text(self.good(self.run_tool("package/man-page", PROGRAM)))
+        (self.folder / "cachesim.1").write_text(self.good(self.run_command(PACKAGING / "man-page", PROGRAM)))
         named = self.good(self.run_command("lexgrog", "cachesim.1"))
         page = self.good(self.run_command("man", "--warnings", "-l", "cachesim.1", env=SHOWN))
         return named, re.sub(".\b", "", page).splitlines()
@@ -56,7 +56,7 @@ class Page(ToolTest):
     def test_lowdown_is_missing(self):
         for name in ("python3", "bash", "grep", "sed", "readlink", "dirname"):
             (self.folder / name).symlink_to(shutil.which(name))
-        arguments = [TOOLS / "package/man-page", PROGRAM]
+        arguments = [PACKAGING / "man-page", PROGRAM]
         ran = subprocess.run(arguments, env={"PATH": str(self.folder)}, capture_output=True, check=False, timeout=60)
         self.refused(ran, 1, "man-page: lowdown is missing: apt-get install lowdown\n")
 
@@ -65,7 +65,7 @@ class Page(ToolTest):
         top = self.folder / "copy"
         copy_repository(top)
         (top / "docs/manual.md").write_text("# The manual\n\nIt begins otherwise.\n")
-        self.refused(self.run_command(top / "tools/package/man-page", PROGRAM), 1, "man-page: docs/manual.md doesn't begin with")
+        self.refused(self.run_command(top / "package/man-page", PROGRAM), 1, "man-page: docs/manual.md doesn't begin with")
 
 
 class ToolPages(ToolTest):
@@ -78,7 +78,7 @@ class ToolPages(ToolTest):
         return tool
 
     def page(self, tool):
-        return self.good(self.run_tool("package/tool-page", tool))
+        return self.good(self.run_command(PACKAGING / "tool-page", tool))
 
     def test_blocks(self):
         page = self.page(self.tool(
@@ -127,8 +127,8 @@ class ToolPages(ToolTest):
 
     def test_a_help_that_tells_nothing(self):
         for text in ("", "another-tool    does it\n", "some-tool\n"):
-            self.refused(self.run_tool("package/tool-page", self.tool(text)), 1, "tool-page: ")
-        self.refused(self.run_tool("package/tool-page", "/bin/false"), 1, "tool-page: ")
+            self.refused(self.run_command(PACKAGING / "tool-page", self.tool(text)), 1, "tool-page: ")
+        self.refused(self.run_command(PACKAGING / "tool-page", "/bin/false"), 1, "tool-page: ")
 
     @needs("man-db")
     def test_each_tool_has_a_page(self):

@@ -1,5 +1,6 @@
 """Mutants, tried in a small repository with a stand-in for the kit's command rt."""
 
+import re
 import shutil
 
 from base import TOP, ToolTest, needs
@@ -45,6 +46,40 @@ class AllMutants(ToolTest):
         ran = self.run_command(TOP / "tests/try-mutants", "--list")
         self.assertEqual([line for line in ran.stdout.decode().splitlines() if "FAILED" in line], [])
         self.assertEqual((ran.stderr, ran.returncode), (b"", 0))
+
+
+class TheTable(ToolTest):
+    """The table of docs/proofs.md says which wrong bodies the gate refuses, and where."""
+
+    def setUp(self):
+        super().setUp()
+        text = (TOP / "docs/proofs.md").read_text().partition("\nWrong body | ")[2].partition("\n\n")[0]
+        self.rows = [line.split(" | ") for line in text.splitlines()[2:]]
+
+    def test_each_edit_has_its_row(self):
+        """No edit is lost without its row, no row without its edit, and both name one goal."""
+        edits = [f"`{path.parts[-3]}/{path.stem}` | `{goal_of(path)}`" for path in TOP.glob("crates/*/must-fail/*.edit")]
+        self.assertEqual(sorted(" | ".join(row[1:]) for row in self.rows if "/" in row[1].split(",")[0]), sorted(edits))
+        self.assertEqual([row for row in self.rows if len(row) != 3], [])
+
+    def test_each_test_is_there(self):
+        tests = [found for row in self.rows for found in re.findall(r"`(\w+)::(\w+)`", row[1])]
+        self.assertGreater(len(tests), 0)
+        for module, name in tests:
+            source = next(TOP.glob(f"crates/worked_*/src/{module}.rt")).read_text()
+            self.assertIn(f"#[test]\nfn {name}(", source)
+            self.assertIn(f'"{module}::{name}"', (TOP / "tests/refusals-library").read_text())
+
+    def test_a_name_is_in_one_place(self):
+        gate = {path.name for path in TOP.glob("crates/*/must-fail/*.edit")}
+        for name in gate:
+            crates = [path.parts[-2] for path in TOP.glob(f"tests/mutants/*/{name}")]
+            own = [path.parts[-3] for path in TOP.glob(f"crates/*/must-fail/{name}")]
+            self.assertEqual(set(crates) & set(own), set(), name)
+
+
+def goal_of(path):
+    return re.search(r"^goal: (.*)$", path.read_text(), re.M)[1]
 
 
 @needs("git")

@@ -9,10 +9,9 @@ import subprocess
 import tempfile
 import unittest
 
-from base import EXAMPLES, PACKAGES, PROGRAM, TOOLS, TOP, ToolTest, needs
+from base import EXAMPLES, PACKAGES, PACKAGING, PROGRAM, TOOLS, TOP, ToolTest, copy_tools, needs
 from test_make import copy_repository, put_program
 
-PACKAGE = TOOLS / "package"
 SPACE = ["--bsize", "16-32", "--sets", "1-8", "--assoc", "1-2", "--size", "64-256"]
 
 
@@ -24,32 +23,32 @@ def run(*arguments, **given):
 
 class Version(ToolTest):
     def test_the_program_and_the_changes_name_the_same(self):
-        version = self.good(self.run_command(PACKAGE / "version")).strip()
+        version = self.good(self.run_command(PACKAGING / "version")).strip()
         self.assertRegex(version, r"^\d+\.\d+\.\d+$")
         helped = self.good(self.run_command(PROGRAM, "--help")).splitlines()
         self.assertEqual([line for line in helped if re.fullmatch(r"cachesim [\d.]+", line)], [f"cachesim {version}"])
 
     def test_the_top_entry_counts(self):
         top = self.folder / "copy"
-        (top / "tools/package").mkdir(parents=True)
-        shutil.copy(TOOLS / "lib.bash", top / "tools")
-        shutil.copy(PACKAGE / "version", top / "tools/package")
+        (top / "package").mkdir(parents=True)
+        copy_tools(top / "tools")
+        shutil.copy(PACKAGING / "version", top / "package")
         changes = top / "CHANGELOG.md"
         for text, version, date in (
             ("# Changes\n\n## 1.2.3 (2027-01-31)\n\n- x\n\n## 1.0.0 (2026-11-23)\n", "1.2.3\n", "2027-01-31\n"),
             ("## 10.0.0 (2027-12-01)\n", "10.0.0\n", "2027-12-01\n"),
         ):
             changes.write_text(text)
-            self.assertEqual(self.good(self.run_command(top / "tools/package/version")), version)
-            self.assertEqual(self.good(self.run_command(top / "tools/package/version", "--date")), date)
+            self.assertEqual(self.good(self.run_command(top / "package/version")), version)
+            self.assertEqual(self.good(self.run_command(top / "package/version", "--date")), date)
         for text in ("# Changes\n", "## Unreleased\n\n## 1.0.0 (2026-11-23)\n", "## 1.0 (2026-11-23)\n", "## 1.0.0\n"):
             changes.write_text(text)
-            self.refused(self.run_command(top / "tools/package/version"), 1, "version: ", "CHANGELOG.md")
+            self.refused(self.run_command(top / "package/version"), 1, "version: ", "CHANGELOG.md")
 
     def test_each_change_is_in_the_packages_history(self):
         entries = (TOP / "CHANGELOG.md").read_text().partition("\n## ")[2].split("\n")
         points = [line for line, before in zip(entries[1:], entries) if line[:2] == "- " or line and not before and line[0] != "#"]
-        text = self.good(self.run_command(PACKAGE / "changelog", "A Name <name@example.org>"))
+        text = self.good(self.run_command(PACKAGING / "changelog", "A Name <name@example.org>"))
         self.assertEqual(text.count("\n  * "), len(points))
 
     def test_copyright_names_what_is_linked(self):
@@ -58,7 +57,7 @@ class Version(ToolTest):
         used = {name for line in (TOP / "crates.txt").read_text().splitlines() for name in line.partition(":")[2].split()}
         linked = set(re.findall(r" [tT] (\w+)::", run("nm", "-C", PROGRAM).stdout))
         kits_own = {name for name in linked if name in ("core", "io", "libc", "os") or name.startswith("std")}
-        named = set(re.findall(r"(?m)^    ([a-z]\w+)  +(?:Copyright|\(no)", (PACKAGE / "copyright").read_text()))
+        named = set(re.findall(r"(?m)^    ([a-z]\w+)  +(?:Copyright|\(no)", (PACKAGING / "copyright").read_text()))
         self.assertIn("strsim", linked)
         self.assertEqual(named, (used | linked) - ours - kits_own)
 
@@ -67,7 +66,7 @@ class Version(ToolTest):
         used = set()
         for line in (TOP / "crates.txt").read_text().splitlines():
             used |= set(line.partition("#")[0].partition(":")[2].split())
-        text = (PACKAGE / "copyright").read_text()
+        text = (PACKAGING / "copyright").read_text()
         self.assertIn("clap", used - ours)
         for library in used - ours:
             self.assertRegex(text, rf"(?m)^    {library} ")
@@ -86,14 +85,14 @@ class Package(unittest.TestCase):
         cls.top = cls.folder / "copy"
         copy_repository(cls.top)
         put_program(cls.top)
-        cls.version = run(PACKAGE / "version").stdout.strip()
+        cls.version = run(PACKAGING / "version").stdout.strip()
         cls.made = cls.make("out")
         cls.package = cls.top / "out" / f"cachesim_{cls.version}_amd64.deb"
 
     @classmethod
     def make(cls, to):
         env = {**os.environ, "SOURCE_DATE_EPOCH": "1795388123", "DEBFULLNAME": "A Tester", "DEBEMAIL": "tester@example.org"}
-        return run(cls.top / "tools/package/deb", cls.top / to, env=env)
+        return run(cls.top / "package/deb", cls.top / to, env=env)
 
     def setUp(self):
         self.assertEqual((self.made.returncode, self.made.stdout), (0, f"made: {self.package}\n"), self.made.stderr)
@@ -115,7 +114,7 @@ class Package(unittest.TestCase):
 
     def test_what_the_tools_name_is_suggested(self):
         named = set()
-        for path in [*TOOLS.glob("*"), *TOOLS.glob("[!p]*/*")]:
+        for path in TOOLS.rglob("[!.]*"):
             if path.is_file() and path.suffix not in (".c", ".h", ".md"):
                 text = path.read_text(errors="replace")
                 named |= set(re.findall(r"apt-get install ([a-z][\w+.-]*\w)", text))
@@ -132,7 +131,7 @@ class Package(unittest.TestCase):
             self.assertEqual((owner, day), ("root/root", "2026-11-22"), line)
             modes[name.partition(" -> ")[0]] = mode
         self.assertEqual(modes["./usr/bin/cachesim"], "-rwxr-xr-x")
-        self.assertEqual(modes["./usr/lib/cachesim/lib.bash"], "-rw-r--r--")
+        self.assertEqual(modes["./usr/lib/cachesim/lib/lib.bash"], "-rw-r--r--")
         documents = [f"docs/{path.name}" for path in (TOP / "docs").glob("*.md")]
         self.assertIn("docs/cookbook.md", documents)
         for name in ("copyright", "CHANGELOG.md", "README.md", "tools/README.md", "examples/sort.din", *documents):

@@ -8,7 +8,7 @@ import subprocess
 import time
 
 import base
-import table
+from lib import table
 
 # Eight caches and 100 references, so that misses are per cent. 32 and 2 are the block size and the ways nearest to 64 and 4.
 EIGHT = base.rows_of(100, {
@@ -116,7 +116,10 @@ class Script(PlotTest):
         self.assertIn("Miss ratio by block size: 6 ways'", script)
 
     def test_pages_without_a_header_from_standard_input(self):
-        self.assertEqual(self.script("-", "a.png", stdin=EIGHT.encode()), self.script("eight.csv", "a.png"))
+        script = self.script("eight.csv", "a.png")
+        self.assertEqual(self.script("-", "a.png", stdin=EIGHT.encode()), script)
+        marked = f"\ufeff{table.HEADER}\n{EIGHT}".encode()
+        self.assertEqual(self.script("-", "a.png", stdin=marked), script)
 
     def test_a_line_is_cut_where_a_size_is_missing(self):
         # Of direct-mapped caches the one of 4 sets is missing, which there is with two ways. Nobody has 32 sets.

@@ -4,8 +4,8 @@ import itertools
 import re
 
 import base
-import table
 from din_base import COLUMNS, POLICIES, din_rows
+from lib import table
 from test_plot import PlotTest, data_of
 
 
@@ -29,7 +29,7 @@ class Curve(PlotTest):
         self.assertIn("'Miss ratio by cache size: fully associative, blocks of 64 bytes'", script)
         self.assertRegex(script, r"\$curve_1 with lines .* notitle")
         whole = self.script("t.csv", "a.svg")
-        self.assertEqual({name.split("_")[0] for name in data_of(whole)}, {"curve", "block", "pareto"})
+        self.assertEqual({name.split("_")[0] for name in data_of(whole)}, {"curve", "pareto"})
 
     def test_few_ways_have_marks(self):
         self.write("t.csv", self.curve(ways=6))
@@ -50,7 +50,7 @@ class Curve(PlotTest):
         """No more points than can be seen; the ends stay, and each point is one of the table."""
         self.write("t.csv", self.sweep(*"--bsize 16 --sets 1 --assoc 1-65536 --size 0-1m".split(), "-t", base.EXAMPLES / "sort.din"))
         points, = data_of(self.script("--curve", "t.csv", "a.svg"))["curve_1"]
-        rows = {row.size: row.percent for row in table.read_table(*table.lines_of(self.folder / "t.csv"))}
+        rows = {row.size: float(row.share) for row in table.read_table(*table.lines_of(self.folder / "t.csv"))}
         self.assertEqual((points[0][0], points[-1][0]), (16, 1 << 20))
         self.assertTrue(all(abs(rows[x] - y) < 1e-6 for x, y in points))
         self.assertTrue(100 < len(points) < 2000, len(points))
@@ -67,8 +67,18 @@ class Measure(PlotTest):
         self.assertIn("set ylabel 'evictions in per cent of references'", script)
 
     def test_a_further_column(self):
-        self.write("t.csv", f"{table.HEADER},conflict\n64,1,1,64,50,50,49,7\n64,2,1,128,60,40,38,0\n")
+        """One that counts references is in per cent of them, any other in its own unit, with ticks above 100 too."""
+        rows = "64,1,1,64,100,100,49,14,580\n64,2,1,128,120,80,38,0,302.5\n"
+        self.write("t.csv", f"{table.HEADER},conflict,cost\n{rows}")
         self.assertEqual(data_of(self.script("--measure", "conflict", "--only", "size", "t.csv", "-"))["size_1"][0][0], (64, 7))
+        script = self.script("--measure", "cost", "--only", "size", "t.csv", "a.svg")
+        self.assertEqual(data_of(script)["size_1"], [[(64, 580), (128, 302.5)]])
+        self.assertIn("set ylabel 'cost'\n", script)
+        self.assertIn("set ytics ('0' 0, '100' 100, '200' 200, '300' 300, '400' 400, '500' 500, '600' 600)\n", script)
+        self.write("t.csv", f"{table.HEADER},cost\n64,1,1,64,50,50,49,{'9' * 64}\n")
+        self.assertIn("'2e63' 2e+63, '4e63' 4e+63, ", self.script("--measure", "cost", "--only", "size", "t.csv", "a.svg"))
+        self.write("t.csv", f"{table.HEADER},cost\n64,1,1,64,50,50,49,{'9' * 65}\n")
+        self.refused(self.plot("--measure", "cost", "t.csv", "-"), 1, "t.csv: line 2: cost is too long a number\n")
 
     def test_refused(self):
         self.refused(self.plot("--measure", "x", "eight.csv", "-"), 1, "eight.csv: no column x; there are bsize, sets, assoc, size, hits")
@@ -197,6 +207,7 @@ class Din(PlotTest):
             ("l1-usize,l1-urepl\n64,l\n", "no table of din: a cache's size or misses are not among its columns\n"),
             (f"{COLUMNS}\n{rows}{rows}", "line 3: a second row of the same options"),
             (f"{COLUMNS}\n{rows[:-3]}\n", "line 2: no row of a table of din"),
+            (f"{COLUMNS}\n{rows.replace('64', '0', 1)}\n", "line 2: no row of a table of din"),
             (f"{COLUMNS}\n{rows}{rows.replace(',1000,', ',999,').replace('l', 'f')}", "1000 references in the first row, 999 here"),
             (f"{COLUMNS}\n{rows.replace('100,10.000', 'x,10.000')}", "line 2: l1-u-misses is no number"),
         ):

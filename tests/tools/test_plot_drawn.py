@@ -15,8 +15,8 @@ import xml.etree.ElementTree
 import zlib
 
 import base
-import table
 from base import needs
+from lib import table
 from test_plot import ALL, AXES, TITLES, PlotTest, rows_of
 from test_plot_din import COLUMNS, POLICIES, din_rows
 
@@ -61,7 +61,11 @@ class Drawn(PlotTest):
         self.assertEqual(png_of(self.drawn("--only", "size", "--", "eight.csv", "-a.png"))[:2], (860, 480))
         mask = os.umask(0)
         os.umask(mask)
-        self.assertEqual((self.folder / "-a.png").stat().st_mode & 0o777, 0o666 & ~mask)
+        drawn = self.folder / "-a.png"
+        self.assertEqual(drawn.stat().st_mode & 0o777, 0o666 & ~mask)
+        drawn.chmod(0o600)
+        self.drawn("--only", "size", "--", "eight.csv", "-a.png")
+        self.assertEqual(drawn.stat().st_mode & 0o777, 0o600)
         self.assertEqual(self.names(), ["-a.png", "an out.png", "eight.csv"])
 
     def test_svg(self):
@@ -80,6 +84,14 @@ class Drawn(PlotTest):
         for text in [*TITLES[:2], TITLES[2] + " (block size, sets, ways)", *AXES, "cache size", "all caches", "32,2,2"]:
             self.assertIn(text, texts)
         self.assertEqual(len(marks["rgb(187,187,187)"]), len(ALL) + 1)
+
+    def test_bars(self):
+        """Each goes from the least to the greatest in one piece; nothing white hides other marks."""
+        self.write("din.csv", f"{COLUMNS}\n{din_rows(POLICIES)}")
+        drawn = self.drawn("din.csv", "a.svg")
+        self.assertNotIn("#FFFFFF", svg_of(drawn)[1])
+        bars = re.search(r"d='([^']*)'", drawn.decode().split("gnuplot_plot_3a<")[1])[1]
+        self.assertEqual(len(re.findall(r"M([0-9.]+),[0-9.]+ L\1,[0-9.]+\s", bars)), 2, bars)
 
     def test_the_script_is_what_is_run(self):
         ran = self.run_command("gnuplot", "-d", stdin=self.script("eight.csv", "a.svg").encode())
@@ -124,8 +136,8 @@ class Drawn(PlotTest):
             self.write(f"tables/{name}", text)
             for out in ("-", "a.svg"):
                 drawn = self.good(self.plot(f"tables/{name}", out))
-                for text in [TITLES[0][:24], TITLES[1][:24], TITLES[2]]:
-                    self.assertIn(text, drawn or (self.folder / out).read_text())
+                for title in [TITLES[0][:24]] + [TITLES[2]] * (text.count("\n") > 1):
+                    self.assertIn(title, drawn or (self.folder / out).read_text())
 
     def test_picture_of_the_documents(self):
         """It can be drawn anew, by the command beside it, as large as it is."""
@@ -197,7 +209,8 @@ class Page(PlotTest):
         self.assertEqual(list(zip(front["x"], front["y"])), [(32, 40), (64, 25), (128, 8)])
 
     def test_counts_of_the_table(self):
-        self.assertIn("<p>8 caches, 100 references. ", self.page("eight.csv"))
+        page = self.page("--measure", "evictions", "eight.csv")
+        self.assertIn("<h1>Evictions</h1>\n<p>8 caches, 100 references. ", page)
         self.write("din.csv", f"{COLUMNS}\n" + din_rows(POLICIES).replace(",0\n", ",30\n"))
         self.assertIn("<p>18 runs, 1,030 references. ", self.page("din.csv"), "also those that no cache takes")
 

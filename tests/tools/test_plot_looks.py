@@ -5,7 +5,7 @@ import re
 
 import base
 from base import needs
-from test_plot import PlotTest
+from test_plot import PlotTest, data_of, rows_of
 from test_plot_din import COLUMNS, POLICIES, din_rows
 from test_plot_drawn import png_of
 
@@ -57,7 +57,7 @@ class Script(LooksTest):
         colours = set(re.findall("rgb '#([0-9a-f]{6})'", whole))
         self.assertTrue(all(colour[:2] == colour[2:4] == colour[4:] for colour in colours), colours)
         self.assertNotIn("dashtype", self.script(self.sort, "a.svg"))
-        bars = re.findall(r"_ends with yerrorbars (.*) notitle", self.script("--mono", "din.csv", "a.svg"))
+        bars = re.findall(r"_ends using .* with vectors (.*) notitle", self.script("--mono", "din.csv", "a.svg"))
         self.assertTrue(len(bars) == 1 and "dashtype solid" in bars[0], bars)
 
     def test_sizes(self):
@@ -70,12 +70,17 @@ class Script(LooksTest):
             ("8cmx5cm", "svg", None),
             ("6cm", "svg", "svg size 227,181 font 'DejaVu Sans,Verdana,sans-serif,9.333'"),
             ("640x480px", "svg", "svg size 640,480 font 'DejaVu Sans,Verdana,sans-serif,14'"),
+            ("1600x900 --scale 2", "png", "pngcairo size 1600,900 font 'Sans,21' fontscale 1 "),
+            ("10x6in --scale 2.5", "pdf", "pdfcairo size 10in,6in font 'DejaVu Sans,20'"),
+            ("860 --scale 0.5", "svg", "svg size 860,482 font 'DejaVu Sans,Verdana,sans-serif,7'"),
         ):
-            ran = self.plot("--script", "--only", "block", "--size", size, "eight.csv", f"a.{ending}")
+            ran = self.plot("--script", "--only", "block", "--size", *size.split(), "eight.csv", f"a.{ending}")
             if wanted:
                 self.assertIn(f"set terminal {wanted}", self.good(ran))
             else:
                 self.refused(ran, 2, f"plot: '{size}' is no size such as 3.3in, 80x60mm or 800x600; ")
+        script = self.script("--only", "size", "--scale", "2", "eight.csv", "a.png")
+        self.assertIn("pngcairo size 1720,960 font 'Sans,21'", script)
 
     def test_refused(self):
         for size, out, fault in (
@@ -86,7 +91,12 @@ class Script(LooksTest):
             ("999999", "a.png", "'999999' is no size"),
         ):
             self.refused(self.plot("--script", "--only", "size", "--size", size, "eight.csv", out), 2, "plot: ", fault)
-        self.refused(self.plot("--size", "3in", "eight.csv", "a.html"), 2, "plot: --size is for .png, .svg and .pdf")
+        for option, value in (("size", "3in"), ("scale", "2")):
+            ran = self.plot(f"--{option}", value, "eight.csv", "a.html")
+            self.refused(ran, 2, f"plot: --{option} is for .png, .svg and .pdf")
+        for arguments, fault in ((["0.1"], "'0.1' is no scale from"), (["x"], "'x' is no scale from"),
+                                 (["9", "--size", "3in"], "--size is too small for 3 pictures")):
+            self.refused(self.plot("--scale", *arguments, "eight.csv", "a.png"), 2, f"plot: {fault}")
 
     def test_narrow_pictures_stand_in_a_column(self):
         script = self.script("--size", "3.3in", self.sort, "a.pdf")
@@ -94,6 +104,17 @@ class Script(LooksTest):
         left, right, bottom, top = margins
         self.assertTrue(max(left) - min(left) < 0.001 and min(right) > 0.9, margins)
         self.assertTrue(top[1] < bottom[0] and top[2] < bottom[1], margins)
+
+    def test_one_block_size(self):
+        """No picture by block size: its points would be a column. The other two are side by side. Of one cache one is left."""
+        self.write("t.csv", rows_of([(1, 500), (2, 300), (4, 100)]))
+        script = self.script("t.csv", "a.svg")
+        self.assertEqual({name.split("_")[0] for name in data_of(script)}, {"size", "pareto"})
+        left, right = ([float(place) for place in re.findall(f"set {side}margin at screen (.*)", script)] for side in "lr")
+        self.assertTrue(right[0] < 0.5 < left[1] and "svg size 920,420 " in script, script)
+        self.write("one.csv", "64,32,8,16384,900,100,3\n")
+        self.assertEqual(list(data_of(self.script("one.csv", "-"))), ["size_1"])
+        self.assertEqual(list(data_of(self.script("--only", "block", "one.csv", "-"))), ["block_1"])
 
 
 @needs("gnuplot-nox")

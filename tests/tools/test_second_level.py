@@ -106,10 +106,8 @@ class SecondLevel(log_base.Filtering, base.ToolTest):
 
     def test_compiling(self):
         copy, commands = self.folder / "a copy", self.folder / "commands"
-        copy.mkdir()
+        base.copy_tools(copy, "second-level")
         commands.mkdir()
-        for file in ("second-level", "second-level.c", "log.bash", "lib.bash"):
-            shutil.copy(base.TOOLS / file, copy)
         for command in "cat dirname grep mkdir mktemp readlink rm".split():
             (commands / command).symlink_to(shutil.which(command))
         arguments = [copy / "second-level", "-", *self.CACHE]
@@ -118,7 +116,7 @@ class SecondLevel(log_base.Filtering, base.ToolTest):
         self.assertEqual(self.good(self.run_command(copy / "second-level", "--build")), "")
         self.assertEqual([path.name for path in (copy / "out").iterdir()], ["second-level"])
         # what is installed has no C file, and needs no compiler
-        (copy / "second-level.c").unlink()
+        (copy / "lib/second-level.c").unlink()
         self.assertEqual(self.good(self.run_command(*arguments, stdin=b"0 18\n", env={"PATH": str(commands)})), "0 10\n")
 
     def test_a_reader_that_goes(self):

@@ -3,12 +3,11 @@
 import gzip
 import os
 import pathlib
-import shutil
 import signal
 import subprocess
 import time
 
-from base import EXAMPLES, PROGRAM, TOOLS, ToolTest
+from base import EXAMPLES, PROGRAM, TOOLS, ToolTest, copy_tools
 
 SPACE = "--bsize 16 --sets 1-4 --assoc 1-2 --size 64".split()
 CACHE = "-l1-dsize 128 -l1-dbsize 16 -l1-dassoc 2".split()
@@ -58,14 +57,30 @@ class Traces(Shared):
 
     def test_a_signal(self):
         """Also where the tool alone is ended: its reader must not take a part for the whole."""
-        command = [TOOLS / "second-level", "-", *CACHE]
-        running = subprocess.Popen(command, stdin=subprocess.PIPE, stdout=subprocess.PIPE, **self.in_folder())
-        running.stdin.write(LINES)
-        running.stdin.flush()
-        time.sleep(0.5)
-        running.send_signal(signal.SIGTERM)
-        written = running.communicate(timeout=20)[0]
-        self.assertTrue(written.endswith(b"second-level failed: what stands above is not all\n"), written[-100:])
+        for tool in TRACES:
+            before, behind = READERS[tool]
+            for number in (signal.SIGTERM, signal.SIGHUP, signal.SIGINT):
+                command = [TOOLS / tool, *before, "-", *behind]
+                running = subprocess.Popen(command, stdin=subprocess.PIPE, stdout=subprocess.PIPE, **self.in_folder())
+                running.stdin.write(LINES)
+                running.stdin.flush()
+                time.sleep(0.5)
+                running.send_signal(number)
+                written = running.stdout.read()  # while its input goes on
+                self.assertTrue(written.endswith(f"{tool} failed: what stands above is not all\n".encode()), written[-100:])
+                self.assertNotEqual(running.wait(timeout=20), 0)
+                running.stdin.close()
+                running.stdout.close()
+
+    def test_a_converter_that_is_killed(self):
+        copy_tools(self.folder, "to-din")
+        self.good(self.run_command(self.folder / "to-din", "--build"))
+        (self.folder / "out/to-din").write_text("#!/bin/bash\nread -r; echo 0 10; kill -KILL $$\n")
+        for words, stdin in ((["addresses"], b"10\n20\n"), (["addresses", "file"], b""), (["addresses", "file.gz"], b"")):
+            (self.folder / "file").write_text("10\n20\n")
+            self.run_command("gzip", "-kf", "file")
+            ran = self.run_command(self.folder / "to-din", *words, stdin=stdin)
+            self.assertEqual((ran.returncode, ran.stdout), (1, b"0 10\n" + b"to-din failed: what stands above is not all\n"))
 
 
 class Signals(Shared):
@@ -150,15 +165,14 @@ class Program(Shared):
         script = '. "$1"; for size in "${@:2}"; do size_of "$size" && echo "$bytes" || echo none; done'
         sizes = {"0": 0, "00512": 512, "4294967295g": 4294967295 << 30, "4294967296g": "none", "999999999999999999": 10**18 - 1,
                  "9999999999999999999": "none", "9007199254740992m": "none", "-1": "none"}
-        told = self.good(self.run_command("bash", "-c", script, "bash", TOOLS / "lib.bash", *sizes))
+        told = self.good(self.run_command("bash", "-c", script, "bash", TOOLS / "lib/lib.bash", *sizes))
         self.assertEqual(told.split(), [str(size) for size in sizes.values()])
 
 
 class Compiling(Shared):
     def test_a_folder_that_cannot_be_written(self):
         """The message names what to do."""
-        for name in ("to-din", "to-din.c", "lib.bash"):
-            shutil.copy(TOOLS / name, self.folder)
+        copy_tools(self.folder, "to-din")
         (self.folder / "out").write_text("a file in the way\n")
         ran = self.run_command(self.folder / "to-din", "addresses", EXAMPLES / "formats/addresses.txt")
         told = f"to-din: {self.folder}/out can't be written: 'make tools' compiles the C parts, by someone who may write there\n"

@@ -32,8 +32,9 @@ def written_in(word):
 
 
 def tools():
-    """The executables under tools/, those of the folders too."""
-    found = [path for path in scripts() if path.startswith(str(base.TOOLS)) and os.access(path, os.X_OK)]
+    """The executables under tools/ and package/."""
+    folders = (f"{base.TOOLS}/", f"{base.PACKAGING}/")
+    found = [path for path in scripts() if path.startswith(folders) and os.access(path, os.X_OK)]
     assert str(base.TOOLS / "best") in found, "files have lost their modes: no tool would be tested"
     return found
 
@@ -59,18 +60,16 @@ class Tools(base.ToolTest):
                 self.assertRegex(ran.stdout.decode(), rf"\A({name}( failed)?: .*\n)?\Z")
 
     def test_each_tool_is_in_the_readme(self):
-        """In tools/README.md, or where its folder has a README in that."""
+        """In that of its folder, which is named in tools/README.md."""
         text = (base.TOOLS / "README.md").read_text()
         for tool in map(pathlib.Path, tools()):
             with self.subTest(tool.name):
-                own = tool.parent / "README.md"
-                if own.exists():
-                    self.assertIn(f"| `{tool.name}", own.read_text())
-                if tool.parent != base.TOOLS:
+                self.assertIn(f"| `{tool.name}", (tool.parent / "README.md").read_text())
+                if tool.parent not in (base.TOOLS, base.PACKAGING):
                     self.assertIn(f"| `{tool.parent.name}/`", text)
 
     def test_small_files(self):
-        for folder, most in ((base.TOOLS, 420), (base.TOP / "tests/tools", 420)):
+        for folder, most in ((base.TOOLS, 420), (base.PACKAGING, 420), (base.TOP / "tests/tools", 420)):
             for path in scripts():
                 if path.startswith(f"{folder}/"):
                     with open(path, "rb") as file:
@@ -123,7 +122,7 @@ class Linters(unittest.TestCase):
 
     @base.needs("shellcheck")
     def test_shell(self):
-        paths = written_in(b"bash") + written_in(b"/sh") + [str(base.TOOLS / "lib.bash")]
+        paths = written_in(b"bash") + written_in(b"/sh") + [str(path) for path in (base.TOOLS / "lib").glob("*.bash")]
         self.assertGreater(len(paths), 5)
         self.clean("shellcheck", "-x", "-P", str(base.TOP), "-P", "SCRIPTDIR", *paths)
 

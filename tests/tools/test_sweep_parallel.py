@@ -14,6 +14,7 @@ import subprocess
 import time
 
 from base import EXAMPLES, PROGRAM, TOOLS, TOP, ToolTest, ended, needs
+from lib import paging
 
 HEADER = "bsize,sets,assoc,size,hits,misses,evictions\n"
 SPACE = "--bsize 16-128 --sets 1-4096 --assoc 1-16 --size 1k-1m".split()
@@ -31,12 +32,24 @@ def pair(row):
     return tuple(map(int, row.split(",")[:2]))
 
 
-def dearest_page(costs, most):
-    """The cost of the dearest page, where `costs` are cut into at most so many pages so that it is least: by dynamic programming."""
-    sums = list(itertools.accumulate(costs, initial=0))
-    least = [0] + [math.inf] * len(costs)
+def cost(pairs):
+    """The cost of a page of pairs, each with its greatest associativity, as `pages --help` says."""
+    whole, last = 0, None
+    for bsize, sets, assoc in pairs:
+        behind = last and last[0] == bsize
+        looks = min(1, 2.7 / (last[0] * last[1]) ** 0.18) if behind else 1
+        whole += looks + 13 * math.log2(1 + assoc) / (bsize * sets) ** 0.57
+        last = bsize, sets
+    return whole
+
+
+def dearest_page(pairs, most):
+    """The cost of the dearest page, where pairs are cut into at most so many pages so that it is least: by dynamic programming."""
+    ends = range(1, len(pairs) + 1)
+    costs = {(cut, end): cost(pairs[cut:end]) for end in ends for cut in range(end)}
+    least = [0] + [math.inf] * len(pairs)
     for _ in range(most):
-        least = [0] + [min(max(least[cut], sums[end] - sums[cut]) for cut in range(end)) for end in range(1, len(sums))]
+        least = [0] + [min(max(least[cut], costs[cut, end]) for cut in range(end)) for end in ends]
     return least[-1]
 
 
@@ -94,9 +107,7 @@ class Pages(ParallelTest):
         """Pages are cut between pairs, make up the table, and the dearest costs no more than it must."""
         for space, most in itertools.product(SPACES, (1, 2, 3, 4, 7, 16, 500)):
             table = self.sweep(*space, "-t", "/dev/null").splitlines()[1:]
-            costs = {pair(row): 0 for row in table}
-            for bsize, sets, assoc in (map(int, row.split(",")[:3]) for row in table):
-                costs[bsize, sets] = 1 + 8 * math.log2(1 + assoc) / (bsize * sets) ** (2 / 3)
+            deepest = {pair(row): int(row.split(",")[2]) for row in table}
             taken = [pair(row) for row in table]
             pages, dearest, after = self.pages(most, *space), 0, ""
             for page in pages:
@@ -105,10 +116,10 @@ class Pages(ParallelTest):
                 after = " --after " + ",".join(table[len(table) - len(taken) + rows - 1].split(",")[:3])
                 here, taken = taken[:rows], taken[rows:]
                 self.assertNotEqual(here[-1], taken[0] if taken else None, page)
-                dearest = max(dearest, sum(costs[name] for name in dict.fromkeys(here)))
+                dearest = max(dearest, cost([(*name, deepest[name]) for name in dict.fromkeys(here)]))
             self.assertEqual(taken, [])
             self.assertLessEqual(len(pages), most)
-            self.assertAlmostEqual(dearest, dearest_page(list(costs.values()), most))
+            self.assertAlmostEqual(dearest, dearest_page([(*name, deepest[name]) for name in deepest], min(most, len(deepest))))
         self.assertEqual(len(self.pages("auto", *SPACE)), min(49, len(os.sched_getaffinity(0))))
         # the processors that it may use, and not all that are there
         one = ("taskset", "-c", min(os.sched_getaffinity(0)))
@@ -269,6 +280,11 @@ class Faults(ParallelTest):
         ran = self.run_command("bash", "-c", f'"{TOOLS}/sweep-parallel" 4 - {" ".join(SPACE)} <&-')
         self.failed(ran, 1, "sweep-parallel: standard input can't be read: Bad file descriptor\n")
 
+    def test_flags_of_a_later_program(self):
+        """A word that no value follows is one."""
+        words = ["--new", "--bsize", "16", "--after", "1,1,1", "--sets=1", "--rows", "2", "--last"]
+        self.assertEqual(paging.split(words), (["--new", "--bsize", "16", "--sets", "1", "--last"], "1,1,1"))
+
     def test_arguments(self):
         self.refused(self.tool(4, "none", "--bsize", "24", *SPACE[2:]), 2, "cachesim: bsize: not a power of two\n")
         self.refused(self.tool(4, "-", *SPACE[2:]), 2, "cachesim: error: ")
@@ -326,9 +342,10 @@ class Faults(ParallelTest):
         self.assertEqual((ran.returncode, ran.stderr), (1, b"sweep-parallel: write failed\n"))
 
     def test_no_output(self):
-        for place in ("> /dev/full", ">&-", "| true"):
+        failed = "sweep-parallel: write failed\n"
+        for place, status, told in (("> /dev/full", 1, failed), (">&-", 1, failed), ("| true", 141, "")):
             script = f'set -o pipefail; "{TOOLS}/sweep-parallel" 2 "$1" {" ".join(SMALL)} {place}'
-            self.failed(self.run_command("bash", "-c", script, "-", DIN), 1, "sweep-parallel: write failed\n")
+            self.failed(self.run_command("bash", "-c", script, "-", DIN), status, told)
 
     def test_interrupted(self):
         """No process and no file is left, whatever stage the run is at."""

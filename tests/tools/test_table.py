@@ -1,15 +1,17 @@
 """Reading a sweep's table."""
 
+import fractions
+import tempfile
 import unittest
 
-import table
+from lib import table
 
 
 class Reading(unittest.TestCase):
     def test_rows(self):
         rows = table.read_table([table.HEADER + "\n", "16,1,2,32,4,5,3\n"], "t")
         self.assertEqual(rows, [table.Row(16, 1, 2, 32, 4, 5, 3)])
-        self.assertEqual((rows[0].references, rows[0].ratio, rows[0].cache), (9, 5 / 9, (16, 1, 2)))
+        self.assertEqual((rows[0].references, rows[0].share, rows[0].cache), (9, fractions.Fraction(500, 9), (16, 1, 2)))
 
     def test_a_page_has_no_header(self):
         self.assertEqual(len(table.read_table(["16,1,2,32,4,5,3\n", "16,2,1,32,4,5,3\n"], "t")), 2)
@@ -17,6 +19,13 @@ class Reading(unittest.TestCase):
     def test_lines_that_end_in_cr_lf(self):
         text = [table.HEADER + "\r\n", "16,1,2,32,4,5,3\r\n"]
         self.assertEqual(table.read_table(text, "t"), [table.Row(16, 1, 2, 32, 4, 5, 3)])
+
+    def test_a_byte_order_mark(self):
+        """As spreadsheets write one."""
+        with tempfile.NamedTemporaryFile("w", encoding="utf-8-sig", suffix=".csv") as file:
+            file.write(f"{table.HEADER}\n16,1,2,32,4,5,3\n")
+            file.flush()
+            self.assertEqual(table.read_table(*table.lines_of(file.name)), [table.Row(16, 1, 2, 32, 4, 5, 3)])
 
     def test_further_columns(self):
         text = [table.HEADER + ",percent,note\n", "16,1,2,32,4,5,3,55.556,\n"]

@@ -219,6 +219,16 @@ class ThreeC(base.ToolTest):
         env = {"PATH": f"{self.folder}:/usr/bin:/bin"}
         self.refused(self.run_tool("three-c", base.EXAMPLES / "sort.din", *arguments, env=env, seconds=20), 1, "tee: failed\n")
 
+    def test_a_killed_command(self):
+        """Each awk in turn; none of the columns may stay empty."""
+        arguments = "--bsize 16 --sets 1-4 --assoc 1-2 --size 64".split()
+        awk = shutil.which("awk")
+        for at in range(1, 4):
+            count = self.folder / f"count-{at}"
+            path = self.stand_in("awk", f"echo >> {count}", f"[ $(wc -l < {count}) != {at} ] || kill -KILL $$", f'exec {awk} "$@"')
+            ran = self.run_tool("three-c", base.EXAMPLES / "sort.din", *arguments, env=path, seconds=20)
+            self.refused(ran, 1, "three-c: awk ended with signal 9\n")
+
     def test_full_device(self):
         arguments = "--bsize 16 --sets 1-4 --assoc 1-2 --size 64".split()
         self.on_full_device("three-c", base.EXAMPLES / "sort.din", *arguments)

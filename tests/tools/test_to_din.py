@@ -10,7 +10,7 @@ import struct
 import subprocess
 from itertools import chain, takewhile
 
-from base import EXAMPLES, PROGRAM, TOOLS, ToolTest, needs
+from base import EXAMPLES, PROGRAM, TOOLS, ToolTest, copy_tools, needs
 
 SAMPLES = EXAMPLES / "formats"
 SPACE = "--bsize 16-64 --sets 1-16 --assoc 1-4 --size 64-4k".split()
@@ -312,7 +312,7 @@ class Streams(ToDin):
     def test_changed_lines(self):
         """What random changes make of good lines, by a converter with the compiler's guards, where it has them."""
         guarded = self.folder / "guarded"
-        flags = ("-std=c11", "-Wall", "-Wextra", "-Werror", "-O1", "-o", guarded, TOOLS / "to-din.c")
+        flags = ("-std=c11", "-Wall", "-Wextra", "-Werror", "-O1", "-o", guarded, TOOLS / "lib/to-din.c")
         if self.run_command("cc", "-fsanitize=address,undefined", "-fno-sanitize-recover=all", *flags).returncode:
             self.good(self.run_command("cc", *flags))
         chance = random.Random(3)
@@ -394,12 +394,11 @@ class Faults(ToDin):
             self.faulty(self.run_tool("to-din", "pin", name), f"{name} can't be read")
         self.faulty(self.run_tool("to-din", "pin", "."), "line 1: read failed: Is a directory")
         told = re.findall(r"^  ([a-z0-9]+) {2,}", self.good(self.run_tool("to-din", "--help")), re.M)
-        self.assertEqual(sorted(told), re.findall(r'^    \{"(\w+)"', (TOOLS / "to-din.c").read_text(), re.M))
+        self.assertEqual(sorted(told), re.findall(r'^    \{"(\w+)"', (TOOLS / "lib/to-din.c").read_text(), re.M))
 
     def test_missing_packages(self):
         """A copy that was not compiled yet, and a path with next to nothing."""
-        for name in ("to-din", "to-din.c", "lib.bash"):
-            shutil.copy(TOOLS / name, self.folder)
+        copy_tools(self.folder, "to-din")
         path = self.folder / "bin"
         path.mkdir()
         for name in ("dirname", "readlink"):

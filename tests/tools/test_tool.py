@@ -7,8 +7,8 @@ import subprocess
 import unittest
 
 import common
-import tool
-from base import TOOLS, ToolTest
+from base import ToolTest, copy_tools
+from lib import tool
 
 
 class Sizes(unittest.TestCase):
@@ -36,8 +36,7 @@ class Several(unittest.TestCase):
 
 class Compiling(ToolTest):
     def test_a_header_that_changed(self):
-        for name in ("to-din", "to-din.c", "lib.bash"):
-            shutil.copy(TOOLS / name, self.folder)
+        copy_tools(self.folder, "to-din")
         given = {"env": {"CFLAGS": "-O0"}}
         self.good(self.run_command(self.folder / "to-din", "--build", **given))
         made = self.folder / "out/to-din"
@@ -45,15 +44,14 @@ class Compiling(ToolTest):
         self.good(self.run_command(self.folder / "to-din", "--build", **given))
         self.assertEqual(made.stat().st_ino, before)
         later = made.stat().st_mtime + 1
-        (self.folder / "a.h").touch()
-        os.utime(self.folder / "a.h", (later, later))
+        (self.folder / "lib/a.h").touch()
+        os.utime(self.folder / "lib/a.h", (later, later))
         self.good(self.run_command(self.folder / "to-din", "--build", **given))
         self.assertNotEqual(made.stat().st_ino, before)
 
     def test_a_signal(self):
         """It leaves nothing of what was being compiled."""
-        for name in ("to-din", "to-din.c", "lib.bash"):
-            shutil.copy(TOOLS / name, self.folder)
+        copy_tools(self.folder, "to-din")
         compiler = self.folder / "bin/cc"
         compiler.parent.mkdir()
         compiler.write_text("#!/bin/bash\nkill -TERM $PPID\nexec sleep 60\n")
@@ -64,8 +62,7 @@ class Compiling(ToolTest):
 
     def test_two_at_once(self):
         """Each compiles to a file of its own, which then takes its place: in a copy of the tool."""
-        for name in ("to-din", "to-din.c", "lib.bash"):
-            shutil.copy(TOOLS / name, self.folder)
+        copy_tools(self.folder, "to-din")
         compiler = self.folder / "bin/cc"  # ends when both have compiled
         compiler.parent.mkdir()
         waits = 'for ((i = 0; i < 300 && $(wc -l < "$0.done") < 2; i++)); do sleep 0.1; done'

@@ -3,12 +3,13 @@
 import os
 import pathlib
 import platform
+import pty
 import random
 import shutil
 import signal
 import subprocess
 
-from base import PROGRAM, TOOLS
+from base import PROGRAM, TOOLS, copy_tools
 from trace_base import SPACE, TRACED, TraceTest, program_of
 
 QEMU = f"qemu-{platform.machine()}"
@@ -123,11 +124,18 @@ class StandIn(TraceTest):
 
     def test_skip_and_count(self):
         ended_by_count = (0, 1), (4095, 3), (4096, 4096), (1, 19999), (0, 20000)
-        for skip, count in ended_by_count + ((5, 20000), (20000, 7), (0, "00020001")):
+        for skip, count in ended_by_count + ((5, 20000), (19999, 7), (0, "00020001")):
             end = 0 if (skip, count) in ended_by_count else 9
             ran = self.steps("many:20000", "exit:9", options=("--skip", skip, "--count", count))
             self.assertEqual((ran.returncode, ran.stderr), (end, b""))
             self.assertEqual(ran.stdout.decode(), "".join(f"0 {at:x}\n" for at in range(20000)[skip:][:int(count)]))
+
+    def test_nothing_is_left_by_skip(self):
+        """A trace of nothing would give a table of zeros."""
+        for skip, steps in ((20000, ["many:20000"]), (999999, ["many:20000", "exit:9"]), (1, ["0:1", "kill"])):
+            ran = self.steps(*steps, options=("--skip", skip))
+            self.fault(ran, 125, "trace: --skip omits all references of the program\n")
+            self.assertEqual(ran.stdout, ran.stderr)
 
     def test_count_ends_the_program(self):
         for steps in (("loop",), ("call", "wait"), ("call", "ignore", "wait")):
@@ -137,6 +145,7 @@ class StandIn(TraceTest):
     def test_statuses(self):
         for steps, status, message in (
             (("0:1", "exit:0"), 0, ""), (("0:1", "exit:250"), 250, ""), (("0:1", "kill"), 137, ""),
+            (("0:1", "fork", "exit:4"), 4, "trace: the program forked, and what its children did is not in the trace\n"),
             (("0:1", "exec:exit 3"), 3, "trace: the program became another by exec, and what that did is not in the trace\n"),
         ):
             ran = self.steps(*steps)
@@ -187,6 +196,29 @@ class StandIn(TraceTest):
             self.assertEqual(ran.stdout, b"125\n")
             self.assertRegex(ran.stderr.decode(), "^trace: (/dev/full|standard output): No space left on device\n$")
             self.no_process_is_left()
+
+    def test_a_terminal(self):
+        """It would be flooded."""
+        terminal, end = pty.openpty()
+        given = {"stdout": end, "stderr": subprocess.PIPE, "timeout": 20, "check": False, "cwd": self.folder}
+        for options in ([], ["--output", "-"], ["--program-output", "own"]):
+            ran = subprocess.run([TOOLS / "trace", *options, self.program, "0:1"], env={**os.environ, **self.told}, **given)
+            self.assertEqual(ran.returncode, 125)
+            self.assertRegex(ran.stderr.decode(), r"\Atrace: the trace would go to a terminal: .*\n\Z")
+        os.close(end)
+        self.assertRaises(OSError, os.read, terminal, 9)  # nothing was written
+        os.close(terminal)
+
+    def test_a_signal_gives_no_table_of_a_part(self):
+        """Neither where the reader comes only after the tool has ended."""
+        sweep = f"cachesim sweep {' '.join(SPACE)}"
+        for signal_, reader in (("TERM", sweep), ("INT", sweep), ("HUP", sweep), ("TERM", f"{{ sleep 3; {sweep}; }}")):
+            ran = self.in_shell(f'timeout -s {signal_} 0.5 {TOOLS}/trace "$PROGRAM" loop | {reader}')
+            self.assertEqual(ran.stdout, b"124 1\n")
+            self.assertRegex(ran.stderr, rb"cachesim: line \d+: bad (label|address)\n")
+            self.no_process_is_left()
+        ran = self.in_shell(f'timeout -s USR1 1 {TOOLS}/trace "$PROGRAM" many:9 call wait | tail -n 1')
+        self.assertEqual(ran.stdout, b"trace: a signal ended it: what stands above is not all\n124 0\n")
 
     def test_signals_are_passed_on(self):
         for number in (signal.SIGTERM, signal.SIGINT, signal.SIGHUP, signal.SIGUSR1):
@@ -250,9 +282,7 @@ class StandIn(TraceTest):
 
     def test_a_folder_with_a_comma(self):
         tools = self.folder / "a,b c"
-        tools.mkdir()
-        for name in ("trace", "lib.bash", "trace-run.c", "trace-plugin.c", "trace-memory.h"):
-            shutil.copy(TOOLS / name, tools)
+        copy_tools(tools, "trace")
         self.assertEqual(self.good(self.run_command(tools / "trace", self.program, "2:1")), "2 1\n")
 
     def test_what_is_missing(self):
@@ -267,8 +297,7 @@ class StandIn(TraceTest):
         self.assertEqual(self.good(self.steps("2:1", env={"PATH": str(bin_)})), "2 1\n")
         ran = self.steps(options=("--to", "main"), env={"PATH": str(bin_)})
         self.fault(ran, 125, "nm is missing: apt-get install binutils")
-        for name in ("trace", "lib.bash", "trace-run.c", "trace-plugin.c", "trace-memory.h"):
-            shutil.copy(TOOLS / name, self.folder)
+        copy_tools(self.folder, "trace")
         ran = self.run_command(self.folder / "trace", self.program, env={"PATH": str(bin_)})
         self.fault(ran, 125, "cc is missing: apt-get install gcc")
 
@@ -327,5 +356,5 @@ class StandIn(TraceTest):
         self.assertEqual(self.good(self.steps("2:1", options=["--"])), "2 1\n")
 
     def test_it_compiles_without_a_warning(self):
-        program_of(TOOLS / "trace-plugin.c", "-shared", "-fPIC")
-        program_of(TOOLS / "trace-run.c")
+        program_of(TOOLS / "lib/trace/trace-plugin.c", "-shared", "-fPIC")
+        program_of(TOOLS / "lib/trace/trace-run.c")

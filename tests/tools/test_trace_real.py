@@ -8,7 +8,7 @@ import signal
 import subprocess
 import termios
 
-from base import EXAMPLES, TOOLS, needs
+from base import EXAMPLES, copy_tools, needs
 from trace_base import SPACE, TRACED, TraceTest, program_of, symbols_of, traced, within
 
 
@@ -80,7 +80,8 @@ class Both:
 
     def test_children_are_left_out(self):
         program = traced("forks")
-        lines, out = self.traced_to_file("--kind", "d", program, status=5)
+        message = "trace: the program forked, and what its children did is not in the trace\n" if self.with_ == "qemu" else ""
+        lines, out = self.traced_to_file("--kind", "d", program, status=5, message=message)
         self.assertEqual(out, "child\nanother\n")
         written = self.own_data(lines, program, "parents", "childs")
         self.assertEqual(written, [("1", "parents", 4 * at) for at in range(27003)])
@@ -159,6 +160,12 @@ class Both:
 
 @needs("qemu-user")
 class ByQemu(Both, TraceTest):
+    def test_a_map_that_cannot_be_written(self):
+        """Half a map, or none, would give wrong names."""
+        self.refused(self.trace("-o", "t.din", "--map", "/dev/full", "true"), 125,
+                     "trace: the map can't be written: No space left on device\n")
+        self.assertEqual((self.folder / "t.din").read_text().splitlines()[-1][:6], "trace:")
+
     def test_signals(self):
         program = traced("signals")
         lines, out = self.traced_to_file(program)
@@ -201,8 +208,7 @@ class ByLackey(Both, TraceTest):
     with_ = "lackey"
 
     def test_lines_that_cannot_be_converted(self):
-        for name in ("trace", "lib.bash", "trace-run.c", "trace-memory.h"):
-            shutil.copy(TOOLS / name, self.folder)
+        copy_tools(self.folder, "trace")
         converter = self.folder / "to-din"
         for way, status in (("exit 1", 125), ("kill -9 $$", 125)):
             converter.write_text(f"#!/bin/sh\nhead -n 1 > /dev/null\necho 2 401000\n{way}\n")

@@ -4,7 +4,7 @@ import csv
 import random
 
 import base
-import table
+from lib import table
 
 SPACE = "--bsize 8-32 --sets 1-8 --assoc 1-3 --size 64-512".split()
 LACKEY = b"""==7== Lackey, a Valgrind tool
@@ -133,6 +133,16 @@ class Warm(base.ToolTest):
     def test_one_message(self):
         ran = self.run_tool("warm", "2", "-", *SPACE, stdin=b"0 10\n7 10\n0 10\n")
         self.assertEqual(ran.stderr, b"cachesim: line 2: bad label\n")
+
+    def test_a_killed_command(self):
+        """No row of zeros where a command that looks at the table is killed."""
+        for command in ("grep", "head", "paste", "awk", "tee"):
+            path = self.stand_in(command, "kill -KILL $$")
+            ran = self.run_tool("warm", 700, base.EXAMPLES / "sort.din", *SPACE, env=path, seconds=20)
+            if command == "grep":  # it needs none
+                self.assertEqual(self.good(ran), self.good(self.run_tool("warm", 700, base.EXAMPLES / "sort.din", *SPACE)))
+            else:
+                self.assertEqual((ran.returncode != 0, ran.stdout), (True, b""), command)
 
     def test_full_device(self):
         self.on_full_device("warm", "9", base.EXAMPLES / "sort.din", *SPACE)

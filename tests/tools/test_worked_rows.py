@@ -47,7 +47,7 @@ class WorkedRows(unittest.TestCase):
             self.assertEqual(in_rows(path.read_text()), [], path)
 
     def test_of_code(self):
-        files = list(base.TOP.glob("crates/worked_examples/src/*.rt"))
+        files = list(base.TOP.glob("crates/worked_*/src/*.rt"))
         self.assertGreater(len(files), 8)
         for path in files:
             self.assertEqual(in_code(path.read_text()), [], path)

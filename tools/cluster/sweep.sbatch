@@ -7,8 +7,8 @@
 #     sbatch --array=1-N --chdir=FOLDER sweep.sbatch TRACE PROGRAM TOOLS
 set -euo pipefail
 trace=$1 cachesim=$2 here=$3
-# shellcheck source=tools/lib.bash
-. "$here/lib.bash"
+# shellcheck source=tools/lib/lib.bash
+. "$here/lib/lib.bash"
 
 part=part-$SLURM_ARRAY_TASK_ID
 read -ra arguments < <(sed -n "${SLURM_ARRAY_TASK_ID}p" pages)

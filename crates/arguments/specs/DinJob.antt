@@ -18,7 +18,7 @@ use Rattle.cache_core.specs.declared.outcome.Repl.TheVariants.{Lru, Fifo, Random
 use Rattle.cache_core.specs.declared.outcome.WriteMode.{WriteMode}
 use Rattle.cache_core.specs.declared.outcome.WriteMode.TheVariants.{Back, Through}
 use Rattle.arguments.specs.Faults.{JobFault, incomplete, plan}
-use Rattle.trace_core.specs.declared.limits.TheConstants.{MAX_LINES}
+use Rattle.arguments.specs.Job.{longest_trace}
 use Rattle.arguments.specs.Numbers.{number_of, scaled_of}
 use Rattle.options.specs.Options.{assoc_option_of, bsize_option_of, informat_option, repl_option_of, seed_option, size_option_of}
 use Rattle.options.specs.Options.{walloc_option_of, wback_option_of}
@@ -118,8 +118,8 @@ options_given rows =
 
 -- the job of `din`, or the first fault
 abbrev pub din_of : List Row → Result Job JobFault
-din_of rows = and_then (options_given rows) (λ o. Ok (Din o.0 o.1 o.2 MAX_LINES))
+din_of rows = and_then (options_given rows) (λ o. Ok (Din o.0 o.1 o.2 longest_trace))
 
 -- the job of `log`, or the first fault
 abbrev pub log_of : List Row → Result Job JobFault
-log_of rows = and_then (options_given rows) (λ o. Ok (Log o.0 o.1 o.2 MAX_LINES))
+log_of rows = and_then (options_given rows) (λ o. Ok (Log o.0 o.1 o.2 longest_trace))

@@ -1,7 +1,11 @@
 -- The work that a command line asks for.
-use Rattle.std.specs.Prelude.{ℕ}
+use Rattle.std.specs.Prelude.{ℕ, ◌^◌}
 use Rattle.arguments.specs.declared.job.Job.{Job}
 use Rattle.arguments.specs.declared.job.Job.TheVariants.{Csim, Din, Log, Sweep}
+
+-- the most lines that a trace of the program may have: the manual's limit
+abbrev pub longest_trace : ℕ
+longest_trace = 2 ^ 40
 
 -- the most lines that a job takes
 abbrev pub max_lines_of : Job → ℕ

@@ -9,7 +9,7 @@ use Rattle.trace_core.specs.declared.events.Kind.TheVariants.{All}
 use Rattle.trace_core.specs.declared.line.Format.{Format}
 use Rattle.trace_core.specs.declared.line.Format.TheVariants.{Din}
 use Rattle.arguments.specs.Faults.{JobFault, space}
-use Rattle.trace_core.specs.declared.limits.TheConstants.{MAX_LINES}
+use Rattle.arguments.specs.Job.{longest_trace}
 use Rattle.arguments.specs.Numbers.{number_of, range_of, triple_of}
 use Rattle.options.specs.Options.{after_option, assoc_option, bsize_option, format_option, kind_option, pow2_option, rows_option, sets_option, size_option}
 use Rattle.arguments.specs.Readings.{and_then, format_named, is_flagged, kind_named, optional_value, required_value, value_or}
@@ -52,5 +52,5 @@ sweep_of rows =
       format = trace.1;
       after = page.0;
       rows = page.1;
-      max_lines = MAX_LINES;
+      max_lines = longest_trace;
     }))))))

@@ -34,7 +34,14 @@ pub mod MachineRows
 mod SystemRows
 pub mod LogLaw
 pub mod SecondLevelLaw
+pub mod LogParts
+pub mod MemoryLaw
+pub mod TakenLaw
+pub mod FollowLaw
+pub mod LinesLaw
+pub mod FlushLines
 mod ArrivalRows
+mod FollowRows
 pub mod SlotSums
 pub mod AnyLaw
 pub mod TouchedSets

@@ -110,7 +110,7 @@ memory_counts (ref ∷ refs) s =
     ∙ ap (λ n. record s { memory_reads = s.memory_reads + count_by is_read_of (ref ∷ refs); memory_writes = n }) w
 
 -- the second level and memory
-passes_is : (seed : ℕ) (planned : Option PlannedCache) (events : List Event) (ref : Ref) →
+pub passes_is : (seed : ℕ) (planned : Option PlannedCache) (events : List Event) (ref : Ref) →
     down_if_planned seed planned events ref ≡ passes seed planned events ref
 passes_is seed None events ref = refl
 passes_is seed (Some planned) events ref = refl
@@ -365,7 +365,7 @@ none_counted : (seed : ℕ) (planned : Option PlannedCache) → option_map (λ p
 none_counted seed None = refl
 none_counted seed (Some planned) = refl
 
-none_reached : (seed : ℕ) (planned : Option PlannedCache) → to_memory seed planned [] ≡ []
+pub none_reached : (seed : ℕ) (planned : Option PlannedCache) → to_memory seed planned [] ≡ []
 none_reached seed None = refl
 none_reached seed (Some planned) = refl
 

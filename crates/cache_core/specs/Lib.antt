@@ -18,4 +18,5 @@ pub mod SystemSteps
 pub mod SystemFields
 pub mod SystemStands
 pub mod ArrivalStats
+pub mod LogLaws
 pub mod AnyPolicy

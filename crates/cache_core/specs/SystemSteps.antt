@@ -1,5 +1,5 @@
 -- One step of a system, over what it holds.
-use Rattle.std.specs.Prelude.{◌≡◌, ◌≤◌, ℕ, ◌+◌, ◌*◌, Bool, List, [], ◌∷◌, Option, Some, None, if◌then◌else◌}
+use Rattle.std.specs.Prelude.{◌≡◌, ◌≤◌, ℕ, ◌+◌, ◌*◌, ◌^◌, Bool, List, [], ◌∷◌, Option, Some, None, if◌then◌else◌}
 use Rattle.std.specs.Prelude.{MatchOption, MatchBool, is_some, is_none}
 use Rattle.trace_core.specs.declared.events.Ref.{Ref}
 use Rattle.cache_core.specs.declared.outcome.Outcome.{Outcome}
@@ -7,7 +7,6 @@ use Rattle.cache_core.specs.declared.stats.CacheStats.{CacheStats}
 use Rattle.cache_core.specs.declared.stats.Stats.{Stats}
 use Rattle.cache_core.specs.declared.system_cache.SystemCache.{SystemCache}
 use Rattle.cache_core.specs.declared.system.Memory.{Memory}
-use Rattle.cache_core.specs.declared.system.TheConstants.{MAX_STEPS}
 use Rattle.cache_core.specs.Order.{one_if}
 use Rattle.cache_core.specs.Outcomes.{is_write}
 use Rattle.cache_core.specs.Systems.{is_fetch, random_numbers_for}
@@ -101,10 +100,10 @@ counted (Some cache) = accesses cache.stats
 abbrev pub reached : Memory → ℕ
 reached memory = memory.reads + memory.writes
 
--- What a system keeps: a step is counted at one first-level cache, or as bypassed; it sends at most two references to the second level,
--- and four to memory, to which each copyback comes, too.
+-- What a system keeps: it made at most 2^41 steps, two for each line of the longest trace; a step is counted at one first-level cache, or
+-- as bypassed; it sends at most two references to the second level, and four to memory, to which each copyback comes, too.
 pub record IsSystem (v : SystemValue) : Type 0 where
-  pub steps : v.steps ≤ MAX_STEPS
+  pub steps : v.steps ≤ 2 ^ 41
   pub first : counted v.i + counted v.d + counted v.u + v.bypassed ≤ v.steps
   pub second : counted v.second ≤ 2 * v.steps
   pub memory : reached v.memory ≤ 4 * v.steps + copied v.i + copied v.d + copied v.u + copied v.second

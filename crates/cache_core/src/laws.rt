@@ -15,6 +15,9 @@ ghost use Rattle.cache_core.specs.Plans.{GeometryLaw};
 ghost use Rattle.cache_core.specs.SystemStands.{NewSystemLaw, StepLaw, SystemFlushLaw};
 ghost use Rattle.cache_core.specs.SystemStands.{SystemRunLaw};
 ghost use Rattle.cache_core.specs.ArrivalStats.{LogLaw, SecondLevelLaw};
+ghost use Rattle.cache_core.specs.LogLaws.{MemoryLaw, BypassedLaw, FetchCacheLaw, DataCacheLaw};
+ghost use Rattle.cache_core.specs.LogLaws.{UnifiedCacheLaw, FollowLaw, LinesLaw, GrowthLaw};
+ghost use Rattle.cache_core.specs.LogLaws.{FlushNamesLaw, FlushCountsLaw};
 
 /// A reference puts its block in front of the window, and a flush empties it.
 pub fn window_grows()
@@ -131,4 +134,44 @@ pub fn stats_count_the_log()
 /// What arrives at the second level is what the first level sends down, in order.
 pub fn second_level_gets_what_is_sent()
     ensures { SecondLevelLaw }
+{}
+
+/// What arrives at memory is, in order, what the last level sends.
+pub fn memory_gets_what_is_sent()
+    ensures { MemoryLaw }
+{}
+
+/// The bypassed references are, in order, those that no first-level cache takes.
+pub fn bypassed_are_the_untaken()
+    ensures { BypassedLaw }
+{}
+
+/// What arrives at a first-level cache is, in order, the references that it takes.
+pub fn first_level_gets_what_it_takes()
+    ensures fetches { FetchCacheLaw }
+    ensures data { DataCacheLaw }
+    ensures unified { UnifiedCacheLaw }
+{}
+
+/// What a line of a cache must send arrives next at the level below: the write of a dirty victim's
+/// address, the load of the block's address, and the write that goes on.
+pub fn lines_follow()
+    ensures { FollowLaw }
+{}
+
+/// The lines of each cache show, in order, the references that come to it, each with its effect.
+pub fn lines_show_the_accesses()
+    ensures { LinesLaw }
+{}
+
+/// The log of more events begins with that of fewer.
+pub fn log_grows()
+    ensures { GrowthLaw }
+{}
+
+/// The lines of the flushes name, in order, each cache once for each flush, and show how many dirty
+/// blocks it finds there.
+pub fn each_flush_names_each_cache()
+    ensures names { FlushNamesLaw }
+    ensures counts { FlushCountsLaw }
 {}

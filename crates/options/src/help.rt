@@ -27,7 +27,7 @@ pub const PROGRAM: &str = help_text!(
 How to get a trace: Valgrind writes that of any program in the lackey format.
 ",
     "  cachesim sweep --format l --bsize 64 --sets 64 --assoc 1-8 --size 0-1m -t trace.txt\n",
-    "\n\ncachesim 1.1.0"
+    "\n\ncachesim 1.2.0"
 );
 
 /// What `sweep` does.

@@ -5,10 +5,9 @@ use Rattle.std.proofs.Common.{arith, length-set, length-take}
 use Rattle.std.proofs.Math.Nat.{suc-mul}
 use Rattle.std.proofs.lemmas.List.{get_or_read}
 use Rattle.cache_core.specs.Geometry.{GeometryValue, set_of_block}
-use Rattle.profile_core.specs.declared.profile.TheConstants.{MAX_REFERENCES}
 use Rattle.profile_core.specs.Moves.{is_front, move_to_front}
 use Rattle.profile_core.specs.Slab.{Lists, brought}
-use Rattle.profile_core.specs.State.{ProfileState, IsSound, IsNext, list_of, fed_of, after_reference, compared_behind, distances_of}
+use Rattle.profile_core.specs.State.{ProfileState, IsSound, IsNext, list_of, fed_of, after_reference, compared_behind, distances_of, most_references}
 use Rattle.profile_core.proofs.Feeding.{FoundAt, FoundNowhere, behind_front, first-raised, raised_behind, sum-distances, after_fed}
 use Rattle.profile_core.proofs.Feeding.{found_step, nowhere_step}
 use Rattle.profile_core.proofs.Weighing.{raised_fits, weighed-raised}
@@ -50,7 +49,7 @@ module _ {g : GeometryValue} {was : Lists} {behind missed : List ℕ} {probes : 
   pub sound_after : {now : Lists} {behind' missed' : List ℕ} {probes' m : ℕ} → state_of g now behind' missed' probes' ≡ after_reference v x
       → now.depth ≡ was.depth → length now.lists ≡ length was.lists → ((k : ℕ) → length (get_or now.lists k []) ≤ g.e)
       → length behind' ≡ length behind → take 1 behind' ≡ take 1 behind → length missed' ≡ length missed
-      → compared_behind behind' missed' ≤ probes' → probes' ≡ probes + m → m ≤ g.e → fed_of v < MAX_REFERENCES → IsSound g now behind' missed' probes'
+      → compared_behind behind' missed' ≤ probes' → probes' ≡ probes + m → m ≤ g.e → fed_of v < most_references → IsSound g now behind' missed' probes'
   sound_after {now} {behind'} {missed'} {probes'} {m} step depth sets short long first far told more le few =
       let n : ℕ = sum (distances_of probes behind missed) + sum missed in
       let n' : ℕ = sum (distances_of probes' behind' missed') + sum missed' in
@@ -87,7 +86,7 @@ module _ {g : GeometryValue} {was now : Lists} {behind missed : List ℕ} {probe
   other : is_front x list ≡ false
   other = ap (λ w. is_front x (list_of w k)) m.view_is ∙ m.next.behind
 
-  fed : sum (distances_of probes behind missed) + sum missed < MAX_REFERENCES
+  fed : sum (distances_of probes behind missed) + sum missed < most_references
   fed = omega (arith, m.next.few, ap fed_of m.view_is)
 
   moved : now.lists ≡ set was.lists k (take g.e (move_to_front x list))
@@ -106,7 +105,7 @@ module _ {g : GeometryValue} {was now : Lists} {behind missed : List ℕ} {probe
     pub distance_fits : distance < length behind
     distance_fits = omega (arith, f.within, m.sound.short k, m.sound.behind_count)
 
-    pub distance_few : {n : ℕ} → n ≡ get_or behind distance n → n < MAX_REFERENCES
+    pub distance_few : {n : ℕ} → n ≡ get_or behind distance n → n < most_references
     distance_few {n} read = omega (arith, raised_fits behind distance n distance_fits read, fed, sum-distances probes behind missed m.sound.none_in_front)
 
     module _ {n probes' : ℕ} (read : n ≡ get_or behind distance n) (more : probes' ≡ probes + (distance + 1)) where
@@ -135,7 +134,7 @@ module _ {g : GeometryValue} {was now : Lists} {behind missed : List ℕ} {probe
     pub len_fits : len < length missed
     len_fits = omega (arith, f.len_is, m.sound.short k, m.sound.occupancy_count)
 
-    pub len_few : {n : ℕ} → n ≡ get_or missed len n → n < MAX_REFERENCES
+    pub len_few : {n : ℕ} → n ≡ get_or missed len n → n < most_references
     len_few {n} read = omega (arith, raised_fits missed len n len_fits read, fed)
 
     module _ {n probes' : ℕ} (read : n ≡ get_or missed len n) (more : probes' ≡ probes + len) where

@@ -5,7 +5,6 @@ use Rattle.trace_core.specs.declared.events.Event.{Event}
 use Rattle.trace_core.specs.declared.events.Event.TheVariants as event
 use Rattle.cache_core.specs.declared.outcome.Counts.{Counts}
 use Rattle.cache_core.specs.Geometry.{GeometryValue, block_of, set_of_block}
-use Rattle.profile_core.specs.declared.profile.TheConstants.{MAX_REFERENCES}
 use Rattle.profile_core.specs.Slab.{Lists}
 use Rattle.profile_core.specs.Moves.{index_of, is_in, is_front, move_to_front}
 
@@ -100,6 +99,10 @@ compared_behind behind missed = weighed 1 behind + weighed 0 missed
 abbrev pub distances_of : ℕ → List ℕ → List ℕ → List ℕ
 distances_of probes behind missed = slice_set behind 0 (probes - compared_behind behind missed)
 
+-- the most references that a profile may be fed: two for each line of the longest trace, which has 2^40
+abbrev pub most_references : ℕ
+most_references = 2 ^ 41
+
 -- what is true of the fields of every profile: none found in front is counted by `behind`
 pub record IsSound (g : GeometryValue) (lists : Lists) (behind missed : List ℕ) (probes : ℕ) : Type 0 where
   pub depth : lists.depth ≡ g.e
@@ -109,11 +112,11 @@ pub record IsSound (g : GeometryValue) (lists : Lists) (behind missed : List ℕ
   pub none_in_front : take 1 behind ≡ 0 ∷ []
   pub occupancy_count : length missed ≡ g.e + 1
   pub told : compared_behind behind missed ≤ probes
-  pub fed : sum (distances_of probes behind missed) + sum missed ≤ MAX_REFERENCES
+  pub fed : sum (distances_of probes behind missed) + sum missed ≤ most_references
   pub compared : probes ≤ (sum (distances_of probes behind missed) + sum missed) * g.e
 
 -- a profile that may be fed one reference more: to block x of set k, in whose list it is not the front
 pub record IsNext (v : ProfileState) (k x : ℕ) : Type 0 where
-  pub few : fed_of v < MAX_REFERENCES
+  pub few : fed_of v < most_references
   pub of_set : k ≡ set_of_block v.geometry x
   pub behind : is_front x (list_of v k) ≡ false

@@ -2,7 +2,6 @@
 use Rattle.std.specs.Prelude.{ℕ, ◌*◌, ◌^◌, ◌==◌, ◌&&◌, ◌||◌, not, nat_lt, nat_le, Bool, Option, None, Some, Result, Ok, Err, List, []}
 use Rattle.std.specs.Prelude.{◌∷◌, if◌then◌else◌, codes}
 use Rattle.std.specs.List.{list_any, range_with_len}
-use Rattle.cache_core.specs.declared.geometry.TheConstants.{MAX_BITS, MAX_WAYS, MAX_CACHE_LINES}
 use Rattle.sweep_core.specs.declared.space.Config.{Config}
 use Rattle.sweep_core.specs.declared.space.Which.{Which}
 use Rattle.sweep_core.specs.declared.space.Which.TheVariants.{Bsize, Sets, Assoc, Size}
@@ -20,6 +19,22 @@ name_of Size = codes "size"
 -- 2 to some power below 64
 unfoldable pub is_power : ℕ → Bool
 is_power n = list_any (λ k. n == 2 ^ k) (range_with_len 0 64)
+
+-- the greatest block size, in bytes: the manual's limit, as the three that follow
+abbrev pub largest_block : ℕ
+largest_block = 2 ^ 20
+
+-- the greatest number of sets
+abbrev pub most_sets : ℕ
+most_sets = 2 ^ 20
+
+-- the greatest associativity
+abbrev pub most_ways : ℕ
+most_ways = 65536
+
+-- the most lines of a cache
+abbrev pub most_cache_lines : ℕ
+most_cache_lines = 2 ^ 22
 
 -- the lowest and the greatest value of each number, and whether associativities are powers of two
 pub record Ranges : Type 0 where
@@ -51,7 +66,7 @@ is_valid space c =
     is_in_range space.bsize c.bsize && is_in_range space.sets c.sets && is_in_range space.assoc c.assoc
     && is_in_range space.size (bytes_of c)
     && is_power c.bsize && is_power c.sets && (not space.powers || is_power c.assoc)
-    && nat_le (c.assoc * c.sets) MAX_CACHE_LINES
+    && nat_le (c.assoc * c.sets) most_cache_lines
 
 -- why a range is refused, if it is: a range whose lowest value is above the greatest
 abbrev pub order_cause : ℕ × ℕ → Option Cause
@@ -76,9 +91,9 @@ first_cause ((which, Some cause) ∷ more) = Some (record { which = which; cause
 -- why these ranges make no space, if they make none
 abbrev pub space_fault : Ranges → Option SpaceFault
 space_fault space = first_cause (
-    (Bsize, power_cause (2 ^ MAX_BITS) space.bsize)
-    ∷ (Sets, power_cause (2 ^ MAX_BITS) space.sets)
-    ∷ (Assoc, limit_cause MAX_WAYS space.assoc)
+    (Bsize, power_cause largest_block space.bsize)
+    ∷ (Sets, power_cause most_sets space.sets)
+    ∷ (Assoc, limit_cause most_ways space.assoc)
     ∷ (Size, order_cause space.size) ∷ [])
 
 -- these ranges, or why they make no space

@@ -1,4 +1,5 @@
--- How many comparisons a sweep makes.
+-- How many comparisons a sweep counts: those of profiles that each look for the block of each reference. One look that decides for
+-- several profiles counts as one comparison in each of them.
 use Rattle.std.specs.Prelude.{ℕ, ◌==◌, ◌&&◌, not, max, Bool, List, [], ◌∷◌, map, filter, fold, sum_by}
 use Rattle.trace_core.specs.declared.events.Event.{Event}
 use Rattle.trace_core.specs.Reading.{events}
@@ -33,7 +34,7 @@ geometry_of_pair all p = geometry_value (log2 p.1) (depth all p) (log2 p.0)
 unfoldable pub work : List Event → List Config → List Config → ℕ
 work es all rows = sum_by (λ p. probes (geometry_of_pair all p) es) (pairs rows)
 
--- the comparisons that a sweep of a text makes
+-- the comparisons that a sweep of a text counts
 unfoldable pub sweep_work : Request → List ℕ → ℕ
 sweep_work r text = work (events r.format r.kind text) (configs_of r) (rows_of r)
 

@@ -83,7 +83,7 @@ pub fn depth_is()
         (c : Config) × Contains rows c × (pair_of c ≡ p) × (c.assoc ≡ depth rows p) }
 {}
 
-/// A sweep makes at most as many comparisons as its kept references times the depths of its pairs,
+/// A sweep counts at most as many comparisons as its kept references times the depths of its pairs,
 /// summed up. It has code, since it calls the same law of one profile.
 pub fn work_is_bounded()
     ensures { (r : Request) (text : List ℕ) → sweep_work r text

@@ -4,7 +4,7 @@ use Rattle.std.proofs.Common.{ap, ◌∙◌, subst, append_assoc}
 use Rattle.std.proofs.lemmas.List.{append-nil}
 use Rattle.std.specs.Io.KnownBytes.{IsAtEnd}
 use Rattle.trace_core.specs.Lines.{HoldsNoFeed}
-use Rattle.trace_core.specs.Reading.{Reading, ends, judge, then_reads, Ending, at_end, at_failure, reading_after}
+use Rattle.trace_core.specs.Reading.{Reading, ends, judge, then_reads, Ending, at_end, at_failure, reading_after, longest_line}
 use Rattle.trace_core.specs.Reader.{Progress, left_in, still_gives, MayFollow, entries_then, Advances}
 use Rattle.trace_core.specs.declared.events.Entry.{Entry}
 use Rattle.trace_core.specs.declared.line.Format.{Format}
@@ -14,7 +14,6 @@ use Rattle.trace_core.specs.declared.fault.TraceFault.TheVariants as fault
 use Rattle.trace_core.specs.declared.state.ReaderState.{ReaderState}
 use Rattle.trace_core.specs.declared.state.ReaderState.TheVariants as state
 use Rattle.trace_core.proofs.Readings.{reading-line, reading-last, reading-failed}
-use Rattle.trace_core.specs.declared.limits.TheConstants.{MAX_LINE}
 
 abbrev pub at : Format → ℕ → ℕ → List ℕ → ReaderState → Progress
 at f limit n u s = record { format = f; limit = limit; lines = n; unread = u; state = s }
@@ -71,7 +70,7 @@ module _ (reported : Option (List ℕ)) where
         failed
 
     -- a failure of the device
-    pub Advances-failed : (p : Progress) (u : List ℕ) → HoldsNoFeed u → length u ≤ MAX_LINE → (0 < length u → n < limit)
+    pub Advances-failed : (p : Progress) (u : List ℕ) → HoldsNoFeed u → length u ≤ longest_line → (0 < length u → n < limit)
         → p.state ≡ state.Failed (fault.Read (n + 1))
         → Advances reported (at f limit n u state.Open) p [] []
     Advances-failed p u none short within failed = record {

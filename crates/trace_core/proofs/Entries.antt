@@ -4,13 +4,12 @@ use Rattle.std.proofs.Common.{refl, sym, ap, ◌∙◌}
 use Rattle.std.specs.List.{filter_map, cons_option}
 use Rattle.trace_core.specs.Lines.{lines}
 use Rattle.trace_core.specs.Line.{meaning}
-use Rattle.trace_core.specs.Reading.{ends, judge, with_line, then_reads, read_lines, reading, entries, entry_in}
+use Rattle.trace_core.specs.Reading.{ends, judge, with_line, then_reads, read_lines, reading, entries, entry_in, longest_line}
 use Rattle.trace_core.specs.declared.events.Entry.{Entry}
 use Rattle.trace_core.specs.declared.line.Format.{Format}
 use Rattle.trace_core.specs.declared.line.LineFault.{LineFault}
 use Rattle.trace_core.specs.declared.fault.TraceFault.{TraceFault}
 use Rattle.trace_core.specs.declared.fault.TraceFault.TheVariants as fault
-use Rattle.trace_core.specs.declared.limits.TheConstants.{MAX_LINE}
 
 pub judged-ok : (n : ℕ) (past long : Bool) (x y : TraceFault) (m : Result (Option Entry) LineFault) (o : Option Entry)
     → cond past (Err x) (cond long (Err y) (with_line n m)) ≡ Ok o → entry_in m ≡ o
@@ -25,7 +24,7 @@ module _ (f : Format) (limit : ℕ) where
   read-entries n [] none = refl
   read-entries n (line ∷ more) none =
       by_case (judge f limit (n + 1) line)
-      (λ o h. judged-ok (n + 1) (ltb limit (n + 1)) (ltb MAX_LINE (length line)) (fault.TooManyLines limit) (fault.TooLong (n + 1)) (meaning f line) o h)
+      (λ o h. judged-ok (n + 1) (ltb limit (n + 1)) (ltb longest_line (length line)) (fault.TooManyLines limit) (fault.TooLong (n + 1)) (meaning f line) o h)
       none (read-entries (n + 1) more)
     where
       by_case : (r : Result (Option Entry) TraceFault) → ((o : Option Entry) → r ≡ Ok o → entry_in (meaning f line) ≡ o)

@@ -6,13 +6,12 @@ use Rattle.std.specs.List.{All, slice_get, filter_map, enumerate_from, prefix_le
 use Rattle.std.proofs.lemmas.List.Elements.{All-nil, All-cons, All-head, All-tail}
 use Rattle.trace_core.specs.Lines.{is_line_feed, lines, line_feeds, without_empty_last}
 use Rattle.trace_core.specs.Line.{meaning}
-use Rattle.trace_core.specs.Reading.{Reading, cut_reading, cut_off, ends, judge, then_reads, read_lines, numbered_entry, entry_in}
+use Rattle.trace_core.specs.Reading.{Reading, cut_reading, cut_off, ends, judge, then_reads, read_lines, numbered_entry, entry_in, longest_line}
 use Rattle.trace_core.specs.declared.events.Entry.{Entry}
 use Rattle.trace_core.specs.declared.line.Format.{Format}
 use Rattle.trace_core.specs.declared.fault.TraceFault.{TraceFault}
 use Rattle.trace_core.specs.declared.fault.TraceFault.TheVariants as fault
 use Rattle.trace_core.proofs.Entries.{judged-ok}
-use Rattle.trace_core.specs.declared.limits.TheConstants.{MAX_LINE}
 
 -- one byte more in front of some pieces
 pieces-cons : (feed : Bool) (c : ℕ) (pieces : List (List ℕ)) (x : List ℕ) (xs : List (List ℕ)) → pieces ≡ x ∷ xs
@@ -130,7 +129,7 @@ module _ (f : Format) (limit : ℕ) where
   entries-before n [] last = refl
   entries-before n (line ∷ more) last =
       by_case (judge f limit (n + 1) line)
-      (λ o h. judged-ok (n + 1) (ltb limit (n + 1)) (ltb MAX_LINE (length line)) (fault.TooManyLines limit) (fault.TooLong (n + 1)) (meaning f line) o h)
+      (λ o h. judged-ok (n + 1) (ltb limit (n + 1)) (ltb longest_line (length line)) (fault.TooManyLines limit) (fault.TooLong (n + 1)) (meaning f line) o h)
       (entries-before (n + 1) more last)
     where
       before : List (ℕ × List ℕ)

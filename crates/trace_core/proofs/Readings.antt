@@ -3,11 +3,10 @@ use Rattle.std.proofs.Common.{◌≡◌, ℕ, suc, zero, ◌+◌, ◌<◌, ◌�
 use Rattle.std.proofs.Common.{take, drop, get_or, None, Some, Err, refl, ap, arith, rules, tests, length-append}
 use Rattle.std.specs.List.{onto_first}
 use Rattle.trace_core.specs.Lines.{is_line_feed, HoldsNoFeed, lines, line_feeds}
-use Rattle.trace_core.specs.Reading.{ends, judge, then_reads, read_lines, cut_off, Ending, at_end, at_failure, reading_after}
+use Rattle.trace_core.specs.Reading.{ends, judge, then_reads, read_lines, cut_off, Ending, at_end, at_failure, reading_after, longest_line}
 use Rattle.trace_core.specs.declared.line.Format.{Format}
 use Rattle.trace_core.specs.declared.fault.TraceFault.{TraceFault}
 use Rattle.trace_core.specs.declared.fault.TraceFault.TheVariants as fault
-use Rattle.trace_core.specs.declared.limits.TheConstants.{MAX_LINE}
 
 pub NoFeed-from_places : (u : List ℕ) → ((k : ℕ) → k < length u → is_line_feed (get_or u k 0) ≡ false) → HoldsNoFeed u
 NoFeed-from_places [] h = tt
@@ -63,13 +62,13 @@ module _ (f : Format) (limit : ℕ) where
   reading-last n c u none = rw (lines-last c u none) refl
 
   -- a failure within a line that is short, and within the limit if a byte of it came
-  pub reading-failed : (n : ℕ) (u : List ℕ) → HoldsNoFeed u → length u ≤ MAX_LINE → (0 < length u → n < limit)
+  pub reading-failed : (n : ℕ) (u : List ℕ) → HoldsNoFeed u → length u ≤ longest_line → (0 < length u → n < limit)
       → reading_after at_failure f limit n u ≡ ends (Some (fault.Read (n + 1)))
   reading-failed n [] none short within = ap (λ k. ends (Some (fault.Read k))) (let e : n + 0 + 1 ≡ n + 1 = omega arith in e)
   reading-failed n (c ∷ u) none short within =
       let e : n + 0 + 1 ≡ n + 1 = omega arith in
       let in_limit : ltb limit (n + 1) ≡ false = search (rules, tests, within) in
-      let in_length : ltb MAX_LINE (length (c ∷ u)) ≡ false = search (rules, tests) in
+      let in_length : ltb longest_line (length (c ∷ u)) ≡ false = search (rules, tests) in
       rw (lines-last c u none, line_feeds-none (c ∷ u) none, e, in_limit, in_length) refl
 
   -- a first line that is at fault, whole or cut off
@@ -96,11 +95,11 @@ module _ (f : Format) (limit : ℕ) where
       reading-fault e n (c ∷ text) first.0 first.1 (fault.TooManyLines limit) first.2 (rw over refl) (rw over refl)
 
   -- too many bytes
-  pub reading-long : (e : Ending) (n : ℕ) (u z : List ℕ) → HoldsNoFeed u → n < limit → MAX_LINE < length u
+  pub reading-long : (e : Ending) (n : ℕ) (u z : List ℕ) → HoldsNoFeed u → n < limit → longest_line < length u
       → reading_after e f limit n (u ++ z) ≡ ends (Some (fault.TooLong (n + 1)))
   reading-long e n [] z none within long = absurd (omega arith)
   reading-long e n (c ∷ u) z none within long =
       let first = lines-front c u z none in
       let in_limit : ltb limit (n + 1) ≡ false = search (rules, tests) in
-      let over : ltb MAX_LINE (length ((c ∷ u) ++ first.0)) ≡ true = search (rules, tests, length-append (c ∷ u) first.0) in
+      let over : ltb longest_line (length ((c ∷ u) ++ first.0)) ≡ true = search (rules, tests, length-append (c ∷ u) first.0) in
       reading-fault e n (c ∷ u ++ z) ((c ∷ u) ++ first.0) first.1 (fault.TooLong (n + 1)) first.2 (rw (in_limit, over) refl) (rw (in_limit, over) refl)

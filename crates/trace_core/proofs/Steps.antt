@@ -7,7 +7,7 @@ use Rattle.std.proofs.lemmas.List.{drop_more, take-append-drop, get_or-take, len
 use Rattle.memchr.specs.Find.{IsFirstByte, is_byte}
 use Rattle.trace_core.specs.Lines.{is_line_feed, HoldsNoFeed}
 use Rattle.trace_core.specs.Line.{meaning}
-use Rattle.trace_core.specs.Reading.{judge, with_line, ends, reading_after, Ending}
+use Rattle.trace_core.specs.Reading.{judge, with_line, ends, reading_after, Ending, longest_line}
 use Rattle.trace_core.specs.Reader.{Progress, Advances}
 use Rattle.trace_core.specs.declared.events.Entry.{Entry}
 use Rattle.trace_core.specs.declared.events.Entry.TheVariants as entry
@@ -22,24 +22,23 @@ use Rattle.trace_core.specs.declared.state.ReaderState.TheVariants as state
 use Rattle.trace_core.proofs.Searches.{fails-before, fails-all}
 use Rattle.trace_core.proofs.Readings.{NoFeed-from_places, reading-past, reading-long}
 use Rattle.trace_core.proofs.Advancing.{at, numbered, Advances-line, Advances-bad_line, Advances-fault, Advances-failed, Advances-last, Advances-bad_last}
-use Rattle.trace_core.specs.declared.limits.TheConstants.{MAX_LINE}
 
 with_line-err : (n : ℕ) (r : Result (Option Entry) LineFault) (x : TraceFault) → with_line n r ≡ Err x → (y : LineFault) × (x ≡ fault.Line n y)
 with_line-err n (Ok o) x h = absurd cc
 with_line-err n (Err y) x h = (y, cc)
 
 -- a short line within the limit is judged by what it means
-judge-own : (f : Format) (limit n : ℕ) (w : List ℕ) → n ≤ limit → length w ≤ MAX_LINE → judge f limit n w ≡ with_line n (meaning f w)
+judge-own : (f : Format) (limit n : ℕ) (w : List ℕ) → n ≤ limit → length w ≤ longest_line → judge f limit n w ≡ with_line n (meaning f w)
 judge-own f limit n w within short =
     let in_limit : ltb limit n ≡ false = search (rules, tests) in
-    let in_length : ltb MAX_LINE (length w) ≡ false = search (rules, tests) in
+    let in_length : ltb longest_line (length w) ≡ false = search (rules, tests) in
     rw (in_limit, in_length) refl
 
-judge-fault : (f : Format) (limit n : ℕ) (w : List ℕ) (x : TraceFault) → n ≤ limit → length w ≤ MAX_LINE → judge f limit n w ≡ Err x
+judge-fault : (f : Format) (limit n : ℕ) (w : List ℕ) (x : TraceFault) → n ≤ limit → length w ≤ longest_line → judge f limit n w ≡ Err x
     → (y : LineFault) × (x ≡ fault.Line n y)
 judge-fault f limit n w x within short judged = with_line-err n (meaning f w) x (sym (judge-own f limit n w within short) ∙ judged)
 
-judge-ok : (f : Format) (limit n : ℕ) (w : List ℕ) (o : Option Entry) → n ≤ limit → length w ≤ MAX_LINE → meaning f w ≡ Ok o
+judge-ok : (f : Format) (limit n : ℕ) (w : List ℕ) (o : Option Entry) → n ≤ limit → length w ≤ longest_line → meaning f w ≡ Ok o
     → judge f limit n w ≡ Ok o
 judge-ok f limit n w o within short means = judge-own f limit n w within short ∙ ap (with_line n) means
 
@@ -95,13 +94,13 @@ module _ (reported : Option (List ℕ)) (scan : Scan) (opened : scan.state ≡ s
 
   -- a line whose item was read apart
   pub steps-item : (unread : List ℕ) (k : ℕ) (item : Item) (q : Progress) (number : ℕ) → unread ≡ u → IsFirstByte (is_byte 10) unread (Some k)
-      → meaning f (take k unread) ≡ Ok (Some (entry.Item item)) → k ≤ MAX_LINE → n < limit
+      → meaning f (take k unread) ≡ Ok (Some (entry.Item item)) → k ≤ longest_line → n < limit
       → number ≡ q.lines → q.lines ≡ n + 1 → q.unread ≡ drop (k + 1) u → (q.format ≡ f) × (q.limit ≡ limit) × (q.state ≡ s)
       → Advances reported (at f limit n u s) q [] ((number, entry.Item item) ∷ [])
   steps-item unread k item q number is found means short within numbered_is line rest same =
       let own : IsFirstByte (is_byte 10) u (Some k) = subst (λ v. IsFirstByte (is_byte 10) v (Some k)) is found in
       let meant : meaning f (take k u) ≡ Ok (Some (entry.Item item)) = subst (λ v. meaning f (take k v) ≡ Ok (Some (entry.Item item))) is means in
-      let fits : length (take k u) ≤ MAX_LINE = omega (arith, length-take-le k u (omega (arith, own.0.high))) in
+      let fits : length (take k u) ≤ longest_line = omega (arith, length-take-le k u (omega (arith, own.0.high))) in
       subst (λ m. Advances reported (at f limit n u s) q [] ((m, entry.Item item) ∷ [])) (sym (numbered_is ∙ line))
       (steps-line k (Some (entry.Item item)) q own (judge-ok f limit (n + 1) (take k u) _ (omega arith) fits meant) line rest same)
 
@@ -123,12 +122,12 @@ module _ (reported : Option (List ℕ)) (scan : Scan) (opened : scan.state ≡ s
       past_all [] some e later = absurd (omega arith)
       past_all (c ∷ v) some e later = reading-past f limit e n c (v ++ later) past
 
-  pub steps-long : (q : Progress) → HoldsNoFeed u → n < limit → MAX_LINE < length u → q.state ≡ state.Failed (fault.TooLong (n + 1))
+  pub steps-long : (q : Progress) → HoldsNoFeed u → n < limit → longest_line < length u → q.state ≡ state.Failed (fault.TooLong (n + 1))
       → Advances reported (at f limit n u s) q [] []
   steps-long q none within long failed =
       from_open q [] [] (Advances-fault reported f limit n q u (fault.TooLong (n + 1)) (λ e later. reading-long f limit e n u later none within long) failed)
 
-  pub steps-failed : (q : Progress) → HoldsNoFeed u → length u ≤ MAX_LINE → (0 < length u → n < limit)
+  pub steps-failed : (q : Progress) → HoldsNoFeed u → length u ≤ longest_line → (0 < length u → n < limit)
       → q.state ≡ state.Failed (fault.Read (n + 1)) → Advances reported (at f limit n u s) q [] []
   steps-failed q none short within failed = from_open q [] [] (Advances-failed reported f limit n q u none short within failed)
 
@@ -141,7 +140,7 @@ module _ (reported : Option (List ℕ)) (scan : Scan) (opened : scan.state ≡ s
       last_of [] none some judged = absurd (omega arith)
       last_of (c ∷ v) none some judged = Advances-last reported f limit n q c v o none judged ended
 
-  pub steps-bad_last : (q : Progress) (x : TraceFault) → IsAtEnd reported → HoldsNoFeed u → 0 < length u → n < limit → length u ≤ MAX_LINE
+  pub steps-bad_last : (q : Progress) (x : TraceFault) → IsAtEnd reported → HoldsNoFeed u → 0 < length u → n < limit → length u ≤ longest_line
       → judge f limit (n + 1) u ≡ Err x
       → q.state ≡ state.Failed x → Advances reported (at f limit n u s) q [] []
   steps-bad_last q x over none some within short judged failed =

@@ -12,9 +12,12 @@ use Rattle.trace_core.specs.declared.events.Event.{Event}
 use Rattle.trace_core.specs.declared.events.Kind.{Kind}
 use Rattle.trace_core.specs.declared.line.Format.{Format}
 use Rattle.trace_core.specs.declared.line.LineFault.{LineFault}
-use Rattle.trace_core.specs.declared.limits.TheConstants.{MAX_LINE}
 use Rattle.trace_core.specs.declared.fault.TraceFault.{TraceFault}
 use Rattle.trace_core.specs.declared.fault.TraceFault.TheVariants as fault
+
+-- the most bytes of a line before its LF: the manual's limit
+abbrev pub longest_line : ℕ
+longest_line = 4096
 
 -- a meaning, or the fault of line n
 abbrev pub with_line : ℕ → Result (Option Entry) LineFault → Result (Option Entry) TraceFault
@@ -25,7 +28,7 @@ with_line n (Err f) = Err (fault.Line n f)
 abbrev pub judge : Format → ℕ → ℕ → List ℕ → Result (Option Entry) TraceFault
 judge format limit n line =
     if nat_lt limit n then Err (fault.TooManyLines limit)
-    else if nat_lt MAX_LINE (length line) then Err (fault.TooLong n)
+    else if nat_lt longest_line (length line) then Err (fault.TooLong n)
     else with_line n (meaning format line)
 
 -- the entries of a text with the numbers of their lines, and the fault at which they end, if any
@@ -59,7 +62,7 @@ abbrev pub cut_off : ℕ → ℕ → List (List ℕ) → TraceFault
 cut_off limit n [] = fault.Read n
 cut_off limit n (piece ∷ none) =
     if nat_lt limit n then fault.TooManyLines limit
-    else if nat_lt MAX_LINE (length piece) then fault.TooLong n
+    else if nat_lt longest_line (length piece) then fault.TooLong n
     else fault.Read n
 
 -- The reading of a text, n lines before which were read: of all its lines; or, where the device then failed, of the lines

@@ -37,11 +37,3 @@ pub fn nine_references() -> [Ref; 9] {
 /// A log of Valgrind's lackey of seven lines: a fetch, a store and a modify among messages.
 pub const LACKEY: &[u8] =
     b"==1234== Lackey, an example Valgrind tool\nI  0023C790,2\n S BE80199C,4\n\n--1234-- note\n M 0025747C,1\n*end\n";
-
-/// The trace of the cache lab's handout.
-pub const HANDOUT: &[u8] = b" L 10,1\n M 20,1\n L 22,1\n S 18,1\n L 110,1\n L 210,1\n M 12,1\n";
-
-/// What `csim -v -s 4 -E 1 -b 4` writes of it, by the handout: 147 bytes.
-pub const HANDOUT_TEXT: &[u8] = b"L 10,1 miss\nM 20,1 miss hit\nL 22,1 hit\nS 18,1 hit\n\
-    L 110,1 miss eviction\nL 210,1 miss eviction\nM 12,1 miss eviction hit\n\
-    hits:4 misses:5 evictions:3\n";

@@ -5,7 +5,8 @@
 //
 // 0:ADDRESS, 1:ADDRESS and 2:ADDRESS are references as in din, 3:ADDRESS reads and writes at once; many:N are N reads from 0 on.
 // call is a system call, say:TEXT writes, exit:N ends, exec:N becomes another program that ends, kill is a death by SIGKILL, wait
-// waits for ever, and loop reads for ever. ignore lets SIGTERM do nothing. The program's code starts at FAKE_START.
+// waits for ever, and loop reads for ever. fork has a child that ends. ignore lets SIGTERM do nothing. The program's code starts at
+// FAKE_START.
 #include <dlfcn.h>
 #include <signal.h>
 #include <stdbool.h>
@@ -70,6 +71,7 @@ static void step(const char *word) {
     if (!strncmp(word, "say:", 4)) puts(value), fflush(stdout);
     if (!strcmp(word, "kill")) kill(getpid(), SIGKILL);
     if (!strcmp(word, "ignore")) signal(SIGTERM, SIG_IGN);
+    if (!strcmp(word, "fork") && !fork()) _exit(0);
     if (!strcmp(word, "wait")) for (;;) pause();
     if (!strcmp(word, "loop")) refer_many(UINT64_MAX);
     if (!strncmp(word, "exit:", 5)) call(), on_end(1, NULL), exit(atoi(value));

@@ -1,0 +1,120 @@
+"""Part B of the cache lab. The counts of whole functions are those that the lab's driver writes, as
+its handout and many course pages print them."""
+
+import os
+import signal
+import subprocess
+
+from base import EXAMPLES, PROGRAM, needs
+from lab_base import LAB, STUDENTS, LabTest, comes
+
+TRANS = STUDENTS / "trans.c"
+# by function and size
+WANTED = {
+    ("row by row", "32x32"): "hits:870 misses:1183 evictions:1151  0.0 of 8 points",
+    ("row by row", "64x64"): "hits:3474 misses:4723 evictions:4691  0.0 of 8 points",
+    ("row by row", "61x67"): "hits:3756 misses:4423 evictions:4391  0.0 of 10 points",
+    ("in blocks", "32x32"): "hits:1766 misses:287 evictions:255  8.0 of 8 points",
+}
+
+
+class Transpose(LabTest):
+    def transpose(self, *arguments, **env):
+        env = {"TMPDIR": str(self.private), **env}
+        return self.run_tool("lab/lab-transpose", *arguments, env=env)
+
+    def counts(self, ran):
+        """By function and size the summary, and the rows of the arrays."""
+        found, function, size = {}, "", ""
+        for line in ran.stdout.decode().splitlines():
+            if not line.startswith(" "):
+                function = line
+            elif line[4] != " ":
+                size, _, summary = line.strip().partition("  ")
+                found[function, size] = [summary]
+            else:
+                found[function, size].append(line.split())
+        return found
+
+    @needs("valgrind")
+    def test_the_labs_own_numbers(self):
+        ran = self.transpose(TRANS)
+        self.assertEqual((ran.stderr, ran.returncode), (b"", 1))
+        found = self.counts(ran)
+        self.assertEqual(len(found), 9)
+        for (function, size), summary in WANTED.items():
+            with self.subTest((function, size)):
+                self.assertEqual(found[function, size][0], summary)
+        for (_, size), (summary, *rows) in found.items():
+            hits, misses, evictions = (int(word.partition(":")[2]) for word in summary.split()[:3])
+            self.assertEqual([row[0] for row in rows[-3:]], ["A", "B", "others"])
+            numbers = [list(map(int, row[1:])) for row in rows[-3:]]
+            columns = [sum(column) for column in zip(*numbers)]
+            self.assertEqual(columns[:3], [hits + misses, hits, misses])
+            self.assertEqual(sum(columns[3:]), evictions)
+            if len(rows) == 4:
+                edge, other = map(int, size.split("x"))
+                self.assertEqual([row[0] for row in numbers], [edge * other] * 2 + [5])
+        self.assertEqual(list(self.private.iterdir()), [])
+
+    @needs("valgrind")
+    def test_a_wrong_result(self):
+        """It is told, and has no points; a size of one's own has none to give."""
+        found = self.counts(self.transpose("--size", "32x32", "--size", "4x4", TRANS))
+        summary, told, *_ = found["\\x1b[31mwrong", "32x32"]
+        self.assertTrue(summary.endswith("  0.0 of 8 points"), summary)
+        self.assertEqual(" ".join(told), "the result is not the transpose of A")
+        self.assertNotIn("points", found["row by row", "4x4"][0])
+
+    @needs("valgrind")
+    def test_the_accesses_are_kept(self):
+        """Those of a matrix transposed row by row are, from A and B on, those of the example."""
+        ran = self.transpose("--size", "32x32", "--keep", "new/kept", TRANS)
+        self.assertEqual(ran.returncode, 1)
+        names = sorted(path.name for path in (self.folder / "new/kept").iterdir())
+        self.assertEqual(names, [f"32x32-{number}.trace" for number in (1, 2, 3)])
+        kept = (self.folder / "new/kept/32x32-1.trace").read_text().splitlines()
+        text = (EXAMPLES / "transpose.lackey").read_text()
+        example = [line for line in text.splitlines() if line[0] == " "]
+        self.assertEqual(self.steps(kept[4:-1]), self.steps(example))
+        words = ["csim", "-s", 5, "-E", 1, "-b", 5, "-t", "new/kept/32x32-1.trace"]
+        summary = self.good(self.run_command(PROGRAM, *words))
+        self.assertEqual(summary, "hits:870 misses:1183 evictions:1151\n")
+
+    def steps(self, lines):
+        """The kinds of accesses, and how far each is from the last one of its kind."""
+        last, steps = {}, []
+        for line in lines:
+            kind, place = line[1], int(line[3:].partition(",")[0], 16)
+            steps.append((kind, place - last.get(kind, place)))
+            last[kind] = place
+        return steps
+
+    @needs("valgrind")
+    def test_faults(self):
+        (self.folder / "bad.c").write_text("no C\n")
+        (self.folder / "none.c").write_text("void other(void) {}\n")
+        for source, env, text in (
+            ("absent.c", {}, "lab-transpose: absent.c: no such file\n"),
+            ("bad.c", {}, "lab-transpose: bad.c can't be compiled\n"),
+            ("none.c", {}, "lab-transpose: none.c can't be compiled\n"),
+            (TRANS, {"CC": "/nowhere/cc"}, "lab-transpose: /nowhere/cc: No such file or dire"),
+            (TRANS, {"CC": "cc -DCRASHES"}, "32x32: the program ended with status 139"),
+            (TRANS, {"CACHESIM": "/absent"}, "lab-transpose: /absent is no program"),
+        ):
+            with self.subTest(text):
+                self.refused(self.transpose(source, **env), 2, text)
+                self.assertEqual(list(self.private.iterdir()), [])
+        for word in ("32", "0x4", "257x1"):
+            self.refused(self.transpose("--size", word, TRANS), 2, "invalid size value")
+
+    @needs("valgrind")
+    def test_an_interrupt(self):
+        env = {"CACHESIM": str(PROGRAM), "TMPDIR": str(self.private), "CC": "cc -DLOOPS"}
+        env = {**os.environ, **env}
+        for number in (signal.SIGINT, signal.SIGTERM):
+            with subprocess.Popen([LAB / "lab-transpose", TRANS], env=env) as running:
+                self.assertTrue(comes(lambda: any(self.private.glob("*lab-trace*"))))
+                running.send_signal(number)
+                self.assertEqual(running.wait(20), 128 + number)
+            self.assertTrue(comes(lambda: not list(self.private.iterdir())))

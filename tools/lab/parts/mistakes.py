@@ -1,0 +1,252 @@
+"""Mistakes that programs for the cache lab often have. Each stands for a simulator that makes it;
+`guesses` tells which of these count exactly as a student's program did."""
+
+import itertools
+from dataclasses import dataclass, replace
+from typing import Callable, Optional
+
+LONG = 1000  # accesses: of longer traces two cases are looked at
+MOST = 200000  # longer ones are not looked at
+FEW = 3  # so many guesses are told; where more fit, the cases say too little
+
+
+@dataclass(frozen=True)
+class Habits:
+    """How a simulator works. As it stands it is right."""
+
+    evicts: str = "used"  # the block used first, or that which came first, was used last, ..
+    address_bits: int = 64
+    tag_bits: int = 64
+    clock_bits: int = 64
+    is_signed: bool = False
+    kinds: str = "LSM"
+    modify: str = "both"  # accesses of an M count, or "once", or the second after a "hit" only
+    no_use: str = ""  # the kinds of a hit that is no use of its block
+    is_old: bool = False  # a new block is older than all others
+    passes: bool = False  # a store that misses brings no block in
+    crosses: bool = False  # an access touches the block of its last byte too
+    is_valid: bool = True  # whether a line's valid bit is looked at
+    ways: Optional[int] = None  # a set has at most so many lines
+    apart: Optional[int] = None  # the array has so many lines for a set; more run into the next
+    taken: Callable = lambda accesses: accesses
+    swaps: bool = False  # set bits and block bits are exchanged
+    set_of: Callable = lambda address, s, b: address >> b & (1 << s) - 1
+    tag_of: Callable = lambda address, s, b: address >> s + b
+    told: Callable = lambda hits, misses, evictions: (hits, misses, evictions)
+
+
+def short(bits):
+    return lambda *numbers: tuple(number & (1 << bits) - 1 for number in numbers)
+
+
+# what is said of a program, and how it differs from a right one
+MISTAKES = {
+    "a hit does not count as a use of its block (FIFO)": {"evicts": "came"},
+    "the block used last is evicted (MRU)": {"evicts": "latest"},
+    "the block used least often is evicted (LFU)": {"evicts": "rarest"},
+    "a full set always evicts the block in its first line": {"evicts": "first"},
+    "a new block counts as the oldest of its set": {"is_old": True},
+    "a store that hits does not count as a use of its block": {"no_use": "S"},
+    "a load that hits does not count as a use of its block": {"no_use": "L"},
+    "a store that misses brings no block in": {"passes": True},
+    "M counts as one access": {"modify": "once"},
+    "the store of an M that misses does not count": {"modify": "hit"},
+    "M is ignored": {"kinds": "LS"},
+    "S is ignored": {"kinds": "LM"},
+    "I lines count as accesses": {"kinds": "LSMI"},
+    "addresses have only 32 bits": {"address_bits": 32},
+    "tags have only 32 bits": {"tag_bits": 32},
+    "tags have only 16 bits": {"tag_bits": 16},
+    "tags have only 8 bits": {"tag_bits": 8},
+    "addresses are signed, and cut at 7fffffffffffffff": {"is_signed": True},
+    "the clock of LRU has only 8 bits": {"clock_bits": 8},
+    "the clock of LRU has only 16 bits": {"clock_bits": 16},
+    "an access that ends in another block counts for that too": {"crosses": True},
+    "a line that is still empty is found by tag 0": {"is_valid": False},
+    "a set has only one line": {"ways": 1},
+    "a set has at most 8 lines": {"ways": 8},
+    "a set has at most 64 lines": {"ways": 64},
+    "the array has 8 lines for a set, and more run into the next set": {"apart": 8},
+    "the array has 64 lines for a set, and more run into the next set": {"apart": 64},
+    "the last line of the trace counts twice (while !feof)": {"taken": lambda all: all + all[-1:]},
+    "the last line of the trace is lost": {"taken": lambda all: all[:-1]},
+    "the first line of the trace is lost": {"taken": lambda all: all[1:]},
+    "the trace is read to line 65,536": {"taken": lambda all: all[:1 << 16]},
+    "-s and -b are exchanged": {"swaps": True},
+    "all blocks share one set": {"set_of": lambda address, s, b: 0},
+    "the set is that of the address, with its offset": {
+        "set_of": lambda address, s, b: address & (1 << s) - 1},
+    "the set is that of 2 * s and not of 2 to the power of s": {
+        "set_of": lambda address, s, b: (address >> b) % (2 * s) if s else 0},
+    "the mask of the set is 1 << (s - 1), which is how C reads 1 << s - 1": {
+        "set_of": lambda address, s, b: address >> b & 1 << s - 1 if s else 0},
+    "the set is in the highest of 32 bits": {
+        "set_of": lambda address, s, b: address >> max(0, 32 - s) & (1 << s) - 1},
+    "there are at most 1024 sets": {
+        "set_of": lambda address, s, b: address >> b & (1 << min(s, 10)) - 1},
+    "the offset is taken for a part of the tag": {"tag_of": lambda address, s, b: address},
+    "the tag is the address without s bits, with b bits of the offset": {
+        "tag_of": lambda address, s, b: address >> s},
+    "each miss counts as an eviction": {"told": lambda h, m, e: (h, m, m)},
+    "an eviction does not count as a miss": {"told": lambda h, m, e: (h, m - e, e)},
+    "an eviction counts as a hit too": {"told": lambda h, m, e: (h + e, m, e)},
+    "evictions are not counted": {"told": lambda h, m, e: (h, m, 0)},
+    "hits are one too many": {"told": lambda h, m, e: (h + 1, m, e)},
+    "hits and misses are exchanged": {"told": lambda h, m, e: (m, h, e)},
+    "misses and evictions are exchanged": {"told": lambda h, m, e: (h, e, m)},
+    "counts have only 8 bits": {"told": short(8)},
+    "counts have only 16 bits": {"told": short(16)},
+}
+
+
+class Line:
+    """A block in a line of a set."""
+
+    __slots__ = ("used", "came", "uses", "place")
+
+    def __init__(self, used, came, place):
+        self.used, self.came, self.uses, self.place = used, came, 1, place
+
+
+# the block with the least of these is evicted
+KEYS = {
+    "used": lambda line: (line.used, line.place),
+    "came": lambda line: line.came,
+    "latest": lambda line: (-line.used, line.place),
+    "rarest": lambda line: (line.uses, line.place),
+    "first": lambda line: line.place,
+}
+
+
+class Cache:
+    """A cache with the given habits; its counts."""
+
+    def __init__(self, set_bits, ways, block_bits, habits):
+        self.set_bits, self.block_bits = set_bits, block_bits
+        if habits.swaps:
+            self.set_bits, self.block_bits = block_bits, set_bits
+        self.ways, self.habits = min(ways, habits.ways or ways), habits
+        self.key, self.sets, self.now = KEYS[habits.evicts], {}, 0
+        self.hits = self.misses = self.evictions = 0
+
+    def touch(self, kind, address):
+        """An access to one block. Answers whether it hits."""
+        habits = self.habits
+        self.now = self.now + 1 & (1 << habits.clock_bits) - 1
+        address &= (1 << habits.address_bits) - 1
+        if habits.is_signed:
+            address = min(address, (1 << 63) - 1)
+        index = habits.set_of(address, self.set_bits, self.block_bits)
+        tag = habits.tag_of(address, self.set_bits, self.block_bits) & (1 << habits.tag_bits) - 1
+        lines = self.sets.setdefault(index, {})
+        line = lines.get(tag)
+        if line or not habits.is_valid and tag == 0 and len(lines) < self.ways:
+            self.hits += 1
+            if line:
+                line.uses += 1
+                line.used = line.used if kind in habits.no_use else self.now
+            return True
+        self.misses += 1
+        if not (habits.passes and kind == "S"):
+            self.bring(lines, tag)
+        return False
+
+    def bring(self, lines, tag):
+        """Brings a block in, and evicts one where the set is full."""
+        place = len(lines)
+        if place >= self.ways:
+            self.evictions += 1
+            victim = min(lines, key=lambda tag: self.key(lines[tag]))
+            place = lines.pop(victim).place
+        lines[tag] = Line(0 if self.habits.is_old else self.now, self.misses, place)
+
+
+class Overlapping(Cache):
+    """A cache whose array has fewer lines for a set than there are, so that sets share some."""
+
+    def touch(self, kind, address):
+        """The same, without the other habits."""
+        self.now += 1
+        index = self.habits.set_of(address, self.set_bits, self.block_bits)
+        tag = self.habits.tag_of(address, self.set_bits, self.block_bits)
+        places = range(index * self.habits.apart, index * self.habits.apart + self.ways)
+        place = next((at for at in places if self.sets.get(at, (None,))[0] == tag), None)
+        if place is None:
+            self.misses += 1
+            place = next((at for at in places if at not in self.sets), None)
+        else:
+            self.hits += 1
+        if place is None:
+            self.evictions += 1
+            place = min(places, key=lambda at: self.sets[at][1])
+        self.sets[place] = (tag, self.now)
+        return True
+
+
+def counts(accesses, cache, habits):
+    """The numbers of hits, misses and evictions, as a simulator with these habits tells them."""
+    set_bits, ways, block_bits = cache
+    is_overlapping = habits.apart is not None and ways > habits.apart
+    made = (Overlapping if is_overlapping else Cache)(set_bits, ways, block_bits, habits)
+    for kind, address, size in habits.taken(accesses):
+        if kind not in habits.kinds:
+            continue
+        hit = made.touch("L" if kind == "M" else kind, address)
+        if kind == "M" and (habits.modify == "both" or habits.modify == "hit" and hit):
+            made.touch("S", address)
+        end = address + size - 1
+        if habits.crosses and end >> made.block_bits != address >> made.block_bits:
+            made.touch(kind, end)
+    return habits.told(made.hits, made.misses, made.evictions)
+
+
+def read(path):
+    """The accesses of a trace, fetches too; nothing where it is too long to be looked at."""
+    found = []
+    with open(path, encoding="ascii", errors="replace") as file:
+        for line in file:
+            kind, _, rest = line.strip().partition(" ")
+            address, _, size = rest.strip().partition(",")
+            if kind in ("L", "S", "M", "I"):
+                found.append((kind, int(address, 16), int(size.split()[0])))
+                if len(found) > MOST:
+                    return []
+    return found
+
+
+class Evidence:
+    """What a program counted, in the cases that are looked at: the short traces first."""
+
+    def __init__(self, runs):
+        """Runs are cases with what was wanted and what was got. Of a long trace one right case
+        and one wrong one are taken."""
+        traces = {path: read(path) for path in {case.trace for case, _, _ in runs}}
+        seen, self.runs = set(), []
+        for case, wanted, got in sorted(runs, key=lambda run: len(traces[run[0].trace])):
+            accesses, kind = traces[case.trace], (case.trace, wanted == got)
+            if accesses and (len(accesses) <= LONG or kind not in seen):
+                cache = tuple(map(int, case.cache.split(",")))
+                self.runs.append((accesses, cache, got, wanted == got))
+            seen.add(kind)
+        self.runs.sort(key=lambda run: (len(run[0]), run[3]))  # stable
+
+    def fits(self, *names):
+        """Whether all was counted as by a simulator with these mistakes."""
+        habits = Habits()
+        for name in names:
+            habits = replace(habits, **MISTAKES[name])
+        return all(counts(accesses, cache, habits) == got for accesses, cache, got, _ in self.runs)
+
+
+def guesses(runs):
+    """The mistakes that give exactly the numbers of a program, as texts. Where no single one does,
+    and there are cases enough, two at once are tried. Nothing where it can't be told."""
+    evidence = Evidence(runs)
+    if all(is_right for _, _, _, is_right in evidence.runs):
+        return []
+    found = [name for name in MISTAKES if evidence.fits(name)]
+    if not found and len(evidence.runs) >= 20:
+        pairs = itertools.combinations(MISTAKES, 2)
+        apart = (pair for pair in pairs if not set(MISTAKES[pair[0]]) & set(MISTAKES[pair[1]]))
+        found = [" and ".join(pair) for pair in apart if evidence.fits(*pair)]
+    return found if len(found) <= FEW else []

@@ -1,0 +1,266 @@
+"""A student's program and its runs: each has a private folder and limits, and on request bubblewrap around it. At the end what else
+`grade` and `grade-class` share: traces, arguments, signals."""
+
+import contextlib
+import ctypes
+import importlib
+import os
+import pathlib
+import re
+import resource
+import select
+import shutil
+import signal
+import subprocess
+import sys
+import tempfile
+from typing import NamedTuple, Optional
+
+sys.path.insert(1, str(pathlib.Path(__file__).resolve().parents[2]))
+tool = importlib.import_module("lib.tool")
+
+LEAST_LIMIT = 64 << 20
+TAIL = 1 << 20
+STOPS = (signal.SIGHUP, signal.SIGINT, signal.SIGTERM)
+PR_SET_CHILD_SUBREAPER = 36
+# What a confined program sees beside its own folder: enough for programs in any language that Debian packages.
+SYSTEM = ["/usr", "/bin", "/sbin", "/lib", "/lib32", "/lib64", "/libx32", "/etc/alternatives", "/etc/ld.so.cache"]
+PATH = "/usr/local/bin:/usr/bin:/bin"
+# has glibc fill memory of malloc, so that who takes it for zeros is found
+FILLED = {"MALLOC_PERTURB_": "165"}
+UNFILLED = ["env", "MALLOC_PERTURB_=0"]
+
+
+class Case(NamedTuple):
+    """A cache, as '4,2,4', a trace, the name that is shown for the trace, and whether the options
+    come in another order than the lab's own."""
+
+    cache: str
+    trace: str
+    name: str
+    is_turned: bool = False
+
+    def arguments(self, trace):
+        set_bits, lines, block_bits = self.cache.split(",")
+        pairs = [("-s", set_bits), ("-E", lines), ("-b", block_bits), ("-t", trace)]
+        return [word for pair in pairs[::-1 if self.is_turned else 1] for word in pair]
+
+    def __str__(self):
+        return " ".join(self.arguments(self.name))
+
+
+class Run(NamedTuple):
+    """What a run of a student's program left. The fault is empty where it ended well. A run that was killed had no time to flush."""
+
+    fault: str
+    is_slow: bool
+    is_killed: bool
+    output: pathlib.Path
+    results: Optional[bytes]
+
+
+class Student:
+    """A student's program, the private folder and the time that its runs have, and what stands before it on its command line."""
+
+    def __init__(self, program, folder, seconds, around=None):
+        self.program, self.folder, self.around = without_links(program), pathlib.Path(folder), around or (lambda room: [])
+        self.seconds, self.few_seconds, self.slow_runs = seconds, min(seconds, max(1, seconds / 10)), 0
+        ctypes.CDLL(None).prctl(PR_SET_CHILD_SUBREAPER, 1, 0, 0, 0)  # what it leaves behind becomes a child of this process
+
+    def run(self, case, *flags, by_line=False, is_filled=True):
+        """Runs the program on a case; by line, so that a crash loses none; with memory of malloc
+        filled, or as it comes. After a run that was too slow there is less time, so that a program
+        that hangs costs its time once; one that hangs only with flags keeps its time for runs
+        without them."""
+        seconds = self.few_seconds if flags and self.slow_runs else self.seconds
+        output, messages = self.folder / "output", self.folder / "messages"
+        trace = os.path.join("traces", os.path.basename(case.trace))
+        with tempfile.TemporaryDirectory(dir=self.folder, ignore_cleanup_errors=True) as room:
+            os.mkdir(os.path.join(room, "traces"))
+            shutil.copyfile(case.trace, os.path.join(room, trace))
+            before = ["stdbuf", "-oL"] if by_line else [] if is_filled else UNFILLED
+            command = [*self.around(room), *before, self.program, *flags, *case.arguments(trace)]
+            limit = max(LEAST_LIMIT, 16 * os.path.getsize(case.trace))
+            with open(output, "wb") as out, open(messages, "wb") as err:
+                status = status_of(command, limit, seconds, cwd=room, stdout=out, stderr=err)
+            is_slow = status is None
+            ran = Run(fault_of(status, messages, seconds), is_slow, is_slow or is_signal(status), output, results_in(room))
+        if ran.is_slow:
+            self.slow_runs += 1
+            self.seconds = self.seconds if flags else self.few_seconds
+        return ran
+
+
+def status_of(command, limit, seconds, **given):
+    """The status of a run, or None where its time ran out. What it started and left behind is ended too."""
+    given.update(stdin=subprocess.DEVNULL, start_new_session=True, preexec_fn=lambda: bound(limit), env=environment())
+    signal.pthread_sigmask(signal.SIG_BLOCK, STOPS)  # else a signal could come before the process is known
+    process = subprocess.Popen(command, **given)
+    watch = os.pidfd_open(process.pid)  # process.wait(seconds) looks from time to time, and can keep its lock at a signal
+    try:
+        signal.pthread_sigmask(signal.SIG_UNBLOCK, STOPS)
+        has_ended = select.select([watch], [], [], seconds)[0]
+    finally:
+        os.close(watch)
+        with contextlib.suppress(ProcessLookupError):
+            os.killpg(process.pid, signal.SIGKILL)
+        process.wait()
+        end_orphans()
+    return process.returncode if has_ended else None
+
+
+def number_of(status):
+    """The number of the signal that a status tells: bubblewrap and shells do so by one above 128."""
+    return -status if status < 0 else status - 128
+
+
+def is_signal(status):
+    return status < 0 or number_of(status) in list(signal.Signals)
+
+
+def fault_of(status, messages, seconds):
+    """A status in words, with the last message that came before."""
+    if not status:
+        return "" if status == 0 else f"no end within {seconds:g} s"
+    number = number_of(status)
+    text = f"ended by signal {number}: {signal.strsignal(number)}" if is_signal(status) else f"ended with status {status}"
+    last = last_line(messages)
+    return f"{text}; its last message is '{shown(last)}'" if last else text
+
+
+def bound(limit):
+    """Bounds the size of the files that a student's process writes, before it begins; no core files."""
+    signal.pthread_sigmask(signal.SIG_UNBLOCK, STOPS)
+    resource.setrlimit(resource.RLIMIT_FSIZE, (limit, resource.getrlimit(resource.RLIMIT_FSIZE)[1]))
+    resource.setrlimit(resource.RLIMIT_CORE, (0, 0))
+
+
+def children():
+    """The processes whose parent is this one."""
+    for stat in pathlib.Path("/proc").glob("[0-9]*/stat"):
+        with contextlib.suppress(OSError):
+            if int(stat.read_bytes().rpartition(b")")[2].split()[1]) == os.getpid():
+                yield int(stat.parent.name)
+
+
+def end_orphans():
+    """Ends what a program left behind, in other sessions too: the orphans that became children of this process."""
+    with contextlib.suppress(ChildProcessError):  # none is left
+        while True:
+            if os.waitpid(-1, os.WNOHANG)[0] == 0:
+                for child in children():
+                    os.kill(child, signal.SIGKILL)
+                os.waitpid(-1, 0)
+
+
+def holds_cachesim(folder):
+    return os.access(os.path.join(folder, "cachesim"), os.X_OK)
+
+
+def environment():
+    """That of a student's program: nothing in it leads to cachesim, unless that is among the system's own programs."""
+    folders = os.environ.get("PATH", PATH).split(":")
+    kept = [folder for folder in folders if folder in PATH.split(":") or not holds_cachesim(folder)]
+    own = {name: value for name, value in os.environ.items() if name != "CACHESIM"}
+    return {**own, **FILLED, "PATH": ":".join(kept)}
+
+
+def without_links(program):
+    """The absolute path of a program, whose folder is named without symbolic links."""
+    folder, name = os.path.split(os.path.abspath(program))
+    return os.path.join(os.path.realpath(folder), name)
+
+
+def is_below(path, *folders):
+    """Whether a path is one of the folders, or in one."""
+    return any(os.path.commonpath([path, folder]) == folder for folder in folders)
+
+
+def cachesims(found):
+    """Where cachesim is: the one that was found, and those on the path and among the system's programs."""
+    folders = [*os.environ.get("PATH", "").split(":"), *PATH.split(":")]
+    return sorted({os.path.realpath(path) for path in [found, *(os.path.join(at, "cachesim") for at in folders)] if os.path.exists(path)})
+
+
+def bubblewrap(program, cachesim):
+    """What stands before a confined run, as a function of its room, the only folder that it can write to. It reads the system's
+    folders and its own, and finds no cachesim there; it reaches no network and no other process, and leaves none behind."""
+    own = os.path.dirname(without_links(program))
+    begin = ["bwrap", "--unshare-all", "--die-with-parent", "--clearenv"]
+    for name, value in {"PATH": PATH, "LANG": "C.UTF-8", **FILLED}.items():
+        begin += ["--setenv", name, value]
+    for path in filter(os.path.exists, SYSTEM):
+        begin += ["--symlink", os.readlink(path), path] if os.path.islink(path) else ["--ro-bind", path, path]
+    begin += ["--dev", "/dev", "--proc", "/proc", "--ro-bind", own, own]
+    for path in cachesims(cachesim):
+        begin += ["--ro-bind", "/dev/null", path] if is_below(path, own, *SYSTEM) else []
+    if is_below(tool.HERE, own, *SYSTEM) and not is_below(own, tool.HERE):
+        begin += ["--tmpfs", tool.HERE]  # some tools simulate a cache too
+    return lambda room: [*begin, "--bind", room, room, "--chdir", room, "--setenv", "TMPDIR", room, "--remount-ro", "/", "--"]
+
+
+def confinement(program, cachesim, folder):
+    """The same, tried first: where bubblewrap is missing or not allowed, nobody is judged."""
+    if not shutil.which("bwrap"):
+        tool.fail("bwrap is missing: apt-get install bubblewrap")
+    around = bubblewrap(program, cachesim)
+    tried = subprocess.run([*around(str(folder)), "true"], stdin=subprocess.DEVNULL, capture_output=True, text=True, check=False)
+    if tried.returncode:
+        tool.fail(f"bubblewrap doesn't work here: {tried.stderr.strip()}")
+    return around
+
+
+def results_in(room):
+    """What .csim_results begins with, or None. A program can leave anything under that name, a pipe too."""
+    with contextlib.suppress(OSError):
+        with open(os.open(os.path.join(room, ".csim_results"), os.O_RDONLY | os.O_NOFOLLOW | os.O_NONBLOCK), "rb") as file:
+            return file.read(200)
+    return None
+
+
+def shown(line, most=120):
+    """A line of a student's program, in a form that does nothing to a terminal."""
+    text = line[:most].decode("utf-8", "backslashreplace").rstrip()
+    return "".join(letter if letter.isprintable() else repr(letter)[1:-1] for letter in text) + (".." if len(line) > most else "")
+
+
+def tail_of(path):
+    with open(path, "rb") as file:
+        file.seek(max(0, os.path.getsize(path) - TAIL))
+        return file.read()
+
+
+def last_line(path):
+    """The last line of a file that isn't blank, or nothing."""
+    return tail_of(path).rstrip().rpartition(b"\n")[2]
+
+
+def hard_traces(folder):
+    """Makes the traces by which to judge where none is named. Answers their names in the folder."""
+    maker = pathlib.Path(__file__).resolve().parents[1] / "hard-traces"
+    made = subprocess.run([maker, folder], stdout=subprocess.PIPE, text=True, check=False)
+    return made.stdout.split() if made.returncode == 0 else sys.exit(tool.failure)
+
+
+def geometry(text):
+    if not re.fullmatch("[0-9]+,[0-9]+,[0-9]+", text):
+        raise ValueError
+    return text
+
+
+def seconds(text):
+    if not 0 < float(text) < 1e6:
+        raise ValueError
+    return float(text)
+
+
+def stop(number, _):
+    """Ends the tool at a signal, once, so that what it has begun is ended and removed."""
+    for other in STOPS:
+        signal.signal(other, signal.SIG_IGN)
+    sys.exit(128 + number)
+
+
+def stop_at_signals():
+    for number in STOPS:
+        signal.signal(number, stop)

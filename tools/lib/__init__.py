@@ -1,0 +1,1 @@
+"""What the Python tools share, and the parts of those that have several."""

@@ -1,0 +1,373 @@
+// Counts the references that arrive at a cache by program counter and object: the inner half of
+// by-line, which has the help.
+//
+//     by-line FORMAT TAKEN PLACE SHIFT OBJECTS TO LOG [TO FULL] < TRACE
+//
+// It hands the trace out to each TO, where `cachesim log` reads it: LOG is what this writes, and FULL
+// the same with a fully associative LRU cache at the PLACE. FORMAT is d or l, and TAKEN is d, i or u:
+// what the first-level caches take. A block has 2^SHIFT bytes. Each line of the file OBJECTS begins
+// with the first address of an object and the first address after it, in hexadecimal, by rising
+// addresses. The answer has a line for each pair of a program counter and an object, and then one
+// for each two pairs of which one had evicted the block that the other misses:
+//
+//     cell PC OBJECT REFERENCES MISSES COMPULSORY CAPACITY
+//     evicted CELL BY MISSES                                  the numbers of two cells, from 0
+//     end
+//
+// PC is '-' before the first fetch, OBJECT counts from 0 or is -1. Where a log goes away, there is no
+// answer.
+#define _GNU_SOURCE
+#include <err.h>
+#include <errno.h>
+#include <fcntl.h>
+#include <poll.h>
+#include <signal.h>
+#include <stdbool.h>
+#include <stdint.h>
+#include <stdio.h>
+#include <stdlib.h>
+#include <string.h>
+#include <time.h>
+#include <unistd.h>
+
+enum { FAILED = 1, ROOM = 1 << 18 };
+
+static void *grown(void *memory, size_t size) {
+    void *larger = realloc(memory, size);
+    if (!larger) errx(FAILED, "too little memory");
+    return larger;
+}
+
+static const char *hexadecimal(const char *at, uint64_t *number) {
+    static const signed char values[256] = {['0'] = 1, 2, 3, 4, 5, 6, 7, 8, 9, 10,
+                                            ['A'] = 11, 12, 13, 14, 15, 16, ['a'] = 11, 12, 13, 14, 15, 16};
+    for (*number = 0; values[(unsigned char)*at]; at++) *number = *number << 4 | (uint64_t)(values[(unsigned char)*at] - 1);
+    return at;
+}
+
+// ---- Numbers from 0 on for different keys, in the order in which the keys come
+
+struct numbers {
+    uint64_t *keys;   // by number
+    uint32_t *slots;  // a number and 1, or 0; a power of two of them, at most half of which are taken
+    uint32_t count, room;
+};
+
+static uint32_t slot_of(const struct numbers *numbers, uint64_t key) {
+    uint64_t mixed = (key ^ key >> 32) * UINT64_C(0x9e3779b97f4a7c15);
+    uint32_t slot = (uint32_t)(mixed >> 32) & (numbers->room - 1);
+    while (numbers->slots[slot] && numbers->keys[numbers->slots[slot] - 1] != key) slot = (slot + 1) & (numbers->room - 1);
+    return slot;
+}
+
+static void make_room(struct numbers *numbers) {
+    if (numbers->room == UINT32_C(1) << 31) errx(FAILED, "too many different blocks");
+    numbers->room = numbers->room ? 2 * numbers->room : 1024;
+    numbers->keys = grown(numbers->keys, numbers->room / 2 * sizeof *numbers->keys);
+    free(numbers->slots);
+    numbers->slots = calloc(numbers->room, sizeof *numbers->slots);
+    if (!numbers->slots) errx(FAILED, "too little memory");
+    for (uint32_t number = 0; number < numbers->count; number++)
+        numbers->slots[slot_of(numbers, numbers->keys[number])] = number + 1;
+}
+
+// The number of a key. Where it is a new one, `*values` grows by a zero of this size where there is no room for it.
+static uint32_t number_of(struct numbers *numbers, uint64_t key, void **values, size_t size) {
+    uint32_t slot = numbers->room ? slot_of(numbers, key) : 0;
+    if (numbers->room && numbers->slots[slot]) return numbers->slots[slot] - 1;
+    if (numbers->count >= numbers->room / 2) {
+        make_room(numbers);
+        *values = grown(*values, numbers->room / 2 * size);
+        slot = slot_of(numbers, key);
+    }
+    memset((char *)*values + numbers->count * size, 0, size);
+    numbers->keys[numbers->count] = key;
+    return (numbers->slots[slot] = ++numbers->count) - 1;
+}
+
+// ---- Objects
+
+struct object {
+    uint64_t from, to;
+};
+static struct object *objects;
+static uint32_t object_count;
+
+static void read_objects(const char *path) {
+    FILE *file = fopen(path, "r");
+    struct object object;
+    if (!file) err(FAILED, "%s", path);
+    for (uint32_t room = 0; fscanf(file, "%lx %lx%*[^\n]", &object.from, &object.to) == 2; object_count++) {
+        if (object_count == room) objects = grown(objects, (room = 2 * room + 64) * sizeof *objects);
+        objects[object_count] = object;
+    }
+    fclose(file);
+}
+
+// The number of the last object that begins at or before an address and 1, or 0. It may end before the address.
+static uint32_t objects_up_to(uint64_t address) {
+    uint32_t low = 0, high = object_count;
+    while (low < high) {
+        uint32_t middle = low + (high - low) / 2;
+        if (objects[middle].from <= address) low = middle + 1;
+        else high = middle;
+    }
+    return low;
+}
+
+// ---- Cells: what is counted for a program counter and an object
+
+struct counter {              // a program counter, with the cell of its last reference and where this was valid
+    uint64_t from, to;
+    uint32_t cell;
+};
+struct cell {
+    uint64_t references, misses, compulsory, capacity;
+};
+static struct numbers counter_numbers, cell_numbers;
+static void *counters, *cells;
+static uint32_t counter;      // that of the last reference; 0 stands for none
+
+static uint32_t number_of_counter(uint64_t address) {
+    return number_of(&counter_numbers, address, &counters, sizeof(struct counter));
+}
+
+static uint32_t cell_at(uint64_t address) {
+    struct counter *present = (struct counter *)counters + counter;
+    if (present->from <= address && address < present->to) return present->cell;
+    uint32_t place = objects_up_to(address);
+    bool is_in_one = place && address < objects[place - 1].to;
+    present->from = !place ? 0 : is_in_one ? objects[place - 1].from : objects[place - 1].to;
+    present->to = is_in_one ? objects[place - 1].to : place < object_count ? objects[place].from : UINT64_MAX;
+    uint64_t key = (uint64_t)counter << 32 | (is_in_one ? place : 0);
+    return present->cell = number_of(&cell_numbers, key, &cells, sizeof(struct cell));
+}
+
+// ---- Blocks, and who evicted them
+
+struct block {
+    uint32_t seen;     // the number of the flush, from 1 on, after which it was referenced
+    uint32_t evicted;  // the cell that evicted it and 1, or 0
+};
+static struct numbers block_numbers, pair_numbers;
+static void *blocks, *pairs;
+static uint32_t flushes = 1;
+
+static struct block *block_at(uint64_t block) {
+    uint32_t number = number_of(&block_numbers, block, &blocks, sizeof(struct block));
+    return (struct block *)blocks + number;
+}
+
+// Counts a miss, and answers whether it is the first reference to the block.
+static bool count_miss(uint32_t cell, uint64_t address) {
+    struct block *block = block_at(address);
+    struct cell *counts = (struct cell *)cells + cell;
+    bool is_first = block->seen != flushes;
+    counts->misses++;
+    if (is_first) {
+        counts->compulsory++;
+        block->evicted = 0;  // before a flush, where there was one
+    } else if (block->evicted) {  // by the same one as at the miss before, where that was a write that brings no block in
+        uint64_t key = (uint64_t)cell << 32 | (block->evicted - 1);
+        uint32_t pair = number_of(&pair_numbers, key, &pairs, sizeof(uint64_t));
+        ((uint64_t *)pairs)[pair]++;
+    }
+    block->seen = flushes;
+    return is_first;
+}
+
+// ---- References that have come from one log and not yet from the other
+
+struct waiting {
+    uint64_t address;
+    uint32_t cell;
+    bool counts;       // as a capacity miss, if the fully associative cache misses; from its log: whether it does
+};
+static struct waiting *queue;
+static size_t first, last, queue_room;
+static bool full_is_ahead;  // the log that these came from
+
+static void wait_for_other(bool is_full, struct waiting one) {
+    if (first == last) first = last = 0;
+    if (last == queue_room) {
+        memmove(queue, queue + first, (last - first) * sizeof *queue);
+        last -= first, first = 0;
+        if (2 * last >= queue_room) queue = grown(queue, (queue_room = 2 * queue_room + 4096) * sizeof *queue);
+    }
+    full_is_ahead = is_full;
+    queue[last++] = one;
+}
+
+static void meet(bool is_full, struct waiting one) {
+    if (first == last || is_full == full_is_ahead) {
+        wait_for_other(is_full, one);
+        return;
+    }
+    struct waiting other = queue[first++];
+    if (one.address != other.address) errx(FAILED, "two logs of the same trace differ");
+    if (one.counts && other.counts) ((struct cell *)cells)[is_full ? other.cell : one.cell].capacity++;
+}
+
+#include "by-line-trace.h"
+
+// ---- The lines of a log
+
+struct log {
+    int descriptor;
+    bool is_full, has_ended;
+    size_t used;
+    char text[ROOM];
+};
+static const char *place;
+static unsigned shift;
+static bool has_full;
+static struct log logs[2];
+
+static void take_arrival(bool is_full, const char *outcome, uint64_t address) {
+    uint64_t evicted;
+    bool misses = *outcome == 'm', is_first = false;
+    if (is_full) {
+        meet(true, (struct waiting){address, 0, misses});
+        return;
+    }
+    uint32_t cell = cell_at(address);
+    ((struct cell *)cells)[cell].references++;
+    if (misses) is_first = count_miss(cell, address >> shift);
+    if (misses && outcome[4] == ' ') {
+        hexadecimal(outcome + sizeof "miss eviction", &evicted);
+        block_at(evicted >> shift)->evicted = cell + 1;
+    }
+    // what misses in the fully associative cache counts there, also where this one hits
+    if (has_full) meet(false, (struct waiting){address, cell, !is_first});
+    else if (misses && !is_first) ((struct cell *)cells)[cell].capacity++;
+}
+
+// Each reference has one line that is not of a second level, in the order of the trace.
+static void take_line(bool is_full, const char *line, const char *end) {
+    uint64_t address;
+    if (*line == 'm') return;  // what comes to memory
+    const char *space = memchr(line, ' ', (size_t)(end - line));
+    if (!space) errx(FAILED, "no line of a log: %.40s", line);
+    bool is_here = space - line == 4 && !memcmp(line, place, 4);
+    bool is_first_level = !is_full && line[1] != '2';
+    if (space[1] == 'f') {
+        if (is_here && !is_full) flushes++;
+        return;
+    }
+    if (!is_here && !is_first_level) return;
+    const char *outcome = hexadecimal(space + 3, &address) + 1;
+    if (is_first_level) {
+        if (handed_first == handed_last || handed[handed_first & (handed_room - 1)].address != address)
+            errx(FAILED, "a log is of another trace");
+        counter = handed[handed_first++ & (handed_room - 1)].counter;
+    }
+    if (is_here) take_arrival(is_full, outcome, address);
+}
+
+static void read_log(struct log *log) {
+    ssize_t got = read(log->descriptor, log->text + log->used, ROOM - 1 - log->used);
+    if (got < 0 && errno != EINTR) err(FAILED, "a log can't be read");
+    if (got <= 0) {
+        log->has_ended = got == 0;
+        return;
+    }
+    log->used += (size_t)got;
+    char *line = log->text, *end = log->text + log->used;
+    for (char *next; (next = memchr(line, '\n', (size_t)(end - line))); line = next + 1) {
+        *next = '\0';
+        take_line(log->is_full, line, next);
+    }
+    log->used = (size_t)(end - line);
+    memmove(log->text, line, log->used);
+}
+
+// ---- Both
+
+static time_t shown;  // when progress was shown last, or 0
+
+static void clear_progress(void) {
+    if (shown) fputs("\r\033[K", stderr);
+    shown = 0;
+}
+
+// Once in a second, on a terminal.
+static void show_progress(void) {
+    static time_t began;
+    time_t now = time(NULL);
+    if (!began) began = now;
+    if (now == (shown ? shown : began) || !isatty(STDERR_FILENO)) return;
+    shown = now;
+    fprintf(stderr, "\r%s: %.1f million lines ", program_invocation_short_name, (double)trace.lines / 1e6);
+}
+
+// Reads, hands out and counts, until the trace and the logs have ended.
+static void work(void) {
+    for (;;) {
+        bool all_out = is_handed_out(&hands[0]) && is_handed_out(&hands[1]);
+        if (all_out && trace.blanks) {
+            read_trace();
+            continue;
+        }
+        for (int i = 0; i < 2; i++)
+            if (all_out && trace.has_ended && hands[i].descriptor >= 0) close_hand(&hands[i]);
+        struct pollfd asked[5] = {{all_out && !trace.has_ended ? STDIN_FILENO : -1, POLLIN, 0}};
+        for (int i = 0; i < 2; i++) {
+            asked[1 + i] = (struct pollfd){is_handed_out(&hands[i]) ? -1 : hands[i].descriptor, POLLOUT, 0};
+            asked[3 + i] = (struct pollfd){logs[i].has_ended ? -1 : logs[i].descriptor, POLLIN, 0};
+        }
+        if (asked[0].fd < 0 && logs[0].has_ended && logs[1].has_ended) break;
+        if (poll(asked, 5, -1) < 0) continue;
+        for (int i = 0; i < 2; i++) {
+            if (asked[3 + i].revents) read_log(&logs[i]);
+            if (asked[1 + i].revents) write_trace(&hands[i]);
+        }
+        if (asked[0].revents) read_trace(), show_progress();
+    }
+    clear_progress();
+    if ((has_full && first != last) || handed_first != handed_last) exit(0);  // a log has gone away
+}
+
+// ---- The whole
+
+static void write_answer(void) {
+    for (uint32_t i = 0; i < cell_numbers.count; i++) {
+        const struct cell *cell = (struct cell *)cells + i;
+        uint32_t own = (uint32_t)(cell_numbers.keys[i] >> 32);
+        if (own) printf("cell %lx", counter_numbers.keys[own]);
+        else printf("cell -");
+        printf(" %d %lu %lu %lu %lu\n", (int)(uint32_t)cell_numbers.keys[i] - 1, cell->references, cell->misses, cell->compulsory,
+               cell->capacity);
+    }
+    for (uint32_t i = 0; i < pair_numbers.count; i++)
+        printf("evicted %lu %lu %lu\n", pair_numbers.keys[i] >> 32, pair_numbers.keys[i] & UINT32_MAX, ((uint64_t *)pairs)[i]);
+    puts("end");
+    if (fflush(stdout) || ferror(stdout)) err(FAILED, "the counts can't be written");
+}
+
+// Opens what is of one log: where the trace goes to it, and where it comes from.
+static void open_both(int number, char **words) {
+    logs[number].is_full = number;
+    open_hand(&hands[number], words[0]);
+    if ((logs[number].descriptor = open(words[1], O_RDONLY | O_CLOEXEC)) < 0) err(FAILED, "%s", words[1]);
+}
+
+int main(int count, char **words) {
+    if (count < 8) errx(FAILED, "this is the inner half of by-line");
+    signal(SIGPIPE, SIG_IGN);
+    is_lackey = *words[1] == 'l';
+    takes_data = *words[2] != 'i', takes_fetches = *words[2] != 'd';
+    place = words[3];
+    shift = (unsigned)atoi(words[4]);
+    read_objects(words[5]);
+    has_full = count > 9;
+    memset(blank_lines, '\n', sizeof blank_lines);
+    open_both(0, words + 6);
+    if (has_full) open_both(1, words + 8);
+    else logs[1].has_ended = true;
+    // number 0, with an address of no instruction
+    number_of(&counter_numbers, UINT64_MAX, &counters, sizeof(struct counter));
+    atexit(clear_progress);
+    work();
+    write_answer();
+    return 0;
+}

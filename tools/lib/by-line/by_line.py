@@ -1,0 +1,296 @@
+"""The names in the answers of by-line, which has the help: what lies where before the run, and the table behind it.
+
+    by_line.py NAME objects [--program FILE] [--base HEX] [--map FILE] ..
+    by_line.py NAME report .. --counts FILE --objects FILE
+"""
+
+import argparse
+import collections
+import csv
+import io
+import os
+import sys
+from typing import NamedTuple
+
+import elf
+from lib import tool
+
+KEYS = ("line", "function", "object")
+COUNTS = ("references", "misses", "compulsory", "capacity", "conflict")
+MOST_INLINED = 8
+NO_FETCH = elf.Frame("(no fetch before it)", None, 0)
+
+
+class Cell(NamedTuple):
+    """What was counted for an instruction and an object."""
+
+    frames: list
+    object: str
+    counts: list
+
+
+def hexadecimal(text):
+    try:
+        return int(text, 16)
+    except ValueError as fault:
+        raise argparse.ArgumentTypeError(f"{text!r} is no hexadecimal number") from fault
+
+
+def keys(text):
+    found = text.split(",")
+    if not set(found) <= set(KEYS):
+        raise argparse.ArgumentTypeError(f"{text!r} is not one or more of line, function and object, joined by commas")
+    return [key for key in KEYS if key in found]
+
+
+def arguments():
+    parser = tool.Arguments(__doc__, allow_abbrev=False)
+    parser.add_argument("command", choices=("objects", "report"))
+    parser.add_argument("--program")
+    parser.add_argument("--base", type=hexadecimal)
+    parser.add_argument("--map")
+    parser.add_argument("--by", type=keys)
+    parser.add_argument("--evicted-by", action="store_true")
+    parser.add_argument("--annotate")
+    parser.add_argument("--callgrind")
+    parser.add_argument("--counts")
+    parser.add_argument("--objects")
+    parser.add_argument("--only-compulsory", action="store_true")
+    asked = parser.parse_args(sys.argv[2:])
+    if asked.map and (asked.program or asked.base is not None):
+        tool.misused("--map leaves nothing to --program and --base")
+    if asked.base is not None and not asked.program:
+        tool.misused("--base is for a --program")
+    if asked.annotate and (asked.evicted_by or asked.by):
+        tool.misused("--annotate leaves nothing to --by and --evicted-by")
+    asked.by = asked.by or ["line", "function"]
+    return asked
+
+
+class Names:
+    """How lines are called: by the name of the file, with as much of its path as tells it from others."""
+
+    def __init__(self, cells):
+        paths = {frame.file for cell in cells for frame in cell.frames if frame.file}
+        self.names, parts = {}, 0
+        while paths:
+            parts += 1
+            names = {path: "/".join(path.split("/")[-parts:]) for path in paths}
+            often = collections.Counter(names.values())
+            self.names.update((path, name) for path, name in names.items() if often[name] == 1)
+            paths = {path for path in paths if path not in self.names}
+
+    def line(self, frame):
+        return f"{self.names[frame.file]}:{frame.line}"
+
+    @staticmethod
+    def cut(lines):
+        """The lines of functions inlined in one another, without the middle ones of many."""
+        return lines if len(lines) <= MOST_INLINED else [*lines[:MOST_INLINED // 2], "..", *lines[-MOST_INLINED // 2:]]
+
+    def columns(self, cell, by):
+        """What tells a row from others, in its columns."""
+        outer, inlined = cell.frames[0], [self.line(frame) for frame in cell.frames[1:] if frame.file]
+        line = self.line(outer) if outer.file else outer.function if outer.function.startswith("(") else f"({outer.function})"
+        all_of_them = {"line": [line, " ".join(self.cut(inlined))], "function": [outer.function], "object": [cell.object]}
+        return tuple(text for key in by for text in all_of_them[key])
+
+
+def header(by):
+    return [text for key in by for text in {"line": ["line", "inlined"]}.get(key, [key])]
+
+
+def read_counts(asked, layout):
+    """The cells, and for each two their misses of blocks that the second had evicted."""
+    with open(asked.objects, encoding="utf-8", errors="surrogateescape") as lines:
+        objects = [line.rstrip("\n").split(" ", 2)[2] for line in lines] + ["(heap)"]
+    with open(asked.counts, encoding="ascii") as lines:
+        rows = [line.split() for line in lines]
+    if not rows or rows.pop() != ["end"]:
+        tool.fail("the references can't be counted")
+    counted = [row for row in rows if row[0] == "cell"]
+    frames = layout.frames(sorted({int(row[1], 16) for row in counted if row[1] != "-"}))
+    cells = []
+    for _, address, number, *numbers in counted:
+        references, misses, compulsory, capacity = map(int, numbers)
+        own = [NO_FETCH] if address == "-" else frames[int(address, 16)]
+        counts = [references, misses, compulsory, capacity, misses - compulsory - capacity]
+        cells.append(Cell(own, objects[int(number)], counts))
+    pairs = [(cells[int(row[1])], cells[int(row[2])], int(row[3])) for row in rows if row[0] == "evicted"]
+    return cells, pairs
+
+
+def share(misses, cells):
+    return f"{100 * misses / max(1, sum(cell.counts[1] for cell in cells)):.3f}"
+
+
+def sums(pairs):
+    """Of pairs of a key and a list of numbers the sum for each key."""
+    found = {}
+    for key, numbers in pairs:
+        found[key] = [one + other for one, other in zip(found[key], numbers)] if key in found else list(numbers)
+    return found
+
+
+def table(asked, cells):
+    """The rows of the table, the most misses first."""
+    names = Names(cells)
+    rows = sums((names.columns(cell, asked.by), cell.counts) for cell in cells)
+    yield [*header(asked.by), *COUNTS, "share"]
+    for key, counts in sorted(rows.items(), key=lambda row: (-row[1][1], row[0])):
+        yield [*key, *(counts[:3] + ["", ""] if asked.only_compulsory else counts), share(counts[1], cells)]
+
+
+def table_of_evictions(asked, cells, pairs):
+    names = Names(cells)
+    rows = sums((names.columns(cell, asked.by) + names.columns(by, asked.by), [misses]) for cell, by, misses in pairs)
+    yield [*header(asked.by), *(f"evicted-by-{column}" for column in header(asked.by)), "misses", "share"]
+    for key, (misses,) in sorted(rows.items(), key=lambda row: (-row[1][0], row[0])):
+        yield [*key, misses, share(misses, cells)]
+
+
+def counts_in(path, cells):
+    """For each line of a source file the counts of the instructions whose innermost line in this file it is."""
+    name, real = os.path.basename(path), os.path.realpath(path)
+    found = {frame.file for cell in cells for frame in cell.frames if frame.file and os.path.basename(frame.file) == name}
+    files = [file for file in found if os.path.realpath(file) == real] or found
+    if not files:
+        tool.fail(f"{path}: no reference is from a line of it: compile the program with -g, and name it by --map or --program")
+    own = ((next((frame.line for frame in reversed(cell.frames) if frame.file in files), None), cell.counts) for cell in cells)
+    return sums(pair for pair in own if pair[0])
+
+
+def annotated(asked, cells):
+    """The lines of a source file with counts before them."""
+    try:
+        with open(asked.annotate, encoding="utf-8", errors="surrogateescape") as source:
+            lines = [line.rstrip("\n") for line in source]  # as compilers count them: a form feed ends none
+    except OSError as fault:
+        tool.fail(f"{asked.annotate}: {fault.strerror}")
+    used = COUNTS[:3] if asked.only_compulsory else COUNTS
+    all_of_them = [sum(column) for column in zip(*(cell.counts for cell in cells))] or [0] * len(COUNTS)
+    counts = counts_in(asked.annotate, cells) if cells else {}
+    in_file = [sum(column) for column in zip(*counts.values())] or [0] * len(COUNTS)
+    rows = [(all_of_them, "the whole trace"), (in_file, "this file"), (None, "")]
+    rows += [(counts.get(number), line) for number, line in enumerate(lines, 1)]
+    widths = [max(len(name), len(text)) for name, text in zip(used, texts_of(all_of_them, all_of_them))]
+    yield "  ".join([*(name.rjust(width) for name, width in zip(used, widths)), "source"])
+    for numbers, line in rows:
+        texts = ["."] * len(used) if numbers is None else texts_of(numbers, all_of_them)
+        yield "  ".join([*(text.rjust(width) for text, width in zip(texts, widths)), line]).rstrip()
+
+
+def texts_of(numbers, all_of_them):
+    """Counts, of which the references and the misses have their share of all."""
+    shares = [f" ({100 * number / max(1, total):.1f}%)" for number, total in zip(numbers[:2], all_of_them)]
+    return [f"{number:,}{share}" for number, share in zip(numbers, [*shares, "", "", ""])]
+
+
+def in_callgrind_format(asked, cells):
+    """The counts by function and innermost line. Conflict misses are not among them, since the format
+    has no numbers below 0."""
+    used = COUNTS[:3 if asked.only_compulsory else 4]
+    files = {cell.frames[0].function: cell.frames[0].file for cell in cells if cell.frames[0].file}
+    rows = []
+    for cell in cells:
+        function = cell.frames[0].function
+        inner = next((frame for frame in reversed(cell.frames) if frame.file), NO_FETCH)
+        key = files.get(function, "???"), function, inner.file or "???", inner.line
+        rows.append((key, cell.counts[:len(used)]))
+    totals = " ".join(str(sum(counts[at] for _, counts in rows)) for at in range(len(used)))
+    yield from ("# callgrind format", "version: 1", "creator: by-line of cachesim", "positions: line",
+                f"events: {' '.join(map(str.capitalize, used))}", f"summary: {totals}")
+    last, present = None, None
+    for (file, function, inner, line), counts in sorted(sums(rows).items()):
+        if (file, function) != last:
+            yield from ("", f"fl={file}", f"fn={function}")
+            last, present = (file, function), file
+        if inner != present:
+            yield f"{'fe' if inner == file else 'fi'}={inner}"
+            present = inner
+        yield " ".join(map(str, (line, *counts)))
+    yield from ("", f"totals: {totals}")
+
+
+def write_callgrind(asked, cells):
+    try:
+        with open(asked.callgrind, "w", encoding="utf-8", errors="surrogateescape") as file:
+            file.writelines(f"{line}\n" for line in in_callgrind_format(asked, cells))
+    except OSError as fault:
+        tool.fail(f"{asked.callgrind}: {fault.strerror}")
+
+
+def warn(text):
+    print(f"{tool.NAME}: {text}", file=sys.stderr)
+
+
+def length_of(path):
+    """How many lines a source file has, or None where it can't be read."""
+    try:
+        with open(path, "rb") as source:
+            text = source.read()
+    except OSError:
+        return None
+    return text.count(b"\n") + (not text.endswith(b"\n"))
+
+
+def warn_of_lines(cells):
+    """Warns of lines that may be wrong: those behind the end of their file, and of another finder."""
+    lines = collections.Counter()
+    for cell in cells:
+        for place in {(frame.file, frame.line) for frame in cell.frames if frame.file}:
+            lines[place] += cell.counts[0]
+    if lines and elf.line_finder() != elf.LLVM:
+        warn("llvm-addr2line is missing: apt-get install llvm; addr2line may name a wrong file for"
+             " code of headers")
+    for path in sorted({path for path, _ in lines}):
+        length = length_of(path)
+        if length is None:
+            continue
+        behind = sum(count for (file, line), count in lines.items() if file == path and line > length)
+        if behind:
+            warn(f"{path}: {behind} references are at lines behind its end, {length}: is it the file"
+                 " that was compiled?")
+
+
+def lines_of(rows):
+    """Rows as lines of CSV."""
+    text = io.StringIO()
+    csv.writer(text, lineterminator="\n").writerows(rows)
+    return text.getvalue().split("\n")[:-1]
+
+
+def report(asked, layout):
+    cells, pairs = read_counts(asked, layout)
+    if asked.callgrind:
+        write_callgrind(asked, cells)
+    if asked.annotate or asked.callgrind or "line" in asked.by:
+        warn_of_lines(cells)
+    sys.stdout.reconfigure(encoding="utf-8", errors="surrogateescape")
+    if asked.annotate:
+        tool.write_lines(annotated(asked, cells))
+    else:
+        rows = table_of_evictions(asked, cells, pairs) if asked.evicted_by else table(asked, cells)
+        tool.write_lines(lines_of(rows))
+
+
+def warn_of_new_files(layout, map_file):
+    """Warns of programs that are not what was traced: the addresses in the trace are of an earlier build."""
+    for path in layout.newer_than(map_file):
+        warn(f"{path} is newer than {map_file}: if it was built again since, its names and lines are"
+             " wrong; then trace it again")
+
+
+def main():
+    tool.NAME = sys.argv[1]
+    asked = arguments()
+    layout = elf.Layout(asked.program, asked.base or 0, asked.map)
+    if asked.command == "report":
+        report(asked, layout)
+    else:
+        if asked.map:
+            warn_of_new_files(layout, asked.map)
+        tool.write_lines(f"{place.start:x} {place.end:x} {place.name}" for place in layout.objects())
+
+
+main()

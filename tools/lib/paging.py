@@ -1,0 +1,137 @@
+"""The pages of a sweep's table: `pages` lists them, and `sweep-parallel` runs them."""
+
+import math
+import os
+import signal
+import sys
+
+from lib.tool import fail, misused
+
+
+def number_of_jobs(word):
+    if word == "auto":
+        return len(os.sched_getaffinity(0))
+    if not (word.isascii() and word.isdigit() and int(word)):
+        misused(f"{word} is no number of jobs")
+    return int(word)
+
+
+def start(command, stdin=0, stdout=1, stderr=2, **given):
+    """Starts a command with these descriptors as its first three, and answers the number of its process."""
+    signal.signal(signal.SIGCHLD, signal.SIG_DFL)  # where it is ignored, the end of a process can't be waited for
+    ends = [(os.POSIX_SPAWN_DUP2, end, number) for number, end in enumerate((stdin, stdout, stderr))]
+    return os.posix_spawnp(command[0], command, os.environ, file_actions=ends, **given)
+
+
+class Pair:
+    """A block size and a number of sets: how many rows they have, and the greatest associativity."""
+
+    def __init__(self, bsize, sets):
+        self.bsize, self.sets, self.rows, self.assoc = bsize, sets, 0, "0"
+
+    @property
+    def last(self):
+        return f"{self.bsize},{self.sets},{self.assoc}"
+
+    @property
+    def size(self):
+        """The bytes of one block in each set."""
+        return int(self.bsize) * int(self.sets)
+
+    def cost(self, before):
+        """What a pair adds to a page behind another pair, or None: the part of the references that it looks at, and its
+        searches for those that it does not find in front. What the pair before it finds in front it need not look at."""
+        looks = min(1, 2.7 / before.size**0.18) if before and before.bsize == self.bsize else 1
+        return looks + 13 * math.log2(1 + int(self.assoc)) / self.size**0.57
+
+
+class Page:
+    """The pairs that one run sweeps, and what they cost."""
+
+    def __init__(self):
+        self.pairs, self.cost = [], 0
+
+    def cost_of(self, pair):
+        return pair.cost(self.pairs[-1] if self.pairs else None)
+
+    def add(self, pair):
+        self.cost += self.cost_of(pair)
+        self.pairs.append(pair)
+
+
+def pairs_of(program, options):
+    """The pairs of a table, in its order. Its rows are those of the empty trace. Where the program refuses the options, it has
+    told why, and this tool ends as it did."""
+    read, write = os.pipe()
+    try:
+        lister = start([program, "sweep", "-t", "/dev/null", *options], stdout=write)
+    except OSError as fault:
+        fail(f"{program} can't be run: {fault.strerror}")
+    os.close(write)
+    pairs = {}
+    with open(read, encoding="ascii") as lines:
+        for line in lines:
+            bsize, sets, assoc, _ = line.split(",", 3)
+            if bsize != "bsize":
+                pair = pairs.setdefault((bsize, sets), Pair(bsize, sets))
+                pair.rows += 1
+                pair.assoc = assoc
+    status = os.waitstatus_to_exitcode(os.waitpid(lister, 0)[1])
+    if status < 0:
+        fail(f"the list of the rows ended with signal {-status}")
+    if status:
+        sys.exit(status)
+    return list(pairs.values())
+
+
+def within(pairs, bound):
+    """Pages of which none costs more than the bound, but a pair alone."""
+    pages = []
+    for pair in pairs:
+        if not pages or pages[-1].cost + pages[-1].cost_of(pair) > bound:
+            pages.append(Page())
+        pages[-1].add(pair)
+    return pages
+
+
+def cut(pairs, most):
+    """The pairs of at most so many pages, the dearest of which costs as little as it can."""
+    least, enough = 0, within(pairs, math.inf)[0].cost
+    for _ in range(60):
+        bound = (least + enough) / 2
+        if len(within(pairs, bound)) > most:
+            least = bound
+        else:
+            enough = bound
+    return [page.pairs for page in within(pairs, enough)]
+
+
+def split(options):
+    """The arguments that are the same for each page, and the value of --after. The program has found the options good."""
+    arguments, after, left = [], None, list(options)
+    while left:
+        name, equals, value = left.pop(0).partition("=")
+        if name == "--":
+            continue
+        if not equals and (not left or left[0].startswith("-")):  # as --pow2
+            arguments.append(name)
+            continue
+        value = value if equals else left.pop(0)
+        if name == "--after":
+            after = value
+        elif name != "--rows":
+            arguments += [name, value]
+    return arguments, after
+
+
+def pages_of(program, most, options):
+    """For each page of a table, the arguments of a sweep that write it."""
+    if any(word.startswith("-t") for word in options):
+        misused("leave out -t: each page reads the same trace")
+    pairs = pairs_of(program, options)
+    arguments, after = split(options)
+    pages = []
+    for page in cut(pairs, most) if pairs else [[]]:
+        pages.append([*arguments, *(["--after", after] if after else []), "--rows", str(sum(pair.rows for pair in page))])
+        after = page[-1].last if page else None
+    return pages

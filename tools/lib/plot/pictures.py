@@ -1,0 +1,219 @@
+"""What tools/plot draws: pictures of lines and points, their axes and ticks, for gnuplot and for a browser alike."""
+
+import math
+from typing import NamedTuple
+
+from lib.tool import size_text
+
+NAMES = ("size", "block", "pareto", "curve")
+MOST_LINES = 7
+# of Okabe and Ito: people see them apart whatever colours they are blind to. Their yellow is too
+# pale on white.
+COLOURS = ("#0072b2", "#d55e00", "#009e73", "#cc79a7", "#e69f00", "#56b4e9", "#000000")
+PALE, FRONT, BLACK = "#bbbbbb", "#d55e00", "#000000"
+
+
+class Point(NamedTuple):
+    """A cache in a picture: its place, what is told about it, its label, and the least and greatest
+    of several seeds."""
+
+    x: int
+    y: float
+    told: tuple
+    label: str = ""
+    ends: tuple = ()
+
+
+class Line(NamedTuple):
+    """A line of a picture: its name in the legend, and its points, cut where one is missing between
+    two of them."""
+
+    name: str
+    runs: list
+
+
+class Measure(NamedTuple):
+    """What stands on the vertical axis: its name there and above the pictures, what is told of a
+    point, and whether it is in per cent."""
+
+    up: str = "miss ratio in per cent"
+    name: str = "Miss ratio"
+    about: str = ""
+    is_percent: bool = True
+
+    @property
+    def heading(self):
+        """What stands above a page of several pictures."""
+        return "Miss ratios of caches" if self.name == "Miss ratio" else self.name
+
+    @property
+    def least(self):
+        """The title of the Pareto front."""
+        if self.name == "Miss ratio":
+            return "The smallest caches that miss least"
+        return f"The smallest caches with the least {self.up.removesuffix(' in per cent')}"
+
+
+class Picture(NamedTuple):
+    """A picture of some caches. `fixed` is the block size, or the ways, that all its caches have.
+    The picture of a Pareto front has one line, the front, above a cloud of all caches, and says
+    what their labels are; those of several tables have a line for each, and no cloud. A curve is a
+    line without marks."""
+
+    name: str
+    fixed: int
+    title: str
+    across: str
+    legend: str
+    lines: list
+    cloud: list = []
+    labels: str = ""
+    is_curve: bool = False
+    is_front: bool = False
+
+    @property
+    def points(self):
+        """All that it shows."""
+        return self.cloud or [point for line in self.lines for run in line.runs for point in run]
+
+
+class Axis(NamedTuple):
+    """An axis: its ends, whether it is logarithmic, its ticks with their texts, the ticks without,
+    and where 0 stands on it."""
+
+    low: float
+    high: float
+    log: bool
+    ticks: list
+    minor: list
+    foot: float
+
+    def fraction(self, value):
+        """How far along the axis a value stands: 0 at its low end, 1 at the high one."""
+        measure = math.log if self.log else float
+        return (measure(value) - measure(self.low)) / (measure(self.high) - measure(self.low))
+
+    def height(self, value):
+        """Where a value of a cache stands."""
+        return value or self.foot
+
+
+def short(size):
+    """A size as axes and legends have it: 32K."""
+    return size_text(size).upper()
+
+
+def ways_text(ways):
+    return "1 way" if ways == 1 else f"{ways} ways"
+
+
+def bytes_text(size):
+    return "1 byte" if size == 1 else f"{short(size)} bytes"
+
+
+def nearest(values, wanted):
+    """Of some numbers the one nearest to the wanted one by their ratio."""
+    return min(values, key=lambda value: (abs(math.log(value / wanted)), value))
+
+
+def handful(values, most=MOST_LINES):
+    """Some numbers in order: all where they are few, else the powers of two where they are several;
+    if need be evenly thinned."""
+    values = sorted(set(values))
+    powers = [value for value in values if value & (value - 1) == 0]
+    if len(values) > most and len(powers) > 2:
+        values = powers
+    return evenly(values, most)
+
+
+def evenly(values, most=MOST_LINES):
+    """At most so many of some values in even steps, and always the last one."""
+    chosen = values[:: math.ceil(len(values) / most)]
+    return chosen if chosen[-1] == values[-1] else [*chosen[: most - 1], values[-1]]
+
+
+def linear_axis(greatest, closest, most):
+    """An axis from 0 to a bit above a value. No two ticks are closer than a part `closest` of
+    it."""
+    high = 1.05 * greatest or 1.0
+    power = 10.0 ** math.floor(math.log10(high * closest))
+    step = next(step * power for step in (1, 2, 5, 10, 20) if step * power >= high * closest)
+    values = [step * count for count in range(int(high / step) + 1)]
+    return Axis(0.0, high, False, [(value, number_text(value)) for value in values if value <= most], [], 0.0)
+
+
+def number_text(value):
+    """A number in few letters: 0.05, 2000, 20M."""
+    for unit, letter in ((1e12, "T"), (1e9, "G"), (1e6, "M"), (1e3, "k")):
+        if unit <= value < 1e15:
+            return f"{value / unit:.6g}{letter}"
+    return f"{value:.6g}".replace("e-0", "e-").replace("e+", "e")
+
+
+def log_ticks(low, high, closest):
+    """The most ticks for an axis between two values of which no two are closer than a part
+    `closest` of it."""
+    decades = range(math.floor(math.log10(low)), math.ceil(math.log10(high)) + 1)
+    whole = [10.0 ** decade for decade in decades]
+    span = math.log10(high / low)
+    for digits in ((1, 2, 3, 4, 5, 6, 7, 8, 9), (1, 2, 3, 5, 7), (1, 2, 3, 5), (1, 2, 5), (1, 3)):
+        gaps = [math.log10(after / digit) for digit, after in zip(digits, digits[1:] + (10,))]
+        if min(gaps) >= closest * span:
+            return [digit * power for power in whole for digit in digits]
+    return whole[:: math.ceil(closest * span)]
+
+
+def log_axis(values, closest, most):
+    """A logarithmic axis around some values. Where 0 is among them it stands at the foot of the
+    axis."""
+    least, greatest = min(value for value in values if value), max(values)
+    span = greatest / least
+    foot = least / span ** 0.12 if 0 in values else 0.0
+    low, high = (foot or least) / span ** 0.12, greatest * span ** 0.05
+    ticks = [(value, number_text(value)) for value in log_ticks(low, high, closest) if 0.999 * least <= value <= min(high, most)]
+    ticks = [tick for tick in ticks if not foot or math.log(tick[0] / foot) >= closest * math.log(high / low)]
+    decades = range(math.floor(math.log10(least)), math.ceil(math.log10(high)))
+    minor = [digit * 10.0 ** decade for decade in decades for digit in range(1, 10)] if len(decades) < 7 else []
+    minor = [value for value in minor if least <= value <= high and all(abs(value / tick - 1) > 0.01 for tick, _ in ticks)]
+    return Axis(low, high, True, [(foot, "0")] * bool(foot) + ticks, minor, foot)
+
+
+def value_axis(points, measure, closest):
+    """The axis of the measure: logarithmic where the greatest value is five times the least or
+    more."""
+    values = [value for point in points for value in (point.y, *point.ends)]
+    above = [value for value in values if value]
+    most = 100 if measure.is_percent and max(values) <= 100 else math.inf
+    if above and max(above) >= 5 * min(above):
+        return log_axis(values, closest, most)
+    return linear_axis(max(values), 1.5 * closest, most)
+
+
+def size_axis(sizes, closest):
+    """An axis of bytes, logarithmic, with ticks at powers of two."""
+    least, greatest = min(sizes), max(sizes)
+    if least == greatest:
+        return Axis(least / 2, least * 2, True, [(least, short(least))], [], 0.0)
+    span = math.log2(greatest / least)
+    low, high = least / 2 ** (0.04 * span), greatest * 2 ** (0.04 * span)
+    step = math.ceil(closest * span * 1.08)
+    powers = [2 ** power for power in range(math.ceil(math.log2(least)), math.floor(math.log2(greatest)) + 1, step)]
+    return Axis(low, high, True, [(value, short(value)) for value in powers or (least, greatest)], [], 0.0)
+
+
+def thinned(points, across, up, columns, lines):
+    """Some points without those that would stand in one and the same cell of so many columns and
+    lines."""
+    cells = {}
+    for point in points:
+        cell = round(columns * across.fraction(point.x)), round(lines * up.fraction(up.height(point.y)))
+        cells.setdefault(cell, point)
+    return list(cells.values())
+
+
+def thinned_lines(picture, across, up, columns, lines):
+    """A picture whose curves have no more points than can be seen; each keeps its last one."""
+    if not picture.is_curve:
+        return picture
+    kept = [Line(line.name, [[*thinned(run[:-1], across, up, columns, lines), run[-1]] for run in line.runs]) for line in picture.lines]
+    return picture._replace(lines=kept)

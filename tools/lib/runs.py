@@ -1,0 +1,314 @@
+"""Runs of the program side by side over one trace, for sweep-parallel and din-table. A pipe is read once, and handed to all."""
+
+import contextlib
+import fcntl
+import os
+import select
+import signal
+import stat
+import sys
+import tempfile
+
+from lib import paging, tool
+
+PIECE = 1 << 18  # the bytes that are read at once
+ROOM = 1 << 20  # the bytes that may wait for a run, so that it falls behind the others for a while at no cost
+INTERRUPTS = (signal.SIGHUP, signal.SIGINT, signal.SIGTERM)
+UNPACK = 'here=$1; . "$here/lib/lib.bash"; find_unpacker "$2"; exec "${unpacker[@]}"'
+
+
+class Fault(Exception):
+    """What ends the tool: its message and its status."""
+
+    def __init__(self, text, status=1):
+        super().__init__(text)
+        self.text, self.status = text, status
+
+
+def end_text(code):
+    return f"status {code}" if code > 0 else f"signal {-code}"
+
+
+@contextlib.contextmanager
+def uninterrupted():
+    """Holds back what would interrupt the tool, so that it knows each process that it has started."""
+    signal.pthread_sigmask(signal.SIG_BLOCK, INTERRUPTS)
+    try:
+        yield
+    finally:
+        signal.pthread_sigmask(signal.SIG_UNBLOCK, INTERRUPTS)
+
+
+class Process:
+    """A process over the trace. What it tells is kept in memory, and so is what it writes, unless that goes elsewhere."""
+
+    def __init__(self, command, stdin=0, stdout=None):
+        self.kept, self.told, self.text = os.memfd_create("kept"), os.memfd_create("told"), b""
+        # what a terminal sends to all processes is for this tool alone, which ends the others
+        blocked = (signal.SIGHUP, signal.SIGINT)
+        self.number = paging.start(command, stdin, self.kept if stdout is None else stdout, self.told, setsigmask=blocked)
+        self.is_running = True
+
+    def message(self):
+        return os.pread(self.told, PIECE, 0).decode(errors="replace").strip()
+
+    def ended(self, status):
+        """Takes note of its end, and of what it has written. It is a fault where it failed."""
+        self.is_running = False
+        code = os.waitstatus_to_exitcode(status)
+        if code:
+            raise self.fault(code)
+        os.close(self.told)
+        with open(self.kept, "rb") as file:
+            file.seek(0)
+            self.text = file.read()
+
+    def wait(self):
+        if self.is_running:
+            self.ended(os.waitpid(self.number, 0)[1])
+
+    def kill(self):
+        if self.is_running:
+            os.kill(self.number, signal.SIGKILL)
+            os.waitpid(self.number, 0)
+            self.is_running = False
+
+
+class Run(Process):
+    """A run of the program over a trace: a file that it opens by its name, an open one, or else what it is given by a pipe."""
+
+    def __init__(self, place, command, name=None, file=None):
+        self.place, self.pipe = place, None
+        if name is not None:
+            super().__init__([*command, "-t", name])
+            return
+        read = file
+        if file is None:
+            read, self.pipe = os.pipe()
+            with contextlib.suppress(OSError):  # less room will do
+                fcntl.fcntl(read, fcntl.F_SETPIPE_SZ, ROOM)
+        super().__init__(command, stdin=read)
+        os.close(read)
+
+    def fault(self, code):
+        if code in (1, 2):
+            return Fault(self.message(), code)
+        return Fault(f"{tool.NAME}: {self.place} ended with {end_text(code)}")
+
+    def give(self, piece):
+        left = memoryview(piece)
+        try:
+            while left:
+                left = left[os.write(self.pipe, left):]
+        except BrokenPipeError:
+            pass  # it has ended, which is seen with its cause by who looks after the pipes
+
+    def bytes_read(self):
+        with open(f"/proc/{self.number}/io", encoding="ascii") as lines:
+            return int(lines.readline().split()[1])
+
+
+class Unpacker(Process):
+    """What writes the text of a compressed trace to a pipe."""
+
+    def __init__(self, trace):
+        self.trace = trace
+        self.pipe, write = os.pipe()
+        super().__init__(["bash", "-c", UNPACK, tool.NAME, tool.HERE, trace], stdout=write)
+        os.close(write)
+
+    def fault(self, code):
+        text = self.message().split("\n")[-1] or f"what unpacks it ended with {end_text(code)}"
+        return Fault(text if text.startswith(f"{tool.NAME}: ") else f"{tool.NAME}: {self.trace} can't be read: {text}")
+
+
+class Runs:
+    """The runs over a trace, at most so many of them at once. What can be read only once is kept in a file without a name where
+    there are more of them: the first runs read along, so that a bad line ends all at once, and the others read that file."""
+
+    def __init__(self, trace, commands, jobs):
+        self.trace, self.commands, self.jobs = trace, commands, jobs
+        self.runs, self.unpacker, self.spool, self.handed = [], None, None, 0
+        self.is_packed = trace.endswith((".gz", ".xz", ".zst"))
+        self.is_read_once, self.size = trace == "-" or self.is_packed, 0
+        try:
+            found = os.stat(trace)
+        except OSError:
+            return  # each run tells it
+        self.size = found.st_size
+        self.is_read_once |= not (stat.S_ISREG(found.st_mode) or stat.S_ISDIR(found.st_mode))
+
+    def start_next(self):
+        """Starts the next run, where there is one."""
+        if len(self.runs) == len(self.commands):
+            return
+        place, command = self.commands[len(self.runs)]
+        name = file = None
+        if not self.is_read_once:
+            name = f"./{self.trace}" if self.trace.startswith("-") else self.trace
+        elif len(self.runs) >= self.jobs:
+            file = os.open(f"/proc/self/fd/{self.spool.fileno()}", os.O_RDONLY)  # with a place in the file of its own
+        with uninterrupted():
+            self.runs.append(Run(place, command, name, file))
+
+    def start(self):
+        """Starts as many as may run at once, and what unpacks the trace."""
+        try:
+            for _ in range(min(self.jobs, len(self.commands))):
+                self.start_next()
+            if self.is_packed:
+                with uninterrupted():
+                    self.unpacker = Unpacker(self.trace)
+        except OSError as fault:
+            raise Fault(f"{tool.NAME}: no more processes can be started: {fault.strerror}") from None
+
+    def source(self):
+        """The descriptor that a trace is read from which is read once."""
+        if self.unpacker:
+            return self.unpacker.pipe
+        return 0 if self.trace == "-" else os.open(self.trace, os.O_RDONLY)
+
+    def read_once(self):
+        """Hands out the trace, and keeps it if there are runs to come."""
+        try:
+            self.hand_out(self.source())
+        except OSError as fault:
+            name = "standard input" if self.trace == "-" else self.trace
+            raise Fault(f"{tool.NAME}: {name} can't be read: {fault.strerror}") from None
+
+    def keep(self, piece):
+        if len(self.commands) <= self.jobs:
+            return
+        try:
+            self.spool = self.spool or tempfile.TemporaryFile(buffering=0)
+            left = memoryview(piece)
+            while left:
+                left = left[self.spool.write(left):]
+        except OSError as fault:
+            raise Fault(f"{tool.NAME}: the trace can't be kept in {tempfile.gettempdir()}: {fault.strerror}") from None
+
+    def hand_out(self, source):
+        """Gives all that is read to each run. None sees an end before it is known that the trace was not cut short."""
+        watch = select.poll()
+        watch.register(source, select.POLLIN)
+        for run in self.runs:
+            watch.register(run.pipe, 0)  # tells where its reader has gone
+        piece = None
+        while piece != b"":
+            ready = [descriptor for descriptor, _ in watch.poll()]
+            for run in self.runs:
+                if run.pipe in ready:
+                    run.wait()
+                    watch.unregister(run.pipe)
+            if source in ready:
+                piece = os.read(source, PIECE)
+                self.handed += len(piece)
+                self.keep(piece)
+                for run in self.runs:
+                    run.give(piece)
+        if self.unpacker:
+            self.unpacker.wait()
+        for run in self.runs:
+            os.close(run.pipe)
+
+    def finish(self):
+        """Waits for all runs. Where one ends, the next one begins."""
+        while any(run.is_running for run in self.runs):
+            number, status = os.wait()
+            for run in self.runs:
+                if run.number == number and run.is_running:
+                    run.ended(status)
+                    self.start_next()
+                    break
+
+    def stop(self):
+        for process in [*self.runs, *([self.unpacker] if self.unpacker else [])]:
+            process.kill()
+
+    def progress(self):
+        """How far the runs are: those that are done, or how much was read by that run which has read least."""
+        if self.is_read_once and any(run.pipe is not None and run.is_running for run in self.runs):
+            return f"{self.handed // 1000000} MB of the trace read"
+        if len(self.commands) > self.jobs:
+            return f"{sum(not run.is_running for run in self.runs)} of {len(self.commands)} runs done"
+        return f"{100 * min(run.bytes_read() for run in self.runs if run.is_running) // self.size} % of the trace read"
+
+    def tell(self, *_):
+        """Shows that on the terminal's line."""
+        try:
+            show(f"{tool.NAME}: {self.progress()}")
+        except (OSError, ValueError, ZeroDivisionError):
+            pass  # a run has just ended, or there is nothing to read
+
+
+def show(text):
+    """Replaces the text in the terminal's line."""
+    try:
+        os.write(2, f"\r{text}\033[K".encode())
+    except OSError:
+        pass  # the terminal has gone
+
+
+def interrupted(number, _):
+    for each in INTERRUPTS:
+        signal.signal(each, signal.SIG_IGN)
+    raise SystemExit(128 + number)
+
+
+def heed_interrupts():
+    """An interrupt ends this tool without a trace of its calls."""
+    if signal.getsignal(signal.SIGINT) is signal.default_int_handler:
+        signal.signal(signal.SIGINT, signal.SIG_DFL)
+
+
+def keep_places():
+    """Where standard input, output or error is closed, opens what fails as well, lest a file of this tool take its place."""
+    for number in range(3):
+        try:
+            os.fstat(number)
+        except OSError:
+            os.open("/dev/null", os.O_RDONLY if number else os.O_WRONLY)
+
+
+def write_out(texts):
+    """Writes some bytes one after another."""
+    try:
+        for text in texts:
+            left = memoryview(text)
+            while left:
+                left = left[os.write(1, left):]
+    except BrokenPipeError:
+        raise SystemExit(tool.READER_GONE) from None
+    except OSError:
+        tool.fail("write failed")
+
+
+def over(trace, commands, jobs):
+    """Runs commands over a trace, at most so many at once, and answers what each has written. Each is a text that names it, and
+    words to which the trace is added. Where one fails, the others are ended, and the tool ends with its message and status."""
+    runs = Runs(trace, commands, jobs)
+    for each in INTERRUPTS:
+        if signal.getsignal(each) != signal.SIG_IGN:
+            signal.signal(each, interrupted)
+    try:
+        if os.isatty(2):
+            signal.signal(signal.SIGALRM, runs.tell)
+            signal.setitimer(signal.ITIMER_REAL, 1, 1)
+        runs.start()
+        if runs.is_read_once:
+            runs.read_once()
+        runs.finish()
+    except Fault as fault:
+        failed = fault
+    else:
+        failed = None
+    finally:
+        with uninterrupted():
+            runs.stop()
+        if os.isatty(2):
+            signal.setitimer(signal.ITIMER_REAL, 0)
+            show("")
+    if failed:
+        print(failed.text, file=sys.stderr)
+        raise SystemExit(failed.status)
+    return [run.text for run in runs.runs]

@@ -1,0 +1,131 @@
+"""The table that `cachesim sweep` writes, for the tools of this folder that read one."""
+
+import fractions
+import re
+from typing import NamedTuple
+
+from lib.tool import fail
+
+HEADER = "bsize,sets,assoc,size,hits,misses,evictions"
+# columns that count references, those of `three-c` too: they are shown in per cent of all
+# references, and any other column, such as one of cycles, in its own unit
+COUNTS = ("hits", "misses", "evictions", "compulsory", "capacity", "conflict")
+# no longer than a picture's axis can bear
+WHOLE = re.compile("[0-9]{1,64}")
+NUMBER = re.compile("[0-9]{1,64}([.][0-9]{1,64})?")
+
+
+class Row(NamedTuple):
+    """A cache, and what a sweep counted for it. `value` is that of the measure, where this is not
+    its misses, and `is_count` whether it counts references."""
+
+    bsize: int
+    sets: int
+    assoc: int
+    size: int
+    hits: int
+    misses: int
+    evictions: int
+    value: fractions.Fraction = None
+    is_count: bool = True
+
+    @property
+    def references(self):
+        return self.hits + self.misses
+
+    @property
+    def measured(self):
+        """What caches are compared by."""
+        return self.misses if self.value is None else self.value
+
+    @property
+    def share(self):
+        """What is shown of the measure, exactly: per cent of the references, 0 where there are
+        none, or its value where it counts none."""
+        if not self.is_count:
+            return self.measured
+        if not self.references:
+            return fractions.Fraction()
+        return fractions.Fraction(100 * self.measured, self.references)
+
+    @property
+    def cache(self):
+        """The triple that names the cache in a table."""
+        return self.bsize, self.sets, self.assoc
+
+    @property
+    def ties(self):
+        """Of caches that are alike in size and measure the one where this is less comes first."""
+        return self.assoc, self.bsize, self.sets
+
+
+class BadTable(Exception):
+    """A text that is no table."""
+
+
+def number_of(text, column, place):
+    """The exact number that a field of a measure says."""
+    if not NUMBER.fullmatch(text):
+        is_long = re.fullmatch("[0-9.]{65,}", text)
+        raise BadTable(f"{place}: {column} is {'too long a' if is_long else 'no'} number")
+    return fractions.Fraction(text)
+
+
+def column_of(columns, measure, name):
+    """Where the measure stands in a row."""
+    if measure == "percent":
+        raise BadTable(f"{name}: percent is no count: name the column that it is of")
+    if measure not in columns:
+        raise BadTable(f"{name}: no column {measure}; there are {', '.join(columns)}")
+    return columns.index(measure)
+
+
+def read_table(lines, name, measure="misses"):
+    """The rows of a table, given its lines. A page without a header will do; `name` is for the
+    fault. A header may name more columns after those of a sweep, which some tools add: of these
+    only the measure is read."""
+    rows = []
+    columns = HEADER.split(",")
+    own = len(columns)
+    for number, line in enumerate(lines, 1):
+        line = line.rstrip("\r\n")
+        fields = line.split(",")
+        if number == 1 and ",".join(fields[:own]) == HEADER:
+            columns = fields
+            continue
+        if len(fields) != len(columns) or not all(map(WHOLE.fullmatch, fields[:own])):
+            raise BadTable(f"{name}: line {number}: no row of a sweep's table")
+        row = Row(*map(int, fields[:own]))
+        if row.size != row.bsize * row.sets * row.assoc:
+            raise BadTable(f"{name}: line {number}: size is not bsize * sets * assoc")
+        if measure != "misses":
+            field = fields[column_of(columns, measure, name)]
+            value = number_of(field, measure, f"{name}: line {number}")
+            row = row._replace(value=value, is_count=measure in COUNTS)
+        rows.append(row)
+    if not rows:
+        raise BadTable(f"{name}: a table without a row")
+    return rows
+
+
+def lines_of(name):
+    """The lines of a table, and its name for faults; '-' is standard input. Ends the tool with one
+    line where that fails. A spreadsheet may have put a byte order mark in front."""
+    shown = "standard input" if name == "-" else name
+    text = {"encoding": "utf-8-sig", "errors": "replace"}
+    try:
+        with open(0 if name == "-" else name, closefd=name != "-", **text) as file:
+            return list(file), shown
+    except OSError as fault:
+        fail(f"{shown}: {fault.strerror}")
+
+
+def pareto(rows):
+    """The smallest caches that miss least, by size: each misses less often than every other cache
+    that is not larger. Of caches that are alike in both, the one of the fewest ways stands here,
+    and of these the one of the smallest blocks."""
+    front = []
+    for row in sorted(rows, key=lambda row: (row.size, row.measured, row.ties)):
+        if not front or row.measured < front[-1].measured:
+            front.append(row)
+    return front

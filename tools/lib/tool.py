@@ -1,0 +1,102 @@
+"""What the Python tools share: their name, faults and arguments, sizes, the program, and what they write. lib.bash has the same for
+those in bash. A tool in a folder below tools/ reads it so:
+
+    sys.path.insert(1, str(pathlib.Path(__file__).resolve().parents[1]))
+    tool = importlib.import_module("lib.tool")
+"""
+
+import argparse
+import os
+import subprocess
+import sys
+
+HERE = os.path.dirname(os.path.dirname(os.path.realpath(__file__)))  # the tools
+NAME = os.path.basename(sys.argv[0])
+# exit statuses beside 0; a tool with another status for its faults and for wrong arguments sets `failure` to it
+FAILED, MISUSED, READER_GONE = 1, 2, 141
+failure = None
+UNITS = {"": 0, "k": 10, "m": 20, "g": 30}
+
+
+def fail(text, status=FAILED):
+    """Ends the tool with one line on standard error."""
+    print(f"{NAME}: {text}", file=sys.stderr)
+    sys.exit(failure or status)
+
+
+def misused(text):
+    """The same for wrong arguments."""
+    fail(f"{text}; '{NAME} --help' explains the arguments", MISUSED)
+
+
+class Arguments(argparse.ArgumentParser):
+    """The arguments of a tool, whose help begins with a text of its own. A fault of them is one line."""
+
+    def __init__(self, text, **given):
+        super().__init__(prog=NAME, description=text, formatter_class=argparse.RawDescriptionHelpFormatter, **given)
+
+    def error(self, message):
+        misused(message)
+
+    def print_help(self, file=None):
+        write_lines(self.format_help().splitlines())
+
+
+def look_for_help(arguments):
+    """Writes the tool's help where it is asked for, in place of a parser, for a tool that hands its arguments on."""
+    if "-h" in arguments or "--help" in arguments:
+        write_lines(sys.modules["__main__"].__doc__.strip().splitlines())
+        sys.exit()
+
+
+def size_of(text):
+    """The number of bytes that a scaled number as 512, 32k or 1m says."""
+    digits, unit = (text[:-1], text[-1].lower()) if text[-1:].lower() in ("k", "m", "g") else (text, "")
+    if not (digits.isascii() and digits.isdigit()):
+        raise argparse.ArgumentTypeError(f"{text!r} is no size such as 512, 32k or 1m")
+    return int(digits) << UNITS[unit]
+
+
+def size_text(size):
+    """A number of bytes in short, as 32k."""
+    for unit in ("g", "m", "k"):
+        if size and size % (1 << UNITS[unit]) == 0:
+            return f"{size >> UNITS[unit]}{unit}"
+    return str(size)
+
+
+def find_cachesim():
+    """The path of the program: $CACHESIM, else that of this checkout, else that installed with the tools, else the one on the path."""
+    named = os.environ.get("CACHESIM")
+    near = [os.path.join(HERE, folder) for folder in ("../crates/cachesim/out", "../../bin")]
+    folders = [*near, *os.environ.get("PATH", "").split(":")]
+    for path in [named] if named else [os.path.join(folder, "cachesim") for folder in folders]:
+        if os.path.isfile(path) and os.access(path, os.X_OK):
+            path = os.path.join(".", path)
+            return path if is_cachesim(path) else fail(f"{path} is not cachesim: it doesn't write a sweep's table")
+    if named:
+        fail(f"{named} is no program that can be run")
+    fail("no program cachesim: build it by 'make', or set CACHESIM to its path")
+
+
+def is_cachesim(path):
+    """Whether a program writes the table of an empty trace. Another one may end well with nothing written."""
+    words = [path, *"sweep --bsize 1 --sets 1 --assoc 1 --size 1 -t /dev/null".split()]
+    try:
+        return subprocess.run(words, stdin=subprocess.DEVNULL, capture_output=True, check=False).stdout.endswith(b"\n1,1,1,1,0,0,0\n")
+    except OSError:
+        return False
+
+
+def write_lines(lines):
+    """Writes lines to standard output. Ends the tool where that fails: with a message, unless the reader of a pipe has gone."""
+    if sys.stdout is None:
+        fail("standard output: Bad file descriptor")
+    try:
+        sys.stdout.write("".join(f"{line}\n" for line in lines))
+        sys.stdout.flush()
+    except OSError as fault:
+        os.dup2(os.open(os.devnull, os.O_WRONLY), sys.stdout.fileno())  # what is still held must not fail again at the end
+        if isinstance(fault, BrokenPipeError):
+            sys.exit(READER_GONE)
+        fail(f"standard output: {fault.strerror}")
