@@ -218,7 +218,9 @@ class GradeClass(ClassTest):
         """And a second for each other trace, and for the line at which it hangs."""
         self.enrol("ann", self.student("LOOPS"))
         self.enrol("bob", self.student("COUNTS", "LOOPS_VERBOSE"))
-        rows = self.table(self.grade_class("--seconds", 2.5, "students/ann", "students/bob"))
+        self.good(self.run_tool("lab/hard-traces", "."))
+        traces = [word for name in TRACES[:3] for word in ("--trace", f"{name}.trace")]
+        rows = self.table(self.grade_class("--seconds", 2.5, *traces, "students/ann", "students/bob"))
         self.assertEqual(self.text_of("bob").count("with -v it writes no line for an access"), 1)
         text = self.text_of("ann")
         self.assertEqual((rows["ann"]["right"], rows["ann"]["points"]), ("0", "0"))
