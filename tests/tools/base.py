@@ -1,6 +1,7 @@
 """What the tests of the tools share: a folder for each test, runs of a tool, and the packages that a test needs."""
 
 import collections
+import contextlib
 import importlib
 import importlib.machinery
 import importlib.util
@@ -10,6 +11,7 @@ import shutil
 import subprocess
 import sys
 import tempfile
+import time
 import unittest
 
 TOP = pathlib.Path(__file__).resolve().parent.parent.parent
@@ -67,6 +69,27 @@ def script(name):
     module = importlib.util.module_from_spec(importlib.util.spec_from_loader(loader.name, loader))
     loader.exec_module(module)
     return module
+
+
+def comes(condition, seconds=20):
+    """Whether a condition comes true within some time."""
+    until = time.monotonic() + seconds
+    while not condition() and time.monotonic() < until:
+        time.sleep(0.001)
+    return condition()
+
+
+@contextlib.contextmanager
+def ended(process):
+    """A process that is ended at the end, whatever has happened; nobody waits for what it started."""
+    try:
+        yield process
+    finally:
+        process.kill()
+        process.wait()
+        for stream in filter(None, (process.stdin, process.stdout, process.stderr)):
+            with contextlib.suppress(BrokenPipeError):
+                stream.close()
 
 
 def references(text, format="d", kind="u"):

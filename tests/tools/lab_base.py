@@ -7,10 +7,11 @@ import shutil
 import signal
 import subprocess
 import tempfile
-import time
 
+import base
 from base import TOOLS, TOP, ToolTest
 
+comes = base.comes
 LAB = TOOLS / "lab"
 STUDENTS = TOP / "tests/tools/lab"
 
@@ -22,14 +23,6 @@ def is_running(program):
             if os.readlink(link) == str(program):
                 return True
     return False
-
-
-def comes(condition, seconds=20):
-    """Whether a condition comes true within some time."""
-    until = time.monotonic() + seconds
-    while not condition() and time.monotonic() < until:
-        time.sleep(0.01)
-    return condition()
 
 
 class LabTest(ToolTest):

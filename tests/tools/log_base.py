@@ -83,8 +83,18 @@ class Filtering:
         os.mkfifo(self.folder / "pipe")
         with subprocess.Popen(["cp", base.EXAMPLES / "sort.din", self.folder / "pipe"]):
             self.assertEqual(self.good(self.run_on("pipe", *self.CACHE)), expected)
-        for name in ("./-a trace", "./-a trace.gz"):
+        for name in ("./-a trace", "./-a trace.gz", "-a trace", "-a trace.gz"):
             self.assertEqual(self.good(self.run_tool(self.TOOL, name, *self.CACHE, *self.OWN)), expected)
+
+    def test_few_descriptors(self):
+        """However many there are, nothing is left of the run."""
+        place = self.folder / "temporary"
+        place.mkdir()
+        self.run_on("-", *self.CACHE, stdin=SORT)  # which compiles what there is
+        for most in range(4, 12):
+            words = " ".join(map(str, [self.TOOL, "-", *self.OWN, *self.CACHE]))
+            self.run_command("bash", "-c", f"ulimit -n {most} && exec {base.TOOLS}/{words}", stdin=SORT, env={"TMPDIR": str(place)})
+            self.assertEqual(list(place.iterdir()), [], most)
 
     @base.needs("xz-utils", "zstd")
     def test_packed(self):

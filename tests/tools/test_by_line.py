@@ -93,6 +93,11 @@ class Totals(ByLineTest):
                 rows = self.rows(trace, "-l1-dsize", 256, "-l1-dbsize", 16, "-l1-dassoc", assoc)
                 self.assertEqual(self.sums(rows)[1:], [int(wanted[at]) for at in (5, 7, 8, 9)])
 
+    def test_a_name_that_begins_with_a_dash(self):
+        options = ("-l1-dsize", "256", "-l1-dbsize", "16", "--by", "object")
+        (self.folder / "-a trace").write_bytes(SORT.read_bytes())
+        self.assertEqual(self.rows("-a trace", *options), self.rows(SORT, *options))
+
     def test_pipes(self):
         options = ("-l1-dsize", "256", "-l1-dbsize", "16", "--by", "object")
         self.assertEqual(self.rows("-", *options, stdin=SORT.read_bytes()), self.rows(SORT, *options))
@@ -134,6 +139,35 @@ class Rows(ByLineTest):
             text += [f"2 {counter:x}", f"{drawn.choice('01')} {address:x}"]
         self.trace = self.folder / "t.din"
         self.trace.write_text("\n".join(text) + "\n")
+
+    def unusual(self):
+        """The trace, with its lines in all forms that they may have."""
+        drawn, text = random.Random(3), []
+        for line in self.trace.read_text().splitlines():
+            label, address = line.split()
+            text.append(drawn.choice((
+                line, line, line, f" {line}", f"{label}\t{address}", f"{line}\r", f"{line} 8", f"{label} 0x{address}",
+                f"{label} 0X{address.upper()}", f"{label}  {address} ", f"{label} {address:0>16}", f"\n{line}", f"3 0\n{line}",
+                f" \t\n{line}")))
+        return "\n".join(text)
+
+    def lackey(self):
+        """The trace in lackey's format, with lines in all forms that they may have."""
+        drawn, text = random.Random(3), self.trace.read_text()
+        text = re.sub(r"(?m)^([012]) (\S+)$", lambda found: drawn.choice((
+            f"{'LSI'[int(found[1])]:>2} {found[2]},4", f"  {'LSI'[int(found[1])]} \t0{found[2]},123456789 x", f"== a message\n"
+            f"{'LSI'[int(found[1])]} {found[2]},1\r")), text) + "  M 10,4\n M 10,4\n"
+        return re.sub(r"(?m)^ I ", "I  ", text)
+
+    def test_other_forms_of_lines(self):
+        caches = ("-l1-isize", "256", "-l1-ibsize", "32", "--by", "line,object"), self.OPTIONS, (
+            "-l1-usize", "256", "-l1-ubsize", "32", "--by", "line,object")
+        for options in caches:
+            given = self.trace.read_text() + "0 10\n1 10\n" * 2
+            expected = self.rows("-", "--program", walks(), *options, stdin=given.encode())
+            for text, more in ((self.unusual() + "\n0 10\n1 10" * 2, ()), (self.lackey(), ("-informat", "l"))):
+                rows = self.rows("-", "--program", walks(), *options, *more, stdin=text.encode())
+                self.assertEqual(rows, expected)
 
     def key(self, row, before=""):
         return (row[f"{before}inlined"] or row[f"{before}line"]).split()[-1], row[f"{before}object"]
@@ -320,12 +354,36 @@ class Faults(ByLineTest):
             with self.subTest(arguments):
                 self.refused(self.run_tool("by-line", *arguments, stdin=text), status, fault)
 
+    def test_the_number_of_a_line(self):
+        """It is that in the trace, however many lines no cache takes, within what is read at once and beyond."""
+        cache = ["-l1-dsize", "256", "-l1-dbsize", "16"]
+        for fetches in (1, 20, 20_000, 500_000):
+            bad = ("2 0x", "2 12345678901234567", "2")
+            for text, fault in (("7 1", "bad label"), *((text, "bad address") for text in bad)):
+                given = f"{'2 401136' + chr(10)}" * fetches + f"0 10\n{text}\n0 20\n"
+                ran = self.run_tool("by-line", "-", *cache, stdin=given.encode())
+                self.refused(ran, 1, f"cachesim: line {fetches + 2}: {fault}\n")
+            ran = self.run_tool("by-line", "-", *cache, stdin=("2 401136\n" * fetches + "2 " + "0" * 600_000).encode())
+            self.refused(ran, 1, f"cachesim: line {fetches + 1}: ")
+
     def test_no_fetch_before(self):
         rows = self.rows("-", "-l1-dsize", "64", "-l1-dbsize", "16", stdin=b"0 10\n")
         self.assertEqual([row["line"] for row in rows], ["(no fetch before it)"])
 
     def test_nothing(self):
         self.assertEqual(self.rows("-", "-l1-dsize", "64", "-l1-dbsize", "16", stdin=b""), [])
+
+    def test_no_room_for_the_table(self):
+        """It is told in a line."""
+        (self.folder / "counts").write_text("cell - -1 1 1 1 0\nend\n")
+        (self.folder / "cut").write_text("cell - -1 1 1 1 0\n")
+        (self.folder / "objects").write_text("")
+        part, = base.TOOLS.rglob("by_line.py")
+        given = f"python3 -B {part} by-line report --objects objects --counts"
+        full = "standard output: No space left on device"
+        for words, fault in (("counts > /dev/full", full), ("cut", "the references can't be counted")):
+            ran = self.run_command("bash", "-c", f"{given} {words}")
+            self.assertEqual((ran.stdout, ran.stderr.decode(), ran.returncode), (b"", f"by-line: {fault}\n", 1))
 
     def test_full_device(self):
         self.on_full_device("by-line", SORT, "-l1-dsize", "64", "-l1-dbsize", "16")

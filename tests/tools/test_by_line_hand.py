@@ -199,8 +199,41 @@ class Sources(Hand):
                 ["", "", "2 (25.0%) 1 (16.7%) 1 0 0", "", "", "", "2 (25.0%) 1 (16.7%) 1 0 0", ""], INLINED.splitlines())),
         ])
 
+    @base.needs("valgrind")
+    def test_callgrind(self):
+        """By function and innermost line, as callgrind_annotate reads it; an empty trace is one too."""
+        (self.folder / "inlined.c").write_text(INLINED)
+        program = self.compiled("inlined.c")
+        inner, outer = self.address_of(program, 3, 6), self.address_of(program, 7)
+        text = f"0 10\n2 {inner:x}\n1 1000\n1 1000\n2 {outer:x}\n0 1000\n0 2000\n2 10\n0 10\n".encode()
+        given = "by-line", "-", "--program", program, *cache("1k", 16, "-l1-dassoc", "64"), "--callgrind", "out"
+        table = self.good(self.run_tool(*given, stdin=text))
+        self.assertEqual(table, self.good(self.run_tool(*given[:-2], stdin=text)))
+        source = f"{self.folder}/inlined.c"
+        self.assertEqual((self.folder / "out").read_text().splitlines(), [
+            "# callgrind format", "version: 1", "creator: by-line of cachesim", "positions: line",
+            "events: References Misses Compulsory Capacity", "summary: 6 3 3 0", "",
+            f"fl={source}", "fn=main", "3 2 1 1 0", "7 2 1 1 0", "",
+            "fl=???", "fn=(no fetch before it)", "0 1 1 1 0", "", "fl=???", "fn=?", "0 1 0 0 0", "", "totals: 6 3 3 0"])
+        told = self.good(self.run_command("callgrind_annotate", "--auto=yes", "--threshold=100", "out"))
+        lines = {" ".join(line.split()[-3:]): re.findall(r"(\d+) *(?:\([^)]*\))?", line)[:4] for line in told.splitlines()}
+        self.assertEqual(lines["numbers[at] = at;"], ["2", "1", "1", "0"])
+        self.good(self.run_tool(*given, stdin=b""))
+        self.assertEqual((self.folder / "out").read_text().splitlines()[5:], ["summary: 0 0 0 0", "", "totals: 0 0 0 0"])
+        for path, fault in (("none/out", "No such file or directory"), ("/dev/full", "No space left on device")):
+            self.refused(self.run_tool(*given[:-1], path, stdin=text), 1, f"by-line: {path}: {fault}\n")
+
+    def test_progress(self):
+        """On a terminal the lines read so far are told, and taken away at the end."""
+        words = " ".join((f"{base.TOOLS}/by-line", "-", *ONE_LINE, "--by", "object"))
+        feed = "for i in 1 2 3; do echo 0 10; sleep 0.8; done"
+        ran = self.run_command("script", "-qec", f"({feed}) | {words}", "/dev/null")
+        table = "object,references,misses,compulsory,capacity,conflict,share\r\n(heap),3,1,1,0,0,100.000\r\n"
+        self.assertRegex(ran.stdout.decode(), r"\A(\rby-line: 0\.0 million lines )+\r\x1b\[K" + re.escape(table) + r"\Z")
+        self.good(self.run_command("bash", "-c", f"({feed}) | {words}"))
+
     def test_files_of_one_name(self):
-        """They are called by their paths, and each keeps its counts."""
+        """They are called by as much of their paths as tells them apart, and each keeps its counts."""
         for folder, function in (("a", "int main(void)"), ("b", "int other(void)")):
             (self.folder / folder).mkdir()
             (self.folder / folder / "same.c").write_text(f"/*\f*/ {function} {{ return 1; }}\n")
@@ -209,7 +242,7 @@ class Sources(Hand):
         text = f"2 {first:x}\n0 10\n0 10\n2 {other:x}\n0 20\n".encode()
         rows = self.rows("-", "--program", program, *ONE_LINE, "--by", "line", stdin=text)
         self.assertEqual({row["line"]: row["references"] for row in rows},
-                         {f"{self.folder}/a/same.c:1": 2, f"{self.folder}/b/same.c:1": 1})
+                         {"a/same.c:1": 2, "b/same.c:1": 1})
         annotated = self.good(self.run_tool("by-line", "-", "--program", program, *ONE_LINE, "--annotate", "b/same.c", stdin=text))
         # a form feed ends no line
         self.assertEqual(annotated.rstrip("\n").split("\n")[-1].split()[:4], ["1", "(33.3%)", "1", "(50.0%)"])
@@ -231,6 +264,52 @@ class Sources(Hand):
         at, = (int(name.split()[0], 16) for name in names if name.endswith(" own(int)"))
         source = self.good(self.run_tool("by-line", *given, "--annotate", "own.h", stdin=f"2 {at:x}\n0 10\n".encode()))
         self.assertEqual([line.split()[0] for line in source.splitlines()[4:]], [".", "1", ".", "."])
+
+    def test_variables_of_one_name(self):
+        """Static ones have their file behind the name, and their address if that is the same too; thread-local ones are elsewhere."""
+        for path in ("a.c", "b.c", "in/a.c"):
+            (self.folder / path).parent.mkdir(exist_ok=True)
+            name = re.sub(r"\W", "", path)
+            (self.folder / path).write_text(f"static int table[4]; int *{name}(void) {{ static int only_{name}; table[0]++; "
+                                            f"return only_{name}++ ? &table[1] : table; }}\n")
+        (self.folder / "m.c").write_text("__thread int own[4];\nint main(void) { return own[0]; }\n")
+        self.good(self.run_command("cc", "-g", "-O0", "-fpie", "-pie", "-o", "program", "m.c", "a.c", "b.c", "in/a.c"))
+        base_of = 0x10000000000
+        names = [line.split() for line in self.good(self.run_command("nm", "-S", "-p", "program")).splitlines()]
+        tables = [int(one[0], 16) + base_of for one in names if one[-1] == "table"]
+        alone, = (int(one[0], 16) + base_of for one in names if one[-1].startswith("only_bc"))
+        own, = (int(one[0], 16) + base_of for one in names if one[-1] == "own")
+        text = "".join(f"0 {at:x}\n" for at in [*tables, alone, own]).encode()
+        rows = self.rows("-", "--program", "program", "--base", f"{base_of:x}", *ONE_LINE, "--by", "object", stdin=text)
+        self.assertEqual({row["object"] for row in rows},
+                         {f"table (a.c at {tables[0]:x})", "table (b.c)", f"table (a.c at {tables[2]:x})", "only_bc.0", "(program)"})
+
+    @base.needs("g++")
+    def test_one_row_for_a_function(self):
+        """Also where another is inlined in it, and where the compiler has moved a part of it away. Of a long chain of inlined
+        functions the middle ones are left out."""
+        always = "template <typename T> inline __attribute__((always_inline)) T"
+        chain = "".join(f"{always} f{n}(T *a) {{\n    return f{n - 1}(a) + a[{n}];\n}}\n"
+                        for n in range(1, 11))
+        (self.folder / "w.cc").write_text(
+            f"template <typename T> inline __attribute__((always_inline)) T f0(T *a) {{\n    return a[0];\n}}\n{chain}"
+            "__attribute__((cold, noinline)) void rare(int *a) { a[0]++; }\n"
+            "__attribute__((noinline)) int all(int *a) {\n    if (a[20]) rare(a + 1), a[3]++;\n    return f10(a);\n}\n"
+            "int main() {\n    static int a[21];\n    return all(a);\n}\n")
+        self.good(self.run_command("g++", "-g", "-O2", "-no-pie", "-o", "program", "w.cc"))
+        lines = self.good(self.run_command("objdump", "-d", "-C", "--no-show-raw-insn", "program"))
+        parts = dict(re.findall(r"(?ms)^[0-9a-f]+ <([^\n]*)>:\n(.*?)\n(?:\n|\Z)", lines))
+        instructions = re.compile(r"(?m)^ +([0-9a-f]+):\t(?!nop|cs nop|xchg|data16)")
+        names = ("all(int*)", "all(int*) [clone .cold]")
+        own = [[int(at, 16) for at in instructions.findall(parts[name])] for name in names]
+        places = own[0] + own[1]
+        text = "".join(f"2 {at:x}\n0 10\n" for at in places).encode()
+        given = "-", "--program", self.folder / "program", *ONE_LINE
+        rows = self.rows(*given, "--by", "function", stdin=text)
+        self.assertEqual([(row["function"], row["references"]) for row in rows], [("all(int*)", len(places))])
+        inlined = [row["inlined"] for row in self.rows(*given, "--by", "line", stdin=text)]
+        outer, inner = ([f"w.cc:{line}" for line in lines] for lines in ((32, 29, 26, 23), (14, 11, 8, 5)))
+        self.assertIn(" ".join([*outer, "..", *inner]), inlined)
 
     def test_without_llvm(self):
         """Binutils' own command names lines too; a warning tells of it, and of lines that are not there."""

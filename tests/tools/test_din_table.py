@@ -15,7 +15,6 @@ DIN = EXAMPLES / "sort.din"
 SIX = "1 0\n0 10\n2 20\n0 0\n4 0\n1 24\n"
 BAD = "0 10\n0 20\n2 1g\n0 30\n"
 FAULT = "cachesim: line 3: bad address\n"
-UNIT = {"k": 1 << 10, "m": 1 << 20}
 SMALL = "-l1-usize 64-256 -l1-ubsize 16 -l1-uassoc 1,2".split()
 POLICIES = "-l1-usize 128,256 -l1-ubsize 16 -l1-uassoc 2 -l1-urepl l,f,r --seed 1-3".split()
 
@@ -156,6 +155,8 @@ class Values(DinTableTest):
             ("-l1-usize 24-64 -l1-ubsize 16", "24-64 is no range of powers of two"),
             ("-l1-usize 64-32 -l1-ubsize 16", "64-32 is no range of powers of two"),
             ("-l1-usize 64,64 -l1-ubsize 16", "-l1-usize 64,64: a value is there twice"),
+            ("-l1-usize 64 -l1-ubsize 16 --seed=", "-seed : a value is missing"),
+            ("-l1-usize 64 -l1-ubsize 16 --seed=1,", "-seed 1,: a value is missing"),
             ("-l1-usize 64 -l1-ubsize 16 --seed 5-3", "5-3 is a reversed range"),
             ("-l1-usize 64 -l1-ubsize 16 --seed 1-999999", "more than 100000 combinations"),
             ("-l1-usize 64-8k -l1-ubsize 16 --seed 1-50000", "400000 combinations; at most 100000 are taken"),
@@ -263,9 +264,10 @@ class Faults(DinTableTest):
         self.failed(self.tool(2, DIN, *SMALL, env=silent), 1, told)
 
     def test_no_output(self):
-        for place in ("> /dev/full", ">&-", "| true"):
+        failed = "din-table: write failed\n"
+        for place, status, told in (("> /dev/full", 1, failed), (">&-", 1, failed), ("| true", 141, "")):
             ran = self.run_command("bash", "-c", f'set -o pipefail; "{TOOLS}/din-table" 2 "$1" {" ".join(SMALL)} {place}', "-", DIN)
-            self.failed(ran, 1, "din-table: write failed\n")
+            self.failed(ran, status, told)
 
     def test_no_room_for_the_trace(self):
         limited = f'ulimit -f 10; trap "" XFSZ; exec "{TOOLS}/din-table" 2 - {" ".join(SMALL)}'

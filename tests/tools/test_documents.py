@@ -30,6 +30,33 @@ def copied_top():
     return folder
 
 
+# Debian's packages that a command needs in which this stands, beside a C compiler
+PACKAGES = {
+    r"tools/trace ": ["qemu-user"],
+    r"--from|--to\b|tools/by-line": ["binutils"],
+    r"tools/plot|\bgnuplot\b": ["gnuplot-nox"],
+    r"tools/plot .*\.html|\.html --": ["python3-plotly"],
+    r"\bmlr\b": ["miller"],
+    r"\bvalgrind\b|lab-trace": ["valgrind"],
+    r"\bgcc\b|\bcc\b|tools/(trace|to-din|by-line|second-level) ": ["gcc"],
+    r"\bg\+\+": ["g++"],
+    r"\bxz": ["xz-utils"],
+    r"\bzst": ["zstd"],
+    r"--confine": ["bubblewrap"],
+    r"\bsbatch\b|tools/cluster": ["slurm-client", "slurm-wlm", "munge"],
+    r"make (man|install|deb)": ["lowdown"],
+}
+
+
+def packages_of(text):
+    """The packages that the commands of a document need, those that are not run left out."""
+    blocks = [block for block in documents.blocks_of(text) if not block.reason]
+    commands = [command.text for block in blocks for command in block.commands()]
+    commands += ["\n".join(block.lines) for block in blocks if block.is_script]
+    said = "\n".join(commands).replace("\\\n", " ")
+    return sorted({name for sign, names in PACKAGES.items() for name in names if re.search(sign, said)})
+
+
 class Documents(unittest.TestCase):
     """One test for each document; made below."""
 
@@ -62,6 +89,14 @@ class Blocks(unittest.TestCase):
                          [(3, None, True, False), (12, "no", False, True), (15, None, False, True), (18, None, False, False)])
         self.assertEqual(blocks[0].commands(), [(3, "one \\\n    two", ["out", ""]), (7, "three", [])])
 
+    def test_packages(self):
+        """Those of commands that are run, and no other."""
+        text = "mlr\n\n    $ tools/plot t.csv \\\n        a.html\n\n<!-- not run: no -->\n\n    $ valgrind ls\n"
+        self.assertEqual(packages_of(text), ["gnuplot-nox", "python3-plotly"])
+        text += "\na script, and a piece of a file\n\n    make man\n\nb\n\n    xz 1\n"
+        self.assertEqual(packages_of(text), ["gnuplot-nox", "lowdown", "python3-plotly"])
+        self.assertLessEqual({name for names in PACKAGES.values() for name in names}, set(base.PACKAGES))
+
     def test_any_lines(self):
         self.assertTrue(documents.matches(["a", "...", "d"], ["a", "b", "c", "d"]))
         self.assertTrue(documents.matches(["...", "d"], ["d"]))
@@ -73,7 +108,8 @@ def test_of(name):
     def test(self):
         self.check(name)
 
-    return base.needs(*base.PACKAGES)(test)
+    needed = packages_of((base.TOP / name).read_text())
+    return base.needs(*needed)(test) if needed else test
 
 
 for document in DOCUMENTS:

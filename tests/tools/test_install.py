@@ -201,9 +201,9 @@ class Installed(ToolTest):
             (("bin/cachesim-sweep-parallel", 2, din, *space), self.run_command(PROGRAM, "sweep", *space, "-t", din).stdout.decode()),
             (("bin/cachesim-pages", 1, "--pow2", "--bsize", 16, "--sets", 1, "--assoc", "1-4", "--size", "0-1k"), pages),
             (("bin/cachesim-replay", *replayed), self.run_tool("lab/replay", *replayed).stdout.decode()),
-            (("bin/cachesim-grade", lab / "lab-csim", lackey), "13 of 13 right\n"),
-            (("lib/cachesim/lab/grade", installed() / "bin/cachesim-lab-csim", lackey), "13 of 13 right\n"),
-            (("lib/cachesim/lab/grade", lab / "lab-csim"), "78 of 78 right\n"),
+            (("bin/cachesim-grade", lab / "lab-csim", lackey), "15 of 15 right\n"),
+            (("lib/cachesim/lab/grade", installed() / "bin/cachesim-lab-csim", lackey), "15 of 15 right\n"),
+            (("lib/cachesim/lab/grade", lab / "lab-csim"), "90 of 90 right\n"),
         ):
             ran = self.run_command(installed() / arguments[0], *arguments[1:], env=env)
             self.assertEqual((ran.returncode, ran.stdout.decode(), ran.stderr), (0, text, b""))

@@ -27,6 +27,7 @@ RIGHT = {"stamps": "", "list": "STYLE=LIST", "ages": "STYLE=AGES", "shift": "STY
 BLOCKS = EXAMPLES / "blocks.lackey"
 FIRST, FINE = "wrong: -s 1 -E 1 -b 1 -t blocks.trace", "with -v the line of each access is right"
 HEADER = "name,right,of,points,reason"
+HARD = HEADER.replace("reason", ",".join(f"{name}.trace" for name in TRACES) + ",reason")
 
 
 class ClassTest(StudentTest):
@@ -44,7 +45,7 @@ class ClassTest(StudentTest):
     def table(self, ran):
         """The rows of a table, by name."""
         text = self.good(ran)
-        self.assertTrue(text.startswith(f"{HEADER}\n"), text)
+        self.assertRegex(text, r"\Aname,right,of,points,[^\n]+,reason\n")
         self.assertEqual(list(self.private.iterdir()), [])
         return {row["name"]: row for row in csv.DictReader(text.splitlines())}
 
@@ -110,7 +111,9 @@ class Planted(ClassTest):
         rows = self.judged([*RIGHT, "FIFO"])
         wrong = rows.pop("FIFO")
         for name, row in rows.items():
-            self.assertEqual(row, dict(zip(HEADER.split(","), [name, "90", "90", "270", ""])))
+            values = [name, "90", "90", "270", *["15"] * 6, ""]
+            self.assertEqual(row, dict(zip(HARD.split(","), values)))
+        self.assertEqual(wrong["order.trace"], "8", "those of six caches of one way, of 6,8,6 and 1,65,3")
         self.assertEqual(list(rows), list(RIGHT))
         self.assertEqual(self.traces_in("FIFO"), set(TRACES))
         self.assertGreaterEqual(int(wrong["right"]), 36, "six caches of fifteen have one way")
@@ -182,8 +185,11 @@ class GradeClass(ClassTest):
         (folders[0] / "grade.txt").symlink_to(self.folder / "mine")
         ran = self.grade_class(*self.SHORT, "--trace", BLOCKS, *folders, f"{folders[0]}/", "--jobs", 1)
         said = "wanted hits:720 misses:1328 evictions:1312; got hits:721 misses:1328 evictions:1312"
-        row = f"ann/lab,0,1,2,wrong: -s 4 -E 1 -b 4 -t {EXAMPLES}/blocks.lackey; {said}; {FINE}"
-        self.assertEqual(self.good(ran), f"{HEADER}\nzoe/lab,1,1,3,\n{row}\n")
+        why = ("why: the result is that of a program in which the last line of the trace counts twice (while !feof), "
+               "or of one in which hits are one too many")
+        row = f'ann/lab,0,1,2,0,"wrong: -s 4 -E 1 -b 4 -t {EXAMPLES}/blocks.lackey; {said}; {FINE}; {why}"'
+        header = f"name,right,of,points,{EXAMPLES}/blocks.lackey,reason"
+        self.assertEqual(self.good(ran), f"{header}\nzoe/lab,1,1,3,1,\n{row}\n")
         self.assertEqual((self.folder / "mine").read_text(), "kept\n")
         self.assertEqual(self.text_of("zoe/lab"), "1 of 1 right, 3 of 3 points\n")
         self.assertIn("\n0 of 1 right, 2 of 3 points\n", self.text_of("ann/lab"))
@@ -205,14 +211,16 @@ class GradeClass(ClassTest):
         rows = self.table(self.grade_class(*self.SHORT, *sorted((self.folder / "students").iterdir())))
         said = {"none": "csim: no such file", "plain": "csim: Permission denied", "text": "csim: Exec format error"}
         for name, reason in said.items():
-            self.assertEqual(list(rows[name].values()), [name, "0", "6", "0", reason])
+            self.assertEqual(list(rows[name].values()), [name, "0", "6", "0", *["0"] * 6, reason])
             self.assertEqual(self.text_of(name), f"{reason}\n")
 
     def test_a_program_that_hangs_costs_its_time_once(self):
         """And a second for each other trace, and for the line at which it hangs."""
         self.enrol("ann", self.student("LOOPS"))
         self.enrol("bob", self.student("COUNTS", "LOOPS_VERBOSE"))
-        rows = self.table(self.grade_class("--seconds", 2.5, "students/ann", "students/bob"))
+        self.good(self.run_tool("lab/hard-traces", "."))
+        traces = [word for name in TRACES[:3] for word in ("--trace", f"{name}.trace")]
+        rows = self.table(self.grade_class("--seconds", 2.5, *traces, "students/ann", "students/bob"))
         self.assertEqual(self.text_of("bob").count("with -v it writes no line for an access"), 1)
         text = self.text_of("ann")
         self.assertEqual((rows["ann"]["right"], rows["ann"]["points"]), ("0", "0"))
@@ -248,15 +256,15 @@ class GradeClass(ClassTest):
             file.touch()
         ran = self.grade_class(*self.SHORT, *sorted([*students, *files]))
         message = "".join(f"grade-class: {file}: left out, as it is no folder\n" for file in files)
-        rows = "ann,6,6,18,\nzoe,6,6,18,\n"
-        self.assertEqual((ran.stdout.decode(), ran.stderr.decode(), ran.returncode), (f"{HEADER}\n{rows}", message, 1))
+        rows = "ann,6,6,18,1,1,1,1,1,1,\nzoe,6,6,18,1,1,1,1,1,1,\n"
+        self.assertEqual((ran.stdout.decode(), ran.stderr.decode(), ran.returncode), (f"{HARD}\n{rows}", message, 1))
         self.refused(self.grade_class(*files), 2, f"grade-class: {files[0]}: no folder\n")
 
     def test_a_text_that_cannot_be_written(self):
         (self.enrol("ann", self.student()) / "grade.txt").mkdir()
         ran = self.grade_class(*self.SHORT, "students/ann")
         message = f"grade-class: {self.folder}/students/ann: grade.txt can't be written: Is a directory\n"
-        self.assertEqual((ran.stdout.decode(), ran.stderr.decode(), ran.returncode), (f"{HEADER}\nann,6,6,18,\n", message, 1))
+        self.assertEqual((ran.stdout.decode(), ran.stderr.decode(), ran.returncode), (f"{HARD}\nann,6,6,18,1,1,1,1,1,1,\n", message, 1))
 
     def test_outputs_that_fail(self):
         self.enrol("ann", self.student())

@@ -6,7 +6,7 @@ import shutil
 from base import TOP, ToolTest
 
 ROWS, WORKED = "cache_core/proofs/WindowRows.antt", "worked_examples/src/profiles.rt"
-EDIT = "crates/sweep_core/must-fail/kind_is_ignored.edit"
+EDIT = "crates/sweep_core/must-fail/named_row_again.edit"
 READ, TASK, LAWS = "trace_core/src/io.rt", "trace_core/specs/Task.antt", "sweep_core/src/laws.rt"
 FLUSHED = "  pub flushes : sink'.flushes ≡ one_more sink.flushes\n"
 

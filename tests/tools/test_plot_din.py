@@ -1,26 +1,12 @@
-"""Curves over all ways, pictures of tables of din, and other measures than misses: what gnuplot is told, and what is refused."""
+"""Curves over all ways, pictures of tables of din, and other measures: what gnuplot is told, and what is refused."""
 
 import itertools
 import re
 
 import base
+from din_base import COLUMNS, POLICIES, din_rows
 from lib import table
-from test_plot import PlotTest, data_of, rows_of
-
-# Two sizes and three policies over 1,000 references. Random replacement has three seeds: 30, 42 and 33 misses are 35 in the mean
-COLUMNS = "l1-usize,l1-ubsize,l1-uassoc,l1-urepl,seed,l1-u-references,l1-u-misses,l1-u-percent,memory-writes,bypassed"
-POLICIES = {
-    (64, "l"): (100, 100, 100), (64, "f"): (200, 200, 200), (64, "r"): (120, 180, 150),
-    (128, "l"): (20, 20, 20), (128, "f"): (25, 25, 25), (128, "r"): (30, 42, 33),
-}
-
-
-def din_rows(policies, ways=2, bsize=16):
-    """Rows of a table of din, given the misses of 1,000 references by size and policy for each seed."""
-    return "".join(
-        f"{size},{bsize},{ways},{policy},{seed},1000,{missed},{missed / 10:.3f},{missed // 10},0\n"
-        for (size, policy), misses in policies.items() for seed, missed in enumerate(misses, 1)
-    )
+from test_plot import PlotTest, data_of
 
 
 def names_of(script):
@@ -238,76 +224,3 @@ class Din(PlotTest):
         data = data_of(self.script("t.csv", "a.svg"))
         self.assertEqual({name: len(runs[0]) for name, runs in data.items() if name.endswith("_ends")}, {"size_6_ends": 5})
         self.assertEqual(len(self.good(self.run_tool("best", "t.csv", "--rows", "99")).splitlines()), 31)
-
-
-class Best(PlotTest):
-    def best(self, text, *arguments):
-        self.write("t.csv", text)
-        return self.good(self.run_tool("best", "t.csv", *arguments)).splitlines()
-
-    def test_mean_and_spread(self):
-        """30, 33 and 42: the mean is 35, and the deviation the root of (25 + 4 + 49) / 2."""
-        given = f"{COLUMNS}\n{din_rows(POLICIES)}"
-        header = "l1-usize,l1-ubsize,l1-uassoc,l1-urepl,size,l1-u-misses,runs,deviation,least,greatest"
-        lines = self.best(given, "--rows", "3")
-        self.assertEqual(lines, [header, "128,16,2,l,128,20,3,0.000,20,20", "128,16,2,f,128,25,3,0.000,25,25",
-                                 "128,16,2,r,128,35,3,6.245,30,42"])
-        self.assertEqual(self.best(given, "--up-to", "64")[1:], ["64,16,2,l,64,100,3,0.000,100,100"])
-        self.assertEqual(self.best(given, "--up-to", "64", "--within", "50")[1:],
-                         ["64,16,2,l,64,100,3,0.000,100,100", "64,16,2,r,64,150,3,30.000,120,180"])
-        self.assertEqual([line[:4] for line in self.best(given, "--front")[1:]], ["64,1", "128,"])
-        percent = self.best(given, "--measure", "l1-u-percent", "--rows", "3")
-        self.assertEqual((percent[0].split(",")[5], percent[3]), ("l1-u-percent", "128,16,2,r,128,3.500,3,0.624,3,4.200"))
-
-    def test_without_seeds(self):
-        given = COLUMNS.replace(",seed", "") + "\n" + re.sub("(?m)^(([^,]+,){4})1,", r"\1", din_rows({(64, "l"): (100,)}))
-        self.assertEqual(self.best(given), ["l1-usize,l1-ubsize,l1-uassoc,l1-urepl,size,l1-u-misses", "64,16,2,l,64,100"])
-
-    def test_the_last_cache(self):
-        """Its misses are compared, whichever column stands behind them, and the size is that of all caches."""
-        header = "l1-dsize,l2-usize,l1-d-references,l1-d-misses,l1-d-percent,l2-u-references,l2-u-misses,l2-u-percent,memory-reads,bypassed"
-        rows = "64,256,100,50,50.000,50,20,40.000,20,9\n128,256,100,40,40.000,40,25,62.500,25,9\n"
-        self.assertEqual(self.best(f"{header}\n{rows}", "--rows", "2"),
-                         ["l1-dsize,l2-usize,size,l2-u-misses", "64,256,320,20", "128,256,384,25"])
-
-    def test_below(self):
-        """30, 42 and 33 misses of 1,000 references are 3.5 per cent in the mean."""
-        given = f"{COLUMNS}\n{din_rows(POLICIES)}"
-        lines = self.best(given, "--below", "3.5")
-        self.assertEqual(lines[0], "l1-usize,l1-ubsize,l1-uassoc,l1-urepl,size,l1-u-misses,runs,deviation,least,greatest,percent")
-        self.assertEqual([(line[:10], line.split(",")[-1]) for line in lines[1:]],
-                         [("128,16,2,l", "2.000"), ("128,16,2,f", "2.500"), ("128,16,2,r", "3.500")])
-        self.assertEqual([line[:10] for line in self.best(given, "--below", "3.4999")[1:]], ["128,16,2,l", "128,16,2,f"])
-        self.assertEqual([line[:9] for line in self.best(given, "--below", "10")[1:]], ["64,16,2,l"])
-        self.refused(self.run_tool("best", "t.csv", "--below", "1.9"), 1,
-                     "best: t.csv: no cache has at most 1.9 per cent misses; the least is 2\n")
-
-    def test_below_of_a_cache_and_of_the_trace(self):
-        """20 of the 50 references to the second level, and of the 109 of the trace: 40 and 18.349 per cent."""
-        rows = "64,256,100,50,50.000,50,20,40.000,20,9,90\n128,256,100,40,40.000,40,25,62.500,25,9,80\n"
-        header = "l1-dsize,l2-usize,l1-d-references,l1-d-misses,l1-d-percent,l2-u-references,l2-u-misses,l2-u-percent,memory-reads,bypassed"
-        header += ",cycles"
-        for arguments, row in (
-            (["--below", "40"], "64,256,320,20,40.000"),
-            (["--below", "20", "--measure", "memory-reads"], "64,256,320,20,18.349"),
-            (["--below", "40", "--measure", "l1-d-misses"], "128,256,384,40,40.000"),
-            (["--below", "41", "--measure", "l2-u-percent"], "64,256,320,40,40.000"),
-            (["--below", "90", "--measure", "cycles"], "64,256,320,90"),
-        ):
-            self.assertEqual(self.best(f"{header}\n{rows}", *arguments)[1:], [row])
-        self.refused(self.run_tool("best", "t.csv", "--below", "39.999"), 1, "at most 39.999 per cent misses; the least is 40\n")
-        nothing = "l1-dsize,l1-d-references,l1-d-misses,l1-d-percent,bypassed\n64,0,0,0.000,0\n"
-        self.assertEqual(self.best(nothing, "--below", "0")[1:], ["64,64,0,0.000"])
-
-    def test_measure_of_a_sweep(self):
-        given = f"{table.HEADER}\n" + rows_of([(1, 500), (2, 400)])
-        self.assertEqual(self.best(given, "--measure", "hits"), [f"{table.HEADER},percent", "64,1,1,64,500,500,0,50.000"])
-        more = f"{table.HEADER},conflict\n64,1,1,64,50,50,49,7\n64,2,1,128,60,40,38,9\n"
-        self.assertEqual(self.best(more, "--measure", "conflict"), [f"{table.HEADER},conflict,percent", "64,1,1,64,50,50,49,7,7.000"])
-        cost = f"{table.HEADER},cost\n64,1,1,64,50,50,49,7.5\n64,2,1,128,60,40,38,4.25\n"
-        header, *rows = cost.replace("7.5", "7.500").replace("4.25", "4.250").splitlines()
-        self.assertEqual(self.best(cost, "--measure", "cost", "--below", "7.5"), [header, rows[0]])
-        self.assertEqual(self.best(cost, "--measure", "cost", "--below", "7.49"), [header, rows[1]])
-        self.refused(self.run_tool("best", "t.csv", "--measure", "cost", "--below", "4"), 1,
-                     "best: t.csv: no cache has at most 4 cost; the least is 4.25\n")
-        self.refused(self.run_tool("best", "t.csv", "--measure", "x"), 1, "best: t.csv: no column x; there are ")

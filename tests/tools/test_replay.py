@@ -9,21 +9,21 @@ from base import EXAMPLES, PROGRAM, TOOLS, TOP, ToolTest, model, needs
 
 HANDOUT = TOP / "tests/cases/inputs/handout.lackey"
 REPLAY = TOOLS / "lab/replay"
-# Two sets of two blocks of 16 bytes. The block of 10 is written in step 5, so it is dirty where 210 evicts it; the block of 110 is
+# Two sets of two blocks of 16 bytes. The block of 10 is written in line 4, so it is dirty where 210 evicts it; the block of 110 is
 # then the one used longest ago.
 HANDOUT_TEXT = """\
 handout.lackey: 2 sets of 2 lines, blocks of 16 bytes, LRU
 The last column has the lines of the set after the step: their tags, * dirty, [] evicted next, - free.
-step  access  address  tag  set  offset  outcome              lines
-   1  read         10    0    1       0  miss                 0 -
-   2  read         20    1    0       0  miss                 1 -
-   3  write        20    1    0       0  hit                  1* -
-   4  read         22    1    0       2  hit                  1* -
-   5  write        18    0    1       8  hit                  0* -
-   6  read        110    8    1       0  miss                 [0*] 8
-   7  read        210   10    1       0  miss eviction of 0*  10 [8]
-   8  read         12    0    1       2  miss eviction of 8   [10] 0
-   9  write        12    0    1       2  hit                  [10] 0*
+line  access   address  tag  set  offset  outcome              lines
+   1  L             10    0    1       0  miss                 0 -
+   2  M load        20    1    0       0  miss                 1 -
+   2  M store       20    1    0       0  hit                  1* -
+   3  L             22    1    0       2  hit                  1* -
+   4  S             18    0    1       8  hit                  0* -
+   5  L            110    8    1       0  miss                 [0*] 8
+   6  L            210   10    1       0  miss eviction of 0*  10 [8]
+   7  M load        12    0    1       2  miss eviction of 8   [10] 0
+   7  M store       12    0    1       2  hit                  [10] 0*
 hits:4 misses:5 evictions:2
 """
 # A block is used again before the third one comes: LRU keeps it, FIFO doesn't.
@@ -74,14 +74,14 @@ class Replay(ReplayTest):
                          [["flush", "2 written back", "all free"], ["flush", "0 written back", "all free"]])
 
     def test_one_set(self):
-        """The steps of set 1 of the handout's trace, numbered from 1, with the same sets as in the whole."""
+        """The steps of set 1 of the handout's trace, with the same lines and sets as in the whole."""
         rows = HANDOUT_TEXT.split("\n")[3:-2]
-        wanted = [row[4:] for row in rows if row.split()[4] == "1"]
+        wanted = [row for row in rows if re.split("  +", row.strip())[4] == "1"]
         arguments = ["-s", 1, "-E", 2, "-b", 4, "-t", HANDOUT, "--set", "1"]
         text = self.good(self.replay(*arguments, "--text")).split("\n")
         self.assertEqual(text[0], "handout.lackey, set 1: 2 sets of 2 lines, blocks of 16 bytes, LRU")
-        self.assertEqual([row[:4].strip() for row in text[3:-2]], ["1", "2", "3", "4", "5", "6"])
-        self.assertEqual([row[4:] for row in text[3:-2]], wanted)
+        self.assertEqual(text[3:-2], wanted)
+        self.assertEqual(len(wanted), 6)
         # of these the loads of 10, 110, 210 and 12 miss
         self.assertEqual(text[-2], "hits:2 misses:4 evictions:2")
         data = self.data(*arguments)
@@ -98,16 +98,44 @@ class Replay(ReplayTest):
         many = b" L 0,1\n" * 2000 + b" L 10,1\n"
         self.assertEqual(len(self.data("-s", 1, "-E", 1, "-b", 4, "--set", "1", stdin=many)["steps"]), 1)
 
+    def test_ways_of_any_number(self):
+        """What csim says of them; the example by hand, with a third line for the block of 210."""
+        rows = self.good(self.replay("-s", 1, "-E", 3, "-b", 4, "-t", HANDOUT, "--text"))
+        rows = [re.split("  +", row.strip()) for row in rows.splitlines()[2:-1]]
+        self.assertEqual([row[-1] for row in rows if row[4] == "1"],
+                         ["0 - -", "0* - -", "0* 8 -", "[0*] 8 10", "0* [8] 10", "0* [8] 10"])
+        cut = self.write("cut.lackey", start_of("transpose.lackey", 900))
+        for cache in ("1 9 3", "1 65 3", "3 3 6"):
+            words = [word for pair in zip(("-s", "-E", "-b"), cache.split()) for word in pair]
+            text = self.good(self.run_command(PROGRAM, "csim", *words, "-t", cut))
+            steps = self.good(self.replay(*words, "-t", cut, "--text"))
+            self.assertEqual(steps.splitlines()[-1], text.strip())
+            self.assertEqual(len(self.data(*words, "-t", cut)["steps"]), len(steps.splitlines()) - 4)
+
+    def test_a_trace_up_to_a_line(self):
+        """Of more than 1,000 steps the last, with what the sets hold before them."""
+        words = ["-s", 1, "-E", 2, "-b", 4]
+        text = self.good(self.replay(*words, "-t", HANDOUT, "--text", "--until", 4)).splitlines()
+        self.assertEqual([row.split()[0] for row in text[3:-1]], ["1", "2", "2", "3", "4"])
+        many = b" L 10,1\n" * 700 + b" S 30,1\n M 50,1\n" * 500
+        data = self.data(*words, "--until", 1500, stdin=many)
+        self.assertEqual([len(data["steps"]), data["steps"][-1]["line"]], [1000, 1500])
+        self.assertEqual([data["steps"][0]["line"], data["steps"][0]["access"]], [834, "M store"])
+        self.assertEqual(data["before"], [{"set": 1, "next": 1, "lines": [
+            {"tag": "2", "since": 834, "dirty": True}, {"tag": "1", "since": 833, "dirty": True}]}])
+
     def test_reasons(self):
         """In words, with the step that decides."""
         steps = self.data(*ONE_SET, stdin=ORDER)["steps"]
         self.assertEqual(steps[3]["why"], "Set 0 is full and does not hold tag 3. The block in line 1 (tag 2) is evicted: "
-                                          "it was last used in step 2, the others later.")
-        self.assertEqual([step["coming"] for step in steps[:2]], ["", "Next to be evicted in set 0: line 0 (tag 1), last used in step 1."])
+                                          "it was last used in line 2 of the trace, the others later.")
+        self.assertEqual([step["coming"] for step in steps[:2]], ["", "Next to be evicted in set 0: line 0 (tag 1), "
+                         "last used in line 1 of the trace."])
         self.assertEqual(steps[5]["why"], "A flush empties all sets. 1 dirty block written back.")
         steps = self.data(*ONE_SET, "-l1-urepl", "f", stdin=ORDER)["steps"]
-        self.assertIn("(tag 1) is evicted: it came in step 1, the others later.", steps[3]["why"])
-        self.assertEqual(steps[2]["coming"], "Next to be evicted in set 0: line 0 (tag 1), which came in step 1.")
+        self.assertIn("(tag 1) is evicted: it came in line 1 of the trace, the others later.", steps[3]["why"])
+        self.assertEqual(steps[2]["coming"], "Next to be evicted in set 0: line 0 (tag 1), "
+                         "which came in line 1 of the trace.")
         steps = self.data("-l1-dsize", 16, "-l1-dbsize", 16, "-l1-dwalloc", "n", stdin=b"1 10\n0 10\n1 10\n0 20\n")["steps"]
         self.assertEqual([step["why"] for step in steps], [
             "Set 0 does not hold tag 1. A write that misses brings no block in.",
@@ -180,10 +208,12 @@ class Faults(ReplayTest):
             ((*small, "-l1-dsize", 64), "one cache is wanted"),
             (("-s", 1, "-E", 1), "-s, -E and -b are needed"),
             (("-s", 21, "-E", 1, "-b", 4), "-s and -b are at most 20"),
-            (("-s", 1, "-E", 3, "-b", 4), "must be powers of two"),
-            (("-s", 1, "-E", 0, "-b", 4), "must be powers of two"),
+            (("-s", 1, "-E", 0, "-b", 4), "-E is at least 1"),
+            ((*lab, "--until", 0), "--until wants a line from 1 on"),
+            ((*lab, "--until", "x"), "'x' is not a number"),
+            ((*small, "-l1-uassoc", 3), "must be powers of two"),
             (("-s", 1, "-E", "x", "-b", 4), "'x' is not a number"),
-            (("-s", 1, "-E", 128, "-b", 4), "at most 64 lines"),
+            (("-s", 1, "-E", 2049, "-b", 4), "at most 2,048 lines"),
             ((*lab, "-informat", "d"), "-informat belongs to the options of din"),
             (("-l1-usize", 64), "-l1-usize and -l1-ubsize are needed"),
             ((*small, "-l1-uassoc", 8), "a set must fit into the size"),
@@ -206,7 +236,7 @@ class Faults(ReplayTest):
         self.assertEqual(len(self.data("-s", 1, "-E", 1, "-b", 4, stdin=b"".join(lines))["steps"]), 1000)
         for more in (1, 300000):
             ran = self.replay("-s", 1, "-E", 1, "-b", 4, stdin=b"".join(lines) + b" S 10,1\n" * more)
-            self.refused(ran, 1, "more than 1,000 steps", "head -n 500 TRACE")
+            self.refused(ran, 1, "more than 1,000 steps", "--until 500")
         self.refused(self.replay(*words, stdin=b"".join(lines)), 1, "4,000 lines", "2,048")
         self.assertEqual(len(self.good(self.replay(*words, "--text", stdin=b"".join(lines))).splitlines()), 1004)
         self.assertEqual(len(self.data(*words, stdin=b"".join(lines[:512]))["sets"]), 512)
@@ -215,18 +245,18 @@ class Faults(ReplayTest):
         """A stand-in for the program changes a line of the log: the step that differs is named, and there is no page."""
         liar = self.folder / "liar"
         for change, step, told in (
-            ("s/ 22 hit/ 22 miss/", 4, "'l1-d 0 22 miss', but by this tool's sets it is 'l1-d 0 22 hit'"),
-            ("s/eviction 10 dirty/eviction 110/", 7, "'l1-d 0 210 miss eviction 110', but by this tool's sets it is "
+            ("s/ 22 hit/ 22 miss/", 3, "'l1-d 0 22 miss', but by this tool's sets it is 'l1-d 0 22 hit'"),
+            ("s/eviction 10 dirty/eviction 110/", 6, "'l1-d 0 210 miss eviction 110', but by this tool's sets it is "
                                                      "'l1-d 0 210 miss eviction 10 dirty'"),
-            ("s/ dirty//", 7, "'l1-d 0 210 miss eviction 10', but"),
-            ("/ 18 hit/d", 6, "'l1-d 0 210 miss eviction 10 dirty', but by this tool's sets it is 'l1-d 0 210 miss eviction 10'"),
-            ("s/ 0 12 .*/ flush 7/", 8, "'l1-d flush 7', but by this tool's sets it is 'l1-d flush 1'"),
+            ("s/ dirty//", 6, "'l1-d 0 210 miss eviction 10', but"),
+            ("/ 18 hit/d", 4, "'l1-d 0 110 miss', but it is S"),
+            ("s/ 0 12 .*/ flush 7/", 7, "'l1-d flush 7', but it is M load"),
         ):
             liar.write_text(f'#!/bin/bash\nset -o pipefail\n"{PROGRAM}" "$@" | sed "{change}"\n')
             liar.chmod(0o755)
             for more in ((), ("--text",)):
                 ran = self.replay("-s", 1, "-E", 2, "-b", 4, "-t", HANDOUT, *more, env={"CACHESIM": str(liar)})
-                self.refused(ran, 1, f"replay: step {step}: the log says {told}")
+                self.refused(ran, 1, f"replay: line {step} of the trace: the log says {told}")
         liar.write_text(f'#!/bin/sh\n[ "$1" = log ] && echo l1-d 7 10 hit || "{PROGRAM}" "$@"\n')
         ran = self.replay("-s", 1, "-E", 2, "-b", 4, "-t", HANDOUT, env={"CACHESIM": str(liar)})
         self.refused(ran, 1, "a line that this tool does not know: 'l1-d 7 10 hit'")
@@ -267,7 +297,14 @@ class InABrowser(ReplayTest):
             return card ? [...card.querySelectorAll(".way")].map(line).join(" ") : "all free";
         });
         const wide = [document.documentElement.scrollWidth, innerWidth];
-        parent.postMessage({shown, sets, wide, title: document.title}, "*");
+        go(0);
+        byId("predict").click();
+        const asked = [text("step")];
+        byId("at").dispatchEvent(new KeyboardEvent("keydown", {key: "m", bubbles: true}));
+        asked.push(text("step"));
+        byId("question").querySelector("button").click();
+        asked.push(text("step"));
+        parent.postMessage({shown, sets, wide, asked, title: document.title}, "*");
     </script></body>"""
     # a window of a browser can't be as narrow as a telephone
     FRAME = """<body><iframe src="page.html%s" width="%d" height="800" style="border: 0"></iframe><script>
@@ -291,19 +328,44 @@ class InABrowser(ReplayTest):
         at_7, home, before, on, end, after, back, button, row = seen["shown"]
         self.assertEqual(seen["title"], "A cache step by step: handout.lackey")
         for text in (
-            "Step 7 of 9: read 210, miss, eviction. So far: hits 3, misses 4, evictions 1. | ",
+            "Step 7 of 9: line 6 of the trace, L 210, miss, eviction. So far: hits 3, misses 4, evictions 1. | ",
             "tag bits from 5 up 1 0000 hex 10 set bit 4 1 hex 1 offset bits 3 to 0 0000 hex 0 ",
-            "The block in line 0 (tag 0) is evicted: it was last used in step 5, the others later. It is dirty, so it is written back. "
-            "Next to be evicted in set 1: line 1 (tag 8), last used in step 6. Sent to memory: write 10, read 210. "
-            "Next in the trace: read 12 | ",
-            "Set 0 line 0 dirty tag 1 used in step 4 line 1 free ▶ Set 1 line 0 tag 10 used in step 7 new, was 0 "
-            "line 1 tag 8 used in step 6 evicted next | ",
+            "The block in line 0 (tag 0) is evicted: it was last used in line 4 of the trace, the others later. "
+            "It is dirty, so it is written back. Next to be evicted in set 1: line 1 (tag 8), last used in line 5 of the trace. "
+            "Sent to memory: write 10, read 210. Next in the trace: M load 12 | ",
+            "Set 0 line 0 dirty tag 1 used in trace line 3 line 1 free ▶ Set 1 line 0 tag 10 used in trace line 6 new, was 0 "
+            "line 1 tag 8 used in trace line 5 evicted next | ",
         ):
             self.assertIn(text, at_7)
-        self.assertTrue(at_7.endswith("6 read 110 miss 7 read 210 miss, eviction 8 read 12 9 write 12"), at_7)
+        self.assertTrue(at_7.endswith("5 L 110 miss 6 L 210 miss, eviction 7 M load 12 7 M store 12"), at_7)
         for text, steps in ((home, 0), (before, 0), (on, 1), (end, 9), (after, 9), (back, 8), (button, 1), (row, 3)):
             self.assertTrue(text.startswith(f"Step {steps} of 9: "), text)
         self.assertIn("hits 4, misses 5, evictions 2.", end)
+
+    def test_predictions(self):
+        """The first access misses, and so does the second, where the answer is a hit."""
+        page = self.page("-s", 1, "-E", 2, "-b", 4, "-t", HANDOUT)
+        asked, right, wrong = self.shown(page)["asked"]
+        self.assertTrue(asked.endswith("What will L 10 do? hitmissmiss, eviction"), asked)
+        self.assertIn("Right: your answer was miss. Right: 1 of 1.", right)
+        self.assertIn("Wrong: your answer was hit. Right: 1 of 2.", wrong)
+
+    @needs("poppler-utils")
+    def test_the_sheet_that_is_printed(self):
+        """Rows to fill in, and then the same with answers."""
+        self.write("page.html", self.page("-s", 1, "-E", 2, "-b", 4, "-t", HANDOUT))
+        options = ("--headless=new", "--no-sandbox", "--disable-gpu", "--no-pdf-header-footer")
+        profile, to = f"--user-data-dir={self.folder}/profile", self.folder / "sheet.pdf"
+        address = (self.folder / "page.html").as_uri()
+        ran = self.run_command("chromium", *options, profile, f"--print-to-pdf={to}", address)
+        self.assertEqual(ran.returncode, 0)
+        text = self.good(self.run_command("pdftotext", "-layout", to, "-"))
+        sheet, _, answers = text.partition("\fAnswers")
+        rows = [[" ".join(row.split()) for row in part.splitlines()] for part in (sheet, answers)]
+        for row in ("1 L 10", "2 M store 20", "6 L 210", "7 M load 12"):
+            self.assertIn(row, rows[0])
+        for row in ("1 L 10 0 1 0 miss", "2 M store 20 1 0 0 hit", "6 L 210 10 1 0 miss, eviction 0"):
+            self.assertIn(row, rows[1])
 
     def test_sets_of_each_step(self):
         """They are those of --text."""

@@ -1,4 +1,4 @@
-"""The runner of the cases, tests/run: what it must fail, and what it must pass."""
+"""The runners of cases and of tests, tests/run and tests/test-tools: what they must fail, and what pass."""
 
 import re
 import sys
@@ -50,3 +50,19 @@ class Run(ToolTest):
         ran = self.run_command(TOP / "tests/run", "--program", TOP / "tests/model.py", "--cases", "cases")
         self.assertEqual(ran.returncode, 0, ran.stdout)
         self.assertRegex(ran.stdout.decode(), r"^1 cases? .*left out.*\n1 passed, 0 failed\n$")
+
+
+class TestTools(ToolTest):
+    """The runner of the tests of the tools."""
+
+    def run_tests(self, *names):
+        return self.run_command(TOP / "tests/test-tools", "--program", PROGRAM, *names)
+
+    def test_a_name_with_a_dash(self):
+        told = self.good(self.run_tests("worked-rows.WorkedRows.test_what_is_found"))
+        self.assertIn("ok test_worked_rows.WorkedRows.test_what_is_found\n", told)
+        self.assertTrue(told.endswith("\n1 passed, 0 failed\n"), told)
+
+    def test_a_name_without_tests(self):
+        ran = self.run_tests("table", "by-lime", "absent.Reading")
+        self.refused(ran, 2, "test-tools: no tests of by-lime or absent.Reading; ")

@@ -6,12 +6,15 @@ import math
 import os
 import pathlib
 import pty
+import re
+import select
 import shlex
 import signal
 import subprocess
 import time
 
-from base import EXAMPLES, PROGRAM, TOOLS, TOP, ToolTest, needs
+from base import EXAMPLES, PROGRAM, TOOLS, TOP, ToolTest, ended, needs
+from lib import paging
 
 HEADER = "bsize,sets,assoc,size,hits,misses,evictions\n"
 SPACE = "--bsize 16-128 --sets 1-4096 --assoc 1-16 --size 1k-1m".split()
@@ -34,8 +37,8 @@ def cost(pairs):
     whole, last = 0, None
     for bsize, sets, assoc in pairs:
         behind = last and last[0] == bsize
-        looks = min(1, 2 / (last[0] * last[1]) ** 0.35) if behind else 1
-        whole += looks + 9 * math.log2(1 + assoc) / (bsize * sets) ** 0.55
+        looks = min(1, 2.7 / (last[0] * last[1]) ** 0.18) if behind else 1
+        whole += looks + 13 * math.log2(1 + assoc) / (bsize * sets) ** 0.57
         last = bsize, sets
     return whole
 
@@ -213,21 +216,36 @@ class SameBytes(ParallelTest):
 
     def test_progress(self):
         """On a terminal, what is read is told each second; elsewhere nothing is."""
-        for trace, shown in (("-", rb"\rsweep-parallel: 0 MB of the trace read"), ("slow", rb"\rsweep-parallel: \d+ % of the trace read")):
+        # a page is not done before it is told
+        env = {**os.environ, **self.program('[[ $* != *" slow"* ]] || until [ -e go ]; do sleep 0.01; done')}
+        told_of = {"-": rb"\rsweep-parallel: 0 MB of the trace read", "slow": rb"\rsweep-parallel: \d+ % of the trace read"}
+        for trace, shown in told_of.items():
             self.write("slow", DIN.read_bytes())
+            (self.folder / "go").unlink(missing_ok=True)
             master, terminal = pty.openpty()
             arguments = [TOOLS / "sweep-parallel", "2", trace, *SMALL]
-            env = {**os.environ, **self.program('[[ $* != *" slow"* ]] || sleep 2')}
-            ran = subprocess.Popen(arguments, stdin=subprocess.PIPE, stdout=subprocess.PIPE, stderr=terminal, cwd=self.folder, env=env)
-            os.close(terminal)
-            time.sleep(1.5)
-            self.assertEqual(ran.communicate(DIN.read_bytes())[0].decode(), self.sweep(*SMALL, "-t", DIN))
-            self.assertEqual(ran.returncode, 0)
-            told = os.read(master, 10000)
+            pipes = {"stdin": subprocess.PIPE, "stdout": subprocess.PIPE, "stderr": terminal}
+            with ended(subprocess.Popen(arguments, **pipes, cwd=self.folder, env=env)) as ran:
+                os.close(terminal)
+                told = self.read_until(master, shown)
+                self.write("go", b"")
+                self.assertEqual(ran.communicate(DIN.read_bytes(), 60)[0].decode(), self.sweep(*SMALL, "-t", DIN))
+                self.assertEqual(ran.returncode, 0)
+            told += self.read_until(master, rb"\r\033\[K\Z", told)
             os.close(master)
             self.assertRegex(told, shown)
             self.assertTrue(told.endswith(b"\r\033[K"))
         self.same(2, "slow", *SMALL, single=DIN, env=env)
+
+    def read_until(self, terminal, shown, told=b""):
+        """What more a terminal shows, until all that it has shown has this."""
+        more = b""
+        while not re.search(shown, told + more) and select.select([terminal], [], [], 20)[0]:
+            try:
+                more += os.read(terminal, 10000)
+            except OSError:  # the tool has ended
+                break
+        return more
 
 
 class Faults(ParallelTest):
@@ -261,6 +279,11 @@ class Faults(ParallelTest):
         self.refused(self.tool(4, "none.gz", *SPACE), 1, "sweep-parallel: none.gz can't be read: gzip: ", "No such file")
         ran = self.run_command("bash", "-c", f'"{TOOLS}/sweep-parallel" 4 - {" ".join(SPACE)} <&-')
         self.failed(ran, 1, "sweep-parallel: standard input can't be read: Bad file descriptor\n")
+
+    def test_flags_of_a_later_program(self):
+        """A word that no value follows is one."""
+        words = ["--new", "--bsize", "16", "--after", "1,1,1", "--sets=1", "--rows", "2", "--last"]
+        self.assertEqual(paging.split(words), (["--new", "--bsize", "16", "--sets", "1", "--last"], "1,1,1"))
 
     def test_arguments(self):
         self.refused(self.tool(4, "none", "--bsize", "24", *SPACE[2:]), 2, "cachesim: bsize: not a power of two\n")
@@ -319,9 +342,10 @@ class Faults(ParallelTest):
         self.assertEqual((ran.returncode, ran.stderr), (1, b"sweep-parallel: write failed\n"))
 
     def test_no_output(self):
-        for place in ("> /dev/full", ">&-", "| true"):
+        failed = "sweep-parallel: write failed\n"
+        for place, status, told in (("> /dev/full", 1, failed), (">&-", 1, failed), ("| true", 141, "")):
             script = f'set -o pipefail; "{TOOLS}/sweep-parallel" 2 "$1" {" ".join(SMALL)} {place}'
-            self.failed(self.run_command("bash", "-c", script, "-", DIN), 1, "sweep-parallel: write failed\n")
+            self.failed(self.run_command("bash", "-c", script, "-", DIN), status, told)
 
     def test_interrupted(self):
         """No process and no file is left, whatever stage the run is at."""

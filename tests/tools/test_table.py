@@ -1,7 +1,9 @@
 """Reading a sweep's table."""
 
 import fractions
+import tempfile
 import unittest
+
 from lib import table
 
 
@@ -17,6 +19,13 @@ class Reading(unittest.TestCase):
     def test_lines_that_end_in_cr_lf(self):
         text = [table.HEADER + "\r\n", "16,1,2,32,4,5,3\r\n"]
         self.assertEqual(table.read_table(text, "t"), [table.Row(16, 1, 2, 32, 4, 5, 3)])
+
+    def test_a_byte_order_mark(self):
+        """As spreadsheets write one."""
+        with tempfile.NamedTemporaryFile("w", encoding="utf-8-sig", suffix=".csv") as file:
+            file.write(f"{table.HEADER}\n16,1,2,32,4,5,3\n")
+            file.flush()
+            self.assertEqual(table.read_table(*table.lines_of(file.name)), [table.Row(16, 1, 2, 32, 4, 5, 3)])
 
     def test_further_columns(self):
         text = [table.HEADER + ",percent,note\n", "16,1,2,32,4,5,3,55.556,\n"]

@@ -238,12 +238,13 @@ class ThreeC(base.ToolTest):
         arguments = "--bsize 16 --sets 1-4 --assoc 1-2 --size 64".split()
         command = ["env", f"TMPDIR={self.folder}", base.TOOLS / "three-c", "-", *arguments]
         for step in range(20):
-            running = subprocess.Popen(command, stdin=subprocess.PIPE, stdout=subprocess.PIPE, stderr=subprocess.PIPE)
-            while running.poll() is None and not list(self.folder.glob("*/whole.pipe")):
-                time.sleep(0.001)
-            time.sleep(0.001 * step)
-            running.send_signal(signal.SIGTERM)
-            self.assertEqual((running.communicate(b"0 10\n", 20), running.returncode), ((b"", b""), -signal.SIGTERM))
+            pipes = dict.fromkeys(("stdin", "stdout", "stderr"), subprocess.PIPE)
+            with base.ended(subprocess.Popen(command, **pipes)) as running:
+                self.assertTrue(base.comes(lambda: list(self.folder.glob("*/whole.pipe"))))
+                time.sleep(0.001 * step)
+                running.send_signal(signal.SIGTERM)
+                wrote = running.communicate(b"0 10\n", 20)
+                self.assertEqual((wrote, running.returncode), ((b"", b""), -signal.SIGTERM))
             self.assertEqual(list(self.folder.iterdir()), [])
 
     def test_help(self):

@@ -1,4 +1,4 @@
-"""No worked row compares a thing with itself: such a row passes whatever the definition or the code says."""
+"""No worked row compares a thing with itself, or is always true: it passes whatever the definition or the code says."""
 
 import re
 import unittest
@@ -6,6 +6,8 @@ import unittest
 import base
 
 ROWS = re.compile(r"^(?:(?:abbrev|unfoldable|pub) )*(\w[\w-]*) :(.*?)(?=^\S|\Z)", re.M | re.S)
+# a condition of code that is a constant, or has one beside it
+ALWAYS = re.compile(r"\bassert!\(rt;\s*(true\b|[^;\"]*?(?:\|\|\s*true\b|\btrue\s*\|\|))")
 OPENS, CLOSES = "([{", ")]}"
 
 
@@ -34,7 +36,7 @@ def in_rows(text):
 
 
 def in_code(text):
-    return list(equal_sides(text, "==", ",;=!&|"))
+    return [*equal_sides(text, "==", ",;=!&|"), *ALWAYS.findall(text)]
 
 
 class WorkedRows(unittest.TestCase):
@@ -56,6 +58,9 @@ class WorkedRows(unittest.TestCase):
         self.assertEqual(in_code("assert!(rt; found == wanted, \"row {i}\"); let is_so = a.counts(2) == b.counts(2);"), [])
         self.assertEqual(in_code("assert!(rt; cache.counts(2) == cache.counts(2));"), ["cache.counts(2)"])
         self.assertEqual(in_code("assert!(rt;\n    ok && found == found,\n    \"row {i}\");"), ["found"])
+        self.assertEqual(in_code('assert!(rt; true, "row {i}");'), ["true"])
+        self.assertEqual(in_code("assert!(rt; is_true || a == b); assert!(rt; a == true, \"true\");"), [])
+        self.assertEqual(in_code("assert!(rt; a == 2 || true);"), ["a == 2 || true"])
 
 
 if __name__ == "__main__":

@@ -109,6 +109,14 @@ class Run(Wrong):
             self.assertLessEqual(found, told)
             self.assertEqual(self.failed(text), len(told))
 
+    def test_a_program_that_ends_late(self):
+        """It is not waited for longer than a case may take."""
+        run = base.script("run")
+        run.SECONDS = 1
+        inputs = base.TOP / "tests/cases/inputs"
+        cases, _ = run.chosen(run.read_all(inputs.parent, inputs), ["sweep-one-size"])
+        self.assertEqual(cases[0].run(self.program("LATE")), ["not done after 1 seconds"])
+
     def test_examples_of_documents(self):
         text = self.fails("run", ["BYTE"], "README.md")
         self.assertRegex(text, r"(?m)^FAILED \S*README.md:\d+ ")

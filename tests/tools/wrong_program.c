@@ -14,6 +14,7 @@
    KEEPS      each of the first hundred reads asks for a megabyte of memory, and keeps it
    GREEDY     with 2^20 sets among its arguments the program takes four megabytes more than it needs
    PIECES     no read and no write moves more than 4,096 bytes
+   LATE       the program ends a hundred seconds after it is done
    SLOW       the 300th read takes 0.3 s of the processor, and -v a second */
 #define _GNU_SOURCE
 #include <ctype.h>
@@ -71,6 +72,10 @@ static void end(int status, void *unused) {
     (void)unused;
     fflush(NULL);
     _exit(status ? 0 : 3);
+}
+
+__attribute__((destructor)) static void delay(void) {
+    if (HAS(LATE)) sleep(100);
 }
 
 __attribute__((constructor)) static void begin(int argc, char **argv) {

@@ -114,7 +114,7 @@ spoil_trace() {
 
 # at_end: what is done when the tool ends, also by a signal. In a subshell it only ends what that has started
 at_end() {
-    exec 2> /dev/null  # bash would report the end of each process
+    exec 2>&-  # bash would report the end of each process; a redirection may have no descriptor left
     trap '' HUP INT PIPE TERM
     stop_jobs
     [ $BASHPID = $$ ] || return 0
@@ -209,6 +209,9 @@ compiled() {
     compiling=''
 }
 
+# is_option WORD: whether the first argument is an option where a trace is wanted. A file's name may begin with a dash
+is_option() { [[ $1 = -?* && ! -e $1 ]]; }
+
 # readable TRACE: ends where a trace is neither '-' nor something that can be read
 readable() { [ "$1" = - ] || { [ -r "$1" ] && [ ! -d "$1" ]; } || fail "$1: no file that can be read"; }
 
@@ -232,6 +235,9 @@ swept() { watched "$cachesim" sweep "$@"; }
 # make_pipes FILE..: makes these named pipes, without a word where a signal has removed their folder
 make_pipes() { mkfifo -- "$@" 2> /dev/null || fail "$1: no named pipe can be made there"; }
 
+# hand_out PIPE..: copies standard input to each of these
+hand_out() { tee -p -- "${@:2}" > "$1"; }
+
 # side_by_side TRACE STEP..: runs functions side by side over one reading of a trace. Each has it as standard input and writes to
 # $folder/STEP. Where one fails, its message is told and the tool ends with its status.
 side_by_side() {
@@ -243,7 +249,7 @@ side_by_side() {
         { "$step" 2> "$folder/$step.fault" > "$folder/$step" < "$folder/$step.pipe" & } 2> /dev/null
         jobs+=($!)
     done
-    unpacked "$1" | tee -p -- "${pipes[@]:1}" > "${pipes[0]}" || {
+    unpacked "$1" | hand_out "${pipes[@]}" || {
         ends=("${PIPESTATUS[@]}")
         [ "${ends[1]}" = 0 ] || exit 1 # a step may still wait for it
         status=${ends[0]}

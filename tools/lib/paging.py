@@ -41,8 +41,8 @@ class Pair:
     def cost(self, before):
         """What a pair adds to a page behind another pair, or None: the part of the references that it looks at, and its
         searches for those that it does not find in front. What the pair before it finds in front it need not look at."""
-        looks = min(1, 2 / before.size**0.35) if before and before.bsize == self.bsize else 1
-        return looks + 9 * math.log2(1 + int(self.assoc)) / self.size**0.55
+        looks = min(1, 2.7 / before.size**0.18) if before and before.bsize == self.bsize else 1
+        return looks + 13 * math.log2(1 + int(self.assoc)) / self.size**0.57
 
 
 class Page:
@@ -113,7 +113,7 @@ def split(options):
         name, equals, value = left.pop(0).partition("=")
         if name == "--":
             continue
-        if name == "--pow2":
+        if not equals and (not left or left[0].startswith("-")):  # as --pow2
             arguments.append(name)
             continue
         value = value if equals else left.pop(0)

@@ -154,7 +154,7 @@ class Runs:
     def start(self):
         """Starts as many as may run at once, and what unpacks the trace."""
         try:
-            for _ in range(self.jobs):
+            for _ in range(min(self.jobs, len(self.commands))):
                 self.start_next()
             if self.is_packed:
                 with uninterrupted():
@@ -277,6 +277,8 @@ def write_out(texts):
             left = memoryview(text)
             while left:
                 left = left[os.write(1, left):]
+    except BrokenPipeError:
+        raise SystemExit(tool.READER_GONE) from None
     except OSError:
         tool.fail("write failed")
 

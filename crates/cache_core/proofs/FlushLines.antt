@@ -15,7 +15,7 @@ use Rattle.cache_core.specs.Machine.{Machine, run, dirty_count}
 use Rattle.cache_core.specs.Plans.{PlannedCaches}
 use Rattle.cache_core.specs.Systems.{machine_of, takes, events_for, sent, below}
 use Rattle.cache_core.specs.Arrivals.{flushes, arrivals_of}
-use Rattle.cache_core.specs.LogLaws.{cache_of, events_at, names_in, name_if_there, names_of, dirty_at, found_from, found}
+use Rattle.cache_core.specs.LogLaws.{planned_of, events_at, names_in, name_if_there, names_of, dirty_at, found_from, found}
 use Rattle.cache_core.specs.LogLaws.{FlushNamesLaw, FlushCountsLaw}
 use Rattle.cache_core.proofs.SystemPushes.{events_taken, events_left, events_flush, below_push, below_flush}
 use Rattle.cache_core.proofs.LowerLaw.{with_refs, with_refs-cons}
@@ -113,7 +113,7 @@ nothing_found seed (Some planned) = refl
 
 module _ (plan : PlannedCaches) (seed : ℕ) where
   abbrev counts : CacheName → List Event → List ℕ
-  counts name events = found seed (cache_of plan name) (events_at plan seed name events)
+  counts name events = found seed (planned_of plan name) (events_at plan seed name events)
 
   counts_reference : (name : CacheName) (earlier : List Event) (ref : Ref) → counts name (earlier ++ event.Reference ref ∷ []) ≡ counts name earlier
   counts_reference L1I earlier ref = found_taken seed plan.i L1I earlier ref
@@ -124,7 +124,7 @@ module _ (plan : PlannedCaches) (seed : ℕ) where
 
   counts_flush : (name : CacheName) (earlier : List Event) →
       counts name (earlier ++ event.Flush ∷ [])
-      ≡ counts name earlier ++ flat_map (dirty_at name) (flushes seed name (cache_of plan name) (events_at plan seed name earlier))
+      ≡ counts name earlier ++ flat_map (dirty_at name) (flushes seed name (planned_of plan name) (events_at plan seed name earlier))
   counts_flush L1I earlier = ap (found seed plan.i) (events_flush L1I earlier) ∙ found_flush seed L1I plan.i (events_for L1I earlier)
   counts_flush L1D earlier = ap (found seed plan.d) (events_flush L1D earlier) ∙ found_flush seed L1D plan.d (events_for L1D earlier)
   counts_flush L1U earlier = ap (found seed plan.u) (events_flush L1U earlier) ∙ found_flush seed L1U plan.u (events_for L1U earlier)

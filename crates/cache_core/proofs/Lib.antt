@@ -41,6 +41,7 @@ pub mod FollowLaw
 pub mod LinesLaw
 pub mod FlushLines
 mod ArrivalRows
+mod FollowRows
 pub mod SlotSums
 pub mod AnyLaw
 pub mod TouchedSets

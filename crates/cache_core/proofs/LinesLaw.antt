@@ -16,7 +16,7 @@ use Rattle.cache_core.specs.Machine.{run, step, with_effects}
 use Rattle.cache_core.specs.Plans.{PlannedCaches}
 use Rattle.cache_core.specs.Systems.{machine_of, takes, events_for, sent, below, is_taken}
 use Rattle.cache_core.specs.Arrivals.{arrives, arrives_first, arrive_below, at_memory, passes, lower_arrivals, arrivals_of, arrivals_from}
-use Rattle.cache_core.specs.LogLaws.{is_same, cache_of, events_at, lines_at, line_of, lines_of, LinesLaw, GrowthLaw}
+use Rattle.cache_core.specs.LogLaws.{is_same, planned_of, events_at, lines_at, access_line, access_lines, LinesLaw, GrowthLaw}
 use Rattle.cache_core.proofs.Pushes.{with_effects_push, with_effects_flush}
 use Rattle.cache_core.proofs.SystemPushes.{events_taken, events_left, events_flush, below_push, below_flush}
 use Rattle.cache_core.proofs.LowerLaw.{with_refs, with_refs-cons}
@@ -32,19 +32,19 @@ same L2U = refl
 -- a line more for each reference
 module _ (seed : ℕ) (name : CacheName) where
   lines_push : (planned : Option PlannedCache) (events : List Event) (ref : Ref) →
-      lines_of seed name planned (events ++ event.Reference ref ∷ []) ≡ lines_of seed name planned events ++ arrives seed name planned events ref
+      access_lines seed name planned (events ++ event.Reference ref ∷ []) ≡ access_lines seed name planned events ++ arrives seed name planned events ref
   lines_push None events ref = refl
   lines_push (Some planned) events ref =
       let m = machine_of seed planned in
-      ap (map (line_of name planned.design.geometry)) (with_effects_push m events ref)
-      ∙ map-append (line_of name planned.design.geometry) (with_effects m events) ((ref, (step m (run m events) ref).effect) ∷ [])
+      ap (map (access_line name planned.design.geometry)) (with_effects_push m events ref)
+      ∙ map-append (access_line name planned.design.geometry) (with_effects m events) ((ref, (step m (run m events) ref).effect) ∷ [])
 
   lines_flush : (planned : Option PlannedCache) (events : List Event) →
-      lines_of seed name planned (events ++ event.Flush ∷ []) ≡ lines_of seed name planned events
+      access_lines seed name planned (events ++ event.Flush ∷ []) ≡ access_lines seed name planned events
   lines_flush None events = refl
-  lines_flush (Some planned) events = ap (map (line_of name planned.design.geometry)) (with_effects_flush (machine_of seed planned) events)
+  lines_flush (Some planned) events = ap (map (access_line name planned.design.geometry)) (with_effects_flush (machine_of seed planned) events)
 
-  none_shown : (planned : Option PlannedCache) → lines_of seed name planned [] ≡ []
+  none_shown : (planned : Option PlannedCache) → access_lines seed name planned [] ≡ []
   none_shown None = refl
   none_shown (Some planned) = refl
 
@@ -55,33 +55,33 @@ module _ (seed : ℕ) (name : CacheName) where
       ap (λ b. cond b (arrives seed name (Some planned) events ref) [] ++ []) (same name)
 
   first_shown : (planned : Option PlannedCache) (earlier : List Event) (ref : Ref) →
-      lines_of seed name planned (events_for name (earlier ++ event.Reference ref ∷ []))
-      ≡ lines_of seed name planned (events_for name earlier) ++ flat_map (lines_at name) (arrives_first seed name planned earlier ref)
+      access_lines seed name planned (events_for name (earlier ++ event.Reference ref ∷ []))
+      ≡ access_lines seed name planned (events_for name earlier) ++ flat_map (lines_at name) (arrives_first seed name planned earlier ref)
   first_shown None earlier ref = refl
   first_shown (Some planned) earlier ref = by_test (takes name ref) refl
     where
       before : List Arrival
-      before = lines_of seed name (Some planned) (events_for name earlier)
+      before = access_lines seed name (Some planned) (events_for name earlier)
 
       here : List Arrival
       here = arrives seed name (Some planned) (events_for name earlier) ref
 
       by_test : (b : Bool) → takes name ref ≡ b →
-          lines_of seed name (Some planned) (events_for name (earlier ++ event.Reference ref ∷ []))
+          access_lines seed name (Some planned) (events_for name (earlier ++ event.Reference ref ∷ []))
           ≡ before ++ flat_map (lines_at name) (cond b here [])
       by_test true t =
-          ap (lines_of seed name (Some planned)) (events_taken name earlier ref t) ∙ lines_push (Some planned) (events_for name earlier) ref
+          ap (access_lines seed name (Some planned)) (events_taken name earlier ref t) ∙ lines_push (Some planned) (events_for name earlier) ref
           ∙ ap (λ lines. before ++ lines) (sym (all_shown (Some planned) (events_for name earlier) ref))
-      by_test false t = ap (lines_of seed name (Some planned)) (events_left name earlier ref t) ∙ sym (append-nil before)
+      by_test false t = ap (access_lines seed name (Some planned)) (events_left name earlier ref t) ∙ sym (append-nil before)
 
   only_lines : OnlyAt (lines_at name) name
   only_lines = (λ other e r h v. ap (λ b. cond b (Cache other r h v ∷ []) []) e, λ r. refl, λ r. refl)
 
 -- the second level
 below_shown : (seed : ℕ) (second : Option PlannedCache) (before : List Event) (refs : List Ref) →
-    lines_of seed L2U second (with_refs before refs)
-    ≡ lines_of seed L2U second before ++ flat_map (lines_at L2U) (arrive_below seed second before refs)
-below_shown seed second before [] = ap (lines_of seed L2U second) (append-nil before) ∙ sym (append-nil (lines_of seed L2U second before))
+    access_lines seed L2U second (with_refs before refs)
+    ≡ access_lines seed L2U second before ++ flat_map (lines_at L2U) (arrive_below seed second before refs)
+below_shown seed second before [] = ap (access_lines seed L2U second) (append-nil before) ∙ sym (append-nil (access_lines seed L2U second before))
 below_shown seed second before (ref ∷ refs) =
     let more = before ++ event.Reference ref ∷ [] in
     let one = arrives seed L2U second before ref in
@@ -91,17 +91,17 @@ below_shown seed second before (ref ∷ refs) =
     flat_map-append (lines_at L2U) one memory ∙ ap (λ lines. flat_map (lines_at L2U) one ++ lines)
     (quiet_memory (lines_at L2U) (λ r. refl) (passes seed second before ref))
     ∙ append-nil (flat_map (lines_at L2U) one) ∙ all_shown seed L2U second before ref in
-    ap (lines_of seed L2U second) (sym (with_refs-cons before ref refs)) ∙ below_shown seed second more refs
+    ap (access_lines seed L2U second) (sym (with_refs-cons before ref refs)) ∙ below_shown seed second more refs
     ∙ ap (λ lines. lines ++ flat_map (lines_at L2U) later) (lines_push seed L2U second before ref)
-    ∙ append_assoc (lines_of seed L2U second before) one (flat_map (lines_at L2U) later)
-    ∙ ap (λ lines. lines_of seed L2U second before ++ lines)
+    ∙ append_assoc (access_lines seed L2U second before) one (flat_map (lines_at L2U) later)
+    ∙ ap (λ lines. access_lines seed L2U second before ++ lines)
     (sym (flat_map-append (lines_at L2U) (one ++ memory) later ∙ ap (λ lines. lines ++ flat_map (lines_at L2U) later) seen))
 
 module _ (plan : PlannedCaches) (seed : ℕ) where
   lower_shown : (earlier : List Event) (ref : Ref) →
-      lines_of seed L2U plan.second (below plan seed (earlier ++ event.Reference ref ∷ []))
-      ≡ lines_of seed L2U plan.second (below plan seed earlier) ++ flat_map (lines_at L2U) (lower_arrivals plan seed earlier ref)
-  lower_shown earlier ref = ap (lines_of seed L2U plan.second) (below_push plan seed earlier ref) ∙ by_test (is_taken plan ref) refl
+      access_lines seed L2U plan.second (below plan seed (earlier ++ event.Reference ref ∷ []))
+      ≡ access_lines seed L2U plan.second (below plan seed earlier) ++ flat_map (lines_at L2U) (lower_arrivals plan seed earlier ref)
+  lower_shown earlier ref = ap (access_lines seed L2U plan.second) (below_push plan seed earlier ref) ∙ by_test (is_taken plan ref) refl
     where
       down : List Ref
       down = sent plan seed earlier ref
@@ -110,16 +110,16 @@ module _ (plan : PlannedCaches) (seed : ℕ) where
       before = below plan seed earlier
 
       by_test : (b : Bool) → is_taken plan ref ≡ b →
-          lines_of seed L2U plan.second (with_refs before down)
-          ≡ lines_of seed L2U plan.second before
+          access_lines seed L2U plan.second (with_refs before down)
+          ≡ access_lines seed L2U plan.second before
           ++ flat_map (lines_at L2U) (cond b (arrive_below seed plan.second before down) (Bypassed ref ∷ []))
       by_test true t = below_shown seed plan.second before down
       by_test false t =
-          ap (λ refs. lines_of seed L2U plan.second (with_refs before refs)) (untaken_sent plan seed earlier ref t)
-          ∙ ap (lines_of seed L2U plan.second) (append-nil before) ∙ sym (append-nil (lines_of seed L2U plan.second before))
+          ap (λ refs. access_lines seed L2U plan.second (with_refs before refs)) (untaken_sent plan seed earlier ref t)
+          ∙ ap (access_lines seed L2U plan.second) (append-nil before) ∙ sym (append-nil (access_lines seed L2U plan.second before))
 
   abbrev whole : CacheName → List Event → List Arrival
-  whole name events = lines_of seed name (cache_of plan name) (events_at plan seed name events)
+  whole name events = access_lines seed name (planned_of plan name) (events_at plan seed name events)
 
   reference_shown : (name : CacheName) (earlier : List Event) (ref : Ref) →
       whole name (earlier ++ event.Reference ref ∷ [])
@@ -139,10 +139,10 @@ module _ (plan : PlannedCaches) (seed : ℕ) where
       (sym (at_lower (lines_at L2U) plan seed earlier ref (λ r h v. refl) (λ r h v. refl) (λ r h v. refl)))
 
   flush_shown : (name : CacheName) (earlier : List Event) → whole name (earlier ++ event.Flush ∷ []) ≡ whole name earlier
-  flush_shown L1I earlier = ap (lines_of seed L1I plan.i) (events_flush L1I earlier) ∙ lines_flush seed L1I plan.i (events_for L1I earlier)
-  flush_shown L1D earlier = ap (lines_of seed L1D plan.d) (events_flush L1D earlier) ∙ lines_flush seed L1D plan.d (events_for L1D earlier)
-  flush_shown L1U earlier = ap (lines_of seed L1U plan.u) (events_flush L1U earlier) ∙ lines_flush seed L1U plan.u (events_for L1U earlier)
-  flush_shown L2U earlier = ap (lines_of seed L2U plan.second) (below_flush plan seed earlier) ∙ lines_flush seed L2U plan.second (below plan seed earlier)
+  flush_shown L1I earlier = ap (access_lines seed L1I plan.i) (events_flush L1I earlier) ∙ lines_flush seed L1I plan.i (events_for L1I earlier)
+  flush_shown L1D earlier = ap (access_lines seed L1D plan.d) (events_flush L1D earlier) ∙ lines_flush seed L1D plan.d (events_for L1D earlier)
+  flush_shown L1U earlier = ap (access_lines seed L1U plan.u) (events_flush L1U earlier) ∙ lines_flush seed L1U plan.u (events_for L1U earlier)
+  flush_shown L2U earlier = ap (access_lines seed L2U plan.second) (below_flush plan seed earlier) ∙ lines_flush seed L2U plan.second (below plan seed earlier)
 
   more : (name : CacheName) (earlier : List Event) (e : Event) →
       whole name (earlier ++ e ∷ []) ≡ whole name earlier ++ flat_map (lines_at name) (arrivals_of plan seed earlier e)

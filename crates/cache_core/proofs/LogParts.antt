@@ -13,7 +13,7 @@ use Rattle.cache_core.specs.declared.arrival.Arrival.TheVariants.{Cache, Memory,
 use Rattle.cache_core.specs.declared.plan.PlannedCache.{PlannedCache}
 use Rattle.cache_core.specs.declared.plan.CacheName.{CacheName}
 use Rattle.cache_core.specs.declared.plan.CacheName.TheVariants.{L1I, L1D, L1U, L2U}
-use Rattle.cache_core.specs.LogLaws.{is_same, cache_of, events_at}
+use Rattle.cache_core.specs.LogLaws.{is_same, planned_of, events_at}
 use Rattle.cache_core.specs.Plans.{PlannedCaches}
 use Rattle.cache_core.specs.Systems.{takes, events_for, sent, below, is_taken}
 use Rattle.cache_core.specs.Arrivals.{arrives, arrives_first, arrives_below, arrive_below, at_memory, passes, flushes}
@@ -126,7 +126,7 @@ module _ {X : Type 0} (p : Arrival → List X) where
   OnlyAt name = ((other : CacheName) → is_same name other ≡ false → QuietAt other) × QuietAtMemory × ((ref : Ref) → p (Bypassed ref) ≡ [])
 
   pub at_first : (plan : PlannedCaches) (seed : ℕ) (earlier : List Event) (ref : Ref) (name : CacheName) → is_same name L2U ≡ false → OnlyAt name →
-      flat_map p (arrivals_of plan seed earlier (event.Reference ref)) ≡ flat_map p (arrives_first seed name (cache_of plan name) earlier ref)
+      flat_map p (arrivals_of plan seed earlier (event.Reference ref)) ≡ flat_map p (arrives_first seed name (planned_of plan name) earlier ref)
   at_first plan seed earlier ref L1I first (q, m, n) =
       reference_parts plan seed earlier ref
       ∙ only_first (flat_map p (arrives_first seed L1I plan.i earlier ref)) _ _ _ (quiet_first seed L1D plan.d earlier ref (q L1D refl))
@@ -153,7 +153,7 @@ module _ {X : Type 0} (p : Arrival → List X) where
   pub at_flush : (plan : PlannedCaches) (seed : ℕ) (earlier : List Event) (name : CacheName) →
       ((other : CacheName) → is_same name other ≡ false → QuietAtFlush other) →
       flat_map p (arrivals_of plan seed earlier event.Flush)
-      ≡ flat_map p (flushes seed name (cache_of plan name) (events_at plan seed name earlier))
+      ≡ flat_map p (flushes seed name (planned_of plan name) (events_at plan seed name earlier))
   at_flush plan seed earlier L1I q =
       flush_parts plan seed earlier
       ∙ only_first (flat_map p (flushes seed L1I plan.i (events_for L1I earlier))) _ _ _ (quiet_flush seed L1D plan.d (events_for L1D earlier) (q L1D refl))
@@ -168,7 +168,8 @@ module _ {X : Type 0} (p : Arrival → List X) where
       (quiet_flush seed L1D plan.d (events_for L1D earlier) (q L1D refl)) (quiet_flush seed L2U plan.second (below plan seed earlier) (q L2U refl))
   at_flush plan seed earlier L2U q =
       flush_parts plan seed earlier
-      ∙ only_fourth _ _ _ (flat_map p (flushes seed L2U plan.second (below plan seed earlier))) (quiet_flush seed L1I plan.i (events_for L1I earlier) (q L1I refl))
+      ∙ only_fourth _ _ _ (flat_map p (flushes seed L2U plan.second (below plan seed earlier)))
+      (quiet_flush seed L1I plan.i (events_for L1I earlier) (q L1I refl))
       (quiet_flush seed L1D plan.d (events_for L1D earlier) (q L1D refl)) (quiet_flush seed L1U plan.u (events_for L1U earlier) (q L1U refl))
 
 -- What is picked from the whole log, where each event adds what is picked from its lines.

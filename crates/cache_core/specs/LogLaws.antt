@@ -1,7 +1,7 @@
 -- What the log must show, said of its lines alone and of the references that come to the system: which come to which cache, to
 -- memory, and to none.
-use Rattle.std.specs.Prelude.{◌≡◌, ℕ, ◌*◌, ◌-◌, ◌%◌, ◌^◌, Bool, true, false, not, List, [], ◌∷◌, ◌++◌, Option, Some, None, is_some, is_none, filter, map, flat_map}
-use Rattle.std.specs.Prelude.{if◌then◌else◌}
+use Rattle.std.specs.Prelude.{◌≡◌, ℕ, ◌*◌, ◌-◌, ◌%◌, ◌^◌, Bool, true, false, not, List, [], ◌∷◌, ◌++◌, Option, Some, None}
+use Rattle.std.specs.Prelude.{is_some, is_none, filter, map, flat_map, if◌then◌else◌}
 use Rattle.std.specs.Option.{option_map}
 use Rattle.trace_core.specs.declared.events.Ref.{Ref}
 use Rattle.trace_core.specs.declared.events.Access.TheVariants.{Fetch, Read, Write}
@@ -146,11 +146,11 @@ abbrev pub FollowLaw : Type 0
 FollowLaw = (plan : PlannedCaches) (seed : ℕ) (events : List Event) → IsPlan plan → Follow plan [] [] (arrivals plan seed events)
 
 -- the cache of this name, if the plan has it
-abbrev pub cache_of : PlannedCaches → CacheName → Option PlannedCache
-cache_of plan L1I = plan.i
-cache_of plan L1D = plan.d
-cache_of plan L1U = plan.u
-cache_of plan L2U = plan.second
+abbrev pub planned_of : PlannedCaches → CacheName → Option PlannedCache
+planned_of plan L1I = plan.i
+planned_of plan L1D = plan.d
+planned_of plan L1U = plan.u
+planned_of plan L2U = plan.second
 
 -- the events that come to it
 abbrev pub events_at : PlannedCaches → ℕ → CacheName → List Event → List Event
@@ -165,19 +165,19 @@ lines_at name (Cache at ref hit victim) = if is_same name at then Cache at ref h
 lines_at name _ = []
 
 -- the line that shows a reference with its effect: whether it hit, and the first address of the block that it evicted
-abbrev pub line_of : CacheName → GeometryValue → Ref × Effect → Arrival
-line_of name g access =
+abbrev pub access_line : CacheName → GeometryValue → Ref × Effect → Arrival
+access_line name g access =
     Cache name access.0 access.1.hit (option_map (λ slot. record { addr = slot.block * 2 ^ g.b; dirty = slot.dirty }) access.1.evicted)
 
 -- the lines that show what a cache does for its events, if there is one
-abbrev pub lines_of : ℕ → CacheName → Option PlannedCache → List Event → List Arrival
-lines_of seed name None events = []
-lines_of seed name (Some planned) events = map (line_of name planned.design.geometry) (with_effects (machine_of seed planned) events)
+abbrev pub access_lines : ℕ → CacheName → Option PlannedCache → List Event → List Arrival
+access_lines seed name None events = []
+access_lines seed name (Some planned) events = map (access_line name planned.design.geometry) (with_effects (machine_of seed planned) events)
 
 -- the lines of each cache show, in order, the references that come to it, each with its effect
 abbrev pub LinesLaw : Type 0
 LinesLaw = (name : CacheName) (plan : PlannedCaches) (seed : ℕ) (events : List Event) →
-    flat_map (lines_at name) (arrivals plan seed events) ≡ lines_of seed name (cache_of plan name) (events_at plan seed name events)
+    flat_map (lines_at name) (arrivals plan seed events) ≡ access_lines seed name (planned_of plan name) (events_at plan seed name events)
 
 -- the log of more events begins with that of fewer
 abbrev pub GrowthLaw : Type 0
@@ -224,4 +224,4 @@ found seed (Some planned) events = found_from (machine_of seed planned) [] event
 -- the lines of the flushes of a cache show, in order, how many dirty blocks each finds
 abbrev pub FlushCountsLaw : Type 0
 FlushCountsLaw = (name : CacheName) (plan : PlannedCaches) (seed : ℕ) (events : List Event) →
-    flat_map (dirty_at name) (arrivals plan seed events) ≡ found seed (cache_of plan name) (events_at plan seed name events)
+    flat_map (dirty_at name) (arrivals plan seed events) ≡ found seed (planned_of plan name) (events_at plan seed name events)

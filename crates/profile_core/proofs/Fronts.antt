@@ -36,7 +36,12 @@ pub fit_of : {es : List Event} {v : ProfileState} → ProfileStandsFor es v → 
 fit_of {es = es} {v = v} h = record {
   some = h.geometry.some;
   set_count = h.set_count;
-  short = short_all v.lists v.geometry.e (λ k lt. omega (arith, ap length (h.lists k (omega (arith, lt, h.set_count))), length-take v.geometry.e (distinct_of_set v.geometry k (window v.geometry es))));
+  short = short_all v.lists v.geometry.e (λ k lt. omega (
+    arith,
+    ap length (h.lists k (omega (arith, lt, h.set_count))),
+    length-take v.geometry.e
+        (distinct_of_set v.geometry k (window v.geometry es)),
+  ));
   distance_count = h.distance_count;
   occupancy_count = h.occupancy_count;
 }
@@ -66,7 +71,8 @@ sum-lift : (n : ℕ) (ds : List ℕ) → 1 ≤ length ds → sum (lift n ds) ≡
 sum-lift n ds some = omega (arith, sum_by-set (λ m. m) ds 0 (get_or ds 0 0 + n) 0 (omega (arith, some)))
 
 pub fronts_none : (v : ProfileState) → after_fronts 0 v ≡ v
-fronts_none v = ap (λ ds. record v { distances = ds; probes = v.probes + 0 }) (lift-none v.distances) ∙ ap (λ n. record v { probes = n }) {x = v.probes + 0} {y = v.probes} (omega arith)
+fronts_none v = ap (λ ds. record v { distances = ds; probes = v.probes + 0 }) (lift-none v.distances) ∙ ap (λ n. record v { probes = n })
+    {x = v.probes + 0} {y = v.probes} (omega arith)
 
 pub fronts_fronts : (m n : ℕ) (v : ProfileState) → after_fronts m (after_fronts n v) ≡ after_fronts (n + m) v
 fronts_fronts m n v =
@@ -141,7 +147,8 @@ module _ {g : GeometryValue} {lists : Lists} {behind missed : List ℕ} {probes 
         occupancy_count = h.occupancy_count;
         told = omega (arith, h.told);
         fed = omega (arith, fed, was, few);
-        compared = subst (λ (k : ℕ). probes + n ≤ k * g.e) (sym fed) (grows probes (sum (distances_of probes behind missed) + sum missed) g.e n some h.compared);
+        compared = subst (λ (k : ℕ). probes + n ≤ k * g.e) (sym fed) (grows probes (sum (distances_of probes behind missed) + sum missed) g.e n some
+            h.compared);
       }
 
   pub counted_after : (n : ℕ) → state_of g lists behind missed (probes + n) ≡ after_fronts n v
@@ -264,7 +271,8 @@ leads_empty : (v w : ProfileState) → v.lists ≡ replicate (2 ^ v.geometry.s) 
 leads_empty v w none = λ a front.
     let x : ℕ = block_of v.geometry a in
     let outside : false ≡ true =
-    sym (no_front (2 ^ v.geometry.s) (set_of_block v.geometry x) x) ∙ sym (ap (λ (ls : List (List ℕ)). is_front x (get_or ls (set_of_block v.geometry x) [])) none) ∙ front in
+    sym (no_front (2 ^ v.geometry.s) (set_of_block v.geometry x) x) ∙ sym (ap (λ (ls : List (List ℕ)). is_front x
+    (get_or ls (set_of_block v.geometry x) [])) none) ∙ front in
     absurd (cc)
 
 leads_event : (v w : ProfileState) → IsFit v → IsFit w → IsFiner v.geometry w.geometry → Leads v w → (e : Event) → Leads (after_event v e) (after_event w e)

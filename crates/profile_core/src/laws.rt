@@ -30,9 +30,9 @@ pub fn stands_after()
         → ProfileStandsFor es (fold after_event (empty g) es) }
 {}
 
-/// What finds its block in front of its set's list does so in each profile with more sets of the same
-/// block size too, and where there is but one set, in each with larger blocks: these profiles are
-/// fed the same events.
+/// What finds its block in front of its set's list does so in each profile with more sets of the
+/// same block size too, and where there is but one set, in each with larger blocks: these profiles
+/// are fed the same events.
 pub fn fronts_are_refined()
     ensures { (g h : GeometryValue) (es : List Event) (addr : ℕ) → IsGeometry g → IsGeometry h
         → is_refined g h ≡ true

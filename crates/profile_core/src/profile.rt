@@ -6,7 +6,8 @@ ghost use Rattle.cache_core.specs.Geometry.{IsGeometry, geometry_value, block_of
 ghost use Rattle.cache_core.specs.Windows.{occurrences, counts, probes, held};
 ghost use Rattle.profile_core.specs.State.{empty, list_of, after_reference, after_flush, fed_of};
 ghost use Rattle.profile_core.specs.State.{held_of, counts_at, hit_sums_at, weighed, IsNext};
-ghost use Rattle.profile_core.specs.Fronts.{finds_front, after_unless_front, after_fronts, is_refined};
+ghost use Rattle.profile_core.specs.Fronts.{finds_front, after_unless_front, after_fronts};
+ghost use Rattle.profile_core.specs.Fronts.{is_refined};
 ghost use Rattle.profile_core.specs.Moves.{is_second};
 ghost use Rattle.profile_core.specs.ProfileStandsFor.{ProfileStandsFor};
 

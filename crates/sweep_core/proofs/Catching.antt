@@ -63,7 +63,8 @@ led-after es (x ∷ xs) fresh links =
 fit-after : (es : List Event) (xs : List PairProfile) → Each IsFresh xs → Each (λ x. IsFit x.profile) (all_after es xs)
 fit-after es [] fresh = tt
 fit-after es (x ∷ xs) fresh = (
-  subst (λ v. IsFit (fold after_event v es)) {x = empty x.profile.geometry} {y = x.profile} (sym fresh.0.is) (fit_of (stands_after x.profile.geometry es fresh.0.geometry)),
+  subst (λ v. IsFit (fold after_event v es)) {x = empty x.profile.geometry} {y = x.profile} (sym fresh.0.is)
+      (fit_of (stands_after x.profile.geometry es fresh.0.geometry)),
   fit-after es xs fresh.1,
 )
 
@@ -192,9 +193,11 @@ refined-each : (g : GeometryValue) (xs : List PairProfile) → Each (λ y. is_re
 unfolding linked
 refined-each g [] = tt
 refined-each g (x ∷ xs) =
-    cases (λ b. is_refined g x.profile.geometry ≡ b → Each (λ y. is_refined g y.profile.geometry ≡ true) (take (cond (not (not b)) (1 + implied_by g xs) 0) (linked (x ∷ xs))))
+    cases (λ b. is_refined g x.profile.geometry ≡ b → Each (λ y. is_refined g y.profile.geometry ≡ true)
+    (take (cond (not (not b)) (1 + implied_by g xs) 0) (linked (x ∷ xs))))
     (is_refined g x.profile.geometry)
-    (λ t is. subst (λ n. Each (λ y. is_refined g y.profile.geometry ≡ true) (take n (linked (x ∷ xs)))) {x = suc (implied_by g xs)} {y = 1 + implied_by g xs} (omega arith) (is, refined-each g xs))
+    (λ t is. subst (λ n. Each (λ y. is_refined g y.profile.geometry ≡ true) (take n (linked (x ∷ xs)))) {x = suc (implied_by g xs)}
+    {y = 1 + implied_by g xs} (omega arith) (is, refined-each g xs))
     (λ f is. tt)
     refl
 
@@ -232,7 +235,8 @@ linked-is (x ∷ xs) =
 
 link-here : (xs : List PairProfile) (i n : ℕ) (d : PairProfile) → i < length xs
     → n ≡ implied_by (get_or (take i (linked xs) ++ drop i xs) i d).profile.geometry (drop (suc i) (take i (linked xs) ++ drop i xs))
-    → set (take i (linked xs) ++ drop i xs) i (record (get_or (take i (linked xs) ++ drop i xs) i d) { implied = n }) ≡ take (suc i) (linked xs) ++ drop (suc i) xs
+    → set (take i (linked xs) ++ drop i xs) i (record (get_or (take i (linked xs) ++ drop i xs) i d) { implied = n }) ≡ take (suc i) (linked xs) ++ drop
+    (suc i) xs
 unfolding linked
 link-here [] i n d inside is = absurd (omega (arith, inside))
 link-here (x ∷ xs) zero n d inside is = ap (λ m. record x { implied = m } ∷ xs) is

@@ -28,11 +28,11 @@ pub type SweepFault = RunFault;
 /// greatest associativity in the space. A reference is fed to each of them as it is read, except
 /// where one profile has the block in front and so others must have it in front too.
 ///
-/// It returns the number of comparisons of a block with an entry of a recency list, as it is defined
-/// by the trace and the space: each profile looks for each reference's block from the most recent
-/// entry on, which takes at most as many comparisons as the profile is deep. One look that decides
-/// for several profiles counts as one comparison in each of them. No comparison is made that isn't
-/// counted.
+/// It returns the number of comparisons of a block with an entry of a recency list, as it is
+/// defined by the trace and the space: each profile looks for each reference's block from the most
+/// recent entry on, which takes at most as many comparisons as the profile is deep. One look that
+/// decides for several profiles counts as one comparison in each of them. No comparison is made
+/// that isn't counted.
 ///
 /// Errors: `Memory`, with nothing read or written; `Trace` where the trace has a fault or the
 /// source failed, with nothing written; `Write` where the sink failed, after the whole trace was

@@ -237,7 +237,7 @@ def last_line(path):
 
 def hard_traces(folder):
     """Makes the traces by which to judge where none is named. Answers their names in the folder."""
-    maker = pathlib.Path(__file__).resolve().with_name("hard-traces")
+    maker = pathlib.Path(__file__).resolve().parents[1] / "hard-traces"
     made = subprocess.run([maker, folder], stdout=subprocess.PIPE, text=True, check=False)
     return made.stdout.split() if made.returncode == 0 else sys.exit(tool.failure)
 

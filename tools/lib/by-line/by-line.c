@@ -1,23 +1,33 @@
-// Counts the references that arrive at a cache by program counter and object: the inner half of by-line, which has the help.
+// Counts the references that arrive at a cache by program counter and object: the inner half of
+// by-line, which has the help.
 //
-//     by-line PLACE SHIFT OBJECTS LOG [FULL]
+//     by-line FORMAT TAKEN PLACE SHIFT OBJECTS TO LOG [TO FULL] < TRACE
 //
-// LOG is what `cachesim log` writes, and FULL the same with a fully associative LRU cache at the PLACE; both are read as they come, so
-// that one reading of a trace can serve both. A block has 2^SHIFT bytes. Each line of the file OBJECTS begins with the first address of an
-// object and the first address after it, in hexadecimal, by rising addresses. The answer has a line for each pair of a program counter
-// and an object, and then one for each two pairs of which one had evicted the block that the other misses:
+// It hands the trace out to each TO, where `cachesim log` reads it: LOG is what this writes, and FULL
+// the same with a fully associative LRU cache at the PLACE. FORMAT is d or l, and TAKEN is d, i or u:
+// what the first-level caches take. A block has 2^SHIFT bytes. Each line of the file OBJECTS begins
+// with the first address of an object and the first address after it, in hexadecimal, by rising
+// addresses. The answer has a line for each pair of a program counter and an object, and then one
+// for each two pairs of which one had evicted the block that the other misses:
 //
-//     cell PC OBJECT REFERENCES MISSES COMPULSORY CAPACITY      PC is '-' before the first fetch, OBJECT counts from 0 or is -1
-//     evicted CELL BY MISSES                                    the numbers of two cells, from 0
+//     cell PC OBJECT REFERENCES MISSES COMPULSORY CAPACITY
+//     evicted CELL BY MISSES                                  the numbers of two cells, from 0
+//     end
+//
+// PC is '-' before the first fetch, OBJECT counts from 0 or is -1. Where a log goes away, there is no
+// answer.
+#define _GNU_SOURCE
 #include <err.h>
 #include <errno.h>
 #include <fcntl.h>
 #include <poll.h>
+#include <signal.h>
 #include <stdbool.h>
 #include <stdint.h>
 #include <stdio.h>
 #include <stdlib.h>
 #include <string.h>
+#include <time.h>
 #include <unistd.h>
 
 enum { FAILED = 1, ROOM = 1 << 18 };
@@ -26,6 +36,13 @@ static void *grown(void *memory, size_t size) {
     void *larger = realloc(memory, size);
     if (!larger) errx(FAILED, "too little memory");
     return larger;
+}
+
+static const char *hexadecimal(const char *at, uint64_t *number) {
+    static const signed char values[256] = {['0'] = 1, 2, 3, 4, 5, 6, 7, 8, 9, 10,
+                                            ['A'] = 11, 12, 13, 14, 15, 16, ['a'] = 11, 12, 13, 14, 15, 16};
+    for (*number = 0; values[(unsigned char)*at]; at++) *number = *number << 4 | (uint64_t)(values[(unsigned char)*at] - 1);
+    return at;
 }
 
 // ---- Numbers from 0 on for different keys, in the order in which the keys come
@@ -109,11 +126,10 @@ struct cell {
 };
 static struct numbers counter_numbers, cell_numbers;
 static void *counters, *cells;
-static uint32_t counter;      // that of the last fetch; 0 stands for none
+static uint32_t counter;      // that of the last reference; 0 stands for none
 
-static void set_counter(uint64_t address) {
-    if (counter && counter_numbers.keys[counter] == address) return;
-    counter = number_of(&counter_numbers, address, &counters, sizeof(struct counter));
+static uint32_t number_of_counter(uint64_t address) {
+    return number_of(&counter_numbers, address, &counters, sizeof(struct counter));
 }
 
 static uint32_t cell_at(uint64_t address) {
@@ -192,6 +208,8 @@ static void meet(bool is_full, struct waiting one) {
     if (one.counts && other.counts) ((struct cell *)cells)[is_full ? other.cell : one.cell].capacity++;
 }
 
+#include "by-line-trace.h"
+
 // ---- The lines of a log
 
 struct log {
@@ -204,12 +222,6 @@ static const char *place;
 static unsigned shift;
 static bool has_full;
 static struct log logs[2];
-
-static const char *hexadecimal(const char *at, uint64_t *number) {
-    static const signed char values[256] = {['0'] = 1, 2, 3, 4, 5, 6, 7, 8, 9, 10, ['a'] = 11, 12, 13, 14, 15, 16};
-    for (*number = 0; values[(unsigned char)*at]; at++) *number = *number << 4 | (uint64_t)(values[(unsigned char)*at] - 1);
-    return at;
-}
 
 static void take_arrival(bool is_full, const char *outcome, uint64_t address) {
     uint64_t evicted;
@@ -230,20 +242,26 @@ static void take_arrival(bool is_full, const char *outcome, uint64_t address) {
     else if (misses && !is_first) ((struct cell *)cells)[cell].capacity++;
 }
 
-static void take_line(bool is_full, const char *line) {
-    const char *space = strchr(line, ' ');
+// Each reference has one line that is not of a second level, in the order of the trace.
+static void take_line(bool is_full, const char *line, const char *end) {
     uint64_t address;
+    if (*line == 'm') return;  // what comes to memory
+    const char *space = memchr(line, ' ', (size_t)(end - line));
     if (!space) errx(FAILED, "no line of a log: %.40s", line);
-    bool is_here = !strncmp(line, place, (size_t)(space - line)) && !place[space - line];
+    bool is_here = space - line == 4 && !memcmp(line, place, 4);
+    bool is_first_level = !is_full && line[1] != '2';
     if (space[1] == 'f') {
         if (is_here && !is_full) flushes++;
         return;
     }
-    bool is_counter = !is_full && space[1] == '2' && (*line == 'b' || !strncmp(line, "l1", 2));
-    if (!is_here && !is_counter) return;
-    const char *end = hexadecimal(space + 3, &address);
-    if (is_counter) set_counter(address);
-    if (is_here) take_arrival(is_full, end + 1, address);
+    if (!is_here && !is_first_level) return;
+    const char *outcome = hexadecimal(space + 3, &address) + 1;
+    if (is_first_level) {
+        if (handed_first == handed_last || handed[handed_first & (handed_room - 1)].address != address)
+            errx(FAILED, "a log is of another trace");
+        counter = handed[handed_first++ & (handed_room - 1)].counter;
+    }
+    if (is_here) take_arrival(is_full, outcome, address);
 }
 
 static void read_log(struct log *log) {
@@ -257,22 +275,56 @@ static void read_log(struct log *log) {
     char *line = log->text, *end = log->text + log->used;
     for (char *next; (next = memchr(line, '\n', (size_t)(end - line))); line = next + 1) {
         *next = '\0';
-        take_line(log->is_full, line);
+        take_line(log->is_full, line, next);
     }
     log->used = (size_t)(end - line);
     memmove(log->text, line, log->used);
 }
 
-static void read_logs(void) {
+// ---- Both
+
+static time_t shown;  // when progress was shown last, or 0
+
+static void clear_progress(void) {
+    if (shown) fputs("\r\033[K", stderr);
+    shown = 0;
+}
+
+// Once in a second, on a terminal.
+static void show_progress(void) {
+    static time_t began;
+    time_t now = time(NULL);
+    if (!began) began = now;
+    if (now == (shown ? shown : began) || !isatty(STDERR_FILENO)) return;
+    shown = now;
+    fprintf(stderr, "\r%s: %.1f million lines ", program_invocation_short_name, (double)trace.lines / 1e6);
+}
+
+// Reads, hands out and counts, until the trace and the logs have ended.
+static void work(void) {
     for (;;) {
-        struct pollfd asked[2] = {{logs[0].has_ended ? -1 : logs[0].descriptor, POLLIN, 0},
-                                  {logs[1].has_ended ? -1 : logs[1].descriptor, POLLIN, 0}};
-        if (asked[0].fd < 0 && asked[1].fd < 0) break;
-        if (poll(asked, 2, -1) < 0) continue;
+        bool all_out = is_handed_out(&hands[0]) && is_handed_out(&hands[1]);
+        if (all_out && trace.blanks) {
+            read_trace();
+            continue;
+        }
         for (int i = 0; i < 2; i++)
-            if (asked[i].fd >= 0 && asked[i].revents) read_log(&logs[i]);
+            if (all_out && trace.has_ended && hands[i].descriptor >= 0) close_hand(&hands[i]);
+        struct pollfd asked[5] = {{all_out && !trace.has_ended ? STDIN_FILENO : -1, POLLIN, 0}};
+        for (int i = 0; i < 2; i++) {
+            asked[1 + i] = (struct pollfd){is_handed_out(&hands[i]) ? -1 : hands[i].descriptor, POLLOUT, 0};
+            asked[3 + i] = (struct pollfd){logs[i].has_ended ? -1 : logs[i].descriptor, POLLIN, 0};
+        }
+        if (asked[0].fd < 0 && logs[0].has_ended && logs[1].has_ended) break;
+        if (poll(asked, 5, -1) < 0) continue;
+        for (int i = 0; i < 2; i++) {
+            if (asked[3 + i].revents) read_log(&logs[i]);
+            if (asked[1 + i].revents) write_trace(&hands[i]);
+        }
+        if (asked[0].revents) read_trace(), show_progress();
     }
-    if (has_full && first != last) errx(FAILED, "one log is shorter than the other");
+    clear_progress();
+    if ((has_full && first != last) || handed_first != handed_last) exit(0);  // a log has gone away
 }
 
 // ---- The whole
@@ -288,25 +340,34 @@ static void write_answer(void) {
     }
     for (uint32_t i = 0; i < pair_numbers.count; i++)
         printf("evicted %lu %lu %lu\n", pair_numbers.keys[i] >> 32, pair_numbers.keys[i] & UINT32_MAX, ((uint64_t *)pairs)[i]);
+    puts("end");
     if (fflush(stdout) || ferror(stdout)) err(FAILED, "the counts can't be written");
 }
 
-static void open_log(struct log *log, const char *path, bool is_full) {
-    log->is_full = is_full;
-    log->has_ended = !path;
-    if (path && (log->descriptor = open(path, O_RDONLY | O_CLOEXEC)) < 0) err(FAILED, "%s", path);
+// Opens what is of one log: where the trace goes to it, and where it comes from.
+static void open_both(int number, char **words) {
+    logs[number].is_full = number;
+    open_hand(&hands[number], words[0]);
+    if ((logs[number].descriptor = open(words[1], O_RDONLY | O_CLOEXEC)) < 0) err(FAILED, "%s", words[1]);
 }
 
 int main(int count, char **words) {
-    if (count < 5) errx(FAILED, "this is the inner half of by-line");
-    place = words[1];
-    shift = (unsigned)atoi(words[2]);
-    read_objects(words[3]);
-    open_log(&logs[0], words[4], false);
-    open_log(&logs[1], words[5], true);
-    has_full = words[5];
-    number_of(&counter_numbers, UINT64_MAX, &counters, sizeof(struct counter));  // number 0, with an address of no instruction
-    read_logs();
+    if (count < 8) errx(FAILED, "this is the inner half of by-line");
+    signal(SIGPIPE, SIG_IGN);
+    is_lackey = *words[1] == 'l';
+    takes_data = *words[2] != 'i', takes_fetches = *words[2] != 'd';
+    place = words[3];
+    shift = (unsigned)atoi(words[4]);
+    read_objects(words[5]);
+    has_full = count > 9;
+    memset(blank_lines, '\n', sizeof blank_lines);
+    open_both(0, words + 6);
+    if (has_full) open_both(1, words + 8);
+    else logs[1].has_ended = true;
+    // number 0, with an address of no instruction
+    number_of(&counter_numbers, UINT64_MAX, &counters, sizeof(struct counter));
+    atexit(clear_progress);
+    work();
     write_answer();
     return 0;
 }

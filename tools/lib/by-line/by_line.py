@@ -7,6 +7,7 @@
 import argparse
 import collections
 import csv
+import io
 import os
 import sys
 from typing import NamedTuple
@@ -16,6 +17,7 @@ from lib import tool
 
 KEYS = ("line", "function", "object")
 COUNTS = ("references", "misses", "compulsory", "capacity", "conflict")
+MOST_INLINED = 8
 NO_FETCH = elf.Frame("(no fetch before it)", None, 0)
 
 
@@ -50,6 +52,7 @@ def arguments():
     parser.add_argument("--by", type=keys)
     parser.add_argument("--evicted-by", action="store_true")
     parser.add_argument("--annotate")
+    parser.add_argument("--callgrind")
     parser.add_argument("--counts")
     parser.add_argument("--objects")
     parser.add_argument("--only-compulsory", action="store_true")
@@ -65,24 +68,31 @@ def arguments():
 
 
 class Names:
-    """How lines are called: by the name of the file alone, or by its path where several files have this name."""
+    """How lines are called: by the name of the file, with as much of its path as tells it from others."""
 
     def __init__(self, cells):
-        self.paths = collections.defaultdict(set)
-        for cell in cells:
-            for frame in cell.frames:
-                if frame.file:
-                    self.paths[os.path.basename(frame.file)].add(frame.file)
+        paths = {frame.file for cell in cells for frame in cell.frames if frame.file}
+        self.names, parts = {}, 0
+        while paths:
+            parts += 1
+            names = {path: "/".join(path.split("/")[-parts:]) for path in paths}
+            often = collections.Counter(names.values())
+            self.names.update((path, name) for path, name in names.items() if often[name] == 1)
+            paths = {path for path in paths if path not in self.names}
 
     def line(self, frame):
-        name = os.path.basename(frame.file)
-        return f"{name if len(self.paths[name]) == 1 else frame.file}:{frame.line}"
+        return f"{self.names[frame.file]}:{frame.line}"
+
+    @staticmethod
+    def cut(lines):
+        """The lines of functions inlined in one another, without the middle ones of many."""
+        return lines if len(lines) <= MOST_INLINED else [*lines[:MOST_INLINED // 2], "..", *lines[-MOST_INLINED // 2:]]
 
     def columns(self, cell, by):
         """What tells a row from others, in its columns."""
         outer, inlined = cell.frames[0], [self.line(frame) for frame in cell.frames[1:] if frame.file]
         line = self.line(outer) if outer.file else outer.function if outer.function.startswith("(") else f"({outer.function})"
-        all_of_them = {"line": [line, " ".join(inlined)], "function": [outer.function], "object": [cell.object]}
+        all_of_them = {"line": [line, " ".join(self.cut(inlined))], "function": [outer.function], "object": [cell.object]}
         return tuple(text for key in by for text in all_of_them[key])
 
 
@@ -96,6 +106,8 @@ def read_counts(asked, layout):
         objects = [line.rstrip("\n").split(" ", 2)[2] for line in lines] + ["(heap)"]
     with open(asked.counts, encoding="ascii") as lines:
         rows = [line.split() for line in lines]
+    if not rows or rows.pop() != ["end"]:
+        tool.fail("the references can't be counted")
     counted = [row for row in rows if row[0] == "cell"]
     frames = layout.frames(sorted({int(row[1], 16) for row in counted if row[1] != "-"}))
     cells = []
@@ -174,6 +186,40 @@ def texts_of(numbers, all_of_them):
     return [f"{number:,}{share}" for number, share in zip(numbers, [*shares, "", "", ""])]
 
 
+def in_callgrind_format(asked, cells):
+    """The counts by function and innermost line. Conflict misses are not among them, since the format
+    has no numbers below 0."""
+    used = COUNTS[:3 if asked.only_compulsory else 4]
+    files = {cell.frames[0].function: cell.frames[0].file for cell in cells if cell.frames[0].file}
+    rows = []
+    for cell in cells:
+        function = cell.frames[0].function
+        inner = next((frame for frame in reversed(cell.frames) if frame.file), NO_FETCH)
+        key = files.get(function, "???"), function, inner.file or "???", inner.line
+        rows.append((key, cell.counts[:len(used)]))
+    totals = " ".join(str(sum(counts[at] for _, counts in rows)) for at in range(len(used)))
+    yield from ("# callgrind format", "version: 1", "creator: by-line of cachesim", "positions: line",
+                f"events: {' '.join(map(str.capitalize, used))}", f"summary: {totals}")
+    last, present = None, None
+    for (file, function, inner, line), counts in sorted(sums(rows).items()):
+        if (file, function) != last:
+            yield from ("", f"fl={file}", f"fn={function}")
+            last, present = (file, function), file
+        if inner != present:
+            yield f"{'fe' if inner == file else 'fi'}={inner}"
+            present = inner
+        yield " ".join(map(str, (line, *counts)))
+    yield from ("", f"totals: {totals}")
+
+
+def write_callgrind(asked, cells):
+    try:
+        with open(asked.callgrind, "w", encoding="utf-8", errors="surrogateescape") as file:
+            file.writelines(f"{line}\n" for line in in_callgrind_format(asked, cells))
+    except OSError as fault:
+        tool.fail(f"{asked.callgrind}: {fault.strerror}")
+
+
 def warn(text):
     print(f"{tool.NAME}: {text}", file=sys.stderr)
 
@@ -207,16 +253,25 @@ def warn_of_lines(cells):
                  " that was compiled?")
 
 
+def lines_of(rows):
+    """Rows as lines of CSV."""
+    text = io.StringIO()
+    csv.writer(text, lineterminator="\n").writerows(rows)
+    return text.getvalue().split("\n")[:-1]
+
+
 def report(asked, layout):
     cells, pairs = read_counts(asked, layout)
-    if asked.annotate or "line" in asked.by:
+    if asked.callgrind:
+        write_callgrind(asked, cells)
+    if asked.annotate or asked.callgrind or "line" in asked.by:
         warn_of_lines(cells)
     sys.stdout.reconfigure(encoding="utf-8", errors="surrogateescape")
     if asked.annotate:
         tool.write_lines(annotated(asked, cells))
     else:
         rows = table_of_evictions(asked, cells, pairs) if asked.evicted_by else table(asked, cells)
-        csv.writer(sys.stdout, lineterminator="\n").writerows(rows)
+        tool.write_lines(lines_of(rows))
 
 
 def warn_of_new_files(layout, map_file):

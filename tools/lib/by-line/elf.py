@@ -2,6 +2,7 @@
 in it, as binutils and llvm-addr2line tell them."""
 
 import bisect
+import collections
 import functools
 import os
 import re
@@ -15,6 +16,10 @@ PAGE = 4096
 MAPPING = re.compile(r"([0-9a-f]+)-([0-9a-f]+) \S+ ([0-9a-f]+) \S+ \d+\s*(.*)")
 SEGMENT = re.compile(r"\s*LOAD\s+0x(\w+) 0x(\w+) 0x\w+ 0x\w+ 0x(\w+)")
 SYMBOL = re.compile(r"([0-9a-f]+) ([0-9a-f]+) (\w) (.+)")
+SOURCE = re.compile(r"0+ a (.*)")
+THREAD_LOCAL = re.compile(r" *\d+: ([0-9a-f]+) +(\w+) TLS ")
+# what compilers add to the name of a function of which they make parts or special versions
+PART = re.compile(r"( ?\(?\.(cold|constprop|isra|llvm|lto_priv|part)[.\d]*\)?| \[clone [^]]*\])+$")
 # of programs for other machines the prefix of their binutils
 PREFIXES = {40: "arm-linux-gnueabihf", 183: "aarch64-linux-gnu", 243: "riscv64-linux-gnu"}
 # LLVM's is asked for lines, since that of binutils 2.40 takes one file for another in DWARF 5
@@ -89,23 +94,37 @@ class Loaded:
         return any(region.start <= address < region.end for region in self.regions)
 
     @functools.cached_property
+    def thread_local(self):
+        """Where nm has variables of threads, which are elsewhere: the address and size that it tells of each."""
+        told = map(THREAD_LOCAL.match, output_of("readelf", self.path, "-sW", "--").splitlines())
+        return {(int(one[1], 16) + self.base, int(one[2], 0)) for one in told if one}
+
+    @functools.cached_property
     def symbols(self):
-        """All that has a name and a size, by address, with the letter of nm before the name."""
-        found = set()
-        for which in ([], ["-D"]):
+        """All that has a name and a size, by address, with the letter of nm before the name, and the
+        name of its source file where only this file knows the name."""
+        found = {}
+        for which in (["-a", "-p"], ["-D"]):
+            source = ""
             for line in output_of("nm", self.path, "-S", "-C", "--defined-only", *which, "--").splitlines():
                 if (symbol := SYMBOL.match(line)) and int(symbol[2], 16):
                     start = int(symbol[1], 16) + self.base
-                    found.add(Range(start, start + int(symbol[2], 16), symbol[3] + re.sub("@.*", "", symbol[4])))
-        return sorted(found)
+                    place = Range(start, start + int(symbol[2], 16), symbol[3] + re.sub("@.*", "", symbol[4]))
+                    found.setdefault(place, source if symbol[3].islower() else "")
+                elif begins := SOURCE.match(line):
+                    source = begins[1]
+        return dict(sorted(found.items()))
 
     def objects(self):
-        """The global variables."""
-        return [symbol._replace(name=symbol.name[1:]) for symbol in self.symbols if symbol.name[0] in "bBdDrRuVvgGsS"]
+        """The global and static variables, and the source file of each static one."""
+        return [(symbol._replace(name=symbol.name[1:]), source) for symbol, source in self.symbols.items()
+                if symbol.name[0] in "bBdDrRuVvgGsS"
+                and (symbol.start, symbol.end - symbol.start) not in self.thread_local]
 
     @functools.cached_property
     def functions(self):
-        return [symbol._replace(name=symbol.name[1:]) for symbol in self.symbols if symbol.name[0] in "tTwWi"]
+        return [symbol._replace(name=PART.sub("", symbol.name[1:])) for symbol in self.symbols
+                if symbol.name[0] in "tTwWi"]
 
     def function_at(self, address):
         at = bisect.bisect(self.functions, (address, float("inf"))) - 1
@@ -144,7 +163,8 @@ class Layout:
 
     def __init__(self, program=None, base=0, map_file=None):
         self.stacks = [Range(start, end, "(stack)") for start, end in ([] if map_file else STACKS)]
-        self.files = [Loaded(program, base)] if program else []
+        # a path, and no option, where its name begins with a dash
+        self.files = [Loaded(os.path.join(".", program), base)] if program else []
         self.others = []  # mapped files that are not ELF
         if program and not self.files[0].regions:
             tool.fail(f"{program}: no ELF program that can be read")
@@ -181,10 +201,21 @@ class Layout:
         if not segments_of(path):
             self.others.append(Range(start, end, f"({os.path.basename(path)})"))
 
+    def variables(self):
+        """The variables by address. Where several have a name, static ones have that of their source
+        file behind it, and their address where it is the same too."""
+        found = [one for file in self.files for one in file.objects()]
+        for tell_apart in (lambda one, source: f"{one.name} ({source})",
+                           lambda one, _: f"{one.name[:-1]} at {one.start:x})"):
+            names = collections.Counter(name for name, _ in {(one.name, one.start) for one, _ in found})
+            found = [(one._replace(name=tell_apart(one, source)) if source and names[one.name] > 1 else one, source)
+                     for one, source in found]
+        return sorted(one for one, _ in found)
+
     def objects(self):
         """What is where, by rising addresses and without overlaps: a global variable before the file that has it."""
         regions = sorted([*(region for file in self.files for region in file.regions), *self.stacks, *self.others])
-        variables = sorted(variable for file in self.files for variable in file.objects())
+        variables = self.variables()
         at, answer = 0, []
         for region in regions:
             at = max(at, region.start)

@@ -24,19 +24,23 @@ loop-entry-init g c =
 
 pub feed_kept-requires-clause-behind : goal.feed_kept-requires-clause-behind
 feed_kept-requires-clause-behind g c =
-    behind-after c.loop-entry.fed (flat_map (events_of c.args.kind) (entries_of c.loop-entry.invariant.0.read)) c.args.profiles.now c.loop-entry.profiles c.requires.fresh c.requires.linked c.loop-entry.invariant.0.fed
+    behind-after c.loop-entry.fed (flat_map (events_of c.args.kind) (entries_of c.loop-entry.invariant.0.read)) c.args.profiles.now c.loop-entry.profiles
+    c.requires.fresh c.requires.linked c.loop-entry.invariant.0.fed
     c.loop-entry.invariant.1
 
 pub feed_kept-requires-in-Some-second-clause-behind : goal.feed_kept-requires-in-Some-second-clause-behind
 feed_kept-requires-in-Some-second-clause-behind g c =
-    behind-after c.feed_kept.new.fed (flat_map (events_of c.args.kind) (entries_of c.loop-entry.invariant.0.read) ++ kept_events c.args.kind (c.refs_of-second.result.0 ∷ [])) c.args.profiles.now c.feed_kept.new.profiles c.requires.fresh c.requires.linked
+    behind-after c.feed_kept.new.fed (flat_map (events_of c.args.kind) (entries_of c.loop-entry.invariant.0.read) ++ kept_events c.args.kind
+    (c.refs_of-second.result.0 ∷ [])) c.args.profiles.now c.feed_kept.new.profiles c.requires.fresh c.requires.linked
     (c.feed_kept.ensures.caught ∙ ap (all_after (kept_events c.args.kind (c.refs_of-second.result.0 ∷ []))) c.loop-entry.invariant.0.fed
-    ∙ sym (all_after-append (flat_map (events_of c.args.kind) (entries_of c.loop-entry.invariant.0.read)) (kept_events c.args.kind (c.refs_of-second.result.0 ∷ [])) c.args.profiles.now))
+    ∙ sym (all_after-append (flat_map (events_of c.args.kind) (entries_of c.loop-entry.invariant.0.read))
+    (kept_events c.args.kind (c.refs_of-second.result.0 ∷ [])) c.args.profiles.now))
     c.feed_kept.ensures.behind
 
 pub loop-entry-preserved-in-Some-second : goal.loop-entry-preserved-in-Some-second
 loop-entry-preserved-in-Some-second g c =
-    let more = fed-more c.loop-entry.fed c.feed_kept-in-Some-second.new.fed c.loop-entry.invariant.0 c.loop-entry.invariant.2 c.next.ensures.reached c.next.ensures.entry c.next.ensures.within c.next.ensures.limited
+    let more = fed-more c.loop-entry.fed c.feed_kept-in-Some-second.new.fed c.loop-entry.invariant.0 c.loop-entry.invariant.2 c.next.ensures.reached
+    c.next.ensures.entry c.next.ensures.within c.next.ensures.limited
     c.in_ok-entry.was c.in-Some.is
     (entry-two c.args.kind c.in-Some.entry c.in-Item.item c.refs_of-second.result c.in-Some-second.second
     (all_caught_up c.loop-entry.fed c.loop-entry.profiles) (all_caught_up c.feed_kept.new.fed c.feed_kept.new.profiles)
@@ -47,7 +51,8 @@ loop-entry-preserved-in-Some-second g c =
 
 pub loop-entry-preserved-in_default-second : goal.loop-entry-preserved-in_default-second
 loop-entry-preserved-in_default-second g c =
-    let more = fed-more c.loop-entry.fed c.feed_kept.new.fed c.loop-entry.invariant.0 c.loop-entry.invariant.2 c.next.ensures.reached c.next.ensures.entry c.next.ensures.within c.next.ensures.limited
+    let more = fed-more c.loop-entry.fed c.feed_kept.new.fed c.loop-entry.invariant.0 c.loop-entry.invariant.2 c.next.ensures.reached c.next.ensures.entry
+    c.next.ensures.within c.next.ensures.limited
     c.in_ok-entry.was c.in-Some.is
     (entry-one c.args.kind c.in-Some.entry c.in-Item.item c.refs_of-second.result (all_caught_up c.loop-entry.fed c.loop-entry.profiles)
     (all_caught_up c.feed_kept.new.fed c.feed_kept.new.profiles)
@@ -58,7 +63,8 @@ loop-entry-preserved-in_default-second g c =
 pub loop-entry-preserved : goal.loop-entry-preserved
 loop-entry-preserved g c =
     let xs = c.loop-entry.profiles in
-    let more = fed-more c.loop-entry.fed c.loop-entry.fed c.loop-entry.invariant.0 c.loop-entry.invariant.2 c.next.ensures.reached c.next.ensures.entry c.next.ensures.within c.next.ensures.limited
+    let more = fed-more c.loop-entry.fed c.loop-entry.fed c.loop-entry.invariant.0 c.loop-entry.invariant.2 c.next.ensures.reached c.next.ensures.entry
+    c.next.ensures.within c.next.ensures.limited
     c.in_ok-entry.was c.in-Some.is
     (ap (all_caught_up c.loop-entry.fed) c.flush.ensures ∙ caught-flush c.loop-entry.fed xs
     ∙ ap (λ e. all_after (events_of c.args.kind e) (all_caught_up c.loop-entry.fed xs)) (sym c.in-Flush.is)) (omega arith) in

@@ -22,8 +22,10 @@ loop-first-preserved c =
     (record { sound = subst IsGeometry (ap (λ p. p.geometry) begun) c.in_ok-profile.ensures.sound; is = begun }))
 
 -- what is made is linked
-items : (c : After-link) → take c.loop-first.made.len (c.link.new.profiles ++ drop (length c.link.new.profiles) c.loop-first.made.items) ≡ linked c.loop-first.made.items
-items c = linked-items c.loop-first.made.items c.link.new.profiles _ c.loop-first.made.len (omega (arith, c.loop-first.made.ok)) (c.link.ensures ∙ ap linked c.deref_mut.ensures.value)
+items : (c : After-link) → take c.loop-first.made.len (c.link.new.profiles ++ drop (length c.link.new.profiles) c.loop-first.made.items) ≡ linked
+    c.loop-first.made.items
+items c = linked-items c.loop-first.made.items c.link.new.profiles _ c.loop-first.made.len (omega (arith, c.loop-first.made.ok))
+    (c.link.ensures ∙ ap linked c.deref_mut.ensures.value)
 
 pub returns-clause-stands : goal.returns-clause-stands
 returns-clause-stands c =

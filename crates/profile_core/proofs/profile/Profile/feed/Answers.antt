@@ -26,5 +26,6 @@ returns-then-feed_unless_front-clause-one_more c =
 pub returns-else-feed_unless_front-clause-one_more : goal.returns-else-feed_unless_front-clause-one_more
 returns-else-feed_unless_front-clause-one_more c =
     let v = c.args.self.now in let x = block_of c.args.self.now.geometry c.args.addr in
-    ap fed_of (c.feed_unless_front.ensures.step ∙ ap (λ b. cond b v (after_reference v x)) (sym c.feed_unless_front.ensures.front ∙ c.if-feed_unless_front.false))
+    ap fed_of (c.feed_unless_front.ensures.step ∙ ap (λ b. cond b v (after_reference v x)) (sym c.feed_unless_front.ensures.front ∙
+    c.if-feed_unless_front.false))
     ∙ reference_fed v x (fit_inside c.self.invariant c.self.view_is)

@@ -1,0 +1,195 @@
+"""The sets of a cache as `replay` draws them, step by step, and why each step does what it does."""
+
+from dataclasses import dataclass, field, replace
+from typing import NamedTuple, Optional
+
+ACCESSES = ("read", "write", "fetch")
+
+
+class Cache(NamedTuple):
+    """A cache, and its options for `cachesim log`."""
+
+    place: str
+    size: int
+    block: int
+    ways: int
+    repl: str = "l"
+    walloc: str = "a"
+    wback: str = "a"
+
+    @property
+    def sets(self):
+        return self.size // max(1, self.block * self.ways)
+
+    @property
+    def set_bits(self):
+        return self.sets.bit_length() - 1
+
+    @property
+    def block_bits(self):
+        return self.block.bit_length() - 1
+
+    def set_of(self, address):
+        return address // self.block % self.sets
+
+    @property
+    def has_log(self):
+        """Whether `cachesim log` takes it."""
+        return self.ways.bit_count() == 1
+
+    def is_possible(self):
+        """Whether blocks and sets are powers of two, and the sets fill the size."""
+        numbers = (self.block, self.sets)
+        return self.sets * self.ways * self.block == self.size and all(
+            number.bit_count() == 1 for number in numbers)
+
+    def options(self):
+        given = {"size": self.size, "bsize": self.block, "assoc": self.ways}
+        given.update(repl=self.repl, walloc=self.walloc, wback=self.wback)
+        return [word for name, value in given.items()
+                for word in (f"-{self.place}{name}", str(value))]
+
+    def __str__(self):
+        parts = [f"{number_of(self.sets, 'set')} of {number_of(self.ways, 'line')}"]
+        parts += [f"blocks of {number_of(self.block, 'byte')}"]
+        parts += ["LRU" if self.repl == "l" else "FIFO"]
+        parts += ["no write-allocate"] * (self.walloc == "n")
+        parts += ["write-through"] * (self.wback == "n")
+        return ", ".join(parts)
+
+
+def number_of(count, name):
+    return f"{count:,} {name}{'s' * (count != 1)}"
+
+
+@dataclass
+class Block:
+    """A block in a line of a set. The one with the least `since` is evicted next."""
+
+    tag: int
+    since: int  # the step in which it was used last, or with FIFO in which it came
+    line: int  # of the trace, in that step
+    dirty: bool = False
+
+
+@dataclass
+class Step:
+    """What a reference or a flush does, with its set as it is afterwards."""
+
+    number: int
+    line: int  # of the trace
+    access: str  # as the trace has it
+    address: int = 0
+    tag: int = 0
+    set: int = 0
+    offset: int = 0
+    outcome: str = "hit"
+    way: Optional[int] = None  # the line that is hit or filled
+    held: list = field(default_factory=list)  # the set: a block for each line, None for a free one
+    evicted: Optional[Block] = None
+    written_back: int = 0  # by a flush
+    sent: list = field(default_factory=list)  # what the log says that memory gets
+
+    @property
+    def next(self):
+        """The line to be evicted next, none while a line is free."""
+        if not self.held or None in self.held:
+            return None
+        return self.held.index(min(self.held, key=lambda block: block.since))
+
+
+class Picture:
+    """The sets as they are drawn, kept apart from the program's. Each step gives the line that the
+    log should have for it."""
+
+    def __init__(self, cache, only=None):
+        self.cache, self.sets, self.steps = cache, {}, []
+        self.only = only  # the number of the one set that is shown, or None
+        self.before, self.count = {}, 0  # the last steps of sets that are no longer there
+
+    def add(self, step):
+        self.count = step.number
+        self.steps.append(step)
+
+    def drop_first(self):
+        """Forgets the first step, but not what its set holds then."""
+        step = self.steps.pop(0)
+        self.before = {} if step.access == "flush" else {**self.before, step.set: step}
+
+    def flush(self, line):
+        blocks = [block for lines in self.sets.values() for block in lines]
+        dirty = sum(1 for block in blocks if block and block.dirty)
+        self.sets = {}
+        self.add(Step(self.count + 1, line, "flush", outcome="flush", written_back=dirty))
+        return f"{self.cache.place} flush {dirty}"
+
+    def access(self, line, access, label, address):
+        block, offset = divmod(address, self.cache.block)
+        tag, index = divmod(block, self.cache.sets)
+        step = Step(self.count + 1, line, access, address, tag, index, offset)
+        lines = self.sets.setdefault(index, [None] * self.cache.ways)
+        is_write = ACCESSES[label] == "write"
+        self.find(step, lines, is_write)
+        if step.way is not None and is_write and self.cache.wback == "a":
+            lines[step.way].dirty = True
+        step.held = [block and replace(block) for block in lines]
+        self.add(step)
+        return f"{self.cache.place} {label} {address:x} {step.outcome}{self.victim_of(step)}"
+
+    def find(self, step, lines, is_write):
+        """Finds the block of a step in its set, or brings it in."""
+        tags = [block and block.tag for block in lines]
+        step.way = tags.index(step.tag) if step.tag in tags else None
+        if step.way is not None:
+            if self.cache.repl == "l":
+                lines[step.way].since, lines[step.way].line = step.number, step.line
+            return
+        step.outcome = "miss"
+        if is_write and self.cache.walloc == "n":
+            return
+        if None in lines:
+            step.way = lines.index(None)
+        else:
+            step.outcome = "miss eviction"
+            step.way = min(range(self.cache.ways), key=lambda way: lines[way].since)
+            step.evicted = lines[step.way]
+        lines[step.way] = Block(step.tag, step.number, step.line)
+
+    def victim_of(self, step):
+        """What the log says of an evicted block."""
+        if not step.evicted or not self.cache.has_log:
+            return ""
+        address = (step.evicted.tag * self.cache.sets + step.set) * self.cache.block
+        return f" {address:x}{' dirty' * step.evicted.dirty}"
+
+
+def why(cache, step):
+    """The reason for what a step does, in words."""
+    if step.access == "flush":
+        written = number_of(step.written_back, "dirty block")
+        return f"A flush empties all sets. {written} written back."
+    if step.outcome == "hit":
+        is_fifo = cache.repl == "f" and cache.ways > 1
+        kept = " With FIFO a use does not change the order of eviction." if is_fifo else ""
+        return f"Line {step.way} of set {step.set:x} holds tag {step.tag:x}.{kept}"
+    lacks = f"Set {step.set:x} does not hold tag {step.tag:x}."
+    if step.way is None:
+        return f"{lacks} A write that misses brings no block in."
+    if not step.evicted:
+        return f"{lacks} Line {step.way} is free and takes the block."
+    block, verb = step.evicted, "was last used" if cache.repl == "l" else "came"
+    rule = f"{verb} in line {block.line} of the trace, the others later"
+    rule = rule if cache.ways > 1 else "is the only one"
+    written = " It is dirty, so it is written back." if block.dirty else ""
+    return (f"Set {step.set:x} is full and does not hold tag {step.tag:x}. The block in line "
+            f"{step.way} (tag {block.tag:x}) is evicted: it {rule}.{written}")
+
+
+def coming(cache, step):
+    """Which block of the step's set is evicted next, in words; nothing while a line is free, or
+    where there is no choice."""
+    if step.next is None or cache.ways == 1:
+        return ""
+    block, verb = step.held[step.next], "last used" if cache.repl == "l" else "which came"
+    return (f"Next to be evicted in set {step.set:x}: line {step.next} (tag {block.tag:x}), "
+            f"{verb} in line {block.line} of the trace.")
