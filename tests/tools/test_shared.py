@@ -154,6 +154,23 @@ class Program(Shared):
                 self.assertEqual(ran.returncode, 2 if tool == "lab/grade" else 1, tool)
                 self.assertRegex(ran.stderr.decode(), rf"\A[\w-]+: {program} is not cachesim: it doesn't write a sweep's table\n\Z")
 
+    def test_a_column_more(self):
+        """The tools take a program whose table has a column more, and find the others at any place."""
+        (self.folder / "trace").write_bytes(LINES)
+        other = self.folder / "other"
+        more = 's/^\\(\\([^,]*,\\)\\{4\\}\\)\\([a-z]*\\)/\\1\\3more,\\3/'
+        other.write_text(f'#!/bin/bash\n[ "$1" = sweep ] || exec {PROGRAM} "$@"\n{PROGRAM} "$@" | sed "{more}"\n')
+        other.chmod(0o755)
+        for tool in ("warm", "three-c", "sweep-parallel"):
+            arguments = [*READERS[tool][0], "trace", *READERS[tool][1]]
+            wanted = self.good(self.run_tool(tool, *arguments))
+            told = self.good(self.run_tool(tool, *arguments, env={"CACHESIM": str(other)}))
+            self.assertNotEqual(told, wanted, tool)
+            lines = [line.split(",") for line in told.splitlines()]
+            self.assertEqual([",".join(line[:4] + line[5:]) for line in lines], wanted.splitlines(), tool)
+        told = self.good(self.run_tool("pages", "2", *SPACE, env={"CACHESIM": str(other)}))
+        self.assertEqual(told, self.good(self.run_tool("pages", "2", *SPACE)))
+
     def test_sizes(self):
         """By both libraries alike."""
         (self.folder / "trace").write_bytes(LINES)

@@ -65,10 +65,11 @@ find_cachesim() {
     export CACHESIM=$cachesim
 }
 
-# is_cachesim: whether `cachesim` writes the table of an empty trace. Another program may end well with nothing written
+# is_cachesim: whether `cachesim` writes the table of an empty trace, whatever it counts. Another program may end well with nothing
+# written
 is_cachesim() {
-    local row=1,1,1,1,0,0,0
-    [[ $("$cachesim" sweep --bsize 1 --sets 1 --assoc 1 --size 1 2> /dev/null < /dev/null) = *$'\n'"$row" ]]
+    local columns=bsize,sets,assoc,size, row=1,1,1,1,
+    [[ $("$cachesim" sweep --bsize 1 --sets 1 --assoc 1 --size 1 2> /dev/null < /dev/null) = "$columns"*$'\n'"$row"* ]]
 }
 
 private_folder_made=''  # a name that no function has for something else, so that nothing else is ever removed
