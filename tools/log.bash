@@ -27,7 +27,7 @@ END
 # values to `own_option`, a function of the tool that answers 1 where an option is not its own.
 take_arguments() {
     look_for_help "$@"
-    [ $# -gt 0 ] && ! is_option "$1" || misused "a trace and the options of 'cachesim din' are needed"
+    if [ $# = 0 ] || is_option "$1"; then misused "a trace and the options of 'cachesim din' are needed"; fi
     trace=$1 options=()
     set -- "${@:2}"
     while [ $# -gt 0 ]; do

@@ -225,7 +225,8 @@ class Sources(Hand):
 
     def test_progress(self):
         """On a terminal the lines read so far are told, and taken away at the end."""
-        words = " ".join(str(base.TOOLS / "by-line") if word == "by-line" else word for word in ("by-line", "-", *ONE_LINE, "--by", "object"))
+        words = " ".join(str(base.TOOLS / "by-line") if word == "by-line" else word for word in ("by-line", "-", *ONE_LINE, "--by",
+                "object"))
         feed = "for i in 1 2 3; do echo 0 10; sleep 0.8; done"
         ran = self.run_command("script", "-qec", f"({feed}) | {words}", "/dev/null")
         table = "object,references,misses,compulsory,capacity,conflict,share\r\n(heap),3,1,1,0,0,100.000\r\n"
@@ -298,14 +299,16 @@ class Sources(Hand):
         self.good(self.run_command("g++", "-g", "-O2", "-no-pie", "-o", "program", "w.cc"))
         lines = self.good(self.run_command("objdump", "-d", "-C", "--no-show-raw-insn", "program"))
         parts = dict(re.findall(r"(?ms)^[0-9a-f]+ <([^\n]*)>:\n(.*?)\n(?:\n|\Z)", lines))
-        own = [[int(at, 16) for at in re.findall(r"(?m)^ +([0-9a-f]+):\t(?!nop|cs nop|xchg|data16)", parts[name])] for name in ("all(int*)", "all(int*) [clone .cold]")]
+        own = [[int(at, 16) for at in re.findall(r"(?m)^ +([0-9a-f]+):\t(?!nop|cs nop|xchg|data16)",
+                parts[name])] for name in ("all(int*)", "all(int*) [clone .cold]")]
         places = own[0] + own[1]
         text = "".join(f"2 {at:x}\n0 10\n" for at in places).encode()
         given = "-", "--program", self.folder / "program", *ONE_LINE
         rows = self.rows(*given, "--by", "function", stdin=text)
         self.assertEqual([(row["function"], row["references"]) for row in rows], [("all(int*)", len(places))])
         inlined = [row["inlined"] for row in self.rows(*given, "--by", "line", stdin=text)]
-        self.assertIn(" ".join([*(f"w.cc:{line}" for line in (32, 29, 26, 23)), "..", *(f"w.cc:{line}" for line in (14, 11, 8, 5))]), inlined)
+        self.assertIn(" ".join([*(f"w.cc:{line}" for line in (32, 29, 26, 23)), "..",
+                                *(f"w.cc:{line}" for line in (14, 11, 8, 5))]), inlined)
 
     def test_without_llvm(self):
         """Binutils' own command names lines too; a warning tells of it, and of lines that are not there."""
