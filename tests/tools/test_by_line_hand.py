@@ -289,7 +289,8 @@ class Sources(Hand):
     def test_one_row_for_a_function(self):
         """Also where another is inlined in it, and where the compiler has moved a part of it away. Of a long chain of inlined
         functions the middle ones are left out."""
-        chain = "".join(f"template <typename T> inline __attribute__((always_inline)) T f{n}(T *a) {{\n    return f{n - 1}(a) + a[{n}];\n}}\n"
+        inlined = "template <typename T> inline __attribute__((always_inline)) T"
+        chain = "".join(f"{inlined} f{n}(T *a) {{\n    return f{n - 1}(a) + a[{n}];\n}}\n"
                         for n in range(1, 11))
         (self.folder / "w.cc").write_text(
             f"template <typename T> inline __attribute__((always_inline)) T f0(T *a) {{\n    return a[0];\n}}\n{chain}"
