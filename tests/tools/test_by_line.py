@@ -359,7 +359,7 @@ class Faults(ByLineTest):
         cache = ["-l1-dsize", "256", "-l1-dbsize", "16"]
         for fetches in (1, 20, 20_000, 500_000):
             for text, fault in (("7 1", "bad label"), ("2 0x", "bad address"), ("2 12345678901234567", "bad address"), ("2",
-                    "bad address")):
+                                                                                                                        "bad address")):
                 given = f"{'2 401136' + chr(10)}" * fetches + f"0 10\n{text}\n0 20\n"
                 ran = self.run_tool("by-line", "-", *cache, stdin=given.encode())
                 self.refused(ran, 1, f"cachesim: line {fetches + 2}: {fault}\n")
@@ -381,7 +381,7 @@ class Faults(ByLineTest):
         part, = base.TOOLS.rglob("by_line.py")
         given = f"python3 -B {part} by-line report --objects objects --counts"
         for words, fault in (("counts > /dev/full", "standard output: No space left on device"), ("cut",
-                "the references can't be counted")):
+                                                                                                  "the references can't be counted")):
             ran = self.run_command("bash", "-c", f"{given} {words}")
             self.assertEqual((ran.stdout, ran.stderr.decode(), ran.returncode), (b"", f"by-line: {fault}\n", 1))
 

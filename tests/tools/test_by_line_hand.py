@@ -226,7 +226,7 @@ class Sources(Hand):
     def test_progress(self):
         """On a terminal the lines read so far are told, and taken away at the end."""
         words = " ".join(str(base.TOOLS / "by-line") if word == "by-line" else word for word in ("by-line", "-", *ONE_LINE, "--by",
-                "object"))
+                                                                                                 "object"))
         feed = "for i in 1 2 3; do echo 0 10; sleep 0.8; done"
         ran = self.run_command("script", "-qec", f"({feed}) | {words}", "/dev/null")
         table = "object,references,misses,compulsory,capacity,conflict,share\r\n(heap),3,1,1,0,0,100.000\r\n"
