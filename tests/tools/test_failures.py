@@ -45,7 +45,7 @@ tail tee tr uname wc xz zstd""".split()
 STAND_IN = """\
 #!/bin/bash
 set -o noclobber
-for ((at = 1; ; at++)); do { : > "$CALLS/${0##*/}.$at"; } 2> /dev/null && break; done
+for ((at = 1; at < 99; at++)); do { : > "$CALLS/${0##*/}.$at"; } 2> /dev/null && break; done
 if [ "${0##*/}.$at" = "${FAILING-}" ]; then [ "$WAY" = killed ] && kill -KILL $$; exit 1; fi
 exec -a "${0##*/}" REAL "$@"
 """
@@ -172,7 +172,7 @@ class Surroundings(FailureTest):
                         self.assertNotEqual(ran.returncode, 0, f"{tool} {place}")
 
     def test_few_descriptors(self):
-        for tool in RUNS.keys() - {"by-line"}:
+        for tool in RUNS:
             with self.subTest(tool):
                 whole, _ = self.whole(tool)
                 limits = (5, 6, 7, 8, 9, 10, 12, 14, 17)  # with fewer Python doesn't begin

@@ -113,7 +113,7 @@ spoil_trace() {
 
 # at_end: what is done when the tool ends, also by a signal. In a subshell it only ends what that has started
 at_end() {
-    exec 2> /dev/null  # bash would report the end of each process
+    exec 2> /dev/null || :  # bash would report the end of each process
     trap '' HUP INT PIPE TERM
     stop_jobs
     [ $BASHPID = $$ ] || return 0
