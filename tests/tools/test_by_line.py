@@ -379,7 +379,7 @@ class Faults(ByLineTest):
         (self.folder / "cut").write_text("cell - -1 1 1 1 0\n")
         (self.folder / "objects").write_text("")
         part, = base.TOOLS.rglob("by_line.py")
-        given = f"python3 -B {part} by-line report --objects objects --counts"
+        given = f"PYTHONPATH={base.TOOLS} python3 -B {part} by-line report --objects objects --counts"
         full = "standard output: No space left on device"
         for words, fault in (("counts > /dev/full", full), ("cut", "the references can't be counted")):
             ran = self.run_command("bash", "-c", f"{given} {words}")

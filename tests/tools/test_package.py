@@ -106,7 +106,7 @@ class Package(unittest.TestCase):
         self.assertEqual(self.field("Maintainer"), "A Tester <tester@example.org>")
         # 2.34 has the newest symbol that the program needs, __libc_start_main
         self.assertIn("libc6 (>= 2.34)", self.field("Depends"))
-        self.assertEqual(self.field("Recommends"), "gnuplot-nox | gnuplot, python3, qemu-user, valgrind")
+        self.assertEqual(self.field("Recommends"), "gnuplot-nox | gnuplot, llvm, python3, qemu-user, valgrind")
         self.assertIn("parallel", self.field("Suggests"))
         suggested = self.field("Suggests").split(", ")
         self.assertEqual(suggested, sorted(set(suggested)))

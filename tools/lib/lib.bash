@@ -118,8 +118,8 @@ at_end() {
     trap '' HUP INT PIPE TERM
     stop_jobs
     [ $BASHPID = $$ ] || return 0
-    remove_private_folder
     spoil_trace || :
+    remove_private_folder || :
 }
 
 # stop PROCESS: ends a process, unless it is this shell, and all that it has started. It ends before these, so that it does not

@@ -8,8 +8,6 @@ mod caches;
 #[cfg(test)]
 mod devices;
 #[cfg(test)]
-mod logs;
-#[cfg(test)]
 mod memory;
 #[cfg(test)]
 mod policies;

@@ -192,8 +192,11 @@ static bool is_handed_out(const struct hand *one) {
     return one->descriptor < 0 || one->written == trace.ready + trace.blanks;
 }
 
+// A wider pipe, where it may be one, lets the processes wait less for each other.
+static void widen(int pipe) { fcntl(pipe, F_SETPIPE_SZ, PIPE); }
+
 static void open_hand(struct hand *one, const char *path) {
     if ((one->descriptor = open(path, O_WRONLY | O_CLOEXEC)) < 0) err(FAILED, "%s", path);
     fcntl(one->descriptor, F_SETFL, O_NONBLOCK);
-    fcntl(one->descriptor, F_SETPIPE_SZ, ROOM);  // where it may be larger, less waiting
+    widen(one->descriptor);
 }

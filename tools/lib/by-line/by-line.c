@@ -30,7 +30,7 @@
 #include <time.h>
 #include <unistd.h>
 
-enum { FAILED = 1, ROOM = 1 << 18 };
+enum { FAILED = 1, ROOM = 1 << 18, PIPE = 1 << 20 };
 
 static void *grown(void *memory, size_t size) {
     void *larger = realloc(memory, size);
@@ -349,6 +349,7 @@ static void open_both(int number, char **words) {
     logs[number].is_full = number;
     open_hand(&hands[number], words[0]);
     if ((logs[number].descriptor = open(words[1], O_RDONLY | O_CLOEXEC)) < 0) err(FAILED, "%s", words[1]);
+    widen(logs[number].descriptor);
 }
 
 int main(int count, char **words) {
@@ -366,6 +367,7 @@ int main(int count, char **words) {
     else logs[1].has_ended = true;
     // number 0, with an address of no instruction
     number_of(&counter_numbers, UINT64_MAX, &counters, sizeof(struct counter));
+    widen(STDIN_FILENO);
     atexit(clear_progress);
     work();
     write_answer();
