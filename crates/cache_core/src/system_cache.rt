@@ -46,8 +46,8 @@ impl Replacement for ChosenPolicy {
     }
 }
 
-/// A cache of a system, with what it counted. Each miss and each eviction comes of an access, and
-/// each copyback and each dirty line of a write.
+/// A cache of a system, with what it counted. Each miss and each eviction is caused by an access,
+/// and each copyback and each dirty line by a write.
 #[derive(Drop)]
 pub(crate) struct SystemCache {
     pub(crate) cache: Cache<ChosenPolicy>,

@@ -65,8 +65,8 @@ impl TouchedSets {
         requires { set < 2 ^ 32 }
         ensures { self.new ≡ after_count set before after self.old }
     {
-        // The counts are compared first: they are the same at most references, and often known to
-        // be.
+        // The counts are compared first: at most references they are equal, and where this is
+        // inlined the compiler often knows it.
         if before != after && before == 0 {
             self.add(set as u32);
         }

@@ -209,9 +209,8 @@ impl Profile {
         self.hits() + total(&self.misses_by_occupancy)
     }
 
-    /// How many references found their block. One found at distance `d` made `d + 1` comparisons,
-    /// and one not found among `n` blocks made `n`. So without `d` for each of the first and `n`
-    /// for each of the others, one is left for each that was found.
+    /// How many references found their block: the comparisons, less `d` for each reference found
+    /// at distance `d`, and less `n` for each that was not found among `n` blocks.
     fn hits(&self) -> u64
         ensures { result ≡ sum self.now.distances }
     {
@@ -266,7 +265,7 @@ impl Profile {
         self.counts_next(&mut sums, e)
     }
 
-    /// Begins to count for rising associativities, at 0. It takes as long as `fed`.
+    /// The sums at associativity 0, with which `counts_next` begins. It takes as long as `fed`.
     pub fn begin_sums(&self) -> HitSums
         ensures { result ≡ hit_sums_at self.now 0 }
     {

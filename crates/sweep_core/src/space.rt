@@ -151,7 +151,7 @@ impl Space {
         let _ = &self.powers;
     }
 
-    /// Whether it has a configuration, whose numbers may be any.
+    /// Whether a configuration is in the space. Its numbers may be any.
     pub fn has(&self, config: &Config) -> bool
         ensures { result ≡ is_valid self.now config.now }
     {

@@ -73,7 +73,8 @@ impl Lines {
             (source.new ≡ source.old) × (self.new ≡ self.old)
             × (result ≡ stopped_result self.old.state) }
 
-        // The source failed just in the calls that leave an open reader with a failed device.
+        // A failure of the source is counted exactly where an open reader is left with a failed
+        // device.
         ensures counted { self.old.state ≡ ReaderState.Open → (S.view source.new).failures
             ≡ failures_after (device_failed self.new.state) (S.view source.old).failures }
 
