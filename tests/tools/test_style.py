@@ -90,12 +90,10 @@ class Scripts(base.ToolTest):
 class Widths(unittest.TestCase):
     """The longest lines: in characters, of code, contracts and comments, by their place."""
 
-    NARROW = ("trace_core", "cache_core", "sweep_core", "profile_core")
-
     def width(self, path):
         """The most characters of a line in a file; none for data."""
         if path.suffix == ".rt":
-            return 100 if path.relative_to(base.TOP / "crates").parts[0] in self.NARROW else 140
+            return 100
         is_script = path.suffix in (".py", ".bash", ".c", ".h", ".md") or first_line(path).startswith(b"#!")
         return 160 if path.suffix == ".antt" else 140 if is_script else None
 

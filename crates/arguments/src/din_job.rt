@@ -1,6 +1,7 @@
 //! The options of `din` and `log`.
 ghost use Rattle.std.specs.Prelude.{◌≡◌, IfOk, Some};
-ghost use Rattle.arguments.specs.DinJob.{cache_of, caches_given, din_of, log_of, options_given, plan_given, power_of, reading_of};
+ghost use Rattle.arguments.specs.DinJob.{cache_of, caches_given, din_of, log_of, options_given};
+ghost use Rattle.arguments.specs.DinJob.{plan_given, power_of, reading_of};
 ghost use Rattle.arguments.specs.DinJob.{repl_named, walloc_named, wback_named};
 ghost use Rattle.arguments.specs.Faults.{job_result};
 ghost use Rattle.arguments.specs.Job.{max_lines_of};
@@ -151,7 +152,8 @@ fn complete(cache: CacheName, reading: &CacheReading) -> Result<Option<CacheSpec
 
 /// A power of two that may be left out.
 fn power_at(matches: &ArgMatches<'_>, option: &'static str) -> Result<Option<u64>, WordsFault>
-    ensures { job_result result ≡ Some (optional_value option.entry.now power_of (rows_given matches.now)) }
+    ensures { job_result result
+        ≡ Some (optional_value option.entry.now power_of (rows_given matches.now)) }
 {
     let Some(text) = text_at(matches, option) else {
         return Ok(None);
@@ -164,7 +166,8 @@ fn power_at(matches: &ArgMatches<'_>, option: &'static str) -> Result<Option<u64
 
 /// The replacement policy, which may be left out.
 fn repl_at(matches: &ArgMatches<'_>, option: &'static str) -> Result<Option<Repl>, WordsFault>
-    ensures { job_result result ≡ Some (optional_value option.entry.now repl_named (rows_given matches.now)) }
+    ensures { job_result result
+        ≡ Some (optional_value option.entry.now repl_named (rows_given matches.now)) }
 {
     match text_at(matches, option) {
         None => Ok(None),
@@ -180,7 +183,8 @@ fn walloc_at(
     matches: &ArgMatches<'_>,
     option: &'static str,
 ) -> Result<Option<AllocMode>, WordsFault>
-    ensures { job_result result ≡ Some (optional_value option.entry.now walloc_named (rows_given matches.now)) }
+    ensures { job_result result
+        ≡ Some (optional_value option.entry.now walloc_named (rows_given matches.now)) }
 {
     match text_at(matches, option) {
         None => Ok(None),
@@ -192,7 +196,8 @@ fn walloc_at(
 
 /// Write-back or write-through, which may be left out.
 fn wback_at(matches: &ArgMatches<'_>, option: &'static str) -> Result<Option<WriteMode>, WordsFault>
-    ensures { job_result result ≡ Some (optional_value option.entry.now wback_named (rows_given matches.now)) }
+    ensures { job_result result
+        ≡ Some (optional_value option.entry.now wback_named (rows_given matches.now)) }
 {
     match text_at(matches, option) {
         None => Ok(None),

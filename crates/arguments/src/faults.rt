@@ -14,7 +14,8 @@ pub enum WordsFault {
     /// Memory was refused.
     #[error("out of memory")]
     Memory,
-    /// The arguments are no call of a command, as the text of `clap` says; or help was asked for, which is then the text.
+    /// The arguments are no call of a command, as the text of `clap` says; or help was asked for,
+    /// which is then the text.
     #[error("{text}")]
     Usage { text: String, help: bool },
     /// The value of an option can't be read. The option is named as the tables of options do.
@@ -35,7 +36,8 @@ pub enum WordsFault {
 }
 
 impl WordsFault {
-    /// The status that the program ends with: 0 where help was asked for, 1 for `Memory`, and else 2.
+    /// The status that the program ends with: 0 where help was asked for, 1 for `Memory`, and else
+    /// 2.
     pub fn status(&self) -> u8
         ensures { result ≡ status_of self.now }
     {

@@ -5,7 +5,8 @@ use cache_core::plan::Plan;
 use sweep_core::request::Request;
 use trace_core::line::Format;
 
-/// What a command line asks for. `max_lines` is the most lines that the trace may have, 1 to `MAX_LINES`.
+/// What a command line asks for. `max_lines` is the most lines that the trace may have, 1 to
+/// `MAX_LINES`.
 #[derive(Clone, Copy, Debug)]
 pub enum Job {
     Csim {

@@ -2,11 +2,13 @@
 ghost use Rattle.std.specs.Prelude.{◌≡◌, ◌<◌, option_map};
 ghost use Rattle.std.specs.List.{list_all};
 ghost use Rattle.std.specs.Char.{is_ascii_digit};
-ghost use Rattle.arguments.specs.Numbers.{config_of, number_of, range_of, scale_of, scaled_of, split_at, triple_of};
+ghost use Rattle.arguments.specs.Numbers.{config_of, number_of, range_of, scale_of, scaled_of};
+ghost use Rattle.arguments.specs.Numbers.{split_at, triple_of};
 
 use sweep_core::space::Config;
 
-/// The number of one or more decimal digits, zeros in front allowed. `None` for any other text, and from 2^64 on.
+/// The number of one or more decimal digits, zeros in front allowed. `None` for any other text, and
+/// from 2^64 on.
 pub fn read_number(text: &str) -> Option<u64>
     ensures { result ≡ number_of text.now }
 {
@@ -24,8 +26,8 @@ fn has_only_digits(text: &str) -> bool
     text.bytes().all(|byte| byte.is_ascii_digit())
 }
 
-/// A number as `read_number` reads it, or one of `k K m M g G` after it: times 2^10, 2^20 or 2^30. `None` for any other text, and where
-/// the product is 2^64 or more.
+/// A number as `read_number` reads it, or one of `k K m M g G` after it: times 2^10, 2^20 or 2^30.
+/// `None` for any other text, and where the product is 2^64 or more.
 pub fn read_scaled(text: &str) -> Option<u64>
     ensures { result ≡ scaled_of text.now }
 {
@@ -48,7 +50,8 @@ fn scale_of(letter: u8) -> Option<u64>
     }
 }
 
-/// `X` or `LO-HI`, each as `read_scaled` reads it: `(X, X)` or `(LO, HI)`, not compared with each other. `None` for any other text.
+/// `X` or `LO-HI`, each as `read_scaled` reads it: `(X, X)` or `(LO, HI)`, not compared with each
+/// other. `None` for any other text.
 pub fn read_range(text: &str) -> Option<(u64, u64)>
     ensures { result ≡ range_of text.now }
 {
@@ -64,12 +67,14 @@ pub fn read_range(text: &str) -> Option<(u64, u64)>
 /// What is before the first of these characters, and what is after it.
 fn split_at(text: &str, delimiter: char) -> Option<(&str, &str)>
     requires { delimiter < 128 }
-    ensures { option_map (λ parts. (parts.0.now, parts.1.now)) result ≡ split_at delimiter text.now }
+    ensures { option_map (λ parts. (parts.0.now, parts.1.now)) result
+        ≡ split_at delimiter text.now }
 {
     text.split_once(delimiter)
 }
 
-/// `B,S,E`, each as `read_number` reads it: bsize, sets and assoc, which need not be those of a cache. `None` for any other text.
+/// `B,S,E`, each as `read_number` reads it: bsize, sets and assoc, which need not be those of a
+/// cache. `None` for any other text.
 pub fn read_triple(text: &str) -> Option<Config>
     ensures { result ≡ triple_of text.now }
 {

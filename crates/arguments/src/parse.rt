@@ -3,7 +3,8 @@ ghost use Rattle.std.specs.Prelude.{codes, [], ◌≡◌, ◌≢◌, IfOk, IfSom
 ghost use Rattle.std.specs.Prelude.{map, option_and_then, option_map, string_bytes};
 ghost use Rattle.std.specs.List.{list_any};
 ghost use Rattle.clap.specs.Words.{fault_of, first_of, kind_of, subcommand_rows_of, takes};
-ghost use Rattle.arguments.specs.CommandLine.{command_result, command_of, is_help, job_named, chosen_command, refusal_of, usage_of};
+ghost use Rattle.arguments.specs.CommandLine.{command_result, command_of, is_help, job_named};
+ghost use Rattle.arguments.specs.CommandLine.{chosen_command, refusal_of, usage_of};
 ghost use Rattle.arguments.specs.Faults.{job_fault_of, job_result};
 ghost use Rattle.arguments.specs.Job.{max_lines_of};
 ghost use Rattle.options.specs.Options.{cachesim_app};
@@ -33,23 +34,27 @@ pub struct Command {
 
 /// The job that the arguments ask for. The first argument is the program's name. No file is opened.
 ///
-/// Errors, the first that applies: `Usage` for what `clap` refuses or for help; `Value` for the first bad value, in the
-/// order of the manual's tables; `Incomplete`; then `BadShape`, `Plan` or `Space`. `Memory` wherever memory is refused.
+/// Errors, the first that applies: `Usage` for what `clap` refuses or for help; `Value` for the
+/// first bad value, in the order of the manual's tables; `Incomplete`; then `BadShape`, `Plan` or
+/// `Space`. `Memory` wherever memory is refused.
 pub fn parse(alloc: Global, arguments: &[String]) -> Result<Command, WordsFault>
-    // But for lack of memory and for what clap refuses, it returns what the arguments mean, and clap refuses nothing.
+    // But for lack of memory and for what clap refuses, it returns what the arguments mean, and
+    // clap refuses nothing.
     ensures means { IfSome (command_result result) (λ returned.
         command_of (map string_bytes arguments.now) ≡ Some returned) }
     ensures accepted { IfSome (command_result result) (λ _.
         fault_of cachesim_app (respelled (map string_bytes arguments.now)) ≡ []) }
     ensures limit { IfOk result (λ c. max_lines_of c.job ≡ MAX_LINES) }
 
-    // What clap takes is not refused, a refusal is one of clap's, and it says whether help was asked for.
+    // What clap takes is not refused, a refusal is one of clap's, and it says whether help was
+    // asked for.
     ensures taken { takes cachesim_app (respelled (map string_bytes arguments.now)) ≡ true
         → refusal_of result ≡ None }
     ensures refused { IfSome (refusal_of result) (λ _.
         fault_of cachesim_app (respelled (map string_bytes arguments.now)) ≢ []) }
     ensures help { IfSome (refusal_of result) (λ help.
-        help ≡ list_any is_help (fault_of cachesim_app (respelled (map string_bytes arguments.now)))) }
+        help ≡ list_any is_help
+        (fault_of cachesim_app (respelled (map string_bytes arguments.now)))) }
 {
     let respelled = respell(alloc, arguments)?;
     let command = cachesim_command(alloc)?;
@@ -92,7 +97,8 @@ fn job_of(name: &str, options: &ArgMatches<'_>) -> Result<Job, WordsFault>
 
 /// The file of `-t`, which is the name of csim's option `LACKEY_FILE` too.
 fn file_at(alloc: Global, options: &ArgMatches<'_>) -> Result<Option<String>, AllocError>
-    ensures { IfOk result (λ file. option_map string_bytes file ≡ first_of (codes "-t") (rows_given options.now)) }
+    ensures { IfOk result (λ file. option_map string_bytes file
+        ≡ first_of (codes "-t") (rows_given options.now)) }
 {
     match text_at(options, FILE.name) {
         Some(name) => Ok(Some(String::from_str(alloc, name)?)),

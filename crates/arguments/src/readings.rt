@@ -3,7 +3,8 @@ ghost use Rattle.std.specs.Prelude.{◌≡◌, Some, option_map};
 ghost use Rattle.clap.specs.Words.{first_of};
 ghost use Rattle.arguments.specs.Faults.{job_result};
 ghost use Rattle.arguments.specs.Numbers.{number_of, range_of, triple_of};
-ghost use Rattle.arguments.specs.Readings.{format_named, is_flagged, kind_named, optional_value, required_value, rows_given, value_or};
+ghost use Rattle.arguments.specs.Readings.{format_named, is_flagged, kind_named, optional_value};
+ghost use Rattle.arguments.specs.Readings.{required_value, rows_given, value_or};
 
 use crate::faults::WordsFault;
 use crate::numbers::{read_number, read_range, read_triple};
@@ -21,7 +22,8 @@ pub fn text_at<'a>(matches: &ArgMatches<'a>, option: &str) -> Option<&'a str>
 
 /// A range that has to be there.
 pub fn range_at(matches: &ArgMatches<'_>, option: &'static str) -> Result<(u64, u64), WordsFault>
-    ensures { job_result result ≡ Some (required_value option.entry.now range_of (rows_given matches.now)) }
+    ensures { job_result result
+        ≡ Some (required_value option.entry.now range_of (rows_given matches.now)) }
 {
     text_at(matches, option)
         .and_then(read_range)
@@ -30,7 +32,8 @@ pub fn range_at(matches: &ArgMatches<'_>, option: &'static str) -> Result<(u64, 
 
 /// A number that has to be there.
 pub fn number_at(matches: &ArgMatches<'_>, option: &'static str) -> Result<u64, WordsFault>
-    ensures { job_result result ≡ Some (required_value option.entry.now number_of (rows_given matches.now)) }
+    ensures { job_result result
+        ≡ Some (required_value option.entry.now number_of (rows_given matches.now)) }
 {
     text_at(matches, option)
         .and_then(read_number)
@@ -42,7 +45,8 @@ pub fn optional_number_at(
     matches: &ArgMatches<'_>,
     option: &'static str,
 ) -> Result<Option<u64>, WordsFault>
-    ensures { job_result result ≡ Some (optional_value option.entry.now number_of (rows_given matches.now)) }
+    ensures { job_result result
+        ≡ Some (optional_value option.entry.now number_of (rows_given matches.now)) }
 {
     let Some(text) = text_at(matches, option) else {
         return Ok(None);
@@ -56,7 +60,8 @@ pub fn config_at(
     matches: &ArgMatches<'_>,
     option: &'static str,
 ) -> Result<Option<Config>, WordsFault>
-    ensures { job_result result ≡ Some (optional_value option.entry.now triple_of (rows_given matches.now)) }
+    ensures { job_result result
+        ≡ Some (optional_value option.entry.now triple_of (rows_given matches.now)) }
 {
     let Some(text) = text_at(matches, option) else {
         return Ok(None);
@@ -67,7 +72,8 @@ pub fn config_at(
 
 /// The kind of `--kind`, all where it is left out.
 pub fn kind_at(matches: &ArgMatches<'_>, option: &'static str) -> Result<Kind, WordsFault>
-    ensures { job_result result ≡ Some (value_or Kind.All option.entry.now kind_named (rows_given matches.now)) }
+    ensures { job_result result
+        ≡ Some (value_or Kind.All option.entry.now kind_named (rows_given matches.now)) }
 {
     match text_at(matches, option).unwrap_or("u") {
         "u" => Ok(Kind::All),
@@ -79,7 +85,8 @@ pub fn kind_at(matches: &ArgMatches<'_>, option: &'static str) -> Result<Kind, W
 
 /// The format of `--format` or `-informat`, din where it is left out.
 pub fn format_at(matches: &ArgMatches<'_>, option: &'static str) -> Result<Format, WordsFault>
-    ensures { job_result result ≡ Some (value_or Format.Din option.entry.now format_named (rows_given matches.now)) }
+    ensures { job_result result
+        ≡ Some (value_or Format.Din option.entry.now format_named (rows_given matches.now)) }
 {
     match text_at(matches, option).unwrap_or("d") {
         "d" => Ok(Format::Din),

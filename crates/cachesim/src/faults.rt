@@ -29,7 +29,8 @@ pub enum ProgramFault {
 }
 
 impl ProgramFault {
-    /// The status that the program ends with: that of the arguments' fault, 2 for an argument that is not UTF-8, and else 1.
+    /// The status that the program ends with: that of the arguments' fault, 2 for an argument that
+    /// is not UTF-8, and else 1.
     pub fn status(&self) -> u8
         ensures { result ≡ program_status self.now }
     {

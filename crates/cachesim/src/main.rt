@@ -50,7 +50,8 @@ fn arguments_of(rt: &HostRuntime) -> Result<Vec<String>, ProgramFault> {
     Ok(collect_arguments(rt.alloc(), args)?)
 }
 
-/// Collects the arguments one by one: `collect` would ask for less room where the room for all of them is refused.
+/// Collects the arguments one by one: `collect` would ask for less room where the room for all of
+/// them is refused.
 fn collect_arguments(alloc: Global, args: Args) -> Result<Vec<String>, AllocError> {
     let mut arguments = Vec::new(alloc);
     for argument in args {
@@ -68,7 +69,8 @@ fn open_trace(rt: &HostRuntime, name: String) -> Result<File, ProgramFault> {
     }
 }
 
-/// Does a job on a trace. What it wrote before a fault of the trace is written out; a failed output is left alone.
+/// Does a job on a trace. What it wrote before a fault of the trace is written out; a failed output
+/// is left alone.
 fn run_on<S: Source + Drop>(rt: &HostRuntime, job: &Job, mut source: S) -> Result<(), ProgramFault>
     requires some { 1 ≤ max_lines_of job.now }
     requires most { max_lines_of job.now ≤ MAX_LINES }

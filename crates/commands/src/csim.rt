@@ -19,12 +19,14 @@ use trace_core::line::Format;
 use trace_core::reader::{Lines, MAX_LINES};
 use trace_core::text::Text;
 
-/// Runs a lackey trace through an LRU cache of this geometry, which allocates on write misses. With `verbose` the line
-/// of each data item is written as soon as its references were made, and the summary after the last one; then the sink is flushed, once.
-/// All memory is taken before the first read. `max_lines` is the most lines that the trace may have.
+/// Runs a lackey trace through an LRU cache of this geometry, which allocates on write misses. With
+/// `verbose` the line of each data item is written as soon as its references were made, and the
+/// summary after the last one; then the sink is flushed, once. All memory is taken before the first
+/// read. `max_lines` is the most lines that the trace may have.
 ///
-/// Errors: `Memory`, with nothing read or written; `Trace` where the trace has a fault or the source failed, with the lines before it
-/// written and no summary; `Write` where the sink failed, with what it took written, and then nothing is read on.
+/// Errors: `Memory`, with nothing read or written; `Trace` where the trace has a fault or the
+/// source failed, with the lines before it written and no summary; `Write` where the sink failed,
+/// with what it took written, and then nothing is read on.
 pub fn csim<S: Source, K: Sink>(
     alloc: Global,
     geometry: Geometry,
@@ -50,11 +52,13 @@ pub fn csim<S: Source, K: Sink>(
     Ok(())
 }
 
-/// Makes the data references of an entry, and returns how they went. A fetch has none, and a flush empties the cache.
+/// Makes the data references of an entry, and returns how they went. A fetch has none, and a flush
+/// empties the cache.
 #[inline(always)]
 fn step(simulation: &mut Simulation, entry: Entry) -> (Option<Lookup>, Option<Lookup>)
     requires { SimulationCountsWithin (2 ^ 62) simulation.old.counts }
-    ensures { (g : GeometryValue) (events : List Event) → SimulationStandsFor g events simulation.old →
+    ensures { (g : GeometryValue) (events : List Event) →
+        SimulationStandsFor g events simulation.old →
         SimulationStandsFor g (events ++ events_of Kind.DataOnly entry) simulation.new
         × (lookups_of_pair result ≡ lookups_of g events entry) }
 {

@@ -2,7 +2,8 @@
 ghost use Rattle.std.specs.Prelude.{◌≡◌, ◌+◌, ◌≤◌, [], ◌++◌, length, flat_map, if◌then◌else◌};
 ghost use Rattle.std.specs.Option.{option_to_list};
 ghost use Rattle.trace_core.specs.Device.{Writes};
-ghost use Rattle.commands.specs.CsimText.{letter_of, lookup_text, item_line, line_of, lookups_of_pair, summary};
+ghost use Rattle.commands.specs.CsimText.{letter_of, lookup_text, item_line, line_of};
+ghost use Rattle.commands.specs.CsimText.{lookups_of_pair, summary};
 
 use crate::text::CAPACITY;
 use cache_core::outcome::Counts;
@@ -14,7 +15,8 @@ use trace_core::text::{DECIMAL, HEXADECIMAL, Text};
 /// The most bytes that a line says of a lookup.
 const LOOKUP: usize = 14;
 
-/// The most bytes of a line: a letter and a space, the address, a comma, the size, two lookups, and an LF.
+/// The most bytes of a line: a letter and a space, the address, a comma, the size, two lookups, and
+/// an LF.
 const LINE: usize = 2 + HEXADECIMAL + 1 + DECIMAL + 2 * LOOKUP + 1;
 
 /// Writes the line of an entry, if lines are wanted.

@@ -19,12 +19,13 @@ use trace_core::line::Format;
 use trace_core::reader::{Lines, MAX_LINES, ReaderState};
 use trace_core::text::Text;
 
-/// Runs a trace through the caches of a plan, and writes the report after its end; then the sink is flushed, once. Each cache with
-/// random replacement draws from a generator of its own, of this seed. All memory is taken before the first read. `max_lines` is the
-/// most lines that the trace may have.
+/// Runs a trace through the caches of a plan, and writes the report after its end; then the sink is
+/// flushed, once. Each cache with random replacement draws from a generator of its own, of this
+/// seed. All memory is taken before the first read. `max_lines` is the most lines that the trace
+/// may have.
 ///
-/// Errors: `Memory`, with nothing read or written; `Trace` where the trace has a fault or the source failed, with nothing written;
-/// `Write` where the sink failed, with what it took written.
+/// Errors: `Memory`, with nothing read or written; `Trace` where the trace has a fault or the
+/// source failed, with nothing written; `Write` where the sink failed, with what it took written.
 pub fn din<S: Source, K: Sink>(
     alloc: Global,
     plan: Plan,
@@ -49,7 +50,8 @@ pub fn din<S: Source, K: Sink>(
     Ok(())
 }
 
-/// Steps a new system through a trace, all the references of an entry or a flush, and returns what it counted.
+/// Steps a new system through a trace, all the references of an entry or a flush, and returns what
+/// it counted.
 fn stats_of_trace<S: Source>(
     mut system: System,
     lines: &mut Lines,

@@ -7,7 +7,8 @@ use cache_core::plan::CacheName;
 use cache_core::stats::{CacheStats, Stats};
 use trace_core::text::{DECIMAL, Text};
 
-/// The most bytes of a cache's line: its name, the names of eight numbers, these numbers, and an LF.
+/// The most bytes of a cache's line: its name, the names of eight numbers, these numbers, and an
+/// LF.
 const CACHE_LINE: usize = 4 + (9 + 14 + 7 + 13 + 8 + 14 + 11 + 11) + 8 * DECIMAL + 1;
 
 /// The most bytes of the line of memory.

@@ -16,7 +16,8 @@ use trace_core::reader::MAX_LINES;
 
 /// Does a job: it returns, reads and writes what the command of that name does.
 ///
-/// Errors: those of `csim`, `din`, `log` and `sweep`. The comparisons that `sweep` returns are dropped.
+/// Errors: those of `csim`, `din`, `log` and `sweep`. The comparisons that `sweep` returns are
+/// dropped.
 pub fn execute<S: Source, K: Sink>(
     alloc: Global,
     job: &Job,

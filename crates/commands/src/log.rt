@@ -15,12 +15,14 @@ use trace_core::line::Format;
 use trace_core::reader::{Lines, MAX_LINES};
 use trace_core::text::Text;
 
-/// Runs a trace through the caches of a plan, and writes the lines of the arrivals of each entry as soon as its references were made;
-/// after the last one the sink is flushed, once. Each cache with random replacement draws from a generator of its own, of this seed. All
-/// memory is taken before the first read. `max_lines` is the most lines that the trace may have.
+/// Runs a trace through the caches of a plan, and writes the lines of the arrivals of each entry as
+/// soon as its references were made; after the last one the sink is flushed, once. Each cache with
+/// random replacement draws from a generator of its own, of this seed. All memory is taken before
+/// the first read. `max_lines` is the most lines that the trace may have.
 ///
-/// Errors: `Memory`, with nothing read or written; `Trace` where the trace has a fault or the source failed, with the lines of the
-/// entries before it written; `Write` where the sink failed, with what it took written, and then nothing is read on.
+/// Errors: `Memory`, with nothing read or written; `Trace` where the trace has a fault or the
+/// source failed, with the lines of the entries before it written; `Write` where the sink failed,
+/// with what it took written, and then nothing is read on.
 pub fn log<S: Source, K: Sink>(
     alloc: Global,
     plan: Plan,

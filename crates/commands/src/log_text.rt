@@ -1,6 +1,7 @@
 //! The lines that `log` writes.
 ghost use Rattle.std.specs.Prelude.{◌≡◌, ◌+◌, ◌≤◌, [], ◌++◌, length};
-ghost use Rattle.commands.specs.LogText.{din_label, reference_text, victim_text, result_text, arrival_line};
+ghost use Rattle.commands.specs.LogText.{din_label, reference_text, victim_text, result_text};
+ghost use Rattle.commands.specs.LogText.{arrival_line};
 
 use crate::text::CAPACITY;
 use cache_core::arrival::{Arrival, Observer, Victim};

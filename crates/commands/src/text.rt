@@ -5,7 +5,8 @@ use crate::din_text::REPORT;
 use trace_core::io::{DeviceFault, Sink, write_all};
 use trace_core::text::Text;
 
-/// How many bytes a text has at most. The longest is a report; what `log` writes for an entry is shorter.
+/// How many bytes a text has at most. The longest is a report; what `log` writes for an entry is
+/// shorter.
 pub(crate) const CAPACITY: usize = REPORT;
 
 /// Writes a text to a sink and then flushes it: a flush that fails leaves the whole text written.

@@ -2,8 +2,10 @@
 ghost use Rattle.std.specs.Prelude.{◌≡◌, ◌++◌, IfOk, OnOk, Some, false, map};
 ghost use Rattle.clap.specs.Words.{app_of, new_rule, rule_of};
 ghost use Rattle.clap.specs.declared.builder.command.Command.TheViews.{out-Command as fields_of};
-ghost use Rattle.options.specs.Options.{app_and_global, cachesim_app, csim_rules, din_rules, leaf_of, own_leaf, own_rule};
-ghost use Rattle.options.specs.Options.{rule_and_global, rule_of_option, rules_of, sweep_rules, with_spelling};
+ghost use Rattle.options.specs.Options.{app_and_global, cachesim_app, csim_rules, din_rules};
+ghost use Rattle.options.specs.Options.{leaf_of, own_leaf, own_rule};
+ghost use Rattle.options.specs.Options.{rule_and_global, rule_of_option, rules_of, sweep_rules};
+ghost use Rattle.options.specs.Options.{with_spelling};
 
 use crate::caches::cache_options;
 use crate::help;
@@ -17,8 +19,8 @@ use cache_core::plan::CacheName;
 use clap::{Arg, ArgAction, Command};
 use std::alloc::{AllocError, Global};
 
-// The check takes long where a `Command` or an `Arg` is alive across a branch. So each is made in one expression without a way out, or
-// kept in a list.
+// The check takes long where a `Command` or an `Arg` is alive across a branch. So each is made in
+// one expression without a way out, or kept in a list.
 
 /// The program's command line.
 pub fn cachesim_command<'a>(alloc: Global) -> Result<Command<'a>, AllocError>
@@ -80,7 +82,8 @@ static COMMANDS: [CommandText; 4] = [
 
 /// These commands as `clap` takes them.
 fn leaf_commands<'a>(alloc: Global, texts: &[CommandText]) -> Result<Vec<Command<'a>>, AllocError>
-    ensures { IfOk result (λ v. map app_and_global v.items ≡ map (λ text. own_leaf (leaf_of text)) texts.now) }
+    ensures { IfOk result (λ v. map app_and_global v.items
+        ≡ map (λ text. own_leaf (leaf_of text)) texts.now) }
 {
     let mut commands = Vec::new(alloc);
     for text in texts {
@@ -203,7 +206,8 @@ fn arg_of<'a>(alloc: Global, option: &CommandOption) -> Arg<'a>
 
 /// The option with its spelling and its help.
 fn spelled_arg<'a>(alloc: Global, option: &CommandOption) -> Arg<'a>
-    ensures rule { rule_and_global result ≡ own_rule (with_spelling option.now.spelling (new_rule option.now.name.now)) }
+    ensures rule { rule_and_global result
+        ≡ own_rule (with_spelling option.now.spelling (new_rule option.now.name.now)) }
     ensures help { result.help ≡ Some option.now.help }
 {
     match option.spelling {

@@ -1,16 +1,18 @@
 //! What `--help` says besides the list of the options.
 //!
-//! The limits of a cache are those of `cache_core::geometry`, which no text here can cite: 1m, 64k and 4m are
-//! 2^`MAX_BITS`, `MAX_WAYS` and `MAX_CACHE_LINES`.
+//! The limits of a cache are those of `cache_core::geometry`, which no text here can cite: 1m, 64k
+//! and 4m are 2^`MAX_BITS`, `MAX_WAYS` and `MAX_CACHE_LINES`.
 
-/// A text with the command by which Valgrind writes a trace, and the exit statuses after it: all five texts of help have both.
+/// A text with the command by which Valgrind writes a trace, and the exit statuses after it: all
+/// five texts of help have both.
 macro_rules! help_text {
     ($before:literal, $after:literal, $end:literal) => {
         concat!(
             $before,
             "  valgrind --tool=lackey --trace-mem=yes --log-file=trace.txt PROGRAM\n",
             $after,
-            "\nExit status: 0 done or help, 1 the trace, the output or the memory failed, 2 wrong arguments.",
+            "\nExit status: 0 done or help, 1 the trace, the output or the memory failed, ",
+            "2 wrong arguments.",
             $end
         )
     };

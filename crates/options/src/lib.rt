@@ -1,4 +1,5 @@
-//! The commands and their options: what `clap` is given, Dinero's spelling, and what help says of them.
+//! The commands and their options: what `clap` is given, Dinero's spelling, and what help says of
+//! them.
 #![tactic(auto)]
 
 pub mod app;

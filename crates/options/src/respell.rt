@@ -1,12 +1,15 @@
 //! Dinero's spelling of the options of `din` and `log`.
 ghost use Rattle.std.specs.Prelude.{◌≡◌, ◌++◌, IfOk, OnOk, string_bytes, map};
-ghost use Rattle.options.specs.Respell.{has_dinero_options, is_dinero_option, respelled, spelled, takes_dinero};
+ghost use Rattle.options.specs.Respell.{has_dinero_options, is_dinero_option, respelled, spelled};
+ghost use Rattle.options.specs.Respell.{takes_dinero};
 
 use std::alloc::{AllocError, Global};
 
-/// The arguments, where Dinero's options have two dashes. The first two, the program's name and the command, stay as they are.
+/// The arguments, where Dinero's options have two dashes. The first two, the program's name and the
+/// command, stay as they are.
 pub fn respell(alloc: Global, arguments: &[String]) -> Result<Vec<String>, AllocError>
-    ensures { IfOk result (λ v. map string_bytes v.items ≡ respelled (map string_bytes arguments.now)) }
+    ensures { IfOk result (λ v. map string_bytes v.items
+        ≡ respelled (map string_bytes arguments.now)) }
 {
     let (head, options) = arguments.split_at(arguments.len().min(2));
     let mut respelled = Vec::with_capacity(alloc, arguments.len())?;

@@ -1,4 +1,5 @@
-//! One cache: what each kind of reference does under each mode, and the separate simulation of a configuration.
+//! One cache: what each kind of reference does under each mode, and the separate simulation of a
+//! configuration.
 use crate::samples::{fetch, nine_references, read, write};
 use cache_core::cache::Cache;
 use cache_core::geometry::Geometry;

@@ -1,6 +1,7 @@
-//! Worked examples of the calls of `sweep_core` and the libraries below it, as tests: what only a call can show, such as devices that
-//! fail, what a call returns beside its text, and refused memory. Those of the commands are in `worked_runs`; what a user can type is
-//! a case of `tests/cases`. It has no code of its own.
+//! Worked examples of the calls of `sweep_core` and the libraries below it, as tests: what only a
+//! call can show, such as devices that fail, what a call returns beside its text, and refused
+//! memory. Those of the commands are in `worked_runs`; what a user can type is a case of
+//! `tests/cases`. It has no code of its own.
 #![tactic(auto)]
 
 #[cfg(test)]

@@ -1,4 +1,5 @@
-//! How often a sweep takes memory: as often for a long trace as for a short one, and whatever the limit on lines.
+//! How often a sweep takes memory: as often for a long trace as for a short one, and whatever the
+//! limit on lines.
 ghost use Rattle.std.specs.Prelude.{◌≡◌, ◌≤◌, ◌<◌, None, length};
 
 use crate::samples::NINE;
@@ -44,7 +45,8 @@ impl<'a> Source for Repeated<'a> {
     }
 }
 
-/// What a sweep of a text so many times writes. Where memory is refused, nothing was read or written, and that ends the test.
+/// What a sweep of a text so many times writes. Where memory is refused, nothing was read or
+/// written, and that ends the test.
 fn expect_table(
     rt: &impl Abort,
     alloc: Global,
@@ -79,12 +81,13 @@ fn a_sweep_of_any_number_of_lines(rt: HostRuntime) -> Result<(), Fail> {
     expect_table(&rt, rt.alloc(), &both, 1, TABLE)
 }
 
-// After the first time, the block of the last line is that of the first: one hit more for one line a set.
+// After the first time, the block of the last line is that of the first: one hit more for one line
+// a set.
 #[test]
 fn a_sweep_of_nine_thousand_lines(rt: HostRuntime) -> Result<(), Fail> {
     let both = request(2, (1, 2), (16, 64))?;
-    let written =
-        b"bsize,sets,assoc,size,hits,misses,evictions\n16,1,1,16,3999,5001,5000\n16,1,2,32,4999,4001,3999\n\
+    let written = b"bsize,sets,assoc,size,hits,misses,evictions\n\
+        16,1,1,16,3999,5001,5000\n16,1,2,32,4999,4001,3999\n\
         16,2,1,32,5998,3002,3000\n16,2,2,64,5998,3002,2999\n";
     expect_table(&rt, rt.alloc(), &both, 1000, written)
 }

@@ -115,7 +115,8 @@ fn the_generator_gives_its_first_numbers(rt: HostRuntime) {
     }
 }
 
-// The first two numbers are odd, so way 1 is taken out twice; the third is even. A flush draws none.
+// The first two numbers are odd, so way 1 is taken out twice; the third is even. A flush draws
+// none.
 #[test]
 fn a_random_number_takes_out_its_way(rt: HostRuntime) -> Result<(), Fail> {
     let mut cache = one_set(rt.alloc(), 2, Random::new(42))?;

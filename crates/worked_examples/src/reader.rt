@@ -14,7 +14,8 @@ use trace_core::reader::{Lines, MAX_LINES};
 
 type Answer = Result<Option<(u64, Entry)>, TraceFault>;
 
-/// A text, what a reader of at most `limit` lines returns for it, and how many bytes settle the fault that ends it.
+/// A text, what a reader of at most `limit` lines returns for it, and how many bytes settle the
+/// fault that ends it.
 #[derive(Drop)]
 struct Example<'a> {
     format: Format,
@@ -35,7 +36,8 @@ fn load(addr: u64) -> Entry {
     Entry::Item(Item { op, addr, size })
 }
 
-/// The entries of lines up to `lines`, and then the end, again and again: for that the source is not read.
+/// The entries of lines up to `lines`, and then the end, again and again: for that the source is
+/// not read.
 fn expect_tape(
     rt: &impl Abort,
     alloc: Global,
@@ -63,7 +65,8 @@ fn line_feeds(bytes: &[u8]) -> u64 {
     bytes.iter().filter(|byte| **byte == b'\n').count() as u64
 }
 
-/// The text in pieces of `most` bytes, whose call number `call` fails: what was delivered is judged first.
+/// The text in pieces of `most` bytes, whose call number `call` fails: what was delivered is judged
+/// first.
 fn expect_failure(
     rt: &impl Abort,
     alloc: Global,

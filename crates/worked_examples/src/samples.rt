@@ -36,4 +36,5 @@ pub fn nine_references() -> [Ref; 9] {
 
 /// A log of Valgrind's lackey of seven lines: a fetch, a store and a modify among messages.
 pub const LACKEY: &[u8] =
-    b"==1234== Lackey, an example Valgrind tool\nI  0023C790,2\n S BE80199C,4\n\n--1234-- note\n M 0025747C,1\n*end\n";
+    b"==1234== Lackey, an example Valgrind tool\nI  0023C790,2\n S BE80199C,4\n\n\
+    --1234-- note\n M 0025747C,1\n*end\n";

@@ -1,4 +1,5 @@
-//! Sweeps: what they return and write, row by row what a separate simulation counts, and what their devices see.
+//! Sweeps: what they return and write, row by row what a separate simulation counts, and what their
+//! devices see.
 ghost use Rattle.std.specs.Prelude.{◌≡◌, ◌≤◌, IfOk};
 
 use crate::samples::{LACKEY, NINE, fetch, nine_references, read, write};
@@ -19,8 +20,8 @@ use trace_core::line::{Format, LineFault};
 use trace_core::reader::MAX_LINES;
 
 /// What a sweep of the nine lines over up to two sets of up to two lines writes: 108 bytes.
-pub const TABLE: &[u8] =
-    b"bsize,sets,assoc,size,hits,misses,evictions\n16,1,1,16,3,6,5\n16,1,2,32,4,5,3\n16,2,1,32,4,5,3\n16,2,2,64,4,5,2\n";
+pub const TABLE: &[u8] = b"bsize,sets,assoc,size,hits,misses,evictions\n\
+    16,1,1,16,3,6,5\n16,1,2,32,4,5,3\n16,2,1,32,4,5,3\n16,2,2,64,4,5,2\n";
 
 /// The bytes of its first line.
 const HEADER_LEN: usize = 44;
@@ -29,10 +30,11 @@ const HEADER_LEN: usize = 44;
 const ROW_LEN: usize = 16;
 
 /// What a sweep of the nine lines over one set of up to four lines writes.
-pub const TABLE_OF_ONE_SET: &[u8] =
-    b"bsize,sets,assoc,size,hits,misses,evictions\n16,1,1,16,3,6,5\n16,1,2,32,4,5,3\n16,1,3,48,5,4,1\n16,1,4,64,5,4,0\n";
+pub const TABLE_OF_ONE_SET: &[u8] = b"bsize,sets,assoc,size,hits,misses,evictions\n\
+    16,1,1,16,3,6,5\n16,1,2,32,4,5,3\n16,1,3,48,5,4,1\n16,1,4,64,5,4,0\n";
 
-/// A sweep of din texts over blocks of 16 bytes, up to so many sets of these associativities and sizes.
+/// A sweep of din texts over blocks of 16 bytes, up to so many sets of these associativities and
+/// sizes.
 pub fn request(sets: u64, assoc: (u64, u64), size: (u64, u64)) -> Result<Request, Fail>
     ensures { IfOk result (λ request. request.max_lines ≡ MAX_LINES) }
 {
@@ -46,7 +48,8 @@ pub fn request(sets: u64, assoc: (u64, u64), size: (u64, u64)) -> Result<Request
     })
 }
 
-/// What a sweep returns, where there was enough memory. Where there was not, nothing was read or written, and that ends a test.
+/// What a sweep returns, where there was enough memory. Where there was not, nothing was read or
+/// written, and that ends a test.
 fn swept(
     rt: &impl Abort,
     alloc: Global,
@@ -65,7 +68,8 @@ fn swept(
     Ok(answer)
 }
 
-/// What a sweep returns and writes, into sinks that take different parts. It flushes once where it ends well, and else never.
+/// What a sweep returns and writes, into sinks that take different parts. It flushes once where it
+/// ends well, and else never.
 fn expect_sweep(
     rt: &impl Abort,
     alloc: Global,

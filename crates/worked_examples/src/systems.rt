@@ -163,7 +163,8 @@ fn a_split_level_takes_each_kind_apart(rt: HostRuntime) -> Result<(), Fail> {
     Ok(())
 }
 
-// Of the generator's first numbers two are odd: way 1 leaves twice in each cache, so both have generators of the same seed.
+// Of the generator's first numbers two are odd: way 1 leaves twice in each cache, so both have
+// generators of the same seed.
 #[test]
 fn random_caches_have_generators_of_their_own(rt: HostRuntime) -> Result<(), Fail> {
     let mut cache = spec(32, 16, 2);

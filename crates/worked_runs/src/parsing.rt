@@ -1,4 +1,5 @@
-//! Arguments by calls: their spelling, their numbers, the file of the trace, and what `clap` refuses. Other faults are in `tests/cases`.
+//! Arguments by calls: their spelling, their numbers, the file of the trace, and what `clap`
+//! refuses. Other faults are in `tests/cases`.
 use arguments::faults::WordsFault;
 use arguments::numbers::{read_number, read_range, read_scaled, read_triple};
 use arguments::parse::{Command, parse};

@@ -1,4 +1,5 @@
-//! Runs of `csim`, `din`, `log` and `execute` over devices in memory: sources without end, and sources and sinks that fail.
+//! Runs of `csim`, `din`, `log` and `execute` over devices in memory: sources without end, and
+//! sources and sinks that fail.
 ghost use Rattle.std.specs.Prelude.{◌<◌, ◌≤◌, length};
 ghost use Rattle.arguments.specs.Job.{max_lines_of};
 
@@ -88,7 +89,8 @@ fn csim_writes_the_lines_before_a_bad_one(rt: HostRuntime) -> Result<(), Fail> {
     Ok(())
 }
 
-/// What `csim -v -s 4 -E 1 -b 4` returns over these devices. Where memory is refused, nothing was read or written, and that ends a test.
+/// What `csim -v -s 4 -E 1 -b 4` returns over these devices. Where memory is refused, nothing was
+/// read or written, and that ends a test.
 fn lines_of(
     rt: &impl Abort,
     alloc: Global,
@@ -295,7 +297,8 @@ fn a_sink_of_log_fails_at_each_of_its_calls(rt: HostRuntime) -> Result<(), Fail>
     Ok(())
 }
 
-/// A job ends well and writes this. Where memory is refused, nothing was read or written, and that ends a test.
+/// A job ends well and writes this. Where memory is refused, nothing was read or written, and that
+/// ends a test.
 fn expect_done(
     rt: &impl Abort,
     alloc: Global,

@@ -4,8 +4,8 @@
 pub const NINE: &[u8] = b"0 10\n0 20\n1 20\n0 22\n1 18\n0 110\n0 210\n0 12\n1 12\n";
 
 /// What a sweep of them over one and two sets of up to two lines writes.
-pub const TABLE: &[u8] =
-    b"bsize,sets,assoc,size,hits,misses,evictions\n16,1,1,16,3,6,5\n16,1,2,32,4,5,3\n16,2,1,32,4,5,3\n16,2,2,64,4,5,2\n";
+pub const TABLE: &[u8] = b"bsize,sets,assoc,size,hits,misses,evictions\n\
+    16,1,1,16,3,6,5\n16,1,2,32,4,5,3\n16,2,1,32,4,5,3\n16,2,2,64,4,5,2\n";
 
 /// The trace of the cache lab's handout.
 pub const HANDOUT: &[u8] = b" L 10,1\n M 20,1\n L 22,1\n S 18,1\n L 110,1\n L 210,1\n M 12,1\n";
