@@ -26,7 +26,7 @@ PACKAGES = {
     "binutils": "addr2line",
     "bubblewrap": "bwrap",
     "chromium": "chromium",
-    "dpkg-dev": "dpkg-shlibdeps",
+    "debhelper": "dh",
     "fish": "fish",
     "flake8": "flake8",
     "g++": "g++",

@@ -10,7 +10,7 @@ import tempfile
 import unittest
 
 from base import EXAMPLES, PACKAGES, PACKAGING, PROGRAM, TOOLS, TOP, ToolTest, copy_tools, needs
-from test_make import copy_repository, put_program
+from test_make import MakeTest, copy_repository, put_program
 
 SPACE = ["--bsize", "16-32", "--sets", "1-8", "--assoc", "1-2", "--size", "64-256"]
 
@@ -57,7 +57,7 @@ class Version(ToolTest):
         used = {name for line in (TOP / "crates.txt").read_text().splitlines() for name in line.partition(":")[2].split()}
         linked = set(re.findall(r" [tT] (\w+)::", run("nm", "-C", PROGRAM).stdout))
         kits_own = {name for name in linked if name in ("core", "io", "libc", "os") or name.startswith("std")}
-        named = set(re.findall(r"(?m)^    ([a-z]\w+)  +(?:Copyright|\(no)", (PACKAGING / "copyright").read_text()))
+        named = set(re.findall(r"(?m)^    ([a-z]\w+)  +(?:Copyright|\(no)", (PACKAGING / "debian/copyright").read_text()))
         self.assertIn("strsim", linked)
         self.assertEqual(named, (used | linked) - ours - kits_own)
 
@@ -66,13 +66,21 @@ class Version(ToolTest):
         used = set()
         for line in (TOP / "crates.txt").read_text().splitlines():
             used |= set(line.partition("#")[0].partition(":")[2].split())
-        text = (PACKAGING / "copyright").read_text()
+        text = (PACKAGING / "debian/copyright").read_text()
         self.assertIn("clap", used - ours)
         for library in used - ours:
             self.assertRegex(text, rf"(?m)^    {library} ")
 
 
-@needs("dpkg-dev", "lowdown", "man-db")
+class Missing(MakeTest):
+    def test_a_missing_package_is_named(self):
+        path = self.path_without("dh")
+        told = "deb: dh is missing: apt-get install debhelper\n"
+        self.refused(self.run_command(self.top / "package/deb", env={"PATH": path}), 1, told)
+        self.assertFalse((self.top / "out").exists())
+
+
+@needs("debhelper", "lowdown", "man-db")
 class Package(unittest.TestCase):
     """The Debian package, made from a copy of the repository, and installed into a folder of its own."""
 
@@ -113,14 +121,16 @@ class Package(unittest.TestCase):
         self.assertLessEqual(set(suggested), set(PACKAGES))
 
     def test_what_the_tools_name_is_suggested(self):
-        named = set()
+        """And nothing else, but what runs the list that cachesim-pages writes."""
+        named = {"parallel"}
         for path in TOOLS.rglob("[!.]*"):
             if path.is_file() and path.suffix not in (".c", ".h", ".md"):
                 text = path.read_text(errors="replace")
                 named |= set(re.findall(r"apt-get install ([a-z][\w+.-]*\w)", text))
-                named |= set(re.findall(r"^ *needs \S+ ([a-z][\w+.-]*\w)$", text, re.MULTILINE))
+                named |= set(re.findall(r"^[^#\n]*\bneeds \S+ ([a-z][\w+.-]*\w)(?: *&&| *;| *$)", text, re.MULTILINE))
         there = set(re.findall(r"[a-z][\w+.-]*", self.field("Recommends") + ", " + self.field("Suggests")))
         self.assertEqual(named - there, set())
+        self.assertEqual(set(self.field("Suggests").split(", ")) - named, set())
         self.assertEqual({"gnuplot-nox", "qemu-user", "valgrind"} - named, set())
 
     def test_names_owners_and_modes(self):

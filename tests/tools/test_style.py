@@ -32,9 +32,10 @@ def written_in(word):
 
 
 def tools():
-    """The executables under tools/ and package/."""
+    """The executables under tools/ and package/, but for debhelper's rules."""
     folders = (f"{base.TOOLS}/", f"{base.PACKAGING}/")
     found = [path for path in scripts() if path.startswith(folders) and os.access(path, os.X_OK)]
+    found.remove(str(base.PACKAGING / "debian/rules"))
     assert str(base.TOOLS / "best") in found, "files have lost their modes: no tool would be tested"
     return found
 
