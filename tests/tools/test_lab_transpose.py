@@ -1,11 +1,13 @@
 """Part B of the cache lab. The counts of whole functions are those that the lab's driver writes, as
 its handout and many course pages print them."""
 
+import contextlib
 import os
+import pathlib
 import signal
 import subprocess
 
-from base import EXAMPLES, PROGRAM, needs
+from base import EXAMPLES, PROGRAM, ended, needs
 from lab_base import LAB, STUDENTS, LabTest, comes
 
 TRANS = STUDENTS / "trans.c"
@@ -16,6 +18,15 @@ WANTED = {
     ("row by row", "61x67"): "hits:3756 misses:4423 evictions:4391  0.0 of 10 points",
     ("in blocks", "32x32"): "hits:1766 misses:287 evictions:255  8.0 of 8 points",
 }
+
+
+def those_that_name(folder):
+    """The processes whose command lines name a folder."""
+    found = []
+    for path in pathlib.Path("/proc").glob("[0-9]*/cmdline"):
+        with contextlib.suppress(OSError):
+            found += [int(path.parent.name)] if os.fsencode(folder) in path.read_bytes() else []
+    return found
 
 
 class Transpose(LabTest):
@@ -108,13 +119,24 @@ class Transpose(LabTest):
         for word in ("32", "0x4", "257x1"):
             self.refused(self.transpose("--size", word, TRANS), 2, "invalid size value")
 
+    def interrupted(self, number):
+        """Ends a tool whose function loops, as Valgrind is started. Nothing goes on, and no file is
+        left."""
+        env = {"CACHESIM": str(PROGRAM), "TMPDIR": str(self.private), "CC": "cc -DLOOPS"}
+        command = [LAB / "lab-transpose", "--size", "4x4", TRANS]
+        with ended(subprocess.Popen(command, env={**os.environ, **env})) as running:
+            try:
+                self.assertTrue(comes(lambda: any(self.private.rglob("*lab-trace*")), 60))
+                running.send_signal(number)
+                self.assertEqual(running.wait(60), 128 + number)
+                self.assertTrue(comes(lambda: not those_that_name(self.private), 60))
+                self.assertEqual(list(self.private.iterdir()), [])
+            finally:
+                for process in those_that_name(self.private):
+                    os.kill(process, signal.SIGKILL)
+
     @needs("valgrind")
     def test_an_interrupt(self):
-        env = {"CACHESIM": str(PROGRAM), "TMPDIR": str(self.private), "CC": "cc -DLOOPS"}
-        env = {**os.environ, **env}
+        """As bash starts Valgrind."""
         for number in (signal.SIGINT, signal.SIGTERM):
-            with subprocess.Popen([LAB / "lab-transpose", TRANS], env=env) as running:
-                self.assertTrue(comes(lambda: any(self.private.glob("*lab-trace*"))))
-                running.send_signal(number)
-                self.assertEqual(running.wait(20), 128 + number)
-            self.assertTrue(comes(lambda: not list(self.private.iterdir())))
+            self.interrupted(number)

@@ -94,11 +94,11 @@ class Student:
 def status_of(command, limit, seconds, **given):
     """The status of a run, or None where its time ran out. What it started and left behind is ended too."""
     given.update(stdin=subprocess.DEVNULL, start_new_session=True, preexec_fn=lambda: bound(limit), env=environment())
-    signal.pthread_sigmask(signal.SIG_BLOCK, STOPS)  # else a signal could come before the process is known
+    put_off_stops()  # else a signal could come before the process is known
     process = subprocess.Popen(command, **given)
     watch = os.pidfd_open(process.pid)  # process.wait(seconds) looks from time to time, and can keep its lock at a signal
     try:
-        signal.pthread_sigmask(signal.SIG_UNBLOCK, STOPS)
+        heed_stops()
         has_ended = select.select([watch], [], [], seconds)[0]
     finally:
         os.close(watch)
@@ -130,7 +130,7 @@ def fault_of(status, messages, seconds):
 
 def bound(limit):
     """Bounds the size of the files that a student's process writes, before it begins; no core files."""
-    signal.pthread_sigmask(signal.SIG_UNBLOCK, STOPS)
+    heed_stops()
     resource.setrlimit(resource.RLIMIT_FSIZE, (limit, resource.getrlimit(resource.RLIMIT_FSIZE)[1]))
     resource.setrlimit(resource.RLIMIT_CORE, (0, 0))
 
@@ -252,6 +252,15 @@ def seconds(text):
     if not 0 < float(text) < 1e6:
         raise ValueError
     return float(text)
+
+
+def put_off_stops():
+    """Signals that end the tool wait until heed_stops."""
+    signal.pthread_sigmask(signal.SIG_BLOCK, STOPS)
+
+
+def heed_stops():
+    signal.pthread_sigmask(signal.SIG_UNBLOCK, STOPS)
 
 
 def stop(number, _):
