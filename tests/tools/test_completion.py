@@ -34,9 +34,9 @@ ONE_OF = {
 
 
 @functools.cache
-def written(shell, script="completion"):
-    """The completion of the program for a shell, or that of the tools."""
-    words = [PACKAGING / script, shell, PROGRAM]
+def written(shell, *options):
+    """The completion of the program for a shell, or with --tools that of the tools."""
+    words = [PACKAGING / "completion", *options, shell, PROGRAM]
     return subprocess.run(words, stdout=subprocess.PIPE, check=True, text=True, timeout=120).stdout
 
 
@@ -100,6 +100,8 @@ class Generated(ToolTest):
             self.assertEqual(self.offered("cachesim", *option.split(), "=", letters[0]), {letters[0]})
         for option in ("sweep --bsize", "sweep --after", "csim -b", "din -l1-usize", "din --seed"):
             self.assertEqual(self.offered("cachesim", *option.split(), ""), set())
+        # the trace is no option
+        self.assertEqual(self.offered("cachesim", "csim", "-t", "s", "-"), OPTIONS["csim"] - {"-t"})
 
     def test_every_shell_has_every_option(self):
         options = set().union(*OPTIONS.values()) | {f"--{name}" for name in ONE_OR_TWO}
@@ -175,18 +177,21 @@ class Shells(ToolTest):
             self.assertEqual(found, set(wanted.split("|")) - set(given), typed)
 
 
-OF_DIN = "--informat --seed " + " ".join(
-    f"--{cache}{word}" for cache in ("l1-i", "l1-d", "l1-u", "l2-u") for word in "size bsize assoc repl walloc wback".split()
-)
+OF_SWEEP = "--bsize --sets --assoc --size --kind --format --after --rows --pow2"
+OF_DIN = "--seed " + " ".join(f"-{name} --{name}" for name in ONE_OR_TWO)
 # options of tools, from their help
 OF_TOOLS = {
     "best": "-h --help --up-to --within --below --rows --front --measure",
     "trace": "-h --help -o --output --program-output --from --to --kind --skip --count --with --libraries --any-version --map",
+    "to-din": "-h --help",
     "din-table": f"-h --help {OF_DIN}",
-    "over-time": f"-h --help --each --cache {OF_DIN}",
-    "three-c": "-h --help --bsize --sets --assoc --size --kind --format --after --rows --pow2",
-    "sweep-parallel": "-h --help --bsize --sets --assoc --size --kind --format --after --rows --pow2",
+    "over-time": f"-h --help --each --cache --format {OF_DIN}",
+    "by-page": f"-h --help --page --cache --format {OF_DIN}",
+    "by-line": f"-h --help --at --program --base --map --by --evicted-by --annotate --callgrind {OF_DIN}",
+    "second-level": f"-h --help --format {OF_DIN}",
+    **dict.fromkeys(("pages", "sweep-parallel", "three-c", "warm"), f"-h --help {OF_SWEEP}"),
 }
+FORMATS = "pin champsim memtrace drmemtrace execlog spike gem5 lackey addresses"
 
 
 class ForTools(ToolTest):
@@ -198,39 +203,62 @@ class ForTools(ToolTest):
         "cachesim-trace --kind=d --wi": "--with",
         "cachesim-plot --only ": "size block pareto curve",
         "cachesim-pages 4 --s": "--sets --size",
+        "cachesim-warm 1000 t.din --kind ": "u d i",
+        "cachesim-to-din p": "pin",
+        "cachesim-by-line t.din -l1-dw": "-l1-dwalloc -l1-dwback",
+        "cachesim-by-page t.din --l1-dw": "--l1-dwalloc --l1-dwback",
+        "cachesim-second-level t.din -l2-urepl ": "l f r",
+        "cachesim-over-time t.din --format ": "d l",
+        "cachesim-din-table auto t.din -l1-ibsize 16 -l1-ib": "",
+        "cachesim-grade ./csim --geometry 1,1,1 --geo": "--geometry",
     }
 
     def offered(self, *words):
+        """What is offered for the last word, FILES for files."""
         quoted = " ".join(f"'{word}'" for word in words)
         called = f"COMP_WORDS=({quoted}) COMP_CWORD={len(words) - 1}; _cachesim_tool\necho \"${{COMPREPLY[@]}}\""
-        return set(self.good(self.run_command("bash", "-c", f"{written('bash', 'tool-completion')}\n{called}")).split())
+        files = "compopt() { [[ $* != '-o default' ]] || echo FILES; }"
+        return set(self.good(self.run_command("bash", "-c", f"{written('bash', '--tools')}\n{files}\n{called}")).split())
 
     def test_bash(self):
         for name, options in OF_TOOLS.items():
-            self.assertEqual(self.offered(f"cachesim-{name}", "-"), set(options.split()))
-            self.assertEqual(self.offered(f"/a/cachesim-{name}", ""), set())
+            one_dash, two = set(options.split()), {option for option in options.split() if option.startswith("--")}
+            one_dash -= {option for option in two if option[1:] in one_dash}
+            self.assertEqual(self.offered(f"cachesim-{name}", "a", "-"), one_dash | {"FILES"})
+            self.assertEqual(self.offered(f"/b/cachesim-{name}", "a", "--"), two | {"FILES"})
+            self.assertEqual(self.offered(f"cachesim-{name}", "a", ""), {"FILES"})
         for line, wanted in self.LINES.items():
-            self.assertEqual(self.offered(*line.split(" ")), set(wanted.split()), line)
+            self.assertEqual(self.offered(*line.split(" ")) - {"FILES"}, set(wanted.split()), line)
         self.assertEqual(self.offered("cachesim-trace", "--with", "=", "q"), {"qemu"})
+        self.assertEqual(self.offered("cachesim-to-din", ""), {*FORMATS.split(), "-h", "--help"})
+        self.assertEqual(self.offered("cachesim-by-page", "t.din", "-l1-dsize", ""), set())
+        self.assertEqual(self.offered("cachesim-trace", "--output", ""), {"FILES"})
         for command in ("cachesim-grade", "cachesim-lab-csim", "cachesim-lab-trace"):
             self.assertIn("--help", self.offered(command, "-"))
 
     @needs("fish")
     def test_fish(self):
-        (self.folder / "tools.fish").write_text(written("fish", "tool-completion"))
+        (self.folder / "tools.fish").write_text(written("fish", "--tools"))
         for line, wanted in self.LINES.items():
             ran = self.run_command("fish", "-N", "-c", f"source tools.fish; complete -C '{line}'")
-            self.assertEqual({found.partition("\t")[0] for found in self.good(ran).splitlines()}, set(wanted.split()), line)
+            # an option is offered again
+            found, given = {found.partition("\t")[0] for found in self.good(ran).splitlines()}, set(line.split(" ")[:-1])
+            self.assertEqual(found - given, set(wanted.split()) - given, line)
+        ran = self.run_command("fish", "-N", "-c", "source tools.fish; touch file; complete -C 'cachesim-to-din '")
+        self.assertEqual({found.partition("\t")[0] for found in self.good(ran).splitlines()}, set(FORMATS.split()))
+        ran = self.run_command("fish", "-N", "-c", "source tools.fish; complete -C 'cachesim-to-din pin fi'")
+        self.assertEqual(self.good(ran), "file\n")
 
     @needs("zsh")
     def test_zsh(self):
         """Each tool has its options, and the whole is read without a fault."""
-        (self.folder / "_cachesim-tools").write_text(written("zsh", "tool-completion"))
+        (self.folder / "_cachesim-tools").write_text(written("zsh", "--tools"))
         self.good(self.run_command("zsh", "-n", "_cachesim-tools"))
         for name, options in OF_TOOLS.items():
             script = f'_arguments() {{ print -l -- "$@" }}; service=cachesim-{name}; source ./_cachesim-tools'
             told = self.good(self.run_command("zsh", "-f", "-c", script))
-            self.assertEqual(set(re.findall(r"(?m)^\(.*?\)(--?[\w-]+)=?\[", told)), set(options.split()))
+            self.assertEqual(set(re.findall(r"(?m)^(?:\(.*?\)|\*)(--?[\w-]+)[=+]?\[", told)), set(options.split()))
             self.assertIn("*:file:_files\n", told)
-        self.assertIn(":value:(qemu lackey)'", written("zsh", "tool-completion"))
-        self.assertTrue(written("zsh", "tool-completion").startswith("#compdef cachesim-best cachesim-by-line cachesim-by-page "))
+        self.assertIn("'1:word:((pin\\:\"Pin", written("zsh", "--tools"))
+        self.assertIn(":value:(qemu lackey)'", written("zsh", "--tools"))
+        self.assertTrue(written("zsh", "--tools").startswith("#compdef cachesim-best cachesim-by-line cachesim-by-page "))
