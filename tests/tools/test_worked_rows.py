@@ -1,4 +1,4 @@
-"""No worked row compares a thing with itself, or is always true: it passes whatever the definition or the code says."""
+"""No worked row compares a thing with itself, is always true, or asks for a bound: it passes whatever the definition or the code says."""
 
 import re
 import unittest
@@ -8,6 +8,8 @@ import base
 ROWS = re.compile(r"^(?:(?:abbrev|unfoldable|pub) )*(\w[\w-]*) :(.*?)(?=^\S|\Z)", re.M | re.S)
 # a condition of code that is a constant, or has one beside it
 ALWAYS = re.compile(r"\bassert!\(rt;\s*(true\b|[^;\"]*?(?:\|\|\s*true\b|\btrue\s*\|\|))")
+# a condition that more values meet than one
+LOOSE = re.compile(r"\bassert!\(rt;\s*([^;\"]*?(?:[<>]=|!=|\|\|)[^;\"]*?)\)?[,;]")
 OPENS, CLOSES = "([{", ")]}"
 
 
@@ -39,6 +41,10 @@ def in_code(text):
     return [*equal_sides(text, "==", ",;=!&|"), *ALWAYS.findall(text)]
 
 
+def loose(text):
+    return [condition.strip() for condition in LOOSE.findall(text)]
+
+
 class WorkedRows(unittest.TestCase):
     def test_of_definitions(self):
         files = [path for path in base.TOP.glob("crates/*/proofs/*.antt") if re.search("Tables|Examples|Rows", path.stem)]
@@ -51,6 +57,7 @@ class WorkedRows(unittest.TestCase):
         self.assertGreater(len(files), 8)
         for path in files:
             self.assertEqual(in_code(path.read_text()), [], path)
+            self.assertEqual(loose(path.read_text()), [], path)
 
     def test_what_is_found(self):
         rows = "good : (f 7 ≡ Some 7) × (f 8 ≡ None)\ngood = (refl, refl)\nbad : (f 7 ≡ Some 7)\n    × (f 8 ≡ f  8)\nbad = (refl, refl)\n"
@@ -61,6 +68,12 @@ class WorkedRows(unittest.TestCase):
         self.assertEqual(in_code('assert!(rt; true, "row {i}");'), ["true"])
         self.assertEqual(in_code("assert!(rt; is_true || a == b); assert!(rt; a == true, \"true\");"), [])
         self.assertEqual(in_code("assert!(rt; a == 2 || true);"), ["a == 2 || true"])
+
+    def test_what_is_loose(self):
+        """A bound where a value is known: a wrong value can meet it."""
+        self.assertEqual(loose("assert!(rt; a.len() == 2); assert!(rt; a < b);"), [])
+        self.assertEqual(loose("assert!(rt; a.len() >= 2);"), ["a.len() >= 2"])
+        self.assertEqual(loose('assert!(rt; a != 2, "row {i}"); assert!(rt;\n    a == 1 || a == 2);'), ["a != 2", "a == 1 || a == 2"])
 
 
 if __name__ == "__main__":
