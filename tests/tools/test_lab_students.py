@@ -41,8 +41,10 @@ FIRST_LETTER     order  2,4,3   with -v it writes no line for an access
 ENDS_AT_FETCH    mixed  2,4,3   line 3 with -v
 OWN_ORDER        order  2,4,3   no summary; the last line is 'misses:19 hits:7 evictions:15'
 """
-# right ones: addresses of -v with zeros and capitals, a tag that keeps the set, other ways to read
-RIGHT = "ECHOES TAG_WITH_SET BY_FSCANF BY_GETLINE".split()
+# right ones: addresses of -v with zeros and capitals, a tag that keeps the set, other ways to
+# read; and those of styles.c. test_lab_class judges some by all traces
+RIGHT = "ECHOES TAG_WITH_SET BY_FSCANF BY_GETLINE NO_RESULTS".split()
+RIGHT += ["STYLE=LIST", "STYLE=AGES", "STYLE=SHIFT", "STYLE=HASH"]
 
 
 class Students(StudentTest):
@@ -66,11 +68,14 @@ class Students(StudentTest):
                 self.assertTrue(said.endswith("\n0 of 1 right\n"), said)
 
     def test_right_ones(self):
+        """With csim.py and student.c itself, which others judge, there are eleven."""
         for style in RIGHT:
             with self.subTest(style):
-                options = ["--geometry=2,4,3", "--geometry=3,3,6", self.student(style)]
+                source = "styles.c" if "STYLE" in style else "student.c"
+                program = self.student(style, source=source)
+                options = ["--geometry=2,4,3", "--geometry=3,3,6", program]
                 said = self.grade(*options, "order.trace", "mixed.trace")
-                self.assertEqual(said, "4 of 4 right\n")
+                self.assertEqual(said.splitlines()[-1], "4 of 4 right")
 
     def test_zeros_and_capitals_of_addresses(self):
         """Where -v writes them so, no line is wrong for that."""
