@@ -51,7 +51,6 @@ class Manual(base.ToolTest):
         self.assertIn(f"at most {constant('trace_core', 'limits.rt', 'MAX_LINE'):,} bytes", text)
         self.assertIn(f"at most 2^{constant('trace_core', 'limits.rt', 'MAX_LINES').bit_length() - 1} lines", text)
 
-
     def test_digits(self):
         """How many an address and a size have, by how many the code reads."""
         code = (base.TOP / "crates/trace_core/src/line.rt").read_text()

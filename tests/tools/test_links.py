@@ -33,13 +33,9 @@ def broken(text, path):
 
 class Links(unittest.TestCase):
     def test_documents(self):
-        found = 0
-        for name in DOCUMENTS:
-            path = base.TOP / name
-            text = path.read_text()
-            found += len(LINK.findall(text)) + len(PATH.findall(text))
-            self.assertEqual(list(broken(text, path)), [], name)
-        self.assertGreater(found, 100)
+        texts = {base.TOP / name: (base.TOP / name).read_text() for name in DOCUMENTS}
+        self.assertGreater(sum(len(LINK.findall(text)) + len(PATH.findall(text)) for text in texts.values()), 100)
+        self.assertEqual([f"{path}: {name}" for path, text in texts.items() for name in broken(text, path)], [])
 
     def test_what_is_broken(self):
         path = base.TOP / "docs/manual.md"
