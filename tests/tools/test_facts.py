@@ -3,6 +3,7 @@
 import csv
 import itertools
 import re
+import unittest
 
 import base
 
@@ -20,7 +21,7 @@ def section(text, heading):
 def constant(crate, source, name):
     """The value of a constant of the code."""
     text = (base.TOP / "crates" / crate / "src" / source).read_text()
-    return int(re.search(rf"^pub const {name}: \w+ = (\d[\d_]*);$", text, re.M)[1])
+    return int(re.search(rf"^(?:pub )?const {name}: \w+ = (\d[\d_]*);$", text, re.M)[1])
 
 
 class Manual(base.ToolTest):
@@ -50,11 +51,45 @@ class Manual(base.ToolTest):
         self.assertIn(f"at most {constant('trace_core', 'limits.rt', 'MAX_LINE'):,} bytes", text)
         self.assertIn(f"at most 2^{constant('trace_core', 'limits.rt', 'MAX_LINES').bit_length() - 1} lines", text)
 
+    def test_digits(self):
+        """How many an address and a size have, by how many the code reads."""
+        code = (base.TOP / "crates/trace_core/src/line.rt").read_text()
+        for what, radix in (("address has 1 to {} hexadecimal digits", 16), ("size has 1 to {} decimal digits", 10)):
+            most = {int(number) for number in re.findall(rf"read_number\({radix}, (\d+), ", code)}
+            self.assertEqual(len(most), 1)
+            self.assertIn(what.format(*most), section(MANUAL, "Traces"))
+
+    def test_buffers(self):
+        """Output and input are gathered in pieces as large as the documents tell."""
+        code = (base.TOP / "crates/cachesim/src/main.rt").read_text() + (base.TOP / "crates/trace_core/src/buffer.rt").read_text()
+        sizes = re.findall(r"const (?:OUTPUT_BUFFER|CAPACITY): usize = (\d[\d_]*);", code)
+        self.assertEqual((len(sizes), len({int(size) for size in sizes})), (2, 1))
+        told = f"{int(sizes[0]) // 1024} KiB"
+        self.assertIn(f"buffered in pieces of {told}", MANUAL)
+        self.assertIn(f"two buffers of {told}", (base.TOP / "docs/speed.md").read_text())
+
+
+class Ledger(unittest.TestCase):
+    def test_counts_that_do_not_overflow(self):
+        """Of a system and a profile: twice as many as a trace may have lines."""
+        text = (base.TOP / "docs/proofs.md").read_text()
+        for what, crate, source, name in (
+            ("a system takes {} steps", "cache_core", "system.rt", "MAX_STEPS"),
+            ("a profile {} references", "profile_core", "profile.rt", "MAX_REFERENCES"),
+        ):
+            code = (base.TOP / "crates" / crate / "src" / source).read_text()
+            times = int(re.search(rf"^pub const {name}: u64 = (\d+) \* MAX_LINES;$", code, re.M)[1])
+            most = times * constant("trace_core", "limits.rt", "MAX_LINES")
+            self.assertEqual(most & (most - 1), 0)
+            self.assertIn(what.format(f"2^{most.bit_length() - 1}"), text)
+
 
 class Others(base.ToolTest):
     def test_first_random_numbers(self):
         """Of the seed that the definitions name."""
         text = (base.TOP / "docs/definitions.md").read_text()
+        stream = constant("cache_core", "replacement.rt", "STREAM")
+        self.assertIn(f"stream {stream}.", text)
         seed, told = re.search(r"With seed (\d+) the first are ((?:[0-9a-f]{8}(?:, )?)+)", text).groups()
         numbers = [f"{number:08x}" for number in itertools.islice(base.model.random_words(int(seed)), 4)]
         self.assertEqual(told.split(", "), numbers)

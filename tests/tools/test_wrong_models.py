@@ -1,0 +1,99 @@
+"""The cases tell a wrong program from the right one: each mistake of a colleague, put into the model, is seen by a case.
+
+So a case that alone shows a mistake can't be deleted unseen. Most mistakes are in which of two faults is told, which the
+definitions and the code can have alike.
+"""
+
+import types
+import unittest
+
+import base
+
+# a part of the model and what a mistake has there, with the cases that are run
+MISTAKES = {
+    "sizes are judged before associativities": (
+        "sweep-words", '("assoc", 1, 65536), ("size", 0, 2**64)', '("size", 0, 2**64), ("assoc", 1, 65536)'
+    ),
+    "set counts are judged before block sizes": (
+        "sweep-words", '("bsize", 1, 2**20), ("sets", 1, 2**20)', '("sets", 1, 2**20), ("bsize", 1, 2**20)'
+    ),
+    "--rows is read before --after": (
+        "sweep-words", 'Option("--after", triple)]\n    + [Option("--rows", number), ',
+        'Option("--rows", number)]\n    + [Option("--after", triple), ',
+    ),
+    "--format is read before --kind": (
+        "sweep-words", 'Option("--kind", one_of("udi")), Option("--format", one_of("dl"))',
+        'Option("--format", one_of("dl")), Option("--kind", one_of("udi"))',
+    ),
+    "a range that is no power of two and reversed is told as reversed": (
+        "sweep-words", 'if name in ("bsize", "sets") and not', 'if low <= high and name in ("bsize", "sets") and not'
+    ),
+    "--seed is read before -informat": (
+        "din", 'Option("-informat", one_of("dl")), Option("--seed", number), FILE',
+        'Option("--seed", number), Option("-informat", one_of("dl")), FILE',
+    ),
+    "write-back alone is no option of a cache": (
+        "din", "if any(value is not None for value in own.values())",
+        'if any(value is not None for word, value in own.items() if word != "wback")',
+    ),
+    "a mixed first level is judged after the geometries": (
+        "din", 'if "l1-u" in caches and (',
+        'if all(it["size"] >= it["bsize"] for it in caches.values()) and "l1-u" in caches and (',
+    ),
+    "smaller blocks below are judged before the geometries": (
+        "din", "    machines = {}\n    for name, cache in caches.items():\n",
+        "    machines = {}\n    for name, cache in caches.items():\n"
+        '        if "l2-u" in caches and caches["l2-u"]["bsize"] < cache["bsize"]:\n'
+        '            raise Fault("l2-u: block size smaller than in the first level", 2)\n',
+    ),
+    "-informat= is respelled": ("din", 'or word == "-informat"', 'or word.startswith("-informat")'),
+    "two prefixes are passed": ("lines-din", "(?:0[xX])?([0-9a-fA-F]{1,16})", "(?:0[xX]){0,2}([0-9a-fA-F]{1,16})"),
+    "a return in front is a blank": ("lines-din", 'line.rstrip(b" \\t\\r"))', 'line.strip(b" \\t\\r"))'),
+    "a size is judged before its address": (
+        "lines-lackey", '    if not re.fullmatch(rb"[0-9a-fA-F]{1,16}", address)',
+        '    if re.fullmatch(rb"[0-9]{1,9}", size) is None and address:\n        raise Fault("bad size")\n'
+        '    if not re.fullmatch(rb"[0-9a-fA-F]{1,16}", address)',
+    ),
+    "a message behind a blank is skipped": ("lines-lackey", 'line[:1] in (b"=", b"-", b"*")', 'line.strip()[:1] in (b"=", b"-", b"*")'),
+}
+
+
+class WrongModels(unittest.TestCase):
+    def setUp(self):
+        self.script, inputs = base.script("run"), base.TOP / "tests/cases/inputs"
+        self.found = self.script.read_all(inputs.parent, inputs)
+
+    def model(self, old="", new=""):
+        """The model with a mistake."""
+        text = (base.TOP / "tests/model.py").read_text()
+        if old:
+            self.assertEqual(text.count(old), 1, old)
+        made = types.ModuleType("wrong_model")
+        exec(compile(text.replace(old, new) if old else text, "wrong_model", "exec"), made.__dict__)
+        return made
+
+    def failed(self, model, files):
+        """The names of the cases of some files of which a model makes something else. Of the texts that it lacks only the
+        status is compared."""
+        failed = []
+        for case in self.script.chosen(self.found, files)[0]:
+            if not case.files:
+                given = {"/dev/stdin": case.stdin}
+                out, err, status = model.run(case.arguments, lambda: case.stdin, lambda name: given.get(name) or model.file_text(name))
+                wrong = [case.streams[name].differs(name, text.encode()) for name, text in (("stdout", out), ("stderr", err))]
+                if status != case.status or any(wrong) and not case.is_beyond_the_model:
+                    failed.append(case.name)
+        return failed
+
+    def test_the_right_model(self):
+        files = sorted({file for file, *_ in MISTAKES.values()})
+        self.assertEqual(self.failed(self.model(), files), [])
+
+    def test_each_mistake_is_seen(self):
+        for name, (file, old, new) in MISTAKES.items():
+            with self.subTest(name):
+                self.assertNotEqual(self.failed(self.model(old, new), [file]), [], "no case tells this model from the right one")
+
+
+if __name__ == "__main__":
+    unittest.main()
