@@ -223,9 +223,14 @@ static void on_exit_of_program(plugin_id id, void *own) {
 
 // A trace is of one address space, so a forked child has no part in it.
 static void in_forked_child(void) {
-    if (!left_out) memory->forked = true;
     left_out = true;
     mine = NULL;
+}
+
+// The parent tells of it: the child may not run before all is over. A fork that fails sets errno.
+static void before_fork(void) { errno = 0; }
+static void in_forking_parent(void) {
+    if (!left_out && !errno) memory->forked = true;
 }
 
 static int refuse(const char *why) {
@@ -252,7 +257,7 @@ EXPORTED int qemu_plugin_install(plugin_id id, const struct qemu_info *info, int
     if (!as_known) return refuse("this QEMU tells reads and writes in another way");
     if (map_name) follow_mappings(NULL, 0, 0);  // QEMU's own
     in_part = memory->began = from == NOWHERE;
-    pthread_atfork(NULL, NULL, in_forked_child);
+    pthread_atfork(before_fork, in_forking_parent, in_forked_child);
     qemu_plugin_register_vcpu_tb_trans_cb(id, on_translation);
     qemu_plugin_register_vcpu_syscall_cb(id, on_system_call);
     qemu_plugin_register_atexit_cb(id, on_exit_of_program, NULL);
