@@ -3,3 +3,4 @@
 #![tactic(auto)]
 
 pub mod simulations;
+pub mod spaces;
