@@ -2,5 +2,8 @@
 //! know, and how it says so. Each library's page `CALLING.md` names those that show it.
 #![tactic(auto)]
 
+pub mod profiles;
+pub mod runs;
 pub mod simulations;
 pub mod spaces;
+pub mod sweeps;
