@@ -2,8 +2,11 @@
 //! know, and how it says so. Each library's page `CALLING.md` names those that show it.
 #![tactic(auto)]
 
+pub mod observers;
+pub mod policies;
 pub mod profiles;
 pub mod runs;
 pub mod simulations;
 pub mod spaces;
 pub mod sweeps;
+pub mod words;
