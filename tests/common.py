@@ -59,8 +59,8 @@ def is_newer(path, other):
 
 
 def is_worked(path):
-    """Whether it belongs to a crate that has tests alone, of which nothing is built."""
-    return any(part.startswith("worked_") for part in path.parts)
+    """Whether it belongs to a crate of which nothing is built: one that has tests alone, or that of the proved callers."""
+    return any(part == "callers" or part.startswith("worked_") for part in path.parts)
 
 
 def changed_since(program):
