@@ -13,7 +13,8 @@ use trace_core::reader::MAX_LINES;
 /// program's name.
 pub fn job_of_words(alloc: Global, words: &[String]) -> Result<Job, WordsFault>
     ensures means { IfOk result (λ job. (file : Option (List ℕ)) ×
-        (command_of (map string_bytes words.now) ≡ Some (Ok (record { job = job; trace = file })))) }
+        (command_of (map string_bytes words.now)
+        ≡ Some (Ok (record { job = job; trace = file })))) }
     ensures limit { IfOk result (λ job. max_lines_of job ≡ MAX_LINES) }
 {
     let command = parse(alloc, words)?;
