@@ -9,6 +9,7 @@ import re
 import subprocess
 
 import base
+import reading_base
 import trace_base
 
 SORT = base.EXAMPLES / "sort.din"
@@ -92,22 +93,6 @@ class Totals(ByLineTest):
                 wanted = self.good(self.run_tool("three-c", trace, *swept)).splitlines()[1].split(",")
                 rows = self.rows(trace, "-l1-dsize", 256, "-l1-dbsize", 16, "-l1-dassoc", assoc)
                 self.assertEqual(self.sums(rows)[1:], [int(wanted[at]) for at in (5, 7, 8, 9)])
-
-    def test_a_name_that_begins_with_a_dash(self):
-        options = ("-l1-dsize", "256", "-l1-dbsize", "16", "--by", "object")
-        (self.folder / "-a trace").write_bytes(SORT.read_bytes())
-        self.assertEqual(self.rows("-a trace", *options), self.rows(SORT, *options))
-
-    def test_pipes(self):
-        options = ("-l1-dsize", "256", "-l1-dbsize", "16", "--by", "object")
-        self.assertEqual(self.rows("-", *options, stdin=SORT.read_bytes()), self.rows(SORT, *options))
-
-    @base.needs("xz-utils", "zstd")
-    def test_packed(self):
-        options = ("-l1-dsize", "256", "-l1-dbsize", "16", "--by", "object")
-        expected = self.rows(SORT, *options)
-        for name in self.packed(SORT):
-            self.assertEqual(self.rows(name, *options), expected)
 
     def test_more_lines_than_a_set_may_have(self):
         rows = self.rows(SORT, "-l1-dsize", "8m", "-l1-dbsize", "64")
@@ -327,12 +312,15 @@ class Programs(ByLineTest):
         self.assertEqual([found[f"{name}_array"] for name in ("first", "second", "third")], [2 * 120 * 1000] * 3)
 
 
+class Traces(reading_base.Reading, ByLineTest):
+    TOOL = "by-line"
+    OPTIONS = "-l1-dsize 256 -l1-dbsize 16 --by line,object".split()
+
+
 class Faults(ByLineTest):
     def test_faults(self):
         cache = ["-l1-dsize", "256", "-l1-dbsize", "16"]
         for text, arguments, status, fault in (
-            (b"0 10\n7 1\n", ["-", *cache], 1, "cachesim: line 2: bad label\n"),
-            (b"", ["none", *cache], 1, "by-line: none: no file that can be read\n"),
             (b"", ["-"], 2, "by-line: a trace and the options of din are needed"),
             (b"", ["-", *cache, "-t", "x"], 2, "by-line: the trace is the first argument"),
             (b"", ["-", *cache, "--", "x"], 2, "by-line: -- is no option; "),
@@ -384,6 +372,3 @@ class Faults(ByLineTest):
         for words, fault in (("counts > /dev/full", full), ("cut", "the references can't be counted")):
             ran = self.run_command("bash", "-c", f"{given} {words}")
             self.assertEqual((ran.stdout, ran.stderr.decode(), ran.returncode), (b"", f"by-line: {fault}\n", 1))
-
-    def test_full_device(self):
-        self.on_full_device("by-line", SORT, "-l1-dsize", "64", "-l1-dbsize", "16")

@@ -9,12 +9,11 @@ import subprocess
 import time
 
 import base
+import reading_base
 from base import EXAMPLES, PROGRAM, TOOLS, needs
 
 DIN = EXAMPLES / "sort.din"
 SIX = "1 0\n0 10\n2 20\n0 0\n4 0\n1 24\n"
-BAD = "0 10\n0 20\n2 1g\n0 30\n"
-FAULT = "cachesim: line 3: bad address\n"
 SMALL = "-l1-usize 64-256 -l1-ubsize 16 -l1-uassoc 1,2".split()
 POLICIES = "-l1-usize 128,256 -l1-ubsize 16 -l1-uassoc 2 -l1-urepl l,f,r --seed 1-3".split()
 
@@ -219,23 +218,12 @@ class Traces(DinTableTest):
         self.assertEqual((self.folder / "counts").read_text(), 6 * "1\n")
 
 
-class Faults(DinTableTest):
-    def failed(self, ran, status, message):
-        self.assertEqual((ran.returncode, ran.stdout, ran.stderr.decode()), (status, b"", message))
+class Faults(reading_base.ReadingForMany, DinTableTest):
+    TOOL = "din-table"
+    JOBS = 1, 2, 9
+    OPTIONS = SMALL
 
-    def test_bad_line(self):
-        self.write("bad", BAD)
-        self.write("bad.gz", gzip.compress(BAD.encode()))
-        for trace, jobs in itertools.product(("bad", "bad.gz", "-"), (1, 2, 9)):
-            self.failed(self.tool(jobs, trace, *SMALL, stdin=BAD.encode()), 1, FAULT)
-
-    def test_bad_line_of_an_endless_trace(self):
-        script = f'{{ printf "0 10\\n2 1g\\n"; while echo 0 20; do :; done 2> writer; }} | "{TOOLS}/din-table" 2 - {" ".join(SMALL)}'
-        self.failed(self.run_command("bash", "-c", script, seconds=30), 1, "cachesim: line 2: bad address\n")
-
-    def test_no_trace(self):
-        self.failed(self.tool(2, "none", *SMALL), 1, "cachesim: cannot open none\n")
-        self.refused(self.tool(2, "none.gz", *SMALL), 1, "din-table: none.gz can't be read: gzip: ", "No such file")
+    def test_cut_short(self):
         pressed = gzip.compress(DIN.read_bytes())
         for text in (pressed[:-4], pressed[:-8], pressed[:1000]):
             self.write("cut.gz", text)
@@ -262,12 +250,6 @@ class Faults(DinTableTest):
         silent = self.program("exit 0")
         told = f"din-table: {silent['CACHESIM']} has written no report of din\n"
         self.failed(self.tool(2, DIN, *SMALL, env=silent), 1, told)
-
-    def test_no_output(self):
-        failed = "din-table: write failed\n"
-        for place, status, told in (("> /dev/full", 1, failed), (">&-", 1, failed), ("| true", 141, "")):
-            ran = self.run_command("bash", "-c", f'set -o pipefail; "{TOOLS}/din-table" 2 "$1" {" ".join(SMALL)} {place}', "-", DIN)
-            self.failed(ran, status, told)
 
     def test_no_room_for_the_trace(self):
         limited = f'ulimit -f 10; trap "" XFSZ; exec "{TOOLS}/din-table" 2 - {" ".join(SMALL)}'

@@ -11,7 +11,7 @@ import subprocess
 from base import EXAMPLES, PROGRAM, TOOLS, Lru, copy_tools, needs
 from lab_base import LAB, STUDENTS, StudentTest, comes, is_running
 
-CACHES = "1,1,1 4,2,4 2,1,4 2,1,3 2,2,3 2,4,3 5,1,5 4,1,4 0,1,0 0,2,4 3,3,6 6,8,6 14,2,2".split()
+CACHES = "1,1,1 4,2,4 2,1,4 2,1,3 2,2,3 2,4,3 5,1,5 4,1,4 0,1,0 0,2,4 3,3,6 6,8,6 14,2,2 1,9,3 1,65,3".split()
 TRACES = "order mixed wide rows blocks long".split()
 # Mistakes of student.c, by a trace that must find them
 MISTAKES = {

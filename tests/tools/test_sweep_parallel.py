@@ -13,6 +13,7 @@ import signal
 import subprocess
 import time
 
+import reading_base
 from base import EXAMPLES, PROGRAM, TOOLS, TOP, ToolTest, ended, needs
 from lib import paging
 
@@ -24,8 +25,6 @@ THREE = "--bsize 16 --sets 1-4 --assoc 1-2 --size 64-1k".split()
 DEEP = "--bsize 4-64 --sets 1-256 --assoc 1-64 --size 0-1g".split()
 SPACES = (SPACE, SMALL, THREE, DEEP, "--bsize 64 --sets 1 --assoc 1-300 --size 0-1m".split())
 LACKEY, DIN = EXAMPLES / "transpose.lackey", EXAMPLES / "sort.din"
-BAD = "0 10\n0 20\n2 1g\n0 30\n"
-FAULT = b"cachesim: line 3: bad address\n"
 
 
 def pair(row):
@@ -248,36 +247,29 @@ class SameBytes(ParallelTest):
         return more
 
 
-class Faults(ParallelTest):
-    def failed(self, ran, status, message):
-        message = message.decode() if isinstance(message, bytes) else message
-        self.assertEqual((ran.returncode, ran.stdout, ran.stderr.decode()), (status, b"", message))
+class Faults(reading_base.ReadingForMany, ParallelTest):
+    TOOL = "sweep-parallel"
+    JOBS = 1, 2, 4
+    OPTIONS = SPACE
 
     def tool(self, *arguments, **given):
         return self.run_tool("sweep-parallel", *arguments, seconds=30, **given)
 
-    def test_bad_line(self):
-        self.write("bad", BAD)
-        self.write("bad.gz", gzip.compress(BAD.encode()))
-        for trace, most in itertools.product(("bad", "bad.gz", "-"), (1, 2, 4)):
-            self.failed(self.tool(most, trace, *SPACE, stdin=BAD.encode()), 1, FAULT)
-            self.failed(self.tool(most, trace, *SPACE, "--rows", 0, stdin=BAD.encode()), 1, FAULT)
+    def test_bad_line_without_a_row(self):
+        (self.folder / "bad").write_bytes(self.BAD)
+        for trace, most in itertools.product(("bad", "-"), self.JOBS):
+            self.failed(self.tool(most, trace, *SPACE, "--rows", 0, stdin=self.BAD), 1, "cachesim: line 3: bad address\n")
+
+    def test_bad_line_of_a_long_trace(self):
         many = self.write("many", b"0 10\n" * 300_000 + b"0 x\n" + b"0 10\n" * 300_000)
-        self.failed(self.tool(4, many, *SPACE), 1, b"cachesim: line 300001: bad address\n")
-        self.failed(self.tool(4, "-", *SPACE, stdin=many.read_bytes()), 1, b"cachesim: line 300001: bad address\n")
+        self.failed(self.tool(4, many, *SPACE), 1, "cachesim: line 300001: bad address\n")
+        self.failed(self.tool(4, "-", *SPACE, stdin=many.read_bytes()), 1, "cachesim: line 300001: bad address\n")
 
-    def test_bad_line_of_an_endless_trace(self):
-        """The fault of a live trace ends the run, and so its writer."""
-        writer = 'printf "0 10\\n2 1g\\n"; while echo 0 20; do :; done 2> writer; echo ended >> writer'
-        script = f'{{ {writer}; }} | "{TOOLS}/sweep-parallel" 4 - {" ".join(SPACE)}'
-        self.failed(self.run_command("bash", "-c", script, seconds=30), 1, b"cachesim: line 2: bad address\n")
-
-    def test_no_trace(self):
+    def test_what_can_not_be_read(self):
         for repeated in range(10):
             self.failed(self.tool(4, "none", *SPACE), 1, "cachesim: cannot open none\n")
             self.failed(self.tool(4, ".", *SPACE), 1, "cachesim: line 1: read failed\n")
-        self.refused(self.tool(4, "none.gz", *SPACE), 1, "sweep-parallel: none.gz can't be read: gzip: ", "No such file")
-        ran = self.run_command("bash", "-c", f'"{TOOLS}/sweep-parallel" 4 - {" ".join(SPACE)} <&-')
+        ran = self.run_command("bash", "-c", f"{self.script('-')} <&-")
         self.failed(ran, 1, "sweep-parallel: standard input can't be read: Bad file descriptor\n")
 
     def test_flags_of_a_later_program(self):
@@ -340,12 +332,6 @@ class Faults(ParallelTest):
         os.close(write)
         os.close(read)
         self.assertEqual((ran.returncode, ran.stderr), (1, b"sweep-parallel: write failed\n"))
-
-    def test_no_output(self):
-        failed = "sweep-parallel: write failed\n"
-        for place, status, told in (("> /dev/full", 1, failed), (">&-", 1, failed), ("| true", 141, "")):
-            script = f'set -o pipefail; "{TOOLS}/sweep-parallel" 2 "$1" {" ".join(SMALL)} {place}'
-            self.failed(self.run_command("bash", "-c", script, "-", DIN), status, told)
 
     def test_interrupted(self):
         """No process and no file is left, whatever stage the run is at."""

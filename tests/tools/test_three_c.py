@@ -8,6 +8,7 @@ import subprocess
 import time
 
 import base
+import reading_base
 
 HEADER = "bsize,sets,assoc,size,hits,misses,evictions,compulsory,capacity,conflict\n"
 
@@ -45,7 +46,10 @@ def random_trace(lines, flushes=False):
     return "\n".join(text).encode() + b"\n"
 
 
-class ThreeC(base.ToolTest):
+class ThreeC(reading_base.Reading, base.ToolTest):
+    TOOL = "three-c"
+    OPTIONS = "--bsize 16 --sets 1-4 --assoc 1-2 --size 64".split()
+
     def judge(self, text, arguments, trace, format="d", kind="u", stdin=b""):
         """Compares each row with simulations of a cache, of a fully associative one, and with a count of first references."""
         answer = self.good(self.run_tool("three-c", trace, *arguments, stdin=stdin))
@@ -156,16 +160,6 @@ class ThreeC(base.ToolTest):
         last_row = ",".join(first.split("\n")[5].split(",")[:3])
         self.assertEqual(first + self.good(self.run_tool("three-c", trace, *arguments, "--after", last_row)), whole)
 
-    def test_names(self):
-        arguments = "--bsize 16 --sets 1-4 --assoc 1-2 --size 64".split()
-        text = (base.EXAMPLES / "sort.din").read_bytes()
-        expected = self.good(self.run_tool("three-c", "-", *arguments, stdin=text))
-        for name in ("a trace.din", "-trace.din", "./-trace.din"):
-            (self.folder / name).write_bytes(text)
-            self.assertEqual(self.good(self.run_tool("three-c", name, *arguments)), expected)
-        self.run_command("gzip", "a trace.din")
-        self.assertEqual(self.good(self.run_tool("three-c", "a trace.din.gz", *arguments)), expected)
-
     def test_a_sweep_of_a_part_that_fails(self):
         """Whatever the program's path is; its parent is sh or awk."""
         program = self.folder / "it's $a program"
@@ -177,37 +171,20 @@ class ThreeC(base.ToolTest):
             self.assertEqual(ran.returncode, status, ran.stderr)
             self.assertEqual(ran.stdout.decode().splitlines()[1:], ["16,65536,2,2097152,69999,2,0,2,0,0"] * (not status))
 
-    @base.needs("xz-utils", "zstd")
-    def test_packed(self):
-        arguments = "--bsize 16 --sets 1-4 --assoc 1-2 --size 64".split()
-        trace = base.EXAMPLES / "sort.din"
-        expected = self.good(self.run_tool("three-c", trace, *arguments))
-        for name in self.packed(trace):
-            self.assertEqual(self.good(self.run_tool("three-c", name, *arguments)), expected)
-
-    def test_faults(self):
-        arguments = "--bsize 16 --sets 1-4 --assoc 1-2 --size 64".split()
-        (self.folder / "cut.gz").write_bytes(b"\x1f\x8b\x08\x00")
-        for stdin, given, status, fault in (
-            (b"0 10\n7 10\n", ["-", *arguments], 1, "cachesim: line 2: bad label\n"),
-            (b"", ["none", *arguments], 1, "three-c: none: no file that can be read\n"),
-            (b"", [".", *arguments], 1, "three-c: .: no file that can be read\n"),
-            (b"", ["cut.gz", *arguments], 1, "gzip: "),
-            (b"", ["-"], 2, "three-c: a trace and the options of a sweep are needed"),
-            (b"", ["-", *arguments, "-t", "x"], 2, "three-c: the trace is the first argument"),
-            (b"", ["-", *arguments, "--sets", "1"], 2, "error: "),
-            (b"", ["-", "--bsize", "3", *arguments[2:]], 2, "cachesim: bsize: not a power of two\n"),
+    def test_faults_of_arguments(self):
+        for given, fault in (
+            (["-"], "three-c: a trace and the options of a sweep are needed"),
+            (["-", *self.OPTIONS, "-t", "x"], "three-c: the trace is the first argument"),
+            (["-", *self.OPTIONS, "--sets", "1"], "error: "),
+            (["-", "--bsize", "3", *self.OPTIONS[2:]], "cachesim: bsize: not a power of two\n"),
         ):
-            self.refused(self.run_tool("three-c", *given, stdin=stdin), status, fault)
-        missing = {"CACHESIM": str(self.folder / "none")}
-        self.refused(self.run_tool("three-c", "-", *arguments, env=missing), 1, "none is no program that can be run")
+            self.refused(self.run_tool("three-c", *given), 2, fault)
 
     def test_missing_package(self):
-        arguments = "--bsize 16 --sets 1-4 --assoc 1-2 --size 64".split()
         for command in "awk cat dirname grep head mkfifo mktemp readlink rm tee".split():
             (self.folder / command).symlink_to(shutil.which(command))
         (self.folder / "t.zst").write_bytes(b"")
-        ran = self.run_tool("three-c", "t.zst", *arguments, env={"PATH": str(self.folder)})
+        ran = self.run_tool("three-c", "t.zst", *self.OPTIONS, env={"PATH": str(self.folder)})
         self.refused(ran, 1, "three-c: zstd is missing: apt-get install zstd\n")
 
     def test_a_reader_that_fails(self):
@@ -215,28 +192,21 @@ class ThreeC(base.ToolTest):
         fake = self.folder / "tee"
         fake.write_text("#!/bin/sh\necho 'tee: failed' >&2; exit 1\n")
         fake.chmod(0o755)
-        arguments = "--bsize 16 --sets 1-4 --assoc 1-2 --size 64".split()
         env = {"PATH": f"{self.folder}:/usr/bin:/bin"}
-        self.refused(self.run_tool("three-c", base.EXAMPLES / "sort.din", *arguments, env=env, seconds=20), 1, "tee: failed\n")
+        self.refused(self.run_tool("three-c", base.EXAMPLES / "sort.din", *self.OPTIONS, env=env, seconds=20), 1, "tee: failed\n")
 
     def test_a_killed_command(self):
         """Each awk in turn; none of the columns may stay empty."""
-        arguments = "--bsize 16 --sets 1-4 --assoc 1-2 --size 64".split()
         awk = shutil.which("awk")
         for at in range(1, 4):
             count = self.folder / f"count-{at}"
             path = self.stand_in("awk", f"echo >> {count}", f"[ $(wc -l < {count}) != {at} ] || kill -KILL $$", f'exec {awk} "$@"')
-            ran = self.run_tool("three-c", base.EXAMPLES / "sort.din", *arguments, env=path, seconds=20)
+            ran = self.run_tool("three-c", base.EXAMPLES / "sort.din", *self.OPTIONS, env=path, seconds=20)
             self.refused(ran, 1, "three-c: awk ended with signal 9\n")
-
-    def test_full_device(self):
-        arguments = "--bsize 16 --sets 1-4 --assoc 1-2 --size 64".split()
-        self.on_full_device("three-c", base.EXAMPLES / "sort.din", *arguments)
 
     def test_interrupt(self):
         """However far it is, it ends at once without a word, and nothing is left."""
-        arguments = "--bsize 16 --sets 1-4 --assoc 1-2 --size 64".split()
-        command = ["env", f"TMPDIR={self.folder}", base.TOOLS / "three-c", "-", *arguments]
+        command = ["env", f"TMPDIR={self.folder}", base.TOOLS / "three-c", "-", *self.OPTIONS]
         for step in range(20):
             pipes = dict.fromkeys(("stdin", "stdout", "stderr"), subprocess.PIPE)
             with base.ended(subprocess.Popen(command, **pipes)) as running:

@@ -4,6 +4,7 @@ import csv
 import random
 
 import base
+import reading_base
 from lib import table
 
 SPACE = "--bsize 8-32 --sets 1-8 --assoc 1-3 --size 64-512".split()
@@ -34,7 +35,11 @@ def counts(events, first, cache):
     return simulated.counts
 
 
-class Warm(base.ToolTest):
+class Warm(reading_base.Reading, base.ToolTest):
+    TOOL = "warm"
+    BEFORE = (9,)
+    OPTIONS = SPACE
+
     def judge(self, text, lines, format="d", kind="u"):
         (self.folder / "trace").write_bytes(text)
         arguments = [*SPACE, "--format", format, "--kind", kind]
@@ -98,30 +103,14 @@ class Warm(base.ToolTest):
         self.assertEqual(first + self.good(self.run_tool("warm", 700, trace, *SPACE, "--after", last_row)), whole)
         self.assertEqual(self.good(self.run_tool("warm", 700, trace, *SPACE[:-1], "1")), table.HEADER + "\n")
 
-    def test_names(self):
-        text = (base.EXAMPLES / "sort.din").read_bytes()
-        expected = self.good(self.run_tool("warm", "0700", "-", *SPACE, stdin=text))
-        for name in ("a trace.din", "-trace.din"):
-            (self.folder / name).write_bytes(text)
-            self.assertEqual(self.good(self.run_tool("warm", 700, name, *SPACE)), expected)
-        self.run_command("gzip", "a trace.din")
-        self.assertEqual(self.good(self.run_tool("warm", 700, "a trace.din.gz", *SPACE)), expected)
-
-    @base.needs("xz-utils", "zstd")
-    def test_packed(self):
+    def test_a_number_that_begins_with_0(self):
         trace = base.EXAMPLES / "sort.din"
-        expected = self.good(self.run_tool("warm", 700, trace, *SPACE))
-        for name in self.packed(trace):
-            self.assertEqual(self.good(self.run_tool("warm", 700, name, *SPACE)), expected)
+        self.assertEqual(self.good(self.run_tool("warm", "0700", trace, *SPACE)), self.good(self.run_tool("warm", 700, trace, *SPACE)))
 
     def test_faults(self):
-        whole = self.run_command("gzip", "-c", base.EXAMPLES / "sort.din").stdout
-        (self.folder / "cut.gz").write_bytes(whole[: len(whole) // 2])
         for stdin, arguments, status, fault in (
             (b"0 10\n7 10\n0 10\n", ["1", "-", *SPACE], 1, "cachesim: line 2: bad label\n"),
             (b"0 10\n7 10\n0 10\n", ["2", "-", *SPACE], 1, "cachesim: line 2: bad label\n"),
-            (b"", ["1", "none", *SPACE], 1, "warm: none: no file that can be read\n"),
-            (b"", ["1", "cut.gz", *SPACE], 1, "unexpected end of file"),
             (b"", ["x", "-", *SPACE], 2, "warm: 'x' is no number of lines"),
             (b"", ["-1", "-", *SPACE], 2, "warm: '-1' is no number of lines"),
             (b"", ["1", "-"], 2, "warm: a number of lines, a trace and the options of a sweep are needed"),
@@ -143,9 +132,6 @@ class Warm(base.ToolTest):
                 self.assertEqual(self.good(ran), self.good(self.run_tool("warm", 700, base.EXAMPLES / "sort.din", *SPACE)))
             else:
                 self.assertEqual((ran.returncode != 0, ran.stdout), (True, b""), command)
-
-    def test_full_device(self):
-        self.on_full_device("warm", "9", base.EXAMPLES / "sort.din", *SPACE)
 
     def test_help(self):
         self.assertIn("LINES counts lines", self.good(self.run_tool("warm", "--help")))

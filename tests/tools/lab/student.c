@@ -37,7 +37,7 @@ static void say(const char *word)
 
 static void hit(struct line *line, char kind)
 {
-    if (!HAS(FIFO) && !(HAS(STORES_NO_USE) && kind == 'S'))
+    if (!HAS(FIFO) && !(HAS(STORES_NO_USE) && kind == 'S') && !(HAS(LOADS_NO_USE) && kind == 'L'))
         line->used = now;
     line->uses++;
     hits++;
@@ -54,7 +54,7 @@ static void miss(struct line *victim, address_t tag)
         hits += HAS(EVICTION_HITS);
         misses -= HAS(EVICTION_NO_MISS);
     }
-    *victim = (struct line){1, tag, HAS(NEW_IS_OLD) ? 0 : now, 1};
+    *victim = (struct line){!HAS(NEVER_VALID), tag, HAS(NEW_IS_OLD) ? 0 : now, 1};
 }
 
 /* The number of a block's set. */
@@ -67,6 +67,14 @@ static address_t place(address_t address)
         return set_bits ? block % (2 * set_bits) : 0;
     if (HAS(FEW_SETS))
         return block % sets % 1024;
+    if (HAS(ONE_SET))
+        return 0;
+    if (HAS(MASK_SETS))
+        return set_bits ? block & 1 << (set_bits - 1) : 0;
+    if (HAS(XOR_SETS))
+        return block % (2 ^ set_bits);
+    if (HAS(NEXT_SETS))
+        return address >> (block_bits + 1) & (sets - 1);
     if (HAS(OFFSET_KEPT))
         return address % sets;
     return block % sets;
@@ -86,13 +94,37 @@ static int is_victim(struct line *line, struct line *other)
     return line->used < other->used;
 }
 
+static address_t tag_of(address_t address)
+{
+    if (HAS(TAG_WITH_SET)) /* which is right too */
+        return address >> block_bits;
+    if (HAS(TAG_IS_ADDRESS))
+        return address;
+    if (HAS(TAG_WITHOUT_SET))
+        return address >> set_bits;
+    if (HAS(TAG_TOO_SHORT))
+        return address >> (block_bits + set_bits + 1);
+    return address >> block_bits >> set_bits & (HAS(NARROW_TAG) ? 0xffffffff : HAS(SHORT_TAG) ? 0xffff : HAS(BYTE_TAG) ? 0xff : ~0ull);
+}
+
+/* The lines that an array has for a set, and those of a set that are looked at. */
+static int apart(void)
+{
+    return HAS(LINES_OF_8) ? 8 : HAS(LINES_OF_64) ? 64 : ways;
+}
+
+static int looked_at(void)
+{
+    int most = HAS(ONE_WAY) ? 1 : HAS(MOST_8) ? 8 : HAS(MOST_64) ? 64 : HAS(ONE_LESS) ? ways - 1 : ways + HAS(ONE_MORE);
+    return most < ways + HAS(ONE_MORE) ? most : ways + HAS(ONE_MORE);
+}
+
 static void touch(address_t address, char kind)
 {
     address &= HAS(NARROW) ? 0xffffffff : ~0ull;
-    address_t tag = address >> block_bits >> set_bits;
-    tag &= HAS(NARROW_TAG) ? 0xffffffff : ~0ull;
-    struct line *set = lines + place(address) * ways, *victim = set, *end = set + (HAS(ONE_WAY) ? 1 : ways);
-    now = HAS(SHORT_CLOCK) ? (now + 1) & 0xffff : now + 1;
+    address_t tag = tag_of(address);
+    struct line *set = lines + place(address) * apart(), *victim = set, *end = set + looked_at();
+    now = (now + 1) & (HAS(SHORT_CLOCK) ? 0xffff : HAS(BYTE_CLOCK) ? 0xff : ~0ul);
     for (struct line *line = set; line < end; line++)
         if ((line->valid || HAS(NO_VALID)) && line->tag == tag) {
             hit(line, kind);
@@ -117,9 +149,10 @@ static void step(char kind, address_t address, int size)
         for (;;)
             now++;
     if (verbose)
-        printf("%c %llx,%d", kind, address, size);
-    touch(address, kind);
-    if (kind == 'M' && !HAS(FORGETS_STORE))
+        printf(HAS(ECHOES) ? "%c  %016llX,%d" : "%c %llx,%d", kind, address, size);
+    int before = hits;
+    touch(HAS(STORES_NEXT) && kind == 'S' ? address + size : address, kind == 'M' ? 'L' : kind);
+    if (kind == 'M' && !HAS(FORGETS_STORE) && !(HAS(FORGETS_MISSED) && hits == before))
         touch(address, 'S');
     if (HAS(CROSSES) && (address + size - 1) >> block_bits != address >> block_bits)
         touch(address + size - 1, kind);
@@ -130,7 +163,8 @@ static void step(char kind, address_t address, int size)
 /* What the lab's function of this name does, as its handout describes it. */
 static void printSummary(int hits, int misses, int evictions)
 {
-    const char *form = HAS(OWN_WORDS) ? "Hits: %d, Misses: %d, Evictions: %d\n" : "hits:%d misses:%d evictions:%d\n";
+    const char *form = HAS(OWN_WORDS) ? "Hits: %d, Misses: %d, Evictions: %d\n" : HAS(OWN_ORDER) ? "misses:%2$d hits:%1$d evictions:%3$d\n"
+                                                                                 : "hits:%d misses:%d evictions:%d\n";
     if (!HAS(NEEDS_VERBOSE) || verbose)
         fprintf(HAS(TO_STDERR) ? stderr : stdout, form, hits, misses, evictions);
     if (HAS(NO_RESULTS))
@@ -195,6 +229,14 @@ static void end(const char *trace)
     hits += HAS(COUNTS);
     if (HAS(SHORT_COUNTS))
         hits &= 0xffff, misses &= 0xffff, evictions &= 0xffff;
+    if (HAS(BYTE_COUNTS))
+        hits &= 0xff, misses &= 0xff, evictions &= 0xff;
+    if (HAS(SWAPS_MISSES)) {
+        int count = misses;
+        misses = evictions;
+        evictions = count;
+    }
+    evictions *= !HAS(NO_EVICTIONS);
     if (HAS(SILENT))
         exit(0);
     if (HAS(SWAPS_COUNTS))
@@ -227,7 +269,12 @@ static int reads(const char *text, char *kind, address_t *address, int *size)
     int found = sscanf(text, " %c %llx,%d", kind, address, size);
     if (HAS(SIGNED_ADDRESS) && found == 3)
         *address = strtoll(text + 3, NULL, 16);
-    return found == 3 && strchr(HAS(FETCHES) ? "LSMI" : "LSM", *kind);
+    if (HAS(DECIMAL_ADDRESS) && found == 3)
+        *address = strtoull(text + 3, NULL, 10);
+    if (HAS(FIRST_LETTER) && found == 3)
+        *kind = *text;
+    const char *kinds = HAS(FETCHES) ? "LSMI" : HAS(NO_MODIFIES) ? "LS" : HAS(NO_STORES) ? "LM" : "LSM";
+    return found == 3 && strchr(kinds, *kind);
 }
 
 /* Runs the trace, keeping one line back, so that a mistake can be made with the last one. */
@@ -236,6 +283,14 @@ static void run(FILE *file)
     char text[100] = "", next[100], kind;
     address_t address;
     int number = 0, size;
+    while (HAS(BY_FSCANF) && fscanf(file, " %c %llx,%d", &kind, &address, &size) == 3)
+        if (kind != 'I')
+            step(kind, address, size);
+    char *whole = NULL;
+    for (size_t room = 0; HAS(BY_GETLINE) && getline(&whole, &room, file) > 0;)
+        if (reads(whole, &kind, &address, &size))
+            step(kind, address, size);
+    free(whole);
     while (fgets(next, HAS(SHORT_LINES) ? 16 : 100, file)) {
         if (reads(text, &kind, &address, &size))
             step(kind, address, size);
@@ -243,6 +298,8 @@ static void run(FILE *file)
         strcpy(text, next);
         if ((HAS(FIRST_LOST) && number == 1) || (HAS(FEW_LINES) && number > 65536))
             *text = 0;
+        if (HAS(ENDS_AT_FETCH) && *next == 'I')
+            break;
     }
     for (int times = HAS(LAST_LOST) ? 0 : HAS(LAST_TWICE) ? 2 : 1; times > 0; times--)
         if (reads(text, &kind, &address, &size))
@@ -260,9 +317,16 @@ int main(int argc, char **argv)
         case 'b': *(HAS(SWAPS_BITS) ? &set_bits : &block_bits) = atoi(optarg); break;
         case 't': trace = optarg; break;
         }
+    if (HAS(FIXED_OPTIONS)) { /* as in: csim -s 4 -E 2 -b 4 -t FILE */
+        int first = verbose ? 3 : 2;
+        set_bits = atoi(argv[first]), ways = atoi(argv[first + 2]), block_bits = atoi(argv[first + 4]), trace = argv[first + 6];
+    }
     FILE *file = fopen(trace, "r");
+    if (!file)
+        exit(1);
     begin(trace, argv);
-    lines = calloc((size_t)ways << set_bits, sizeof *lines);
+    size_t count = ((size_t)(ways > apart() ? ways : apart()) << set_bits) + ways + 64;
+    lines = HAS(UNCLEARED) ? malloc(count * sizeof *lines) : calloc(count, sizeof *lines);
     run(file);
     end(trace);
     return HAS(STATUS) ? 3 : 0;

@@ -1,11 +1,11 @@
-/* Simulators as other students write them, all right, for the tests of `grade`: cc -DSTYLE=LIST, AGES or SHIFT. They read the whole
- * trace at once, and write no .csim_results. */
+/* Simulators as other students write them, all right, for the tests of `grade`: cc -DSTYLE=LIST, AGES, SHIFT or HASH. They read
+ * the whole trace at once, and write no .csim_results. The last one doesn't end its line. */
 #include <stdio.h>
 #include <stdlib.h>
 #include <string.h>
 
 enum outcome { HIT, MISS, EVICTION };
-enum { LIST, AGES, SHIFT };
+enum { LIST, AGES, SHIFT, HASH };
 
 static unsigned long ways;
 
@@ -69,7 +69,38 @@ static enum outcome shift(unsigned long set, unsigned long tag)
     return outcome;
 }
 
-static enum outcome (*const touch[])(unsigned long set, unsigned long tag) = {list, ages, shift};
+/* A hash table of the blocks of all sets, by their set. */
+struct entry {
+    unsigned long set, tag, used;
+    struct entry *next;
+};
+static struct entry *buckets[1009];
+
+static enum outcome hash(unsigned long set, unsigned long tag)
+{
+    static unsigned long now;
+    struct entry **bucket = &buckets[set % 1009], *oldest = NULL;
+    unsigned long count = 0;
+    for (struct entry *entry = *bucket; entry; entry = entry->next) {
+        if (entry->set == set && entry->tag == tag) {
+            entry->used = ++now;
+            return HIT;
+        }
+        count += entry->set == set;
+        if (entry->set == set && (!oldest || entry->used < oldest->used))
+            oldest = entry;
+    }
+    enum outcome outcome = count < ways ? MISS : EVICTION;
+    if (outcome == MISS) {
+        oldest = malloc(sizeof *oldest);
+        oldest->next = *bucket;
+        *bucket = oldest;
+    }
+    *oldest = (struct entry){set, tag, ++now, oldest->next};
+    return outcome;
+}
+
+static enum outcome (*const touch[])(unsigned long set, unsigned long tag) = {list, ages, shift, hash};
 
 /* The whole of a file, as a text. */
 static char *read_all(const char *name)
@@ -103,6 +134,6 @@ int main(int argc, char **argv)
         for (int times = *line == 'I' ? 0 : line[1] == 'M' ? 2 : 1; times > 0; times--)
             went[touch[STYLE](block & ((1ul << set_bits) - 1), block >> set_bits)]++;
     }
-    printf("hits:%lu misses:%lu evictions:%lu\n", went[HIT], went[MISS] + went[EVICTION], went[EVICTION]);
+    printf("hits:%lu misses:%lu evictions:%lu%s", went[HIT], went[MISS] + went[EVICTION], went[EVICTION], STYLE == HASH ? "" : "\n");
     return 0;
 }

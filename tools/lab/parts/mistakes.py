@@ -78,6 +78,8 @@ MISTAKES = {
         "set_of": lambda address, s, b: address & (1 << s) - 1},
     "the set is that of 2 * s and not of 2 to the power of s": {
         "set_of": lambda address, s, b: (address >> b) % (2 * s) if s else 0},
+    "the set is that of 2 ^ s, which is an exclusive or in C": {
+        "set_of": lambda address, s, b: (address >> b) % max(1, 2 ^ s)},
     "the mask of the set is 1 << (s - 1), which is how C reads 1 << s - 1": {
         "set_of": lambda address, s, b: address >> b & 1 << s - 1 if s else 0},
     "the set is in the highest of 32 bits": {

@@ -1,0 +1,115 @@
+"""What the tests of all tools that read a trace share: files, pipes, packed traces, faults of the trace, and a full device."""
+
+import gzip
+import itertools
+import os
+import subprocess
+
+import base
+
+SORT = (base.EXAMPLES / "sort.din").read_bytes()
+
+
+class Reading:
+    """Tests of any of these tools: TOOL is called with words BEFORE the trace and OPTIONS behind it. After a fault MARK is the last that
+    it writes."""
+
+    BEFORE = OPTIONS = ()
+    MARK = b""
+
+    def words(self, trace):
+        return [*map(str, self.BEFORE), trace, *map(str, self.OPTIONS)]
+
+    def read(self, trace, **given):
+        return self.run_tool(self.TOOL, *self.words(trace), **given)
+
+    def test_traces(self):
+        """A file, pipes and packed files, with any name."""
+        expected = self.good(self.read("-", stdin=SORT))
+        os.mkfifo(self.folder / "pipe")
+        with subprocess.Popen(["cp", base.EXAMPLES / "sort.din", self.folder / "pipe"]):
+            self.assertEqual(self.good(self.read("pipe")), expected)
+        for name in ("a trace.din", "-a trace"):
+            (self.folder / name).write_bytes(SORT)
+            (self.folder / f"{name}.gz").write_bytes(gzip.compress(SORT))
+            for trace in (name, f"{name}.gz", f"./{name}", f"./{name}.gz"):
+                self.assertEqual(self.good(self.read(trace)), expected, trace)
+
+    @base.needs("xz-utils", "zstd")
+    def test_packed(self):
+        expected = self.good(self.read(base.EXAMPLES / "sort.din"))
+        for name in self.packed(base.EXAMPLES / "sort.din"):
+            self.assertEqual(self.good(self.read(name)), expected)
+
+    def test_no_trace(self):
+        for trace in ("none", "."):
+            ran = self.read(trace)
+            told = f"{self.TOOL}: {trace}: no file that can be read\n"
+            self.assertEqual((ran.returncode, ran.stdout, ran.stderr.decode()), (1, self.MARK, told))
+
+    def test_faults_of_the_trace(self):
+        """After a line that is bad, or the end of a packed trace that was cut off or has something behind it."""
+        bad, whole = SORT + b"4 10\n0 10 \n7 10\n0 0", gzip.compress(SORT)
+        for name, text, fault in (
+            ("bad", bad, b"cachesim: line 5849: bad label\n"),
+            ("bad.gz", gzip.compress(bad), b"cachesim: line 5849: bad label\n"),
+            ("-", bad, b"cachesim: line 5849: bad label\n"),
+            ("cut.gz", whole[: len(whole) // 2], b"end of file\n"),
+            ("begun.gz", whole[:4], b"end of file\n"),
+            ("more.gz", whole + b"more", b"ignored\n"),
+        ):
+            if name != "-":
+                (self.folder / name).write_bytes(text)
+            ran = self.read(name, stdin=text if name == "-" else b"")
+            self.assertEqual((ran.returncode, len(ran.stderr.splitlines()) <= 2), (1, True), ran.stderr)
+            self.assertTrue(ran.stderr.endswith(fault), ran.stderr)
+            self.assertTrue(ran.stdout.endswith(self.MARK) if self.MARK else not ran.stdout)
+
+    def test_no_program(self):
+        for program, fault in (("/none", "/none is no program that can be run"), ("/bin/true", "/bin/true is not cachesim: ")):
+            ran = self.read("-", env={"CACHESIM": program})
+            self.assertEqual((ran.returncode, ran.stdout), (1, self.MARK))
+            self.assertTrue(ran.stderr.decode().startswith(f"{self.TOOL}: {fault}"), ran.stderr)
+
+    def test_full_device(self):
+        (self.folder / "long").write_bytes(SORT * 20)
+        (self.folder / "short").write_bytes(b"0 10\n" * 10)
+        for trace in ("long", "short"):
+            self.on_full_device(self.TOOL, *self.words(trace))
+
+
+class ReadingForMany:
+    """Tests of a tool that reads a trace for several runs of the program: TOOL is called with a number of JOBS, the trace and OPTIONS."""
+
+    BAD = b"0 10\n0 20\n2 1g\n0 30\n"
+
+    def failed(self, ran, status, message):
+        self.assertEqual((ran.returncode, ran.stdout, ran.stderr.decode()), (status, b"", message))
+
+    def script(self, trace, more=""):
+        """A call of the tool as a line for bash."""
+        return f'"{base.TOOLS / self.TOOL}" 2 {trace} {" ".join(self.OPTIONS)} {more}'
+
+    def test_bad_line(self):
+        (self.folder / "bad").write_bytes(self.BAD)
+        (self.folder / "bad.gz").write_bytes(gzip.compress(self.BAD))
+        for trace, jobs in itertools.product(("bad", "bad.gz", "-"), self.JOBS):
+            ran = self.run_tool(self.TOOL, jobs, trace, *self.OPTIONS, stdin=self.BAD, seconds=60)
+            self.failed(ran, 1, "cachesim: line 3: bad address\n")
+
+    def test_bad_line_of_an_endless_trace(self):
+        """The fault of a live trace ends the run, and so its writer."""
+        writer = 'printf "0 10\\n2 1g\\n"; while echo 0 20; do :; done 2> writer; echo ended >> writer'
+        ran = self.run_command("bash", "-c", f"{{ {writer}; }} | {self.script('-')}", seconds=30)
+        self.failed(ran, 1, "cachesim: line 2: bad address\n")
+
+    def test_no_trace(self):
+        self.failed(self.run_tool(self.TOOL, 4, "none", *self.OPTIONS), 1, "cachesim: cannot open none\n")
+        ran = self.run_tool(self.TOOL, 4, "none.gz", *self.OPTIONS)
+        self.refused(ran, 1, f"{self.TOOL}: none.gz can't be read: gzip: ", "No such file")
+
+    def test_no_output(self):
+        failed, trace = f"{self.TOOL}: write failed\n", base.EXAMPLES / "sort.din"
+        for place, status, told in (("> /dev/full", 1, failed), (">&-", 1, failed), ("| true", 141, "")):
+            call = self.script('"$1"', place)
+            self.failed(self.run_command("bash", "-c", f"set -o pipefail; {call}", "-", trace), status, told)
