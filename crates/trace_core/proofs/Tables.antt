@@ -148,6 +148,19 @@ limit3 : reading Din 2 (codes "0 1" ++ 10 ∷ codes "9 2" ++ 10 ∷ 32 ∷ [])
     ≡ record { entries = (1, load 1) ∷ []; fault = Some (fault.Line 2 Label) }
 limit3 = refl
 
+-- a line that is past the limit and too long is past the limit, whole or cut off
+limit4 : reading Din 1 (codes "0 1" ++ 10 ∷ replicate 4097 32 ++ 10 ∷ [])
+    ≡ record { entries = (1, load 1) ∷ []; fault = Some (fault.TooManyLines 1) }
+limit4 = refl
+
+limit5 : cut_reading Din 1 (codes "0 1" ++ 10 ∷ replicate 4097 32)
+    ≡ record { entries = (1, load 1) ∷ []; fault = Some (fault.TooManyLines 1) }
+limit5 = refl
+
+-- one that is too long and cut off before its failure is too long
+cut3 : cut_reading Din 9 (replicate 4097 32) ≡ record { entries = []; fault = Some (fault.TooLong 1) }
+cut3 = refl
+
 -- a line of 4,096 bytes and one of 4,097
 long1 : reading Din 2 (codes "0 10" ++ replicate 4092 32 ++ 10 ∷ [])
     ≡ record { entries = (1, load 16) ∷ []; fault = None }
