@@ -5,6 +5,7 @@
 pub mod observers;
 pub mod policies;
 pub mod profiles;
+pub mod readers;
 pub mod runs;
 pub mod simulations;
 pub mod spaces;

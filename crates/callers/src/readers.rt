@@ -1,0 +1,30 @@
+//! All entries of a trace.
+ghost use Rattle.std.specs.Prelude.{◌≡◌, IfOk, IfSome, None};
+ghost use Rattle.trace_core.specs.Reading.{reading};
+
+use std::alloc::Global;
+use trace_core::events::Entry;
+use trace_core::fault::RunFault;
+use trace_core::io::Source;
+use trace_core::line::Format;
+use trace_core::reader::{Lines, MAX_LINES};
+
+/// The entries of a whole trace with the numbers of their lines, whatever pieces the source gives
+/// it in. Where it returns them, the trace has no fault.
+pub fn all_entries<S: Source>(
+    alloc: Global,
+    format: Format,
+    source: &mut S,
+) -> Result<Vec<(u64, Entry)>, RunFault>
+    ensures { IfOk result (λ given. IfSome (S.view source.old).remaining (λ text.
+        reading format MAX_LINES text ≡ record { entries = given.items; fault = None })) }
+{
+    let mut lines = Lines::new(alloc, format, MAX_LINES)?;
+    let mut given = Vec::new(alloc);
+    while let Some(entry) = lines.next(source)? {
+        if given.push(entry).is_err() {
+            return Err(RunFault::Memory);
+        }
+    }
+    Ok(given)
+}
