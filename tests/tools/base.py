@@ -46,6 +46,7 @@ PACKAGES = {
     "python3-plotly": "/usr/lib/python3/dist-packages/plotly",
     "pv": "pv",
     "qemu-user": "qemu-x86_64",
+    "rustc": "rustc",
     "shellcheck": "shellcheck",
     "slurm-client": "sbatch",
     "slurm-wlm": "slurmctld",
@@ -77,6 +78,20 @@ def comes(condition, seconds=20):
     while not condition() and time.monotonic() < until:
         time.sleep(0.001)
     return condition()
+
+
+def processes(group):
+    """What runs in a group of processes, by /proc."""
+    found = []
+    for path in pathlib.Path("/proc").glob("[0-9]*/stat"):
+        try:
+            name, _, rest = path.read_text().rpartition(")")
+        except OSError:
+            continue
+        state, _, its_group = rest.split()[:3]
+        if its_group == str(group) and state != "Z":
+            found.append(name)
+    return found
 
 
 @contextlib.contextmanager
@@ -214,12 +229,22 @@ class ToolTest(unittest.TestCase):
         os.close(reader)
         self.assertEqual((running.communicate(timeout=20)[1], running.returncode), (b"", 141))
 
+    def write(self, name, text):
+        """Writes a file, in the test's folder if it is not elsewhere."""
+        path = self.folder / name
+        path.write_bytes(text if isinstance(text, bytes) else text.encode())
+        return path
+
+    def executable(self, name, *lines):
+        """The same of a script for bash, whose folder is made too."""
+        (self.folder / name).parent.mkdir(exist_ok=True)
+        path = self.write(name, "\n".join(["#!/bin/bash", *lines, ""]))
+        path.chmod(0o755)
+        return path
+
     def stand_in(self, command, *lines):
         """Puts a script for bash into a folder of its own, to be found in place of a command. Returns the path to be searched."""
-        folder = self.folder / "stand-ins"
-        folder.mkdir(exist_ok=True)
-        (folder / command).write_text("\n".join(["#!/bin/bash", *lines, ""]))
-        (folder / command).chmod(0o755)
+        folder = self.executable(f"stand-ins/{command}", *lines).parent
         return {"PATH": f"{folder}:{PROGRAM.parent}:{os.environ['PATH']}"}
 
     def packed(self, trace):

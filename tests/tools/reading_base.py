@@ -3,7 +3,9 @@
 import gzip
 import itertools
 import os
+import signal
 import subprocess
+import time
 
 import base
 
@@ -78,10 +80,77 @@ class Reading:
             self.on_full_device(self.TOOL, *self.words(trace))
 
 
-class ReadingForMany:
-    """Tests of a tool that reads a trace for several runs of the program: TOOL is called with a number of JOBS, the trace and OPTIONS."""
+class Many:
+    """For tests of a tool that reads a trace for several runs of the program."""
+
+    def program(self, body):
+        """A program in place of cachesim that does what the body says for a run, and else is cachesim. In the body "$after" is the
+        value of --after."""
+        after = "after=$* after=${after#*--after } after=${after%% *}"
+        script = f'[[ $* == *"-t /dev/null"* ]] || {{ {after}\n{body}\n}}\nexec {base.PROGRAM} "$@"'
+        return {"CACHESIM": str(self.executable("the program", script))}
+
+
+class ReadingForMany(Many):
+    """Tests of such a tool: TOOL is called with a number of JOBS, the trace and OPTIONS."""
 
     BAD = b"0 10\n0 20\n2 1g\n0 30\n"
+
+    def table(self, trace):
+        return self.good(self.run_tool(self.TOOL, 2, trace, *self.OPTIONS, seconds=60))
+
+    def test_names(self):
+        """Also of the tool, by a link from elsewhere."""
+        wanted = self.table(base.EXAMPLES / "sort.din")
+        for name in ("a b.din", "-x.din", "./-", "./-h", "it's \"$HOME\" `x`\\n.din", "line\nfeed", "é"):
+            self.write(name, SORT)
+            self.write(f"{name}.gz", gzip.compress(SORT))
+            self.assertEqual((self.table(name), self.table(f"{name}.gz")), (wanted, wanted), name)
+        link = self.folder / "another name"
+        link.symlink_to(base.TOOLS / self.TOOL)
+        arguments = (link, 2, base.EXAMPLES / "sort.din", *self.OPTIONS)
+        self.assertEqual(self.good(self.run_command(*arguments, env={"CACHESIM": ""})), wanted)
+        self.refused(self.run_command(*arguments, env={"CACHESIM": "./none"}), 1, "another name: ./none is no program")
+
+    @base.needs("xz-utils", "zstd")
+    def test_packed(self):
+        for name in self.packed(base.EXAMPLES / "sort.din"):
+            self.assertEqual(self.table(name), self.table(base.EXAMPLES / "sort.din"))
+
+    def test_cut_short(self):
+        """A compressed trace that ends too early, also behind a whole line: no run may take what was read for the whole."""
+        pressed = gzip.compress(SORT)
+        bad = (pressed[:-4], pressed[:-8], pressed[:1000], pressed[:-8] + b"8 bytes!", b"", b"0 10\n")
+        for repeated, text in itertools.product(range(3), bad):
+            self.write("cut.gz", text)
+            ran = self.run_tool(self.TOOL, 2, "cut.gz", *self.OPTIONS, seconds=60)
+            self.refused(ran, 1, f"{self.TOOL}: cut.gz can't be read: gzip: ")
+
+    def test_interrupted(self):
+        """No process and no file is left, whatever stage the run is at."""
+        self.write("long.gz", gzip.compress(SORT * 60))
+        rooms = self.folder / "room"
+        rooms.mkdir()
+        signals = (signal.SIGINT, signal.SIGTERM, signal.SIGHUP)
+        for sent, trace, is_late in itertools.product(signals, ("-", base.EXAMPLES / "sort.din", "long.gz"), (False, True)):
+            begun = self.folder / f"{sent} {os.path.basename(trace)} {is_late}"
+            body = f"touch '{begun}'; exec sleep 60"
+            given = {**self.in_folder(**self.program(body), TMPDIR=str(rooms)), "start_new_session": True}
+            given.update(dict.fromkeys(("stdin", "stdout", "stderr"), subprocess.PIPE))
+            ran = subprocess.Popen([base.TOOLS / self.TOOL, "2", trace, *self.OPTIONS], **given)
+            time.sleep(0.03)
+            self.assertTrue(not is_late or base.comes(begun.exists))
+            (os.killpg if sent == signal.SIGINT else os.kill)(ran.pid, sent)
+            try:
+                _, message = ran.communicate(timeout=20)
+            except subprocess.TimeoutExpired:
+                os.killpg(ran.pid, signal.SIGKILL)
+                raise
+            # Python itself may be interrupted as it begins
+            is_known = ran.returncode in (-sent, 128 + sent) or b"KeyboardInterrupt" in message
+            self.assertEqual((is_known, os.listdir(rooms)), (True, []), begun.name)
+            self.assertTrue(not is_late or message == b"", message)
+            self.assertTrue(base.comes(lambda: not base.processes(ran.pid)), begun.name)
 
     def failed(self, ran, status, message):
         self.assertEqual((ran.returncode, ran.stdout, ran.stderr.decode()), (status, b"", message))

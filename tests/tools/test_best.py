@@ -168,9 +168,6 @@ class Best(base.ToolTest):
         os.close(writer)
         self.assertEqual((ran.returncode, ran.stderr), (141, b""))
 
-    def test_help(self):
-        self.assertIn("--front", self.good(self.run_tool("best", "--help")))
-
 
 class OfDin(base.ToolTest):
     """Of tables of din, and by other measures than misses."""

@@ -169,13 +169,13 @@ class Sources(Hand):
         return self.folder / "program"
 
     def address_of(self, program, *lines):
-        """An instruction of main whose lines these are, the innermost first."""
+        """An instruction of main whose lines these are, the innermost first, as binutils tell them."""
         start, size = trace_base.symbols_of(program)["main"]
-        for address in range(start, start + size):
-            ran = subprocess.run(["addr2line", "-i", "-e", program, f"{address:x}"], capture_output=True, text=True, check=True)
-            if [line.split(" ")[0].rpartition(":")[2] for line in ran.stdout.splitlines()] == list(map(str, lines)):
-                return address
-        raise AssertionError(lines)
+        asked = "".join(f"{address:x}\n" for address in range(start, start + size))
+        ran = subprocess.run(["addr2line", "-a", "-i", "-e", program], input=asked, capture_output=True, text=True, check=True)
+        told = (part.splitlines() for part in re.split("(?m)^0x", ran.stdout)[1:])
+        return next(int(address, 16) for address, *found in told
+                    if len(found) == len(lines) and all(re.search(f":{line}( |$)", one) for line, one in zip(lines, found)))
 
     def test_inlined(self):
         """A count stands at the innermost line of the file; shares are those of the whole trace."""
@@ -355,10 +355,7 @@ class Sources(Hand):
         lines = "int main(void) {", "int sum = 0;", "for (int i = 0; i < 4; i++) sum += i;", "return sum;", "}"
         (self.folder / "loop.c").write_text("\n".join(lines) + "\n")
         program = self.compiled("loop.c")
-        start, size = trace_base.symbols_of(program)["main"]
-        asked = "".join(f"{address:x}\n" for address in range(start, start + size))
-        told = subprocess.run(["addr2line", "-e", program], input=asked, capture_output=True, text=True, check=True).stdout.splitlines()
-        part = next(address for address, line in zip(range(start, start + size), told) if "loop.c:3 (discriminator" in line)
+        part = self.address_of(program, "3 .discriminator")
         row, = self.rows("-", "--program", program, *ONE_LINE, stdin=f"2 {part:x}\n0 10\n".encode())
         self.assertEqual((row["line"], row["function"]), ("loop.c:3", "main"))
 

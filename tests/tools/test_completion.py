@@ -182,14 +182,15 @@ OF_DIN = "--seed " + " ".join(f"-{name} --{name}" for name in ONE_OR_TWO)
 # options of tools, from their help
 OF_TOOLS = {
     "best": "-h --help --up-to --within --below --rows --front --measure",
-    "trace": "-h --help -o --output --program-output --from --to --kind --skip --count --with --libraries --any-version --map",
+    "trace": "-h --help -o --output --program-output --from --to --during --kind --skip --count --with --libraries --any-version --map",
     "to-din": "-h --help",
     "din-table": f"-h --help {OF_DIN}",
     "over-time": f"-h --help --each --cache --format {OF_DIN}",
     "by-page": f"-h --help --page --cache --format {OF_DIN}",
     "by-line": f"-h --help --at --program --base --map --by --evicted-by --annotate --callgrind {OF_DIN}",
     "second-level": f"-h --help --format {OF_DIN}",
-    **dict.fromkeys(("pages", "sweep-parallel", "three-c", "warm"), f"-h --help {OF_SWEEP}"),
+    **dict.fromkeys(("pages", "three-c", "warm"), f"-h --help {OF_SWEEP}"),
+    "sweep-parallel": f"-h --help --resume {OF_SWEEP}",
 }
 FORMATS = "pin champsim memtrace drmemtrace execlog spike gem5 lackey addresses"
 

@@ -4,13 +4,11 @@ import csv
 import gzip
 import itertools
 import os
-import signal
-import subprocess
 import time
 
 import base
 import reading_base
-from base import EXAMPLES, PROGRAM, TOOLS, needs
+from base import EXAMPLES, TOOLS
 
 DIN = EXAMPLES / "sort.din"
 SIX = "1 0\n0 10\n2 20\n0 0\n4 0\n1 24\n"
@@ -32,12 +30,7 @@ def report_of(options, text):
     return found
 
 
-class DinTableTest(base.ToolTest):
-    def write(self, name, text):
-        path = self.folder / name
-        path.write_bytes(text if isinstance(text, bytes) else text.encode())
-        return path
-
+class DinTableTest(reading_base.Many, base.ToolTest):
     def tool(self, *arguments, **given):
         return self.run_tool("din-table", *arguments, seconds=60, **given)
 
@@ -48,12 +41,6 @@ class DinTableTest(base.ToolTest):
         wanted = f"din-table: {left_out} combinations are left out: no cache has such a geometry\n" if left_out else ""
         self.assertEqual((told, ran.returncode), (wanted, 0))
         return list(csv.DictReader(ran.stdout.decode().splitlines()))
-
-    def program(self, body):
-        """A program in place of cachesim that does what the body says for a run, and else is cachesim."""
-        path = self.write("the program", f'#!/bin/bash\n[[ $* == *"-t /dev/null"* ]] || {{ {body}\n}}\nexec {PROGRAM} "$@"\n')
-        path.chmod(0o755)
-        return {"CACHESIM": str(path)}
 
 
 class Rows(DinTableTest):
@@ -191,19 +178,6 @@ class Traces(DinTableTest):
         script = f'"{TOOLS}/din-table" 2 <(cat "$1") {" ".join(SMALL)}; "{TOOLS}/din-table" 2 /dev/stdin {" ".join(SMALL)} < "$1"'
         self.assertEqual(self.good(self.run_command("bash", "-c", script, "-", DIN)), 2 * wanted)
 
-    @needs("xz-utils", "zstd")
-    def test_packed(self):
-        for trace in self.packed(DIN):
-            self.assertEqual(self.rows(2, trace, *SMALL), self.rows(2, DIN, *SMALL))
-
-    def test_names(self):
-        for name in ("a b.din", "-x.din", "it's \"$HOME\".din"):
-            self.write(name, DIN.read_bytes())
-            self.assertEqual(len(self.rows(2, name, *SMALL)), 6)
-        link = self.folder / "cachesim-din-table"
-        link.symlink_to(TOOLS / "din-table")
-        self.assertEqual(self.good(self.run_command(link, 2, DIN, *SMALL)), self.good(self.tool(2, DIN, *SMALL)))
-
     def test_jobs(self):
         """No more runs at once than are asked for; the runs of a pipe behind the first ones too."""
         body = 'touch "run $$"; ls | grep -c "^run" >> counts; sleep 0.2; rm "run $$"'
@@ -222,12 +196,6 @@ class Faults(reading_base.ReadingForMany, DinTableTest):
     TOOL = "din-table"
     JOBS = 1, 2, 9
     OPTIONS = SMALL
-
-    def test_cut_short(self):
-        pressed = gzip.compress(DIN.read_bytes())
-        for text in (pressed[:-4], pressed[:-8], pressed[:1000]):
-            self.write("cut.gz", text)
-            self.refused(self.tool(2, "cut.gz", *SMALL), 1, "din-table: cut.gz can't be read: gzip: ")
 
     def test_a_run_fails(self):
         """Whichever it is, there is no table, and the others are ended, of a file as of a pipe that nothing comes from."""
@@ -255,23 +223,3 @@ class Faults(reading_base.ReadingForMany, DinTableTest):
         limited = f'ulimit -f 10; trap "" XFSZ; exec "{TOOLS}/din-table" 2 - {" ".join(SMALL)}'
         ran = self.run_command("bash", "-c", limited, stdin=DIN.read_bytes(), env={"TMPDIR": str(self.folder)})
         self.failed(ran, 1, f"din-table: the trace can't be kept in {self.folder}: File too large\n")
-
-    def begun(self):
-        """The processes of the program that have begun."""
-        pids = self.folder / "pids"
-        return pids.read_text().split() if pids.exists() else []
-
-    def test_interrupted(self):
-        """No file is left, and no process."""
-        env = {**os.environ, **self.program("echo $$ >> pids; exec sleep 60"), "TMPDIR": str(self.folder)}
-        for trace, sent in itertools.product((DIN, "-"), (signal.SIGINT, signal.SIGTERM)):
-            given = {"stdin": subprocess.PIPE, "stdout": subprocess.PIPE, "stderr": subprocess.PIPE, "cwd": self.folder}
-            begun = len(self.begun())
-            with subprocess.Popen([TOOLS / "din-table", "2", trace, *SMALL], env=env, **given) as ran:
-                while ran.poll() is None and len(self.begun()) < begun + 2:
-                    time.sleep(0.01)
-                ran.send_signal(sent)
-                self.assertEqual((ran.communicate(timeout=20)[1], ran.returncode), (b"", 128 + sent))
-            for number in self.begun():
-                self.assertFalse(os.path.exists(f"/proc/{number}"), number)
-        self.assertEqual(sorted(os.listdir(self.folder)), ["pids", "the program"])

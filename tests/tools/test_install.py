@@ -101,9 +101,7 @@ class Installing(MakeTest):
 
     def test_a_later_version_takes_the_place_of_an_earlier_one(self):
         self.few_tools()
-        old = self.top / "tools/old"
-        old.write_text("#!/bin/bash\n# old    does what was once needed\nsed -n '2s/# //p' \"$0\"\n")
-        old.chmod(0o755)
+        old = self.executable(self.top / "tools/old", "# old    does what was once needed", "sed -n '2s/# //p' \"$0\"")
         self.install()
         self.assertTrue((self.to / "usr/bin/cachesim-old").exists())
         old.unlink()
@@ -119,9 +117,7 @@ class Installing(MakeTest):
         (self.folder / "failing").mkdir()
         env = {"PATH": f"{self.folder}/failing:{self.path['PATH']}", "TMPDIR": str(self.folder / "failing")}
         for command, arguments, end in (("rmdir", "--*", "exit 1"), ("rmdir", "--*", "kill -TERM $PPID"), ("cp", "-P", "exit 1")):
-            failing = self.folder / "failing" / command
-            failing.write_text(f'#!/bin/bash\n[[ $1 != {arguments} ]] && exec {shutil.which(command)} "$@"\n{end}\n')
-            failing.chmod(0o755)
+            failing = self.executable(f"failing/{command}", f'[[ $1 != {arguments} ]] && exec {shutil.which(command)} "$@"', end)
             ran = self.make("install", f"DESTDIR={self.to}", "PREFIX=/usr", env=env)
             self.assertEqual(ran.returncode, 2)
             self.assertTrue((self.to / "usr/bin/other").exists())
@@ -143,9 +139,8 @@ class Installing(MakeTest):
 
     def test_without_a_compiler_tools_are_left_out(self):
         self.few_tools()
-        tool = self.top / "tools/needs-c"
-        tool.write_text("#!/bin/bash\n# needs-c    does much\n[ \"$*\" != --build ] || exit 1\nsed -n '2s/# //p' \"$0\"\n")
-        tool.chmod(0o755)
+        lines = "# needs-c    does much", "[ \"$*\" != --build ] || exit 1", "sed -n '2s/# //p' \"$0\""
+        self.executable(self.top / "tools/needs-c", *lines)
         ran = self.install()
         self.assertRegex(ran.stderr, "(?m)^stage: left out, since their C parts are not compiled:.* needs-c")
         self.assertFalse((self.to / "usr/bin/cachesim-needs-c").exists())
@@ -192,8 +187,7 @@ class Installed(ToolTest):
         lab = installed() / "lib/cachesim/lab"
         space = ("--bsize", "16", "--sets", "1-4", "--assoc", "1-2", "--size", "0-1k")
         din, lackey = TOP / "examples/sort.din", TOP / "examples/blocks.lackey"
-        (self.folder / "cachesim").write_text("#!/bin/bash\nexit 9\n")
-        (self.folder / "cachesim").chmod(0o755)
+        self.executable("cachesim", "exit 9")
         env = {"CACHESIM": "", "PATH": f"{self.folder}:/usr/bin:/bin"}
         replayed = ("-s", 1, "-E", 2, "-b", 4, "-t", TOP / "tests/cases/inputs/handout.lackey")
         pages = "--pow2 --bsize 16 --sets 1 --assoc 1-4 --size 0-1k --rows 3\n"

@@ -5,8 +5,9 @@ import re
 import shutil
 import signal
 import subprocess
+import time
 
-from base import EXAMPLES, PROGRAM, TOP, copy_tools, needs
+from base import EXAMPLES, PROGRAM, TOP, copy_tools, needs, processes
 from lab_base import LAB, STUDENTS, LabTest, StudentTest, comes, is_running
 
 YI = TOP / "tests/cases/inputs/handout.lackey"
@@ -130,10 +131,8 @@ class Grade(StudentTest):
 
     def test_numbers_are_compared_whole(self):
         """Those wanted are 720, 1328 and 1312."""
-        program = self.folder / "csim"
         for hits, misses, evictions in ((7200, 1328, 1312), (72, 1328, 1312), (720, 328, 1312), (720, 1328, 11312)):
-            program.write_text(f"#!/bin/sh\necho hits:{hits} misses:{misses} evictions:{evictions}\n")
-            program.chmod(0o755)
+            program = self.executable("csim", f"echo hits:{hits} misses:{misses} evictions:{evictions}")
             ran = self.grade("--geometry", "4,1,4", "--points", "--verbose-lines", "no", program, EXAMPLES / "blocks.lackey")
             self.assertEqual((ran.returncode, ran.stdout.decode().splitlines()[-1]), (1, "0 of 1 right, 2 of 3 points"))
 
@@ -254,13 +253,24 @@ class Trace(LabTest):
     def test_a_failure_of_valgrind(self):
         """With a valgrind that writes what the real one does where it meets an instruction that it doesn't know."""
         log = r"I  0400d7d4,8\n\nhost stacktrace:\n==1== at 0\n"
-        (self.folder / "valgrind").write_text(f"#!/bin/sh\nprintf '{log}' >&9\nexit 1\n")
-        (self.folder / "valgrind").chmod(0o755)
+        self.executable("valgrind", f"printf '{log}' >&9", "exit 1")
         ran = self.trace("true", env={"PATH": f"{self.folder}:{os.environ['PATH']}", "TMPDIR": str(self.private)})
         self.assertEqual((ran.stdout, ran.returncode), (b"I  0400d7d4,8\n", 125))
         said = "\nhost stacktrace:\n==1== at 0\nlab-trace: Valgrind itself failed; the trace ends there\n"
         self.assertEqual(ran.stderr.decode(), said)
         self.assertEqual(list(self.private.iterdir()), [])
+
+    def test_a_signal_as_the_program_begins(self):
+        """To the tool alone, which does not wait for the program's end."""
+        env = {**os.environ, **self.stand_in("valgrind", "exec sleep 60"), "TMPDIR": str(self.private)}
+        for step in range(40):
+            with subprocess.Popen([LAB / "lab-trace", "true"], env=env, stdout=subprocess.DEVNULL, start_new_session=True) as tool:
+                self.assertTrue(comes(lambda: list(self.private.iterdir())))
+                time.sleep(0.0005 * step)
+                tool.terminate()
+                self.assertIn(tool.wait(20), (143, -15))
+            self.assertTrue(comes(lambda: not processes(tool.pid)))
+            self.assertEqual(list(self.private.iterdir()), [])
 
     @needs("valgrind")
     def test_an_interrupt(self):

@@ -2,7 +2,6 @@
 
 import csv
 import os
-import pathlib
 import re
 import shutil
 import signal
@@ -289,9 +288,7 @@ class GradeClass(ClassTest):
 class Confined(ClassTest):
     def script(self, name, *lines):
         """A student whose program does something first, and then is right."""
-        program = self.folder / "program"
-        program.write_text("\n".join(["#!/bin/bash", "here=$(dirname \"$0\")", *lines, "exec \"$here/right\" \"$@\"", ""]))
-        program.chmod(0o755)
+        program = self.executable("program", "here=$(dirname \"$0\")", *lines, "exec \"$here/right\" \"$@\"")
         shutil.copy(self.student(), self.enrol(name, program) / "right")
 
     def points(self, *arguments, env=None):
@@ -322,9 +319,8 @@ class Confined(ClassTest):
         """Some of them simulate caches too. The grader is a copy, so that it stands there."""
         shutil.copytree(LAB, self.folder / "students/ann/tools/lab")
         copy_tools(self.folder / "students/ann/tools")
-        program = self.folder / "students/ann/csim"
-        program.write_text(f"#!/bin/bash\n[ -z \"$(ls '{program.parent}/tools')\" ] && exec '{program.parent}/right' \"$@\"\n")
-        program.chmod(0o755)
+        ann = self.folder / "students/ann"
+        program = self.executable(ann / "csim", f"[ -z \"$(ls '{ann}/tools')\" ] && exec '{ann}/right' \"$@\"")
         shutil.copy(self.student(), program.parent / "right")
         for confine, right in (([], 0), (["--confine"], 6)):
             ran = self.run_command(program.parent / "tools/lab/grade", "--geometry", "4,1,4", "--verbose-lines=no", *confine, program)
@@ -355,8 +351,6 @@ class Confined(ClassTest):
 
     def test_bubblewrap_that_does_not_work(self):
         self.enrol("ann", self.student())
-        stand_in = pathlib.Path(self.folder / "bwrap")
-        stand_in.write_text("#!/bin/sh\necho 'bwrap: No permissions to create a new namespace' >&2\nexit 1\n")
-        stand_in.chmod(0o755)
-        ran = self.grade_class("--confine", "students/ann", env={"PATH": f"{self.folder}:{os.environ['PATH']}"})
+        path = self.stand_in("bwrap", "echo 'bwrap: No permissions to create a new namespace' >&2", "exit 1")
+        ran = self.grade_class("--confine", "students/ann", env=path)
         self.refused(ran, 2, "grade-class: bubblewrap doesn't work here: bwrap: No permissions to create a new namespace\n")

@@ -1,4 +1,4 @@
-"""Documents name files and headings that are there."""
+"""Documents name files and headings that are there, and the libraries' pages for callers names that are there."""
 
 import re
 import unittest
@@ -11,6 +11,11 @@ HEADING = re.compile(r"^#+ (.*)$", re.M)
 # a file or a folder of the repository; NAME and what is built stand for any
 PATH = re.compile(r"`((?:crates|docs|examples|package|tests|tools)/[\w./*-]+)")
 ANY = re.compile(r"NAME|/out\b|\.\.")
+PAGES = sorted(base.TOP.glob("crates/*/CALLING.md"))
+CODE = re.compile(r"`([^`]+)`")
+NAME = re.compile(r"[A-Za-z]\w+")
+USE = re.compile(r"^    use (\w+)::(?:(\w+)::)?(?:\{(.*)\}|(\w+));$", re.M)
+ROOT = re.compile(r"^pub (?:mod (\w+);|use [\w:]+?::(?:\{([^}]*)\}|(\w+));)", re.M)
 
 
 def anchors(text):
@@ -31,9 +36,31 @@ def broken(text, path):
             yield name
 
 
+def words_of(crate):
+    """The words of a library's code and definitions."""
+    folder = base.TOP / "crates" / crate
+    return {word for top in ("src", "specs") for path in folder.glob(f"{top}/**/*.*") for word in NAME.findall(path.read_text())}
+
+
+def unknown(text, crate):
+    """The names of a page for callers that are nowhere in the libraries, and those that a `use` in it doesn't find."""
+    known = {word for path in base.TOP.glob("crates/*/src") for word in [path.parts[-2], *words_of(path.parts[-2])]}
+    for code in CODE.findall(text):
+        if code.split("/")[0] not in ("specs", "src", "tests"):
+            yield from (name for name in NAME.findall(code) if name not in known)
+        elif not code.startswith("tests") and not (base.TOP / "crates" / crate / code).exists():
+            yield code
+    for used, module, names, name in USE.findall(text):
+        source = base.TOP / "crates" / used / "src" / f"{module or 'lib'}.rt"
+        items = source.read_text() if source.exists() else ""
+        found = ROOT.findall(items) if not module else re.findall(r"^pub \w+ (\w+)()()", items, re.M)
+        there = {word for each in found for word in NAME.findall(" ".join(each))}
+        yield from (f"{each} of {used}" for each in NAME.findall(names or name) if each not in there)
+
+
 class Links(unittest.TestCase):
     def test_documents(self):
-        texts = {base.TOP / name: (base.TOP / name).read_text() for name in DOCUMENTS}
+        texts = {base.TOP / name: (base.TOP / name).read_text() for name in [*DOCUMENTS, *PAGES]}
         self.assertGreater(sum(len(LINK.findall(text)) + len(PATH.findall(text)) for text in texts.values()), 100)
         self.assertEqual([f"{path}: {name}" for path, text in texts.items() for name in broken(text, path)], [])
 
@@ -42,6 +69,20 @@ class Links(unittest.TestCase):
         text = "# A Title, and more\n[a](#a-title-and-more) [b](#b) [c](nowhere.md) [d](proofs.md#promises) [e](proofs.md#promise)\n"
         text += "`tests/run NAME`, `tests/walk`, `crates/*/specs`, `crates/NAME/src`, [f](https://a.b/c)\n"
         self.assertEqual(list(broken(text, path)), ["#b", "nowhere.md", "proofs.md#promise", "tests/walk"])
+
+
+class PagesForCallers(unittest.TestCase):
+    def test_names(self):
+        self.assertGreater(len(PAGES), 5)
+        wrong = [f"{path.parts[-2]}: {name}" for path in PAGES for name in unknown(path.read_text(), path.parts[-2])]
+        self.assertEqual(wrong, [])
+        self.assertEqual([path.parts[-2] for path in PAGES if not USE.search(path.read_text())], [])
+
+    def test_what_is_unknown(self):
+        text = "    use cache_core::{Cache, Cash};\n    use cache_core::simulate::simulate;\n    use cache_core::simulate::simulated;\n"
+        text += "`Cache::access`, `Cache::axess(reference)`, `specs/Windows.antt`, `specs/Doors.antt`, `MAX_STEPS`\n"
+        wrong = ["axess", "specs/Doors.antt", "Cash of cache_core", "simulated of cache_core"]
+        self.assertEqual(list(unknown(text, "cache_core")), wrong)
 
 
 if __name__ == "__main__":

@@ -72,9 +72,7 @@ class ToolPages(ToolTest):
     """The pages of the tools."""
 
     def tool(self, text):
-        tool = self.folder / "some-tool"
-        tool.write_text(f"#!/bin/bash\ncat << 'END'\n{text}END\n")
-        tool.chmod(0o755)
+        tool = self.executable("some-tool", f"cat << 'END'\n{text}END")
         return tool
 
     def page(self, tool):

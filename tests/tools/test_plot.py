@@ -5,7 +5,6 @@ import os
 import re
 import signal
 import subprocess
-import time
 
 import base
 from lib import table
@@ -46,9 +45,6 @@ class PlotTest(base.ToolTest):
         super().setUp()
         self.write("eight.csv", f"{table.HEADER}\n{EIGHT}")
 
-    def write(self, name, text):
-        (self.folder / name).write_text(text)
-
     def plot(self, *arguments, **given):
         return self.run_tool("plot", *arguments, **given)
 
@@ -57,10 +53,7 @@ class PlotTest(base.ToolTest):
 
     def stand_in(self, text):
         """A path with a gnuplot of our own, a script."""
-        (self.folder / "bin").mkdir()
-        self.write("bin/gnuplot", f"#!/bin/sh\n{text}\n")
-        (self.folder / "bin/gnuplot").chmod(0o755)
-        return {"PATH": f"{self.folder}/bin:{os.environ['PATH']}"}
+        return {"PATH": f"{self.executable('bin/gnuplot', text).parent}:{os.environ['PATH']}"}
 
     def names(self):
         return sorted(path.name for path in self.folder.iterdir())
@@ -184,13 +177,6 @@ class Script(PlotTest):
         self.write("-a table.csv", EIGHT)
         self.assertEqual(self.script("--", "-a table.csv", "-an out.png"), self.script("eight.csv", "a.png"))
 
-    def test_as_it_is_installed(self):
-        (self.folder / "cachesim-plot").symlink_to(base.TOOLS / "plot")
-        ran = self.run_command("./cachesim-plot", "--script", "eight.csv", "-")
-        self.assertEqual(self.good(ran), self.script("eight.csv", "-"))
-        ran = self.run_command("./cachesim-plot", "--script", "none.csv", "-")
-        self.refused(ran, 1, "cachesim-plot: none.csv: No such file or directory\n")
-
 
 class Refused(PlotTest):
     def test_bad_tables(self):
@@ -277,11 +263,13 @@ class Refused(PlotTest):
         self.refused(ran, 1, "plot: standard output: No space left on device\n")
 
     def test_interrupt(self):
-        path = self.stand_in("exec sleep 60")
+        began = self.folder / "began"
+        path = self.stand_in(f"touch {began}; exec sleep 60")
         for number in (signal.SIGINT, signal.SIGTERM):
             arguments = [base.TOOLS / "plot", "eight.csv", "a.png"]
             with subprocess.Popen(arguments, cwd=self.folder, env={**os.environ, **path}, stderr=subprocess.PIPE) as ran:
-                time.sleep(1)
+                self.assertTrue(base.comes(began.exists))
+                began.unlink()
                 ran.send_signal(number)
                 self.assertEqual((ran.communicate(timeout=20)[1], ran.returncode), (b"", 128 + number))
         self.assertEqual(self.names(), ["bin", "eight.csv"])

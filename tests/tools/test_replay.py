@@ -43,10 +43,6 @@ class ReplayTest(ToolTest):
     def replay(self, *arguments, **given):
         return self.run_tool("lab/replay", *arguments, **given)
 
-    def write(self, name, text):
-        (self.folder / name).write_text(text)
-        return name
-
     def page(self, *arguments, **given):
         return self.good(self.replay(*arguments, **given))
 
@@ -193,7 +189,7 @@ class Replay(ReplayTest):
         for encoding in ("utf-8", "latin-1"):
             env = {"PYTHONIOENCODING": encoding}
             self.assertIn("▶ ", self.page("-s", 1, "-E", 1, "-b", 1, "-t", HANDOUT, env=env))
-        name = self.write("<b> & \u20ac.trace", HANDOUT.read_text())
+        name = self.write("<b> & \u20ac.trace", HANDOUT.read_text()).name
         data, page = self.data("-s", 1, "-E", 1, "-b", 1, "-t", name), self.page("-s", 1, "-E", 1, "-b", 1, "-t", name)
         self.assertEqual((data["title"], "<b>" in page), (name, False))
         self.assertIsNone(re.search(r"(?i)https?:|src=|@import|url\(", page), "the page asks for nothing")
@@ -243,7 +239,6 @@ class Faults(ReplayTest):
 
     def test_a_log_that_differs(self):
         """A stand-in for the program changes a line of the log: the step that differs is named, and there is no page."""
-        liar = self.folder / "liar"
         for change, step, told in (
             ("s/ 22 hit/ 22 miss/", 3, "'l1-d 0 22 miss', but by this tool's sets it is 'l1-d 0 22 hit'"),
             ("s/eviction 10 dirty/eviction 110/", 6, "'l1-d 0 210 miss eviction 110', but by this tool's sets it is "
@@ -252,8 +247,7 @@ class Faults(ReplayTest):
             ("/ 18 hit/d", 4, "'l1-d 0 110 miss', but it is S"),
             ("s/ 0 12 .*/ flush 7/", 7, "'l1-d flush 7', but it is M load"),
         ):
-            liar.write_text(f'#!/bin/bash\nset -o pipefail\n"{PROGRAM}" "$@" | sed "{change}"\n')
-            liar.chmod(0o755)
+            liar = self.executable("liar", "set -o pipefail", f'"{PROGRAM}" "$@" | sed "{change}"')
             for more in ((), ("--text",)):
                 ran = self.replay("-s", 1, "-E", 2, "-b", 4, "-t", HANDOUT, *more, env={"CACHESIM": str(liar)})
                 self.refused(ran, 1, f"replay: line {step} of the trace: the log says {told}")

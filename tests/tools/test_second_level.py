@@ -77,14 +77,15 @@ class SecondLevel(log_base.Filtering, base.ToolTest):
             for mode in "an":
                 self.compare(text, first, second, "-l1-dwback", mode, "-informat", "l")
 
+    def wrong(self, body):
+        """A program whose log is what the body writes."""
+        return self.executable("wrong", f"[ $1 = log ] || exec '{base.PROGRAM}' \"$@\"", body)
+
     def test_no_table_of_a_part(self):
         """A sweep at the other end of the pipe fails too, also if the program ends in the middle of a line."""
         (self.folder / "bad").write_bytes(SORT + b"7 10\n")
         (self.folder / "trace").write_bytes(SORT)
-        program = self.folder / "wrong"
-        fails = f"#!/bin/bash\n[ $1 = log ] || exec '{base.PROGRAM}' \"$@\"\n'{base.PROGRAM}' \"$@\" | head -c 70001\nexit 1\n"
-        program.write_text(fails)
-        program.chmod(0o755)
+        program = self.wrong(f"'{base.PROGRAM}' \"$@\" | head -c 70001\nexit 1")
         for trace, env in (("bad", {}), ("trace", {"CACHESIM": str(program)})):
             ran = self.run_on(trace, *SPLIT, env=env)
             self.assertEqual((ran.returncode, ran.stdout.endswith(b"\n" + LAST)), (1, True))
@@ -93,10 +94,7 @@ class SecondLevel(log_base.Filtering, base.ToolTest):
             self.refused(swept, 1, "bad label")
 
     def test_what_is_no_log(self):
-        program = self.folder / "wrong"
-        program.write_text(f"#!/bin/bash\n[ $1 = log ] || exec '{base.PROGRAM}' \"$@\"\nhead -c 200000 /dev/zero\n")
-        program.chmod(0o755)
-        ran = self.run_on("-", *SPLIT, env={"CACHESIM": str(program)})
+        ran = self.run_on("-", *SPLIT, env={"CACHESIM": str(self.wrong("head -c 200000 /dev/zero"))})
         self.assertEqual((ran.returncode, ran.stdout), (1, LAST))
         self.assertTrue(ran.stderr.startswith(b"second-level: what cachesim writes is not a log\n"), ran.stderr)
 

@@ -35,11 +35,8 @@ class Shared(ToolTest):
 
     def program(self, body):
         """A program that is cachesim over an empty trace, and else does what the body says."""
-        path = self.folder / "program"
         empty = '[[ $(readlink /proc/self/fd/0) = /dev/null || $* = *"-t /dev/null"* ]]'
-        path.write_text(f'#!/bin/bash\n{empty} && exec {PROGRAM} "$@"\n{body}\n')
-        path.chmod(0o755)
-        return {"CACHESIM": str(path)}
+        return {"CACHESIM": str(self.executable("program", f'{empty} && exec {PROGRAM} "$@"', body))}
 
 
 class Traces(Shared):
@@ -142,9 +139,7 @@ class Program(Shared):
     def test_another_program(self):
         """One that ends well and writes nothing, or something else, is not taken for cachesim."""
         (self.folder / "trace").write_bytes(LINES)
-        other = self.folder / "other"
-        other.write_text("#!/bin/sh\necho bsize,sets,assoc,size,hits,misses,evictions\n")
-        other.chmod(0o755)
+        other = self.executable("other", "echo bsize,sets,assoc,size,hits,misses,evictions")
         lackey = EXAMPLES / "blocks.lackey"
         others = {"pages": ["2", *SPACE], "lab/grade": ["/bin/true", lackey], "lab/lab-csim": [*"-s 1 -E 1 -b 4 -t".split(), lackey]}
         for program in ("/bin/true", str(other)):
@@ -157,10 +152,8 @@ class Program(Shared):
     def test_a_column_more(self):
         """The tools take a program whose table has a column more, and find the others at any place."""
         (self.folder / "trace").write_bytes(LINES)
-        other = self.folder / "other"
         more = 's/^\\(\\([^,]*,\\)\\{4\\}\\)\\([a-z]*\\)/\\1\\3more,\\3/'
-        other.write_text(f'#!/bin/bash\n[ "$1" = sweep ] || exec {PROGRAM} "$@"\n{PROGRAM} "$@" | sed "{more}"\n')
-        other.chmod(0o755)
+        other = self.executable("other", f'[ "$1" = sweep ] || exec {PROGRAM} "$@"', f'{PROGRAM} "$@" | sed "{more}"')
         for tool in ("warm", "three-c", "sweep-parallel"):
             arguments = [*READERS[tool][0], "trace", *READERS[tool][1]]
             wanted = self.good(self.run_tool(tool, *arguments))
@@ -212,16 +205,12 @@ class Streams(ToolTest):
 
     def test_program_without_a_slash(self):
         """It is a path, and no word that is looked up."""
-        (self.folder / "cachesim").write_text("#!/bin/bash\nexit 0\n")
-        (self.folder / "cachesim").chmod(0o755)
+        self.executable("cachesim", "exit 0")
         ran = self.run_tool("warm", 1, EXAMPLES / "sort.din", "--bsize", 16, env={"CACHESIM": "cachesim"})
         self.refused(ran, 1, "warm: ./cachesim is not cachesim")
 
     def test_a_status_of_awk(self):
         """2 of awk, as on a full disk, is no wrong argument."""
-        (self.folder / "bin").mkdir()
-        (self.folder / "bin/awk").write_text("#!/bin/bash\nexit 2\n")
-        (self.folder / "bin/awk").chmod(0o755)
         space = ("--bsize", 16, "--sets", 1, "--assoc", 1, "--size", 16)
-        path = f"{self.folder}/bin:{os.environ['PATH']}"
-        self.assertEqual(self.run_tool("three-c", EXAMPLES / "sort.din", *space, env={"PATH": path}).returncode, 1)
+        ran = self.run_tool("three-c", EXAMPLES / "sort.din", *space, env=self.stand_in("awk", "exit 2"))
+        self.assertEqual(ran.returncode, 1)

@@ -1,20 +1,17 @@
 """Sweeps by several processes, and the pages that they write."""
 
-import gzip
 import itertools
 import math
 import os
-import pathlib
 import pty
 import re
 import select
 import shlex
-import signal
 import subprocess
 import time
 
 import reading_base
-from base import EXAMPLES, PROGRAM, TOOLS, TOP, ToolTest, ended, needs
+from base import EXAMPLES, TOOLS, TOP, ToolTest, ended, needs
 from lib import paging
 
 HEADER = "bsize,sets,assoc,size,hits,misses,evictions\n"
@@ -52,34 +49,8 @@ def dearest_page(pairs, most):
     return least[-1]
 
 
-def processes(group):
-    """What runs in a group of processes, by /proc."""
-    found = []
-    for path in pathlib.Path("/proc").glob("[0-9]*/stat"):
-        try:
-            name, _, rest = path.read_text().rpartition(")")
-        except OSError:
-            continue
-        state, _, its_group = rest.split()[:3]
-        if its_group == str(group) and state != "Z":
-            found.append(name)
-    return found
-
-
-class ParallelTest(ToolTest):
-    def write(self, name, text):
-        path = self.folder / name
-        path.write_bytes(text if isinstance(text, bytes) else text.encode())
-        return path
-
-    def program(self, body):
-        """A program in place of cachesim that does what the body says for a page, and else is cachesim. In the body "$after" is the
-        triple behind which the page begins."""
-        after = "after=$* after=${after#*--after } after=${after%% *}"
-        script = f'#!/bin/bash\n[[ $* == *"-t /dev/null"* ]] || {{ {after}\n{body}\n}}\nexec {PROGRAM} "$@"\n'
-        path = self.write("the program", script)
-        path.chmod(0o755)
-        return {"CACHESIM": str(path)}
+class ParallelTest(reading_base.Many, ToolTest):
+    pass
 
 
 class Pages(ParallelTest):
@@ -177,21 +148,6 @@ class SameBytes(ParallelTest):
         self.assertEqual(self.same(4, DIN, *THREE[:-1], "5-6", "--after", "1,1,1"), "")
         self.assertEqual(self.same(4, "/dev/null", *THREE, "--rows", "0"), HEADER)
 
-    def test_names(self):
-        for name in ("a b.din", "-x.din", "-", "-h", "it's \"$HOME\" `x`\\n.din", "line\nfeed", "é"):
-            for pressed in ("", ".gz"):
-                trace = self.write(name + pressed, gzip.compress(DIN.read_bytes()) if pressed else DIN.read_bytes())
-                shown = f"./{trace.name}" if name + pressed in ("-", "-h") else trace.name
-                self.same(2, shown, *SMALL, single=DIN)
-
-    def test_installed(self):
-        """By a link from elsewhere, with the program on the path."""
-        link = self.folder / "cachesim-sweep-parallel"
-        link.symlink_to(TOOLS / "sweep-parallel")
-        ran = self.run_command(link, 3, DIN, *SMALL, env={"CACHESIM": ""})
-        self.assertEqual(self.good(ran), self.sweep(*SMALL, "-t", DIN))
-        self.refused(self.run_command(link, 3, DIN, *SMALL, env={"CACHESIM": "./none"}), 1, "cachesim-sweep-parallel: ./none is no program")
-
     def test_read_once(self):
         """Standard input from where it stands, a pipe with a name, and one from bash."""
         text = LACKEY.read_bytes()
@@ -204,14 +160,6 @@ class SameBytes(ParallelTest):
         of_pipe, of_process, of_file = (run.replace(" - ", f" {trace} ") for trace in ("pipe", "<(cat -- $1)", "/dev/stdin"))
         script = f'cat -- "$1" > pipe & {of_pipe}; {of_process}; {of_file} < "$1"'
         self.assertEqual(self.good(self.run_command("bash", "-c", script, "-", LACKEY)), 3 * self.sweep(*options, "-t", LACKEY))
-
-    @needs("xz-utils", "zstd")
-    def test_compressed(self):
-        trace = self.write("a trace", LACKEY.read_bytes())
-        for command, suffix in (("gzip", "gz"), ("xz", "xz"), ("zstd", "zst")):
-            subprocess.run([command, "-qk", trace], check=True)
-            for most in (1, 4):
-                self.same(most, f"a trace.{suffix}", *SPACE, "--format", "l", single=trace)
 
     def test_progress(self):
         """On a terminal, what is read is told each second; elsewhere nothing is."""
@@ -284,14 +232,6 @@ class Faults(reading_base.ReadingForMany, ParallelTest):
         self.refused(self.tool("four", DIN, *SPACE), 2, "sweep-parallel: four is no number of jobs")
         self.refused(self.tool(4), 2, "sweep-parallel: ", "missing")
 
-    def test_cut_short(self):
-        """A compressed trace that ends too early, also behind a whole line: no page may take what was read for the whole."""
-        pressed = gzip.compress(LACKEY.read_bytes())
-        bad = (pressed[:-4], pressed[:-8], pressed[:3000], pressed[:-8] + b"8 bytes!", b"", b"0 10\n")
-        for repeated, text in itertools.product(range(5), bad):
-            self.write("cut.gz", text)
-            self.refused(self.tool(2, "cut.gz", *SMALL, "--format", "l"), 1, "sweep-parallel: cut.gz can't be read: gzip: ")
-
     def test_missing_package(self):
         bin = self.folder / "bin"
         bin.mkdir()
@@ -332,31 +272,3 @@ class Faults(reading_base.ReadingForMany, ParallelTest):
         os.close(write)
         os.close(read)
         self.assertEqual((ran.returncode, ran.stderr), (1, b"sweep-parallel: write failed\n"))
-
-    def test_interrupted(self):
-        """No process and no file is left, whatever stage the run is at."""
-        self.write("long.gz", gzip.compress(LACKEY.read_bytes() * 20))
-        rooms = self.folder / "room"
-        rooms.mkdir()
-        signals = (signal.SIGINT, signal.SIGTERM, signal.SIGHUP)
-        stages = list(itertools.product(signals, ("-", DIN, "long.gz"), (0.03, 0.5)))
-        for sent, trace, seconds in stages:
-            env = {**os.environ, **self.program("exec sleep 60"), "TMPDIR": str(rooms)}
-            arguments = [TOOLS / "sweep-parallel", "2", trace, *SMALL]
-            given = {"stdin": subprocess.PIPE, "stdout": subprocess.PIPE, "stderr": subprocess.PIPE}
-            ran = subprocess.Popen(arguments, cwd=self.folder, env=env, start_new_session=True, **given)
-            time.sleep(seconds)
-            (os.killpg if sent == signal.SIGINT else os.kill)(ran.pid, sent)
-            try:
-                _, message = ran.communicate(timeout=20)
-            except subprocess.TimeoutExpired:
-                os.killpg(ran.pid, signal.SIGKILL)
-                raise
-            self.assertEqual((ran.returncode in (-sent, 128 + sent), os.listdir(rooms)), (True, []), (sent, trace, seconds))
-            self.assertTrue(seconds < 0.5 or message == b"", message)
-            for _ in range(100):
-                left = processes(ran.pid)
-                if not left:
-                    break
-                time.sleep(0.02)
-            self.assertEqual(left, [], (sent, trace, seconds))

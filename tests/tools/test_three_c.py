@@ -92,9 +92,7 @@ class ThreeC(reading_base.Reading, base.ToolTest):
 
     def test_it_asks_for_no_more_rows_than_it_needs(self):
         """Of powers of two alone, where the table has no others: each row of a fully associative cache is dear."""
-        program = self.folder / "cachesim"
-        program.write_text(f"#!/bin/bash\nset -o pipefail\n'{base.PROGRAM}' \"$@\" | tee '{self.folder}/rows'$$\n")
-        program.chmod(0o755)
+        program = self.executable("cachesim", f"set -o pipefail\n'{base.PROGRAM}' \"$@\" | tee '{self.folder}/rows'$$")
         arguments = ["--bsize", "8", "--sets", "1-32", "--assoc", "1-4", "--size", "512-2k", "--pow2"]
         table = self.good(self.run_tool("three-c", base.EXAMPLES / "sort.din", *arguments, env={"CACHESIM": str(program)}))
         asked = sum(path.read_text().count("\n") - 1 for path in self.folder.glob("rows*"))
@@ -162,11 +160,9 @@ class ThreeC(reading_base.Reading, base.ToolTest):
 
     def test_a_sweep_of_a_part_that_fails(self):
         """Whatever the program's path is; its parent is sh or awk."""
-        program = self.folder / "it's $a program"
         given = "-", "--bsize", 16, "--sets", 65536, "--assoc", 2, "--size", "2m"
         for end, status in (("", 0), ("case $(< /proc/$PPID/comm) in sh | *awk) cat > /dev/null; exit 3 ;; esac", 1)):
-            program.write_text(f"#!/bin/bash\n{end}\nexec '{base.PROGRAM}' \"$@\"\n")
-            program.chmod(0o755)
+            program = self.executable("it's $a program", end, f"exec '{base.PROGRAM}' \"$@\"")
             ran = self.run_tool("three-c", *given, stdin=70000 * b"0 10\n" + b"4 0\n0 10\n", env={"CACHESIM": str(program)})
             self.assertEqual(ran.returncode, status, ran.stderr)
             self.assertEqual(ran.stdout.decode().splitlines()[1:], ["16,65536,2,2097152,69999,2,0,2,0,0"] * (not status))
@@ -189,20 +185,8 @@ class ThreeC(reading_base.Reading, base.ToolTest):
 
     def test_a_reader_that_fails(self):
         """Those who wait for it are ended."""
-        fake = self.folder / "tee"
-        fake.write_text("#!/bin/sh\necho 'tee: failed' >&2; exit 1\n")
-        fake.chmod(0o755)
-        env = {"PATH": f"{self.folder}:/usr/bin:/bin"}
+        env = self.stand_in("tee", "echo 'tee: failed' >&2; exit 1")
         self.refused(self.run_tool("three-c", base.EXAMPLES / "sort.din", *self.OPTIONS, env=env, seconds=20), 1, "tee: failed\n")
-
-    def test_a_killed_command(self):
-        """Each awk in turn; none of the columns may stay empty."""
-        awk = shutil.which("awk")
-        for at in range(1, 4):
-            count = self.folder / f"count-{at}"
-            path = self.stand_in("awk", f"echo >> {count}", f"[ $(wc -l < {count}) != {at} ] || kill -KILL $$", f'exec {awk} "$@"')
-            ran = self.run_tool("three-c", base.EXAMPLES / "sort.din", *self.OPTIONS, env=path, seconds=20)
-            self.refused(ran, 1, "three-c: awk ended with signal 9\n")
 
     def test_interrupt(self):
         """However far it is, it ends at once without a word, and nothing is left."""
@@ -216,6 +200,3 @@ class ThreeC(reading_base.Reading, base.ToolTest):
                 wrote = running.communicate(b"0 10\n", 20)
                 self.assertEqual((wrote, running.returncode), ((b"", b""), -signal.SIGTERM))
             self.assertEqual(list(self.folder.iterdir()), [])
-
-    def test_help(self):
-        self.assertIn("Hill", self.good(self.run_tool("three-c", "--help")))

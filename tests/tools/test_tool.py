@@ -52,23 +52,18 @@ class Compiling(ToolTest):
     def test_a_signal(self):
         """It leaves nothing of what was being compiled."""
         copy_tools(self.folder, "to-din")
-        compiler = self.folder / "bin/cc"
-        compiler.parent.mkdir()
-        compiler.write_text("#!/bin/bash\nkill -TERM $PPID\nexec sleep 60\n")
-        compiler.chmod(0o755)
-        ran = self.run_command(self.folder / "to-din", "--build", env={"PATH": f"{compiler.parent}:{os.environ['PATH']}"}, seconds=20)
+        path = self.stand_in("cc", "kill -TERM $PPID", "exec sleep 60")
+        ran = self.run_command(self.folder / "to-din", "--build", env=path, seconds=20)
         self.assertEqual((ran.stderr, ran.returncode), (b"", -15))
         self.assertEqual(list((self.folder / "out").iterdir()), [])
 
     def test_two_at_once(self):
         """Each compiles to a file of its own, which then takes its place: in a copy of the tool."""
         copy_tools(self.folder, "to-din")
-        compiler = self.folder / "bin/cc"  # ends when both have compiled
-        compiler.parent.mkdir()
+        # the compiler ends when both have compiled
         waits = 'for ((i = 0; i < 300 && $(wc -l < "$0.done") < 2; i++)); do sleep 0.1; done'
-        compiler.write_text(f'#!/bin/bash\n"{shutil.which("cc")}" "$@" && echo >> "$0.done" && {waits}\n')
-        compiler.chmod(0o755)
-        given = {**self.in_folder(PATH=f"{compiler.parent}:{os.environ['PATH']}"), "stderr": subprocess.PIPE}
+        path = self.stand_in("cc", f'"{shutil.which("cc")}" "$@" && echo >> "$0.done" && {waits}')
+        given = {**self.in_folder(**path), "stderr": subprocess.PIPE}
         both = [subprocess.Popen([self.folder / "to-din", "--build"], **given) for _ in range(2)]
         self.assertEqual([(each.communicate(timeout=60)[1], each.returncode) for each in both], [(b"", 0)] * 2)
         self.assertEqual([path.name for path in (self.folder / "out").iterdir()], ["to-din"])

@@ -60,9 +60,7 @@ class StandIn(TraceTest):
         """Has nm tell these lines of a program, and readelf where its code starts; in the run that is at 7000000000."""
         segments = "  LOAD 0x000000 0x400000 0x400000 0x5e0 0x5e0 R   0x1000", f"  LOAD 0x001000 0x{start} 0x{start} 0x1a5 0x1a5 R E 0x1000"
         for command, text in (("nm", lines), ("readelf", segments)):
-            stand_in = self.folder / "bin" / command
-            stand_in.write_text("\n".join(["#!/bin/sh", "cat << END", *text, "END\n"]))
-            stand_in.chmod(0o755)
+            self.executable(f"bin/{command}", "cat << END", *text, "END")
         self.told["FAKE_START"] = "7000000000"
 
     def test_a_part_between_two_functions(self):
@@ -271,13 +269,11 @@ class StandIn(TraceTest):
         self.assertEqual(self.good(self.steps("2:1")), "2 1\n")
         ran = self.steps("2:1", options=("--from", "main"))
         self.assertEqual((ran.returncode, ran.stdout), (125, b"trace: QEMU didn't take the plugin: see its message\n"))
-        self.assertIn("trace-plugin.so: --from and --to want QEMU 7.1 or later\n", ran.stderr.decode())
+        self.assertIn("trace-plugin.so: --from, --to and --during want QEMU 7.1 or later\n", ran.stderr.decode())
 
     def test_a_plugin_that_is_not_taken(self):
         (self.folder / "bin" / QEMU).unlink()
-        fake = self.folder / "bin" / QEMU
-        fake.write_text('#!/bin/sh\ncase $1 in --version) echo qemu version 7.2.0 ;; -h) echo -plugin ;; *) exit 1 ;; esac\n')
-        fake.chmod(0o755)
+        self.executable(f"bin/{QEMU}", "case $1 in --version) echo qemu version 7.2.0 ;; -h) echo -plugin ;; *) exit 1 ;; esac")
         self.fault(self.steps(), 125, "QEMU didn't take the plugin")
 
     def test_a_folder_with_a_comma(self):

@@ -94,8 +94,7 @@ class Parts(TraceTest):
         self.assertEqual((self.folder / "map").read_text().count("[stack]\n"), 1)
 
     def test_an_interpreter(self):
-        script = self.folder / "script"
-        script.write_text(f"#!{shutil.copy(traced('parts'), self.folder / 'parts')}\n")
+        script = self.write("script", f"#!{shutil.copy(traced('parts'), self.folder / 'parts')}\n")
         script.chmod(0o755)
         lines, _ = self.traced_to_file("--from", "main", "./script")
         self.assertEqual(lines[0], ("2", self.place(traced("parts"), "main")))
@@ -109,7 +108,7 @@ class Parts(TraceTest):
         for name in ("Tree::walk", "Tree::walk(int)", "_ZN4Tree4walkEi"):
             lines, _ = self.traced_to_file("--from", name, program)
             self.assertEqual(lines[0], ("2", self.place(program, "_ZN4Tree4walkEi")))
-        self.fault(self.trace("--from", "walk", program), 125, f"{program} has no function walk")
+        self.fault(self.trace("--from", "walk", program), 125, f"{program} has no function walk: ", "; there is Tree::walk(int)\n")
 
     def test_names_that_are_refused(self):
         program = program_of(TRACED / "parts.c", "-fpie", "-pie")
@@ -126,6 +125,54 @@ class Parts(TraceTest):
         self.assertEqual(lines, [("2", self.place(program, "enter", self.base_of(program)))])
 
     def test_with_lackey(self):
-        for option in ("--from", "--to"):
+        for option in ("--from", "--to", "--during"):
             ran = self.run_tool("trace", "--with", "lackey", option, "main", traced("parts"))
-            self.fault(ran, 125, "--from, --to, --libraries, --any-version and --map are for QEMU")
+            self.fault(ran, 125, "--from, --to, --during, --libraries, --any-version and --map are for QEMU")
+
+
+@needs("qemu-user", "binutils")
+class During(TraceTest):
+    """Tracing the calls of one function."""
+
+    CALLS = "-fno-optimize-sibling-calls"
+
+    def written(self, *arguments, program=None):
+        """What the traced part writes, as places in `inside`, and `outside` before those in the other array."""
+        lines, _ = self.traced_to_file("--during", "f", program or traced("during"), *arguments)
+        found = self.own_data(lines, program or traced("during"), "inside", "outside")
+        return [at // 4 if name == "inside" else (name, at // 4) for label, name, at in found if label == "1"], lines
+
+    def test_calls(self):
+        """From several places, with what they call; one within another belongs to the outermost."""
+        programs = [program_of(TRACED / "during.c", "-static", self.CALLS), program_of(TRACED / "during.c", self.CALLS)]
+        for program in programs:
+            found, lines = self.written(program=program)
+            self.assertEqual(found, [0, 10, 1, 0, 10, 11, 2, 1, 0, 10, 11, 12])
+            whole, _ = self.traced_to_file(program)
+            first = whole.index(("2", symbols_of(program)["f"][0]))
+            # the first call does not go deeper: it is all up to its second return
+            ends = [at for at, line in enumerate(lines) if line == lines[0]][1]
+            self.assertEqual(lines[:ends], whole[first:first + ends])
+            self.assertNotEqual(whole[first + ends], lines[ends])
+            for kind in "di":
+                other, _ = self.traced_to_file("--during", "f", "--kind", kind, program)
+                self.assertEqual(other, [line for line in lines if (line[0] == "2") == (kind == "i")])
+
+    @needs("gcc-aarch64-linux-gnu")
+    def test_another_machine(self):
+        program = program_of(TRACED / "during.c", "-static", self.CALLS, compiler="aarch64-linux-gnu-gcc")
+        self.assertEqual(self.written(program=program)[0], [0, 10, 1, 0, 10, 11, 2, 1, 0, 10, 11, 12])
+
+    def test_a_thread(self):
+        self.assertEqual(self.written("thread")[0], [1, 0, 10, 11])
+
+    def test_calls_that_do_not_return(self):
+        self.assertEqual(self.written("exit")[0], [9])
+        self.assertEqual(self.written("jump away")[0], [8, ("outside", 4)])
+
+    def test_faults(self):
+        jumping = program_of(TRACED / "during.c", "-static", "-foptimize-sibling-calls")
+        self.fault(self.trace("--during", "f", jumping), 125, "a jump led to f, not a call: -fno-optimize-sibling-calls makes them calls")
+        self.fault(self.trace("--during", "f", jumping, "never"), 125, "f was never called, or only inlined")
+        for option in ("--from", "--to"):
+            self.fault(self.trace("--during", "f", option, "main", jumping), 125, "--during goes without --from and --to")

@@ -209,10 +209,8 @@ class ByLackey(Both, TraceTest):
 
     def test_lines_that_cannot_be_converted(self):
         copy_tools(self.folder, "trace")
-        converter = self.folder / "to-din"
         for way, status in (("exit 1", 125), ("kill -9 $$", 125)):
-            converter.write_text(f"#!/bin/sh\nhead -n 1 > /dev/null\necho 2 401000\n{way}\n")
-            converter.chmod(0o755)
+            self.executable("to-din", "head -n 1 > /dev/null", "echo 2 401000", way)
             ran = self.run_command(self.folder / "trace", "--with", "lackey", "--program-output", "own", traced("ends"), "spin")
             self.fault(ran, status, "the tracer's lines can't be converted")
             self.assertTrue(ran.stdout.startswith(b"2 401000\n"))

@@ -145,7 +145,9 @@ watched() {
     tell_signal $status "$1"
 }
 
-# beside COMMAND..: the same beside this shell, which then heeds each signal at once: it would wait for a command in front
+# beside COMMAND..: the same beside this shell, which then heeds each signal at once: it would wait for a command in front. So for
+# a function with a pipeline: bash 5.2, where a signal comes while it starts one in front, ends the last process of it and waits for
+# the others
 beside() {
     local status=0
     { "$@" <&0 2>&8 8>&- & wait $!; } 8>&2 2> /dev/null || status=$?
@@ -238,10 +240,15 @@ make_pipes() { mkfifo -- "$@" 2> /dev/null || fail "$1: no named pipe can be mad
 # hand_out PIPE..: copies standard input to each of these
 hand_out() { tee -p -- "${@:2}" > "$1"; }
 
+# hand_out_trace TRACE PIPE..: writes a trace to each of these. Answers 1 where that fails, and 4 where only the trace could not be read
+hand_out_trace() {
+    unpacked "$1" | hand_out "${@:2}" || return $((PIPESTATUS[1] ? 1 : 4))
+}
+
 # side_by_side TRACE STEP..: runs functions side by side over one reading of a trace. Each has it as standard input and writes to
 # $folder/STEP. Where one fails, its message is told and the tool ends with its status.
 side_by_side() {
-    local step status=0 ended ends pipes jobs=()
+    local step status=0 ended pipes jobs=()
     pipes=("${@:2}") && pipes=("${pipes[@]/#/$folder/}") && pipes=("${pipes[@]/%/.pipe}")
     make_pipes "${pipes[@]}"
     for step in "${@:2}"; do
@@ -249,18 +256,15 @@ side_by_side() {
         { "$step" 2> "$folder/$step.fault" > "$folder/$step" < "$folder/$step.pipe" & } 2> /dev/null
         jobs+=($!)
     done
-    unpacked "$1" | hand_out "${pipes[@]}" || {
-        ends=("${PIPESTATUS[@]}")
-        [ "${ends[1]}" = 0 ] || exit 1 # a step may still wait for it
-        status=${ends[0]}
-    }
+    beside hand_out_trace "$1" "${pipes[@]}" || status=$?
+    [ $status = 0 ] || [ $status = 4 ] || exit 1 # a step may still wait for it
     for step in "${@:2}"; do
         ended=0
         wait "${jobs[0]}" || ended=$?
         [ $ended = 0 ] || { cat -- "$folder/$step.fault" >&2 && exit $ended; }
         jobs=("${jobs[@]:1}")
     done
-    [ "$status" = 0 ] || exit "$status"
+    [ $status = 0 ] || exit 1
 }
 
 # deliver FILE: writes a finished answer to standard output

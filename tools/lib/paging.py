@@ -59,28 +59,33 @@ class Page:
         self.pairs.append(pair)
 
 
-def pairs_of(program, options):
-    """The pairs of a table, in its order. Its rows are those of the empty trace. Where the program refuses the options, it has
-    told why, and this tool ends as it did."""
+def rows_of(program, options):
+    """The lines of a table, as those of the empty trace. Where the program refuses the options, it has told why, and this tool ends as
+    it did."""
     read, write = os.pipe()
     try:
         lister = start([program, "sweep", "-t", "/dev/null", *options], stdout=write)
     except OSError as fault:
         fail(f"{program} can't be run: {fault.strerror}")
     os.close(write)
-    pairs = {}
-    with open(read, encoding="ascii") as lines:
-        for line in lines:
-            bsize, sets, assoc, _ = line.split(",", 3)
-            if bsize != "bsize":
-                pair = pairs.setdefault((bsize, sets), Pair(bsize, sets))
-                pair.rows += 1
-                pair.assoc = assoc
+    with open(read, "rb") as lines:
+        yield from lines
     status = os.waitstatus_to_exitcode(os.waitpid(lister, 0)[1])
     if status < 0:
         fail(f"the list of the rows ended with signal {-status}")
     if status:
         sys.exit(status)
+
+
+def pairs_of(program, options):
+    """The pairs of a table, in its order."""
+    pairs = {}
+    for line in rows_of(program, options):
+        bsize, sets, assoc, _ = line.decode("ascii").split(",", 3)
+        if bsize != "bsize":
+            pair = pairs.setdefault((bsize, sets), Pair(bsize, sets))
+            pair.rows += 1
+            pair.assoc = assoc
     return list(pairs.values())
 
 

@@ -126,8 +126,8 @@ class Runs:
     """The runs over a trace, at most so many of them at once. What can be read only once is kept in a file without a name where
     there are more of them: the first runs read along, so that a bad line ends all at once, and the others read that file."""
 
-    def __init__(self, trace, commands, jobs):
-        self.trace, self.commands, self.jobs = trace, commands, jobs
+    def __init__(self, trace, commands, jobs, part):
+        self.trace, self.commands, self.jobs, self.part = trace, commands, jobs, part
         self.runs, self.unpacker, self.spool, self.handed = [], None, None, 0
         self.is_packed = trace.endswith((".gz", ".xz", ".zst"))
         self.is_read_once, self.size = trace == "-" or self.is_packed, 0
@@ -236,7 +236,7 @@ class Runs:
     def tell(self, *_):
         """Shows that on the terminal's line."""
         try:
-            show(f"{tool.NAME}: {self.progress()}")
+            show(f"{tool.NAME}: {self.part}{self.progress()}")
         except (OSError, ValueError, ZeroDivisionError):
             pass  # a run has just ended, or there is nothing to read
 
@@ -283,10 +283,11 @@ def write_out(texts):
         tool.fail("write failed")
 
 
-def over(trace, commands, jobs):
+def over(trace, commands, jobs, part=""):
     """Runs commands over a trace, at most so many at once, and answers what each has written. Each is a text that names it, and
-    words to which the trace is added. Where one fails, the others are ended, and the tool ends with its message and status."""
-    runs = Runs(trace, commands, jobs)
+    words to which the trace is added. Where one fails, the others are ended, and the tool ends with its message and status.
+    How far they are is told behind the text `part`."""
+    runs = Runs(trace, commands, jobs, part)
     for each in INTERRUPTS:
         if signal.getsignal(each) != signal.SIG_IGN:
             signal.signal(each, interrupted)

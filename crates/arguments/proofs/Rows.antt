@@ -11,7 +11,7 @@ use Rattle.cache_core.specs.declared.outcome.Repl.TheVariants.{Lru, Fifo, Random
 use Rattle.cache_core.specs.declared.outcome.WriteMode.TheVariants.{Back, Through}
 use Rattle.cache_core.specs.declared.plan.CacheName.TheVariants.{L1U}
 use Rattle.cache_core.specs.declared.plan.PlanFault.TheVariants.{NoFirst, MixedFirst, BadGeometry, SmallBlock}
-use Rattle.sweep_core.specs.Space.{is_power}
+use Rattle.cache_core.specs.Powers.{is_power}
 use Rattle.sweep_core.specs.declared.space.Which.TheVariants.{Bsize, Sets, Assoc, Size}
 use Rattle.sweep_core.specs.declared.space.Cause.TheVariants.{NotPower, Limit, Reversed}
 use Rattle.trace_core.specs.declared.events.Kind.TheVariants.{All, DataOnly}

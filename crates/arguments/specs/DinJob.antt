@@ -1,7 +1,7 @@
 -- What the arguments after `din` and `log` say.
 use Rattle.std.specs.Prelude.{ℕ, Bool, List, Option, Some, None, Result, Ok, codes, ◌||◌}
 use Rattle.std.specs.Prelude.{if◌then◌else◌, is_some, ok_or, option_and_then, unwrap_or}
-use Rattle.sweep_core.specs.Space.{is_power}
+use Rattle.cache_core.specs.Powers.{is_power}
 use Rattle.std.specs.Result.{result_map_both}
 use Rattle.std.specs.Str.{bytes_eq}
 use Rattle.clap.specs.Words.{Row, Text}

@@ -4,7 +4,5 @@ pub mod DinJob
 pub mod Faults
 pub mod Job
 pub mod Numbers
-pub use Rattle.options.specs.Options
-pub use Rattle.options.specs.Respell
 pub mod Readings
 pub mod SweepJob

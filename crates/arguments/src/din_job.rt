@@ -13,10 +13,10 @@ use crate::numbers::read_scaled;
 use crate::readings::{format_at, optional_number_at, text_at};
 use cache_core::outcome::{AllocMode, Repl, WriteMode};
 use cache_core::plan::{CacheName, CacheSpec, FirstLevel, Plan};
+use cache_core::powers::is_power;
 use clap::ArgMatches;
 use options::caches::cache_options;
 use options::table::{INFORMAT, SEED};
-use sweep_core::space::is_power;
 use trace_core::line::Format;
 use trace_core::reader::MAX_LINES;
 

@@ -9,3 +9,8 @@ pub mod numbers;
 pub mod parse;
 mod readings;
 mod sweep_job;
+
+pub use faults::WordsFault;
+pub use job::Job;
+pub use numbers::{read_number, read_range, read_scaled, read_triple};
+pub use parse::Command;

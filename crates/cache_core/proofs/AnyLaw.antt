@@ -3,10 +3,10 @@ use Rattle.std.proofs.Common.{◌≡◌, ◌≢◌, ℕ, ◌+◌, ◌<◌, ◌�
 use Rattle.std.proofs.Common.{replicate}
 use Rattle.std.proofs.Common.{List, [], ◌∷◌, ◌++◌, length, get_or, Option, Some, None, sym, ◌∙◌, ap, refl, subst, arith, map}
 use Rattle.std.proofs.Common.{find}
-use Rattle.std.specs.Prelude.{MatchBool, sum_by, is_none, IsPermutation, Contains}
+use Rattle.std.specs.Prelude.{MatchBool, IfSome, sum_by, is_none, IsPermutation, Contains}
 use Rattle.std.specs.List.{list_any}
 use Rattle.std.proofs.lemmas.Bool.{eqb-true, or_parts, le-ltb, lt-ltb}
-use Rattle.std.proofs.lemmas.List.{length-map, length-replicate}
+use Rattle.std.proofs.lemmas.List.{append-nil, length-map, length-replicate}
 use Rattle.std.proofs.lemmas.List.Elements.{Contains-append_right}
 use Rattle.std.proofs.lemmas.List.Quantifiers.{position-Some}
 use Rattle.std.proofs.lemmas.List.Sums.{sum_by-cons, sum_by-set, get_or-le-sum_by}
@@ -17,22 +17,23 @@ use Rattle.cache_core.specs.declared.outcome.Outcome.{Outcome}
 use Rattle.cache_core.specs.declared.outcome.Repl.{Repl}
 use Rattle.cache_core.specs.Geometry.{GeometryValue, block_of, set_of_block}
 use Rattle.cache_core.specs.Outcomes.{outcome_of, on_placing, dirties, allocates}
-use Rattle.cache_core.specs.Machine.{Machine, MachineState, Line, slot_of, is_block, lines_of_set, is_full, with_block, with_touch, placing}
+use Rattle.cache_core.specs.Machine.{Machine, MachineState, Line, slot_of, is_block, lines_of_set, is_full, with_line_at, key_at, placing}
 use Rattle.cache_core.specs.Machine.{Step, passing, start, step_at}
 use Rattle.cache_core.specs.Order.{Contents, dirty_in, VisitsAt, Fills, PassesOn, Hits, TakesIn, slots_of, position_of, marked}
+use Rattle.cache_core.specs.Rules.{Place, rules}
 use Rattle.cache_core.specs.Stands.{Absent, Distinct}
 use Rattle.cache_core.specs.AnyPolicy.{HoldsSame, MayLeave, AnyStartLaw, AnyAccessLaw, AnyFlushLaw}
 use Rattle.cache_core.proofs.Lawful.{marked_length, lawful_touch, lawful_place}
-use Rattle.cache_core.proofs.Lines.{InPlace, in_place, Found, found, not_found, find_in_set, absent_append, distinct_front, distinct_back}
+use Rattle.cache_core.proofs.Lines.{Found, found, not_found, find_in_set, absent_round, find_split, distinct_front, distinct_back, distinct_without}
+use Rattle.cache_core.proofs.Lines.{around, distinct_around, with_line_at-none, with_line_at-some}
 use Rattle.cache_core.proofs.SetLaw.{with_mark}
-use Rattle.cache_core.proofs.StateLaw.{touch_here, touch_other, insert_here, insert_other, exchange_here, exchange_other, member_set}
+use Rattle.cache_core.proofs.StateLaw.{line_here, line_other, member_set}
 use Rattle.cache_core.proofs.Visits.{at_each, set_for, visit_for, others_for}
 use Rattle.cache_core.proofs.FlushLaw.{none_anywhere, dirty_all}
 use Rattle.cache_core.proofs.LruSet.{blocks_of, position_none}
 use Rattle.cache_core.proofs.DownLaw.{any_clean, any_few}
 use Rattle.cache_core.proofs.Lists.{is}
-use Rattle.cache_core.proofs.SlotSums.{LineAt, agree, same, same_is, one_for, one_self, by_sums, line_sum, sum_split, absent_sum, line_for, touch_sum}
-use Rattle.cache_core.proofs.SlotSums.{touch_distinct, insert_sum, insert_distinct, exchange_sum, exchange_distinct}
+use Rattle.cache_core.proofs.SlotSums.{LineAt, one_for, one_self, by_sums, line_sum, sum_split, line_for, around_sum}
 
 -- what a step has to do: the set of the block agrees again, the others stay
 record AgreesUpToOrder (m : Machine) (st : MachineState) (k : ℕ) (needed : Bool) (now : Option Line → Step) (slots : List Slot)
@@ -44,16 +45,12 @@ record AgreesUpToOrder (m : Machine) (st : MachineState) (k : ℕ) (needed : Boo
   distinct : Distinct (lines_of_set m.design.geometry k (now gone).after.lines)
   others : (j : ℕ) → j ≢ k → lines_of_set m.design.geometry j (now gone).after.lines ≡ lines_of_set m.design.geometry j st.lines
 
-one_true : (t : Bool) → 1 ≤ cond t 1 0 → t ≡ true
-one_true true h = refl
-one_true false h = absurd (omega arith)
-
 -- no slot of this block
 none_of : (x : Slot) (slots : List Slot) → list_any (is x.block) (blocks_of slots) ≡ false → sum_by (one_for x) slots ≡ 0
 none_of x [] h = refl
 none_of x (s ∷ slots) h =
     let parts = or_parts (eqb s.block x.block) (list_any (is x.block) (blocks_of slots)) h in
-    let none : one_for x s ≡ 0 = ap (λ t. cond (t && agree s.dirty x.dirty) 1 0) parts.0 in
+    let none : one_for x s ≡ 0 = grind (arith, parts.0) in
     omega (arith, sum_by-cons (one_for x) s slots, none, none_of x slots parts.1)
 
 abbrev empty_slot : Slot
@@ -85,41 +82,27 @@ held_placed b here line slots perm e q =
     none_of (slot_of line) slots (position_none line.block slots (ap (λ n. position_of n slots) r.here ∙ q)) in
     omega (arith, none, sums_around slots here r.front line r.back perm r.split (one_for (slot_of line)), one_self (slot_of line))
 
--- and a block that has none has no index
-absent_placed : (b : ℕ) (here : List Line) (slots : List Slot) (at : ℕ) → IsPermutation slots (map slot_of here) → Absent b here →
-    position_of b slots ≡ Some at → ⊥
-absent_placed b here slots at perm a q =
-    let x : Slot = get_or slots at empty_slot in
-    let p = position-Some (λ (s : Slot). s.block == b) slots at empty_slot q in
-    omega (
-      arith,
-      get_or-le-sum_by (one_for x) slots at empty_slot p.0,
-      one_self x,
-      sum_by-IsPermutation (one_for x) slots (map slot_of here) perm,
-      absent_sum b x here a (eqb-true x.block b p.1),
-    )
+-- and a block that has an index has a line, whose slot stands there
+record Placed (b : ℕ) (here : List Line) (slots : List Slot) (at : ℕ) : Type 0 where
+  line : Line
+  held : find (is_block b) here ≡ Some line
+  slot : slot_of line ≡ get_or slots at empty_slot
 
--- the slot at the index of a block is that of its line
-slot_at_position : (b : ℕ) (here : List Line) (line : Line) (slots : List Slot) (at : ℕ) → Distinct here → IsPermutation slots (map slot_of here) →
-    find (is_block b) here ≡ Some line → position_of b slots ≡ Some at → slot_of line ≡ get_or slots at empty_slot
-slot_at_position b here line slots at d perm e q =
-    let r = found b here line e in
-    let dr : Distinct (r.front ++ line ∷ r.back) = subst Distinct r.split d in
+placed_held : (b : ℕ) (here : List Line) (slots : List Slot) (at : ℕ) → Distinct here → IsPermutation slots (map slot_of here) →
+    position_of b slots ≡ Some at → Placed b here slots at
+placed_held b here slots at d perm q =
     let x : Slot = get_or slots at empty_slot in
     let p = position-Some (λ (s : Slot). s.block == b) slots at empty_slot q in
-    let xb : x.block ≡ line.block = eqb-true x.block b p.1 ∙ sym r.here in
-    let a : Absent line.block (r.front ++ r.back) =
-    absent_append line.block r.front r.back (distinct_front r.front line r.back dr) (distinct_back r.front line r.back dr) in
     let counted = get_or-le-sum_by (one_for x) slots at empty_slot p.0 in
-    let one : 1 ≤ one_for x (slot_of line) =
-    omega (
-      arith,
-      sums_around slots here r.front line r.back perm r.split (one_for x),
-      counted,
-      one_self x,
-      absent_sum line.block x (r.front ++ r.back) a xb,
-    ) in
-    same_is x (slot_of line) (one_true (same x (slot_of line)) one)
+    let r = line_for x here (omega (arith, counted, one_self x, sum_by-IsPermutation (one_for x) slots (map slot_of here) perm)) in
+    let is_b : r.line.block ≡ b = ap (λ (s : Slot). s.block) r.slot ∙ eqb-true x.block b p.1 in
+    let front = distinct_front r.front r.line r.back (subst Distinct r.split d) in
+    record {
+      line = r.line;
+      held = ap (find (is_block b)) r.split ∙ find_split b r.front r.line r.back is_b
+          (subst (λ n. Absent n r.front) is_b front);
+      slot = r.slot;
+    }
 
 -- a reference at a machine, whose set holds the slots of the machine's lines in some order
 module _ (m : Machine) (st : MachineState) (ref : Ref) (policy : Option Repl) (numbers : ℕ → ℕ) (outcome : Outcome) (slots new : List Slot)
@@ -146,54 +129,58 @@ module _ (m : Machine) (st : MachineState) (ref : Ref) (policy : Option Repl) (n
   abbrev slot : Slot
   slot = record { block = b; dirty = dirties m.design.write ref.access }
 
+  -- the sets after a line goes among those of the block's set, where the slots are the same again
+  record Goes (p : Place) (y : Line) (gone : Option Line) : Type 0 where
+    held : IsPermutation new (map slot_of (lines_of_set g k (with_line_at p y gone st.lines)))
+    distinct : Distinct (lines_of_set g k (with_line_at p y gone st.lines))
+    others : (j : ℕ) → j ≢ k → lines_of_set g j (with_line_at p y gone st.lines) ≡ lines_of_set g j st.lines
+
+  goes : (p : Place) (y : Line) (gone : Option Line) (xs ys : List Line) → set_of_block g y.block ≡ k →
+      IfSome gone (λ x. set_of_block g x.block ≡ set_of_block g y.block) → with_line_at p y gone here ≡ around p y xs ys → Absent y.block xs →
+      Absent y.block ys → Distinct (xs ++ ys) → ((f : Slot → ℕ) → sum_by f new ≡ line_sum f (xs ++ ys) + f (slot_of y)) → Goes p y gone
+  goes p y gone xs ys e s after front back apart sums =
+      let lines : lines_of_set g k (with_line_at p y gone st.lines) ≡ around p y xs ys = line_here p g k y gone st.lines e s ∙ after in
+      record {
+        held = rw lines (by_sums new (map slot_of (around p y xs ys)) (λ f. sums f ∙ sym (around_sum f p y xs ys)));
+        distinct = rw lines (distinct_around p y xs ys front back apart);
+        others = λ j ne. line_other p g j y gone st.lines (λ q. ne (q ∙ e)) s;
+      }
+
   -- a hit
   hit_agrees : (line : Line) (at : ℕ) → find (is_block b) here ≡ Some line → position_of b slots ≡ Some at →
-      Hits m.design policy numbers ref at slots outcome new rest →
+      slot_of line ≡ get_or slots at empty_slot → Hits m.design policy numbers ref at slots outcome new rest →
       AgreesUpToOrder m st k false (λ gone. step_at m ref b gone st (Some line)) new outcome
-  hit_agrees line at e q hits = record {
-    gone = None;
-    may = refl;
-    effect = hits.effect;
-    held = rw lines (by_sums new (map slot_of after) sums);
-    distinct = rw lines (touch_distinct m.policy clock y r.front line r.back i);
-    others = λ j ne. touch_other m.policy clock g j y st.lines (λ p. ne (p ∙ in_set));
-  }
-    where
-      r : Found b here line
-      r = found b here line e
+  hit_agrees line at e q there hits =
+      let r : Found b here line = found b here line e in
+      let mark : Bool = dirties m.design.write ref.access in
+      let to : Place = (rules m.policy).touched in
+      let y : Line = with_mark mark line in
+      let z : Line = record y { key = key_at to clock line.key } in
+      let dr : Distinct (r.front ++ line ∷ r.back) = subst Distinct r.split d in
+      let front : Absent line.block r.front = distinct_front r.front line r.back dr in
+      let back : Absent line.block r.back = distinct_back r.front line r.back dr in
+      let within : at < length slots = (position-Some (λ (s : Slot). s.block == b) slots at empty_slot q).0 in
+      let moved : IsPermutation (marked mark slots at) new =
+      lawful_touch policy (marked mark slots at) at new (omega (arith, within, marked_length mark slots at)) hits.order in
+      let sums : (f : Slot → ℕ) → sum_by f new ≡ line_sum f (r.front ++ r.back) + f (slot_of z) = λ f.
+      omega (
+        arith,
+        sum_by-IsPermutation f (marked mark slots at) new moved,
+        marked_sum mark slots at line f within there,
+        sums_around slots here r.front line r.back perm r.split f,
+      ) in
+      let w : Goes to z (Some y) =
+      goes to z (Some y) r.front r.back (ap (set_of_block g) r.here) refl
+      (ap (with_line_at to z (Some y)) r.split ∙ with_line_at-some to z y r.front line r.back refl front back) front back
+      (distinct_without r.front line r.back dr) sums in
+      record { gone = None; may = refl; effect = hits.effect; held = w.held; distinct = w.distinct; others = w.others }
 
-      mark : Bool
-      mark = dirties m.design.write ref.access
+  -- where a placed block goes, and its line there
+  abbrev to : Place
+  to = (rules m.policy).placed
 
-      -- the line after it
-      y : Line
-      y = with_mark mark line
-
-      i : InPlace r.front line y r.back
-      i = in_place r.front line y r.back refl (subst Distinct r.split d)
-
-      in_set : set_of_block g line.block ≡ k
-      in_set = ap (set_of_block g) r.here
-
-      after : List Line
-      after = with_touch m.policy clock y (r.front ++ line ∷ r.back)
-
-      lines : lines_of_set g k (with_touch m.policy clock y st.lines) ≡ after
-      lines = touch_here m.policy clock g k y st.lines in_set ∙ ap (with_touch m.policy clock y) r.split
-
-      within : at < length slots
-      within = (position-Some (λ (s : Slot). s.block == b) slots at empty_slot q).0
-
-      sums : (f : Slot → ℕ) → sum_by f new ≡ line_sum f after
-      sums f =
-          omega (
-            arith,
-            sum_by-IsPermutation f (marked mark slots at) new
-                (lawful_touch policy (marked mark slots at) at new (omega (arith, within, marked_length mark slots at)) hits.order),
-            marked_sum mark slots at line f within (slot_at_position b here line slots at d perm e q),
-            sums_around slots here r.front line r.back perm r.split f,
-            touch_sum m.policy clock y r.front line r.back f i,
-          )
+  abbrev line_new : ℕ → Line
+  line_new there = record { block = b; key = key_at to clock there; dirty = dirties m.design.write ref.access }
 
   -- a miss that places its block in a set that is not full
   insert_agrees : Absent b here → length slots < g.e → IsPermutation (slot ∷ slots) new →
@@ -202,73 +189,53 @@ module _ (m : Machine) (st : MachineState) (ref : Ref) (policy : Option Repl) (n
   insert_agrees a free t o =
       let long : length here ≡ length slots = sym (length-map here slot_of) ∙ length_permutation slots (map slot_of here) perm in
       let not_full : ltb (length here) g.e ≡ true = lt-ltb (length here) g.e (omega (arith, free, long)) in
-      let lines = insert_here m.policy clock (length here) g k slot st.lines refl in
-      let sums : (f : Slot → ℕ) → sum_by f new ≡ line_sum f (with_block m.policy clock (length here) slot None here) = λ f.
+      let y : Line = line_new (length here) in
+      let sums : (f : Slot → ℕ) → sum_by f new ≡ line_sum f (here ++ []) + f slot = λ f.
       omega (
         arith,
         sum_by-IsPermutation f (slot ∷ slots) new t,
         sum_by-cons f slot slots,
         sum_by-IsPermutation f slots (map slot_of here) perm,
-        insert_sum m.policy clock (length here) slot here f,
+        ap (line_sum f) (append-nil here),
       ) in
-      record {
-        gone = None;
-        may = ap not not_full;
-        effect = o;
-        held = rw lines (by_sums new (map slot_of (with_block m.policy clock (length here) slot None here)) sums);
-        distinct = rw lines (insert_distinct m.policy clock (length here) slot here a d);
-        others = λ j ne. insert_other m.policy clock (length here) g j slot st.lines ne;
-      }
+      let w : Goes to y None = goes to y None here [] refl tt (with_line_at-none to y here) a tt (rw append-nil d) sums in
+      record { gone = None; may = ap not not_full; effect = o; held = w.held; distinct = w.distinct; others = w.others }
 
   -- in a full set, where this line leaves
   leaving_agrees : (x : Slot) (rest : List Slot) (r : LineAt x here) → Absent b here → length slots ≡ g.e → IsPermutation slots (x ∷ rest) →
       IsPermutation (slot ∷ rest) new → outcome ≡ outcome_of (on_placing g m.design.write ref b (Some x)) →
       AgreesUpToOrder m st k (is_full m st k) (λ gone. placing m ref b gone st) new outcome
-  leaving_agrees x rest r a whole left t o = record {
-    gone = Some r.line;
-    may = (ap not full, subst (λ ls. Contains ls r.line) (sym r.split) (Contains-append_right r.front (r.line ∷ r.back) r.line (0, (omega arith), refl)));
-    effect = o ∙ ap (λ v. outcome_of (on_placing g m.design.write ref b (Some v))) (sym r.slot);
-    held = rw lines (by_sums new (map slot_of after) sums);
-    distinct = rw lines (exchange_distinct m.policy clock (length here) slot r.front r.line r.back front back (subst (Absent b) r.split a) dr);
-    others = λ j ne. exchange_other m.policy clock (length here) g j slot r.line st.lines in_set ne;
-  }
-    where
-      full : ltb (length here) g.e ≡ false
-      full =
-          le-ltb (length here) g.e (omega (arith, whole, sym (length-map here slot_of) ∙ length_permutation slots (map slot_of here) perm))
-
-      dr : Distinct (r.front ++ r.line ∷ r.back)
-      dr = subst Distinct r.split d
-
-      front : Absent r.line.block r.front
-      front = distinct_front r.front r.line r.back dr
-
-      back : Absent r.line.block r.back
-      back = distinct_back r.front r.line r.back dr
-
-      in_set : set_of_block g r.line.block ≡ k
-      in_set = member_set g k r.line st.lines (record { front = r.front; back = r.back; split = r.split; here = refl })
-
-      after : List Line
-      after = with_block m.policy clock (length here) slot (Some r.line) (r.front ++ r.line ∷ r.back)
-
-      lines : lines_of_set g k (with_block m.policy clock (length here) slot (Some r.line) st.lines) ≡ after
-      lines =
-          exchange_here m.policy clock (length here) g k slot r.line st.lines refl in_set
-          ∙ ap (with_block m.policy clock (length here) slot (Some r.line)) r.split
-
-      sums : (f : Slot → ℕ) → sum_by f new ≡ line_sum f after
-      sums f =
-          omega (
-            arith,
-            sum_by-IsPermutation f (slot ∷ rest) new t,
-            sum_by-cons f slot rest,
-            sum_by-IsPermutation f slots (x ∷ rest) left,
-            sum_by-cons f x rest,
-            sums_around slots here r.front r.line r.back perm r.split f,
-            ap f r.slot,
-            exchange_sum m.policy clock (length here) slot r.front r.line r.back f front back,
-          )
+  leaving_agrees x rest r a whole left t o =
+      let full : ltb (length here) g.e ≡ false =
+      le-ltb (length here) g.e (omega (arith, whole, sym (length-map here slot_of) ∙ length_permutation slots (map slot_of here) perm)) in
+      let y : Line = line_new r.line.key in
+      let dr : Distinct (r.front ++ r.line ∷ r.back) = subst Distinct r.split d in
+      let in_set : set_of_block g r.line.block ≡ k =
+      member_set g k r.line st.lines (record { front = r.front; back = r.back; split = r.split; here = refl }) in
+      let apart = absent_round b r.front r.line r.back (subst (Absent b) r.split a) in
+      let sums : (f : Slot → ℕ) → sum_by f new ≡ line_sum f (r.front ++ r.back) + f slot = λ f.
+      omega (
+        arith,
+        sum_by-IsPermutation f (slot ∷ rest) new t,
+        sum_by-cons f slot rest,
+        sum_by-IsPermutation f slots (x ∷ rest) left,
+        sum_by-cons f x rest,
+        sums_around slots here r.front r.line r.back perm r.split f,
+        ap f r.slot,
+      ) in
+      let w : Goes to y (Some r.line) =
+      goes to y (Some r.line) r.front r.back refl in_set
+      (ap (with_line_at to y (Some r.line)) r.split
+      ∙ with_line_at-some to y r.line r.front r.line r.back refl (distinct_front r.front r.line r.back dr) (distinct_back r.front r.line r.back dr))
+      apart.0 apart.1 (distinct_without r.front r.line r.back dr) sums in
+      record {
+        gone = Some r.line;
+        may = (ap not full, subst (λ ls. Contains ls r.line) (sym r.split) (Contains-append_right r.front (r.line ∷ r.back) r.line (0, (omega arith), refl)));
+        effect = o ∙ ap (λ v. outcome_of (on_placing g m.design.write ref b (Some v))) (sym r.slot);
+        held = w.held;
+        distinct = w.distinct;
+        others = w.others;
+      }
 
   fill_agrees : (number : ℕ) (evicted : Option Slot) → Absent b here → TakesIn None number g.e slots slot evicted new →
       outcome ≡ outcome_of (on_placing g m.design.write ref b evicted) →
@@ -297,9 +264,12 @@ module _ (m : Machine) (st : MachineState) (ref : Ref) (policy : Option Repl) (n
       VisitsAt index m.design policy numbers ref slots outcome new rest →
       AgreesUpToOrder m st k (is_none o && allocates m.design.allocate ref.access && is_full m st k) (λ gone. step_at m ref b gone st o)
       new outcome
-  step_agrees (Some line) (Some at) e q v = hit_agrees line at e q v
+  step_agrees (Some line) (Some at) e q v =
+      let p = placed_held b here slots at d perm q in
+      let same : p.line ≡ line = let both : Some p.line ≡ Some line = sym p.held ∙ e in cc in
+      hit_agrees line at e q (ap slot_of (sym same) ∙ p.slot) v
   step_agrees (Some line) None e q v = absurd (held_placed b here line slots perm e q)
-  step_agrees None (Some at) e q v = absurd (absent_placed b here slots at perm (not_found b here e) q)
+  step_agrees None (Some at) e q v = let p = placed_held b here slots at d perm q in absurd cc
   step_agrees None None e q v = miss_agrees (allocates m.design.allocate ref.access) (not_found b here e) v
 
 pub any_access : AnyAccessLaw

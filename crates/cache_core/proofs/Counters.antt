@@ -2,9 +2,11 @@
 use Rattle.std.proofs.Common.{◌≡◌, ℕ, ◌+◌, ◌*◌, ◌≤◌, Bool, true, false, cond, get_or, List, [], ◌∷◌, ◌++◌, length}
 use Rattle.std.proofs.Common.{Option, Some, None, arith, ap, refl}
 use Rattle.std.specs.Prelude.{MatchBool, is_some, is_none}
+use Rattle.std.specs.Option.{option_map}
 use Rattle.trace_core.specs.declared.events.Ref.{Ref}
 use Rattle.trace_core.specs.declared.events.Access.{Access}
 use Rattle.trace_core.specs.declared.events.Access.TheVariants.{Fetch, Read, Write}
+use Rattle.trace_core.specs.Events.{is_fetch, is_read, is_write, one_if}
 use Rattle.cache_core.specs.declared.outcome.Outcome.{Outcome}
 use Rattle.cache_core.specs.declared.outcome.Design.{Design}
 use Rattle.cache_core.specs.declared.outcome.Slot.{Slot}
@@ -13,11 +15,10 @@ use Rattle.cache_core.specs.declared.stats.CacheStats.{CacheStats}
 use Rattle.cache_core.specs.declared.system_cache.SystemCache.{SystemCache}
 use Rattle.cache_core.specs.declared.system.Memory.{Memory}
 use Rattle.cache_core.specs.Geometry.{block_of, set_of}
-use Rattle.cache_core.specs.Order.{Visits, VisitsAt, Fills, PassesOn, position_of, slots_of, one_if}
-use Rattle.cache_core.specs.Outcomes.{is_write, allocates, on_hit, on_placing, on_passing, two_options}
+use Rattle.cache_core.specs.Order.{Visits, VisitsAt, Fills, PassesOn, position_of, slots_of}
+use Rattle.cache_core.specs.Outcomes.{allocates, on_hit, on_placing, on_passing, two_options}
 use Rattle.cache_core.specs.CacheSteps.{Enters, system_cache_contents}
-use Rattle.cache_core.specs.SystemCaches.{stats_after, accesses}
-use Rattle.cache_core.specs.Systems.{is_fetch, is_read}
+use Rattle.cache_core.specs.CacheStats.{count_access, accesses}
 use Rattle.cache_core.specs.SystemSteps.{AccessesFirst, Descends, AllDescend, AccessesUnified, AccessesSplit, AccessesFirstLevel, copied, counted, reached}
 use Rattle.cache_core.specs.SystemSteps.{present_refs, reaches, all_reach}
 
@@ -32,8 +33,8 @@ one_kind Read = refl
 one_kind Write = refl
 
 -- a count of one more access
-pub one_access : (s : CacheStats) (ref : Ref) (o : Outcome) → accesses (stats_after s ref o) ≡ accesses s + 1
-one_access s ref o = omega (arith, one_kind ref.access)
+pub one_access : (access : Access) (hit : Bool) (evicted : Option Bool) (s : CacheStats) → accesses (count_access access hit evicted s) ≡ accesses s + 1
+one_access access hit evicted s = omega (arith, one_kind access)
 
 -- one reference at a cache, if it is there
 pub record Grows (more : ℕ) (old new : Option SystemCache) : Type 0 where
@@ -44,7 +45,10 @@ entered : (old : SystemCache) (ref : Ref) (outcome : Outcome) (new : SystemCache
 entered old ref outcome new e =
     let counts = ap accesses e.counts in
     let copies = ap (λ (s : CacheStats). s.copybacks) e.counts in
-    record { counts = omega (arith, counts, one_access old.stats ref outcome); copies = omega (arith, copies) }
+    record {
+      counts = omega (arith, counts, one_access ref.access outcome.hit (option_map (λ slot. slot.dirty) outcome.evicted) old.stats);
+      copies = omega (arith, copies);
+    }
 
 first_grows : (old : Option SystemCache) (ref : Ref) (down : Option (List (Option Ref))) (new : Option SystemCache) → AccessesFirst old ref down new →
     Grows (one_if (is_some down)) old new

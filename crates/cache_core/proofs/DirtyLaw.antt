@@ -7,6 +7,7 @@ use Rattle.std.proofs.lemmas.List.Sums.{sum_by-set, sum_by-cons}
 use Rattle.std.proofs.lemmas.List.Sorted.{sum_by-IsPermutation}
 use Rattle.trace_core.specs.declared.events.Ref.{Ref}
 use Rattle.trace_core.specs.declared.events.Access.{Access}
+use Rattle.trace_core.specs.Events.{is_write, one_if}
 use Rattle.cache_core.specs.declared.outcome.Slot.{Slot}
 use Rattle.cache_core.specs.declared.outcome.Outcome.{Outcome}
 use Rattle.cache_core.specs.declared.outcome.Design.{Design}
@@ -14,8 +15,8 @@ use Rattle.cache_core.specs.declared.outcome.WriteMode.{WriteMode}
 use Rattle.cache_core.specs.declared.outcome.WriteMode.TheVariants.{Back, Through}
 use Rattle.cache_core.specs.declared.outcome.Repl.{Repl}
 use Rattle.cache_core.specs.Geometry.{block_of}
-use Rattle.cache_core.specs.Outcomes.{is_write, dirties, allocates}
-use Rattle.cache_core.specs.Order.{Visits, VisitsAt, Hits, Fills, PassesOn, TakesIn, marked, position_of, dirty_in, is_dirty, one_if, dirty_slots}
+use Rattle.cache_core.specs.Outcomes.{dirties, allocates}
+use Rattle.cache_core.specs.Order.{Visits, VisitsAt, Hits, Fills, PassesOn, TakesIn, marked, position_of, dirty_in, is_dirty, dirty_slots}
 use Rattle.cache_core.specs.Order.{DirtiesByWrites}
 use Rattle.cache_core.specs.Slab.{IsCacheSlab, sets_of}
 use Rattle.cache_core.proofs.Slabs.{segment_slots, with_segment, IsWritten, set_read, sets_written, length-sets_of}

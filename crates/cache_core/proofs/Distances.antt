@@ -1,5 +1,5 @@
 -- The different blocks of a set in a window: how a reference moves them, and where a block stands among them.
-use Rattle.std.proofs.Common.{◌≡◌, ℕ, zero, suc, ◌<◌, false, not, ◌||◌, cond, eqb, List, [], ◌∷◌, length, take, refl, sym, ◌∙◌, ap}
+use Rattle.std.proofs.Common.{arith, ◌≡◌, ℕ, zero, suc, ◌<◌, false, not, cond, eqb, List, [], ◌∷◌, take, refl, sym, ◌∙◌, ap}
 use Rattle.std.specs.List.{remove, filter, list_any, before_first, position_or_len}
 use Rattle.std.proofs.lemmas.Bool.{eqb-true, eq-eqb}
 use Rattle.cache_core.specs.Windows.{distinct, distinct_of_set, Occurrence, has_last, distance}
@@ -34,8 +34,7 @@ pub distinct_of_set-other : (g : GeometryValue) (k x : ℕ) (w : List ℕ) → e
     distinct_of_set g k (x ∷ w) ≡ distinct_of_set g k w
 unfolding distinct_of_set distinct
 distinct_of_set-other g k x w e =
-    filter-cons_no (λ y. eqb (set_of_block g y) k) x (filter (other x) (distinct w)) e
-    ∙ filter_other_no (λ y. eqb (set_of_block g y) k) x (distinct w) e
+    cc (filter-cons_no (λ y. eqb (set_of_block g y) k) x (filter (other x) (distinct w)) e, filter_other_no (λ y. eqb (set_of_block g y) k) x (distinct w) e)
 
 distinct-before_first : (x : ℕ) (w : List ℕ) → distinct (before_first (is x) w) ≡ before_first (is x) (distinct w)
 unfolding distinct
@@ -55,23 +54,19 @@ distinct_of_set-before_first : (g : GeometryValue) (x : ℕ) (w : List ℕ) →
     distinct_of_set g (set_of_block g x) (before_first (is x) w) ≡ before_first (is x) (distinct_of_set g (set_of_block g x) w)
 unfolding distinct_of_set
 distinct_of_set-before_first g x w =
-    ap (λ r. filter (λ y. eqb (set_of_block g y) (set_of_block g x)) r) (distinct-before_first x w)
-    ∙ filter-before_first (λ y. eqb (set_of_block g y) (set_of_block g x)) x (distinct w) (eq-eqb _ _ refl)
+    cc (distinct-before_first x w, filter-before_first (λ y. eqb (set_of_block g y) (set_of_block g x)) x (distinct w) (eq-eqb _ _ refl))
 
 -- the distance is the block's index among them
 pub distance_is : (g : GeometryValue) (p : Occurrence) → distance g p ≡ position_or_len (is p.block) (distinct_of_set g (set_of_block g p.block) p.window)
-distance_is g p =
-    ap length (distinct_of_set-before_first g p.block p.window) ∙ length-before_first (is p.block) (distinct_of_set g (set_of_block g p.block) p.window)
+distance_is g p = cc (distinct_of_set-before_first g p.block p.window, length-before_first (is p.block) (distinct_of_set g (set_of_block g p.block) p.window))
 
 list_any-distinct : (x : ℕ) (w : List ℕ) → list_any (is x) (distinct w) ≡ list_any (is x) w
 unfolding distinct
 list_any-distinct x [] = refl
 list_any-distinct x (y ∷ ys) =
-    cases (λ b. (b ≡ eqb y x) → (b || list_any (is x) (filter (other y) (distinct ys))) ≡ (b || list_any (is x) ys)) (eqb y x)
-    (λ e k. refl)
-    (λ e k. list_any-filter (other y) (is x) (distinct ys) (λ z f. ap (λ v. not (eqb v y)) (eqb-true z x f) ∙ ap not (eqb_flip x y (sym k)))
-    ∙ list_any-distinct x ys)
-    refl
+    let rest = λ (k : eqb y x ≡ false).
+    list_any-filter (other y) (is x) (distinct ys) (λ z f. ap (λ v. not (eqb v y)) (eqb-true z x f) ∙ ap not (eqb_flip x y k)) in
+    grind (arith, rest, list_any-distinct x ys)
 
 pub has_last_is : (g : GeometryValue) (p : Occurrence) → has_last p ≡ list_any (is p.block) (distinct_of_set g (set_of_block g p.block) p.window)
 unfolding distinct_of_set

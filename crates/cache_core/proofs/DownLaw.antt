@@ -1,23 +1,23 @@
 -- Never more than two references are sent down, whatever line leaves: a write-through cache holds no dirty line.
-use Rattle.std.proofs.Common.{◌≡◌, ℕ, zero, suc, ◌+◌, ◌<◌, ◌≤◌, ◌||◌, Bool, true, false, cond, ltb, List, [], ◌∷◌, ◌++◌}
-use Rattle.std.proofs.Common.{length, get_or, Option, Some, None, sym, ◌∙◌, ap, refl, arith, filter, find}
-use Rattle.std.specs.Prelude.{fold, count_by}
+use Rattle.std.proofs.Common.{◌≡◌, ℕ, ◌%◌, ◌≤◌, ◌||◌, Bool, true, false, cond, ltb, List, [], ◌∷◌}
+use Rattle.std.proofs.Common.{length, Option, Some, None, sym, ◌∙◌, ap, refl, arith, find}
+use Rattle.std.specs.Prelude.{All, fold, count_by}
 use Rattle.std.proofs.lemmas.List.{length-append}
+use Rattle.std.proofs.lemmas.List.Elements.{All-nil, All-cons, All-head, All-tail, All-map, All-weaker, All-filter, All-push, All-get_or}
 use Rattle.std.proofs.lemmas.List.Sums.{sum_by-cons}
 use Rattle.trace_core.specs.declared.events.Ref.{Ref}
 use Rattle.trace_core.specs.declared.events.Access.{Access}
 use Rattle.trace_core.specs.declared.events.Event.{Event}
 use Rattle.trace_core.specs.declared.events.Event.TheVariants as event
+use Rattle.trace_core.specs.Events.{is_write, one_if}
 use Rattle.cache_core.specs.declared.outcome.Slot.{Slot}
-use Rattle.cache_core.specs.declared.outcome.Repl.{Repl}
-use Rattle.cache_core.specs.declared.outcome.Repl.TheVariants.{Lru, Fifo, Random}
 use Rattle.cache_core.specs.declared.outcome.WriteMode.{WriteMode}
 use Rattle.cache_core.specs.declared.outcome.WriteMode.TheVariants.{Back, Through}
 use Rattle.cache_core.specs.Geometry.{GeometryValue, block_of, set_of, address_of}
-use Rattle.cache_core.specs.Outcomes.{is_write, dirties, allocates, writes_through, writes_back, block_load_access, on_placing}
-use Rattle.cache_core.specs.Machine.{Machine, MachineState, Line, option_slot, is_block, lines_of_set, exchange, least, lesser, victim, with_touch, with_block}
+use Rattle.cache_core.specs.Outcomes.{dirties, allocates, writes_through, writes_back, block_load_access, on_placing}
+use Rattle.cache_core.specs.Machine.{Machine, MachineState, Line, option_slot, is_block, lines_of_set, exchange, least, lesser, victim, with_line_at}
 use Rattle.cache_core.specs.Machine.{leaves, placing, passing, start, step, step_at, step_with, next, run, dirty_count}
-use Rattle.cache_core.specs.Order.{one_if}
+use Rattle.cache_core.specs.Rules.{Place, InFront, InPlace, Victim, Last, Drawn, rules}
 use Rattle.cache_core.specs.Stands.{DownLaw}
 use Rattle.cache_core.specs.AnyPolicy.{MayLeave, needs_victim}
 use Rattle.cache_core.proofs.Lists.{cases}
@@ -27,50 +27,39 @@ abbrev NoneDirty : Option Line → Type 0
 NoneDirty o = (line : Line) → o ≡ Some line → line.dirty ≡ false
 
 -- no line is dirty
+abbrev pub IsClean : Line → Type 0
+IsClean line = line.dirty ≡ false
+
 abbrev pub Clean : List Line → Type 0
-Clean [] = Unit {0}
-Clean (l ∷ ls) = (l.dirty ≡ false) × Clean ls
+Clean ls = All IsClean ls
 
 -- that is, none is counted
-pub clean_count : (ls : List Line) → Clean ls → count_by (λ (l : Line). l.dirty) ls ≡ 0
+clean_count : (ls : List Line) → Clean ls → count_by (λ (l : Line). l.dirty) ls ≡ 0
 clean_count [] h = refl
-clean_count (l ∷ ls) h = omega (arith, sum_by-cons (λ (x : Line). one_if x.dirty) l ls, clean_count ls h.1, ap one_if h.0)
+clean_count (l ∷ ls) h =
+    omega (arith, sum_by-cons (λ (x : Line). one_if x.dirty) l ls, clean_count ls (All-tail IsClean l ls h), ap one_if (All-head IsClean l ls h))
 
 not_dirty : (b : Bool) → one_if b ≡ 0 → b ≡ false
 not_dirty true h = absurd (omega arith)
 not_dirty false h = refl
 
-pub count_clean : (ls : List Line) → count_by (λ (l : Line). l.dirty) ls ≡ 0 → Clean ls
-count_clean [] h = tt
+count_clean : (ls : List Line) → count_by (λ (l : Line). l.dirty) ls ≡ 0 → Clean ls
+count_clean [] h = All-nil IsClean
 count_clean (l ∷ ls) h =
     let e = sum_by-cons (λ (x : Line). one_if x.dirty) l ls in
-    (not_dirty l.dirty (omega (arith, e)), count_clean ls (omega (arith, e)))
-
-pub clean_filter : (p : Line → Bool) (ls : List Line) → Clean ls → Clean (filter p ls)
-clean_filter p [] h = tt
-clean_filter p (l ∷ ls) h =
-    cases (λ b. Clean (cond b (l ∷ filter p ls) (filter p ls))) (p l) (λ _. (h.0, clean_filter p ls h.1)) (λ _. clean_filter p ls h.1)
-
-clean_append : (xs ys : List Line) → Clean xs → Clean ys → Clean (xs ++ ys)
-clean_append [] ys f h = h
-clean_append (x ∷ xs) ys f h = (f.0, clean_append xs ys f.1 h)
+    All-cons IsClean l ls (not_dirty l.dirty (omega (arith, e))) (count_clean ls (omega (arith, e)))
 
 clean_exchange : (block : ℕ) (new : Line) (ls : List Line) → new.dirty ≡ false → Clean ls → Clean (exchange block new ls)
-clean_exchange block new [] e h = tt
-clean_exchange block new (l ∷ ls) e h =
-    (cases (λ b. (cond b new l).dirty ≡ false) (is_block block l) (λ _. e) (λ _. h.0), clean_exchange block new ls e h.1)
+clean_exchange block new ls e h =
+    All-map IsClean _ ls
+    (All-weaker IsClean _ (λ line clean. cases (λ b. (cond b new line).dirty ≡ false) (is_block block line) (λ _. e) (λ _. clean)) ls h)
 
 clean_find : (p : Line → Bool) (ls : List Line) (line : Line) → Clean ls → find p ls ≡ Some line → line.dirty ≡ false
 clean_find p [] line h e = absurd cc
 clean_find p (l ∷ ls) line h e =
     cases (λ b. (cond b (Some l) (find p ls) ≡ Some line) → line.dirty ≡ false) (p l)
-    (λ _ q. let same : l ≡ line = cc in ap (λ (x : Line). x.dirty) (sym same) ∙ h.0)
-    (λ _ q. clean_find p ls line h.1 q) e
-
-clean_at : (ls : List Line) (k : ℕ) (d : Line) → k < length ls → Clean ls → (get_or ls k d).dirty ≡ false
-clean_at [] k d lt h = absurd (omega arith)
-clean_at (l ∷ ls) zero d lt h = h.0
-clean_at (l ∷ ls) (suc k) d lt h = clean_at ls k d (omega arith) h.1
+    (λ _ q. let same : l ≡ line = cc in ap (λ (x : Line). x.dirty) (sym same) ∙ All-head IsClean l ls h)
+    (λ _ q. clean_find p ls line (All-tail IsClean l ls h) q) e
 
 clean_lesser : (l : Line) (o : Option Line) → l.dirty ≡ false → NoneDirty o →
     (lesser l o).dirty ≡ false
@@ -81,26 +70,17 @@ clean_least : (ls : List Line) (line : Line) → Clean ls → least ls ≡ Some 
 clean_least [] line h e = absurd cc
 clean_least (l ∷ ls) line h e =
     let same : lesser l (least ls) ≡ line = cc in
-    ap (λ (x : Line). x.dirty) (sym same) ∙ clean_lesser l (least ls) h.0 (λ x q. clean_least ls x h.1 q)
+    ap (λ (x : Line). x.dirty) (sym same) ∙ clean_lesser l (least ls) (All-head IsClean l ls h) (λ x q. clean_least ls x (All-tail IsClean l ls h) q)
 
-clean_victim : (p : Repl) (ways number : ℕ) (ls : List Line) (line : Line) → Clean ls → victim p ways number ls ≡ Some line → line.dirty ≡ false
-clean_victim Lru ways number ls line h e = clean_least ls line h e
-clean_victim Fifo ways number ls line h e = clean_least ls line h e
-clean_victim Random ways number ls line h e = clean_find _ ls line h e
+clean_victim : (v : Victim) (way : ℕ) (ls : List Line) (line : Line) → Clean ls → victim v way ls ≡ Some line → line.dirty ≡ false
+clean_victim Last way ls line h e = clean_least ls line h e
+clean_victim Drawn way ls line h e = clean_find _ ls line h e
 
-clean_touch : (p : Repl) (clock : ℕ) (line : Line) (ls : List Line) → line.dirty ≡ false → Clean ls → Clean (with_touch p clock line ls)
-clean_touch Lru clock line ls e h = (e, clean_filter _ ls h)
-clean_touch Fifo clock line ls e h = clean_exchange line.block line ls e h
-clean_touch Random clock line ls e h = clean_exchange line.block line ls e h
-
-clean_place : (p : Repl) (clock count : ℕ) (new : Slot) (gone : Option Line) (ls : List Line) → new.dirty ≡ false → Clean ls →
-    Clean (with_block p clock count new gone ls)
-clean_place Random clock count new None ls e h = clean_append ls _ h (e, tt)
-clean_place Random clock count new (Some gone) ls e h = clean_exchange gone.block _ ls e h
-clean_place Lru clock count new None ls e h = (e, h)
-clean_place Lru clock count new (Some gone) ls e h = (e, clean_filter _ ls h)
-clean_place Fifo clock count new None ls e h = (e, h)
-clean_place Fifo clock count new (Some gone) ls e h = (e, clean_filter _ ls h)
+clean_line : (p : Place) (new : Line) (gone : Option Line) (ls : List Line) → new.dirty ≡ false → Clean ls → Clean (with_line_at p new gone ls)
+clean_line InFront new None ls e h = All-cons IsClean new ls e h
+clean_line InFront new (Some gone) ls e h = All-cons IsClean new _ e (All-filter _ IsClean ls h)
+clean_line InPlace new None ls e h = All-push IsClean ls new h e
+clean_line InPlace new (Some gone) ls e h = clean_exchange gone.block _ ls e h
 
 through_clean : (w : WriteMode) (a : Access) → w ≡ Through → dirties w a ≡ false
 through_clean w a e = ap (λ x. dirties x a) e
@@ -110,11 +90,11 @@ pub clean_step_at : (m : Machine) (ref : Ref) (block : ℕ) (leaving : Option Li
 clean_step_at m ref block leaving st (Some line) w f h =
     let d : dirties m.design.write ref.access ≡ false = through_clean m.design.write ref.access w in
     let e : (dirties m.design.write ref.access || line.dirty) ≡ false = ap (λ b. b || line.dirty) d ∙ clean_find (is_block block) st.lines line h f in
-    clean_touch m.policy (st.clock + 1) (record line { dirty = dirties m.design.write ref.access || line.dirty }) st.lines e h
+    let to = (rules m.policy).touched in
+    clean_line to _ (Some (record line { dirty = dirties m.design.write ref.access || line.dirty })) st.lines e h
 clean_step_at m ref block leaving st None w f h =
     cases (λ b. Clean (cond b (placing m ref block leaving st) (passing ref st)).after.lines) (allocates m.design.allocate ref.access)
-    (λ _. clean_place m.policy (st.clock + 1) _ (record { block = block; dirty = dirties m.design.write ref.access }) leaving st.lines
-    (through_clean m.design.write ref.access w) h)
+    (λ _. clean_line (rules m.policy).placed _ leaving st.lines (through_clean m.design.write ref.access w) h)
     (λ _. h)
 
 clean_fold : (m : Machine) (st : MachineState) (events : List Event) → m.design.write ≡ Through → Clean st.lines → Clean (fold (next m) st events).lines
@@ -123,7 +103,7 @@ clean_fold m st (event.Reference ref ∷ events) w h =
     let b = block_of m.design.geometry ref.addr in
     clean_fold m (step m st ref).after events w
     (clean_step_at m ref b (leaves m st (set_of m.design.geometry ref.addr)) st (find (is_block b) st.lines) w refl h)
-clean_fold m st (event.Flush ∷ events) w h = clean_fold m (next m st event.Flush) events w tt
+clean_fold m st (event.Flush ∷ events) w h = clean_fold m (next m st event.Flush) events w (All-nil IsClean)
 
 -- what is sent down
 one_at_most : (b : Bool) (x : Ref) → length (cond b (x ∷ []) []) ≤ 1
@@ -160,10 +140,12 @@ placing_most w g ref block o h = by_mode w h
 clean_leaves : (m : Machine) (st : MachineState) (set : ℕ) (line : Line) → Clean st.lines → leaves m st set ≡ Some line → line.dirty ≡ false
 clean_leaves m st set line h e =
     let here : List Line = lines_of_set m.design.geometry set st.lines in
-    cases (λ b. (cond b None (victim m.policy m.design.geometry.e (m.random_numbers st.drawn) here) ≡ Some line) → line.dirty ≡ false)
+    let v = (rules m.policy).victim in
+    let way = m.random_numbers st.drawn % m.design.geometry.e in
+    cases (λ b. (cond b None (victim v way here) ≡ Some line) → line.dirty ≡ false)
     (ltb (length here) m.design.geometry.e)
     (λ _ q. absurd cc)
-    (λ _ q. clean_victim m.policy m.design.geometry.e (m.random_numbers st.drawn) here line (clean_filter _ st.lines h) q) e
+    (λ _ q. clean_victim v way here line (All-filter _ IsClean st.lines h) q) e
 
 pub step_most : (m : Machine) (ref : Ref) (block : ℕ) (leaving : Option Line) (st : MachineState) (o : Option Line) →
     (m.design.write ≡ Through → NoneDirty leaving) → length (step_at m ref block leaving st o).effect.down ≤ 2
@@ -179,7 +161,7 @@ down_law m events ref =
     let st = run m events in
     let set = set_of m.design.geometry ref.addr in
     step_most m ref (block_of m.design.geometry ref.addr) (leaves m st set) st (find (is_block (block_of m.design.geometry ref.addr)) st.lines)
-    (λ w line e. clean_leaves m st set line (clean_fold m start events w tt) e)
+    (λ w line e. clean_leaves m st set line (clean_fold m start events w (All-nil IsClean)) e)
 
 -- a line that may leave a clean cache
 may_clean : (needed : Bool) (here : List Line) (gone : Option Line) (line : Line) → Clean here → MayLeave needed here gone → gone ≡ Some line →
@@ -188,7 +170,7 @@ may_clean needed here None line h may e = absurd cc
 may_clean needed here (Some x) line h may e =
     let same : x ≡ line = cc in
     let (k, lt, at) = may.1 in
-    ap (λ (l : Line). l.dirty) (sym same ∙ sym at) ∙ clean_at here k x lt h
+    ap (λ (l : Line). l.dirty) (sym same ∙ sym at) ∙ All-get_or IsClean here k x lt h
 
 -- under any policy
 pub any_clean : (m : Machine) (st : MachineState) (ref : Ref) (gone : Option Line) → (m.design.write ≡ Through → dirty_count st ≡ 0) →
@@ -205,4 +187,4 @@ any_few m st ref gone h may =
     let block = block_of m.design.geometry ref.addr in
     let here = lines_of_set m.design.geometry (set_of m.design.geometry ref.addr) st.lines in
     step_most m ref block gone st (find (is_block block) st.lines)
-    (λ w line e. may_clean (needs_victim m st ref) here gone line (clean_filter _ st.lines (count_clean st.lines (h w))) may e)
+    (λ w line e. may_clean (needs_victim m st ref) here gone line (All-filter _ IsClean st.lines (count_clean st.lines (h w))) may e)

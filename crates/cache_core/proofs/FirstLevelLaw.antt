@@ -1,23 +1,26 @@
 -- One reference at the first level of a system, as its caches see it and as their machines see it.
 use Rattle.std.proofs.Common.{◌≡◌, ℕ, ◌≤◌, ◌&&◌, ◌||◌, not, Bool, true, false, cond, List, [], ◌∷◌, ◌++◌, length, Option}
-use Rattle.std.proofs.Common.{Some, None, refl, sym, ◌∙◌, ap, subst, arith, append-nil}
+use Rattle.std.proofs.Common.{Some, None, refl, sym, ◌∙◌, ap, ap₂, subst, arith, append-nil}
 use Rattle.std.specs.Prelude.{is_some, is_none}
+use Rattle.std.specs.Option.{option_map}
 use Rattle.std.proofs.lemmas.Bool.{MatchBool-at_true, MatchBool-at_false, true≢false}
 use Rattle.trace_core.specs.declared.events.Ref.{Ref}
 use Rattle.trace_core.specs.declared.events.Event.{Event}
 use Rattle.trace_core.specs.declared.events.Event.TheVariants as event
+use Rattle.trace_core.specs.Events.{is_fetch}
 use Rattle.cache_core.specs.declared.outcome.Outcome.{Outcome}
 use Rattle.cache_core.specs.declared.plan.PlannedCache.{PlannedCache}
 use Rattle.cache_core.specs.declared.plan.CacheName.{CacheName}
 use Rattle.cache_core.specs.declared.plan.CacheName.TheVariants.{L1I, L1D, L1U}
+use Rattle.cache_core.specs.declared.stats.CacheStats.{CacheStats}
 use Rattle.cache_core.specs.declared.system_cache.SystemCache.{SystemCache}
 use Rattle.cache_core.specs.Outcomes.{two_options}
 use Rattle.cache_core.specs.Machine.{Machine, run, step}
 use Rattle.cache_core.specs.Plans.{IsPlannedCache}
 use Rattle.cache_core.specs.Stands.{CacheStandsFor}
 use Rattle.cache_core.specs.CacheSteps.{system_cache_contents, Enters}
-use Rattle.cache_core.specs.SystemCaches.{stats_after}
-use Rattle.cache_core.specs.Systems.{machine_of, is_fetch, takes, events_for, sends, cache_stats, counts_if_planned}
+use Rattle.cache_core.specs.CacheStats.{count_access}
+use Rattle.cache_core.specs.Systems.{machine_of, takes, events_for, sends, cache_stats, counts_if_planned}
 use Rattle.cache_core.specs.SystemSteps.{present_refs, AccessesFirst, AccessesUnified, AccessesSplit, AccessesFirstLevel, stats_held}
 use Rattle.cache_core.specs.SystemStands.{PlannedCacheStandsFor}
 use Rattle.cache_core.proofs.RunLaw.{access_run}
@@ -46,7 +49,10 @@ enters m events old ref outcome new some k e =
     record {
       kept = record {
         stands = r.0;
-        counts = e.counts ∙ ap (λ s. stats_after s ref outcome) k.counts ∙ ap (stats_after (cache_stats m events) ref) r.1 ∙ sym (counts_push m events ref);
+        counts =
+            e.counts
+            ∙ ap₂ (λ (o : Outcome) (s : CacheStats). count_access ref.access o.hit (option_map (λ slot. slot.dirty) o.evicted) s) r.1 k.counts
+            ∙ sym (counts_push m events ref);
       };
       sends = ap (λ (o : Outcome). present_refs o.down) r.1 ∙ present_refs_two (step m (run m events) ref).effect.down (down_law m events ref);
     }

@@ -9,11 +9,10 @@ use Rattle.std.proofs.lemmas.Bool.Decides.{eqb_tells}
 use Rattle.std.proofs.Math.Nat.{one-le-pow}
 use Rattle.std.proofs.lemmas.Nat.{mod_below}
 use Rattle.cache_core.specs.declared.outcome.Slot.{Slot}
-use Rattle.cache_core.specs.declared.outcome.Repl.{Repl}
-use Rattle.cache_core.specs.declared.outcome.Repl.TheVariants.{Lru, Fifo, Random}
 use Rattle.cache_core.specs.Geometry.{GeometryValue, set_of_block}
 use Rattle.cache_core.specs.Machine.{Machine, MachineState, Line, slot_of, lines_of_set, start, dirty_count}
 use Rattle.cache_core.specs.Order.{Contents, FlushesCache, slots_of, dirty_in, dirty_slots}
+use Rattle.cache_core.specs.Rules.{Place, InFront, InPlace, rules}
 use Rattle.cache_core.specs.Stands.{IsState, IsGood, IsSoundState}
 use Rattle.cache_core.proofs.Lines.{ne-eqb}
 
@@ -53,16 +52,12 @@ dirty_all g (x ∷ lines) sets l h =
     let counted : dirty_in (slots_of sets k) ≡ one + dirty_in old = here ∙ sum_by-cons (λ (s : Slot). cond s.dirty 1 0) (slot_of x) old in
     omega (arith, i, moved, counted, sum_by-cons (λ (line : Line). cond line.dirty 1 0) x lines)
 
-pub empty_good : (m : Machine) (c : ℕ) → IsGood m.policy c []
-empty_good m c = good m.policy
-  where
-    good : (p : Repl) → IsGood p c []
-    good Lru = record { distinct = tt; order = tt }
-    good Fifo = record { distinct = tt; order = tt }
-    good Random = record { distinct = tt; order = tt }
+pub empty_good : (p : Place) (c : ℕ) → IsGood p c []
+empty_good InFront c = record { distinct = tt; order = tt }
+empty_good InPlace c = record { distinct = tt; order = tt }
 
 pub start_sound : (m : Machine) → IsSoundState m start
-start_sound m k = empty_good m 0
+start_sound m k = empty_good (rules m.policy).placed 0
 
 pub start_state : (m : Machine) (c : Contents) → c.design ≡ m.design → c.policy ≡ Some m.policy → c.random_numbers ≡ m.random_numbers →
     c.sets ≡ replicate (2 ^ m.design.geometry.s) [] → IsState m start c
@@ -91,5 +86,5 @@ flush_law m st old dirty new i f = record {
     sets = λ k. ap (λ s. slots_of s k) f.empty ∙ none_anywhere (length old.sets) k;
   };
   effect = f.counted ∙ dirty_all m.design.geometry st.lines old.sets i.count (λ k. ap (count_by (λ (slot : Slot). slot.dirty)) (i.sets k));
-  sound = λ k. empty_good m st.clock;
+  sound = λ k. empty_good (rules m.policy).placed st.clock;
 }

@@ -77,10 +77,7 @@ module _ (m : Machine) (ref : Ref) (leaving : Option Line) (st : MachineState) w
   by_line = victim_write (option_map (victim_of g) (option_slot leaving)) ++ load g.b ref ∷ goes_on m.design.write ref
 
   placing_says : by_line ≡ written ++ loaded ∷ writes_through m.design.write ref
-  placing_says =
-      ap (λ refs. refs ++ load g.b ref ∷ goes_on m.design.write ref) (back_is g (option_slot leaving))
-      ∙ ap (λ (r : Ref). written ++ r ∷ goes_on m.design.write ref) (load_is g ref.access ref.addr)
-      ∙ ap (λ refs. written ++ loaded ∷ refs) (through_is m.design.write ref)
+  placing_says = cc (back_is g (option_slot leaving), load_is g ref.access ref.addr, through_is m.design.write ref)
 
   by_test : (b : Bool) → allocates m.design.allocate ref.access ≡ b → Says (cond b (placing m ref block leaving st) (passing ref st))
   by_test true t = ap (λ b. cond b (ref ∷ []) by_line) (alone_is m.design.allocate ref.access ref.addr ∙ ap not t) ∙ placing_says
@@ -130,20 +127,6 @@ lower_follows i d u (Some second) seed before (ref ∷ refs) rest f =
           (subst (λ (lines : List Arrival). Follow plan down refs lines) (sym (append_assoc (at_memory down) later rest)) next),
     )
 
--- a reference at the first level, and what it sends
-module _ (i d u second : Option PlannedCache) (seed : ℕ) (here : List Event) (before : List Event) (ref : Ref) (down : List Ref) (rest : List Arrival)
-    (f : Follow (plan_with i d u second) [] [] rest) where
-  abbrev plan : PlannedCaches
-  plan = plan_with i d u second
-
-  sent_follow : (planned : PlannedCache) → down ≡ passes seed (Some planned) here ref →
-      let effect = (step (machine_of seed planned) (run (machine_of seed planned) here) ref).effect in
-      let sends = sends_by_line (Some planned) ref effect.hit (option_map (victim_of planned.design.geometry) effect.evicted) in
-      Follow plan (direct second sends) (indirect second sends) (arrive_below seed second before down ++ rest)
-  sent_follow planned e =
-      subst (λ (sends : List Ref). Follow plan (direct second sends) (indirect second sends) (arrive_below seed second before down ++ rest))
-      (e ∙ sym (says_of seed planned here ref)) (lower_follows i d u second seed before down rest f)
-
 -- one event
 module _ (seed : ℕ) (second : Option PlannedCache) (earlier : List Event) (addr : ℕ) (rest : List Arrival) where
   abbrev Follows : Option PlannedCache → Option PlannedCache → Option PlannedCache → Access → Type 0
@@ -154,65 +137,39 @@ module _ (seed : ℕ) (second : Option PlannedCache) (earlier : List Event) (add
   abbrev Before : Option PlannedCache → Option PlannedCache → Option PlannedCache → Type 0
   Before i d u = Follow (plan_with i d u second) [] [] rest
 
-  abbrev fetch : Ref
-  fetch = record { access = Fetch; addr = addr }
-
-  fetches : (pi : PlannedCache) (d : Option PlannedCache) → Before (Some pi) d None → Follows (Some pi) d None Fetch
-  fetches pi None f =
-      let plan = plan_with (Some pi) None None second in
-      let own = passes seed (Some pi) (events_for L1I earlier) fetch in
-      sent_follow (Some pi) None None second seed (events_for L1I earlier) (below plan seed earlier) fetch (sent plan seed earlier fetch) rest f pi
-      (append-nil (own ++ []) ∙ append-nil own)
-  fetches pi (Some pd) f =
-      let plan = plan_with (Some pi) (Some pd) None second in
-      let own = passes seed (Some pi) (events_for L1I earlier) fetch in
-      sent_follow (Some pi) (Some pd) None second seed (events_for L1I earlier) (below plan seed earlier) fetch (sent plan seed earlier fetch) rest f pi
-      (append-nil (own ++ []) ∙ append-nil own)
-
-  reads : (pd : PlannedCache) (i : Option PlannedCache) → Before i (Some pd) None → Follows i (Some pd) None Read
-  reads pd None f =
-      let plan = plan_with None (Some pd) None second in
-      let ref : Ref = record { access = Read; addr = addr } in
-      sent_follow None (Some pd) None second seed (events_for L1D earlier) (below plan seed earlier) ref (sent plan seed earlier ref) rest f pd
-      (append-nil (passes seed (Some pd) (events_for L1D earlier) ref))
-  reads pd (Some pi) f =
-      let plan = plan_with (Some pi) (Some pd) None second in
-      let ref : Ref = record { access = Read; addr = addr } in
-      sent_follow (Some pi) (Some pd) None second seed (events_for L1D earlier) (below plan seed earlier) ref (sent plan seed earlier ref) rest f pd
-      (append-nil (passes seed (Some pd) (events_for L1D earlier) ref))
-
-  writes : (pd : PlannedCache) (i : Option PlannedCache) → Before i (Some pd) None → Follows i (Some pd) None Write
-  writes pd None f =
-      let plan = plan_with None (Some pd) None second in
-      let ref : Ref = record { access = Write; addr = addr } in
-      sent_follow None (Some pd) None second seed (events_for L1D earlier) (below plan seed earlier) ref (sent plan seed earlier ref) rest f pd
-      (append-nil (passes seed (Some pd) (events_for L1D earlier) ref))
-  writes pd (Some pi) f =
-      let plan = plan_with (Some pi) (Some pd) None second in
-      let ref : Ref = record { access = Write; addr = addr } in
-      sent_follow (Some pi) (Some pd) None second seed (events_for L1D earlier) (below plan seed earlier) ref (sent plan seed earlier ref) rest f pd
-      (append-nil (passes seed (Some pd) (events_for L1D earlier) ref))
-
-  all : (pu : PlannedCache) (access : Access) → Before None None (Some pu) → Follows None None (Some pu) access
-  all pu access f =
-      let plan = plan_with None None (Some pu) second in
+  -- a reference that this cache of the first level takes, and what it sends
+  sent_follow : (i d u : Option PlannedCache) (name : CacheName) (planned : PlannedCache) (access : Access) → Before i d u →
+      let plan = plan_with i d u second in
       let ref : Ref = record { access = access; addr = addr } in
-      sent_follow None None (Some pu) second seed (events_for L1U earlier) (below plan seed earlier) ref (sent plan seed earlier ref) rest f pu refl
+      let here = events_for name earlier in
+      let effect = (step (machine_of seed planned) (run (machine_of seed planned) here) ref).effect in
+      let sends = sends_by_line (Some planned) ref effect.hit (option_map (victim_of planned.design.geometry) effect.evicted) in
+      sent plan seed earlier ref ≡ passes seed (Some planned) here ref →
+      Follow plan (direct second sends) (indirect second sends) (arrive_below seed second (below plan seed earlier) (sent plan seed earlier ref) ++ rest)
+  sent_follow i d u name planned access f e =
+      let plan = plan_with i d u second in
+      let ref : Ref = record { access = access; addr = addr } in
+      let down = sent plan seed earlier ref in
+      subst (λ (sends : List Ref). Follow plan (direct second sends) (indirect second sends) (arrive_below seed second (below plan seed earlier) down ++ rest))
+      (e ∙ sym (says_of seed planned (events_for name earlier) ref)) (lower_follows i d u second seed (below plan seed earlier) down rest f)
 
   reference_follows : (i d u : Option PlannedCache) → (is_some u && (is_some i || is_some d)) ≡ false → (access : Access) → Before i d u →
       Follows i d u access
-  reference_follows None None (Some pu) e access f = all pu access f
+  reference_follows None None (Some pu) e access f = sent_follow None None (Some pu) L1U pu access f refl
   reference_follows (Some pi) d (Some pu) e access f = absurd (true≢false e)
   reference_follows None (Some pd) (Some pu) e access f = absurd (true≢false e)
   reference_follows None None None e Fetch f = f
   reference_follows None (Some pd) None e Fetch f = f
-  reference_follows (Some pi) d None e Fetch f = fetches pi d f
+  reference_follows (Some pi) None None e Fetch f = sent_follow (Some pi) None None L1I pi Fetch f (simp append-nil)
+  reference_follows (Some pi) (Some pd) None e Fetch f = sent_follow (Some pi) (Some pd) None L1I pi Fetch f (simp append-nil)
   reference_follows None None None e Read f = f
   reference_follows (Some pi) None None e Read f = f
-  reference_follows i (Some pd) None e Read f = reads pd i f
+  reference_follows None (Some pd) None e Read f = sent_follow None (Some pd) None L1D pd Read f (simp append-nil)
+  reference_follows (Some pi) (Some pd) None e Read f = sent_follow (Some pi) (Some pd) None L1D pd Read f (simp append-nil)
   reference_follows None None None e Write f = f
   reference_follows (Some pi) None None e Write f = f
-  reference_follows i (Some pd) None e Write f = writes pd i f
+  reference_follows None (Some pd) None e Write f = sent_follow None (Some pd) None L1D pd Write f (simp append-nil)
+  reference_follows (Some pi) (Some pd) None e Write f = sent_follow (Some pi) (Some pd) None L1D pd Write f (simp append-nil)
 
 flush_follows : (plan : PlannedCaches) (seed : ℕ) (name : CacheName) (planned : Option PlannedCache) (before : List Event) (lines : List Arrival) →
     Follow plan [] [] lines → Follow plan [] [] (flushes seed name planned before ++ lines)

@@ -1,15 +1,21 @@
 -- What is said of each policy implies what is said of any: slots are neither made nor lost, and one leaves a full set.
 use Rattle.std.proofs.Common.{◌≡◌, ℕ, ◌+◌, ◌-◌, ◌%◌, ◌<◌, Bool, true, false, List, [], ◌∷◌, ◌++◌, length, get_or, take}
-use Rattle.std.proofs.Common.{drop, Option, Some, None, sym, ◌∙◌, ap, refl, arith, length-take, add-one, suc, length-set, get_or-set_same}
+use Rattle.std.proofs.Common.{◌≤◌, drop, Option, Some, None, sym, ◌∙◌, ap, refl, arith, length-take, add-one, suc, set, length-set, get_or-set_same}
+use Rattle.std.proofs.Common.{eqb, min, ⊎_elim}
+use Rattle.std.specs.Bool.{then_some}
 use Rattle.std.specs.Prelude.{IsPermutation, slice_get, slice_set}
 use Rattle.std.specs.List.{remove}
 use Rattle.std.proofs.lemmas.List.{get_or-take, take_more, take_all, drop_at, take_at, set_split}
 use Rattle.std.proofs.lemmas.List.Sorted.{IsPermutation-refl, IsPermutation-sym, IsPermutation-remove, IsPermutation-to_front, IsPermutation-middle}
+use Rattle.std.proofs.lemmas.Bool.{cases_lt}
+use Rattle.std.proofs.lemmas.Bool.Decides.{eqb_tells}
+use Rattle.std.proofs.lemmas.List.Edits.{length-remove}
 use Rattle.std.proofs.lemmas.Option.{get_or_from_slice_get, slice_get-get_or}
 use Rattle.cache_core.specs.declared.outcome.Slot.{Slot}
 use Rattle.cache_core.specs.declared.outcome.Repl.{Repl}
-use Rattle.cache_core.specs.declared.outcome.Repl.TheVariants.{Lru, Fifo, Random}
-use Rattle.cache_core.specs.Order.{Touches, TakesIn, Inserts, Exchanges, marked}
+use Rattle.cache_core.specs.declared.outcome.Repl.TheVariants.{Lru, Random}
+use Rattle.cache_core.specs.Order.{Moves, Touches, TakesIn, Inserts, Exchanges, with_slot_at, victim_at, marked}
+use Rattle.cache_core.specs.Rules.{Place, InFront, InPlace, Victim, Last, Drawn, rules}
 
 -- a prefix that ends at an index, turned right by one, brings the slot there to the front
 pub to_front : (s : List Slot) (at : ℕ) (r : List Slot) (d : Slot) → at < length s →
@@ -24,42 +30,82 @@ to_front s at r d h e =
     let b = take_at (take at s) (get_or s at d ∷ []) at l in
     rw (e', a, b, add-one) refl
 
+pub remove_split : (xs : List Slot) (x : Slot) (ys : List Slot) (n : ℕ) → length xs ≡ n → remove (xs ++ x ∷ ys) n ≡ xs ++ ys
+remove_split [] x ys n e = rw (sym e) refl
+remove_split (z ∷ xs) x ys n e = rw (sym e) (ap (λ s. z ∷ s) (remove_split xs x ys (length xs) refl))
+
+-- a slot put in front of the first n, where the last one leaves if these are all
+pub new_in_front : (s : List Slot) (n last : ℕ) (new d : Slot) (r : List Slot) → n ≤ length s → 0 < length s → last ≡ min n (length s - 1) →
+    r ≡ drop (length (take (last + 1) (set s last new)) - 1) (take (last + 1) (set s last new))
+    ++ take (length (take (last + 1) (set s last new)) - 1) (take (last + 1) (set s last new)) →
+    TakesIn (Some Lru) 0 (length s) (take n s) new (then_some (eqb n (length s)) (get_or s last d)) (take (n + 1) (r ++ drop (last + 1) (set s last new)))
+new_in_front s n last new d r h some l e = rw whole (⊎_elim (λ t. full t.0 t.1) (λ f. room f.0 f.1) (eqb_tells n (length s)))
+  where
+    within : last < length s
+    within = omega (arith, l)
+
+    split : remove (set s last new) last ≡ remove s last
+    split = cc (set_split s last new within, remove_split (take last s) new (drop (suc last) s) last (omega (arith, within, length-take last s)))
+
+    whole : r ++ drop (last + 1) (set s last new) ≡ new ∷ remove s last
+    whole = cc (to_front (set s last new) last r d (omega (arith, within, length-set s last new)) e, get_or-set_same s last new d within, split)
+
+    full : eqb n (length s) ≡ true → n ≡ length s →
+        TakesIn (Some Lru) 0 (length s) (take n s) new (then_some (eqb n (length s)) (get_or s last d)) (take (n + 1) (new ∷ remove s last))
+    full t q =
+        let at : last ≡ length s - 1 = omega (arith, l, q) in
+        let short : length (new ∷ remove s last) ≤ n + 1 = omega (arith, q, length-remove s last within) in
+        rw (t, take_all n s (omega (arith, q)), take_all (n + 1) (new ∷ remove s last) short, at)
+        (refl, (slice_get-get_or s (length s - 1) d (omega (arith, some)), refl))
+
+    room : eqb n (length s) ≡ false → (n ≡ length s → ⊥) →
+        TakesIn (Some Lru) 0 (length s) (take n s) new (then_some (eqb n (length s)) (get_or s last d)) (take (n + 1) (new ∷ remove s last))
+    room f q =
+        let free : n < length s = ⊎_elim (λ x. x) (λ (x : length s ≤ n). absurd (q (omega (arith, h, x)))) (cases_lt n (length s)) in
+        let at : last ≡ n = omega (arith, l, free) in
+        let long : length (take n s) ≡ n = omega (arith, free, length-take n s) in
+        rw (f, at) (omega (arith, free, long), rw add-one (ap (λ z. new ∷ z) (take_at (take n s) (drop (suc n) s) n long)))
+
 -- a mark leaves as many slots
 pub marked_length : (b : Bool) (slots : List Slot) (at : ℕ) → length (marked b slots at) ≡ length slots
 marked_length true slots at = length-set slots at _
 marked_length false slots at = refl
 
+lawful_move : (p : Place) (old : List Slot) (at : ℕ) (new : List Slot) → at < length old → Moves p old at new → IsPermutation old new
+lawful_move InFront old at new h t = rw t.2 (IsPermutation-remove old at t.0 h (sym (get_or_from_slice_get old at t.0 t.0 t.1)))
+lawful_move InPlace old at new h t = rw t (IsPermutation-refl old)
+
 pub lawful_touch : (policy : Option Repl) (old : List Slot) (at : ℕ) (new : List Slot) → at < length old → Touches policy old at new → IsPermutation old new
 lawful_touch None old at new h t = t
-lawful_touch (Some Lru) old at new h t =
-    rw t.2 (IsPermutation-remove old at t.0 h (sym (get_or_from_slice_get old at t.0 t.0 t.1)))
-lawful_touch (Some Fifo) old at new h t = rw t (IsPermutation-refl old)
-lawful_touch (Some Random) old at new h t = rw t (IsPermutation-refl old)
+lawful_touch (Some policy) old at new h t = lawful_move (rules policy).touched old at new h t
+
+inserted : (p : Place) (old : List Slot) (slot : Slot) → IsPermutation (slot ∷ old) (with_slot_at p slot None old)
+inserted InFront old slot = IsPermutation-refl (slot ∷ old)
+inserted InPlace old slot = IsPermutation-sym _ _ (IsPermutation-to_front old slot)
 
 pub lawful_insert : (policy : Option Repl) (old : List Slot) (slot : Slot) (new : List Slot) → Inserts policy old slot new → Inserts None old slot new
 lawful_insert None old slot new t = t
-lawful_insert (Some Lru) old slot new t = rw t (IsPermutation-refl (slot ∷ old))
-lawful_insert (Some Fifo) old slot new t = rw t (IsPermutation-refl (slot ∷ old))
-lawful_insert (Some Random) old slot new t = rw t (IsPermutation-sym _ _ (IsPermutation-to_front old slot))
+lawful_insert (Some policy) old slot new t = rw t (inserted (rules policy).placed old slot)
 
--- one slot in the place of another
-exchanged : (old : List Slot) (way : ℕ) (gone slot : Slot) → way < length old → slice_get old way ≡ Some gone →
-    IsPermutation (slot ∷ remove old way) (slice_set old way slot)
-exchanged old way gone slot h g =
-    rw (set_split old way slot h) (IsPermutation-sym _ _ (IsPermutation-middle (take way old) slot (drop (suc way) old)))
+-- one slot for another
+exchanged : (p : Place) (old : List Slot) (at : ℕ) (slot : Slot) → at < length old → IsPermutation (slot ∷ remove old at) (with_slot_at p slot (Some at) old)
+exchanged InFront old at slot h = IsPermutation-refl (slot ∷ remove old at)
+exchanged InPlace old at slot h = rw (set_split old at slot h) (IsPermutation-sym _ _ (IsPermutation-middle (take at old) slot (drop (suc at) old)))
+
+-- the victim is one of the slots
+pub victim_within : (v : Victim) (number : ℕ) (old : List Slot) → 0 < length old → victim_at v number old < length old
+victim_within Last number old h = omega arith
+victim_within Drawn number old h = omega arith
 
 pub lawful_exchange : (policy : Option Repl) (number v : ℕ) (old : List Slot) (slot gone : Slot) (new : List Slot) → 0 < length old →
     Exchanges policy number old slot gone new → Exchanges None v old slot gone new
 lawful_exchange None number v old slot gone new h t = t
-lawful_exchange (Some Lru) number v old slot gone new h t =
-    (t.0, rw t.1 (IsPermutation-to_front t.0 gone), rw t.2 (IsPermutation-refl (slot ∷ t.0)))
-lawful_exchange (Some Fifo) number v old slot gone new h t =
-    (t.0, rw t.1 (IsPermutation-to_front t.0 gone), rw t.2 (IsPermutation-refl (slot ∷ t.0)))
-lawful_exchange (Some Random) number v old slot gone new h t =
-    let way : number % length old < length old = omega arith in (
-      remove old (number % length old),
-      IsPermutation-remove old (number % length old) gone way (sym (get_or_from_slice_get old _ gone gone t.0)),
-      rw t.1 (exchanged old _ gone slot way t.0),
+lawful_exchange (Some policy) number v old slot gone new h t =
+    let at = victim_at (rules policy).victim number old in
+    let within = victim_within (rules policy).victim number old h in (
+      remove old at,
+      IsPermutation-remove old at gone within (sym (get_or_from_slice_get old at gone gone t.0)),
+      rw t.1 (exchanged (rules policy).placed old at slot within),
     )
 
 -- what each policy says of a placing, the law says

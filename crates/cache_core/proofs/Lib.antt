@@ -1,5 +1,6 @@
 -- What the proofs on caches cite: lists and machines first, then one access, one set, runs, systems, and worked examples.
 pub mod Bounds
+pub mod PowersOfTwo
 pub mod Lists
 pub mod Distances
 pub mod Occurrences
@@ -33,7 +34,6 @@ pub mod WindowRows
 pub mod MachineRows
 mod SystemRows
 pub mod LogLaw
-pub mod SecondLevelLaw
 pub mod LogParts
 pub mod MemoryLaw
 pub mod TakenLaw

@@ -1,11 +1,16 @@
--- Lists of lines: the line of a block, the lines of a set, and their order.
-use Rattle.std.proofs.Common.{◌≡◌, ◌≢◌, ℕ, ◌+◌, ◌<◌, ◌≤◌, ◌==◌, true, false, cond, eqb, ltb, List, [], ◌∷◌, ◌++◌}
-use Rattle.std.proofs.Common.{length, Some, None, sym, ◌∙◌, ap, refl, subst, arith, ⊎_elim, find}
-use Rattle.std.proofs.lemmas.Bool.{eq-eqb, le-ltb}
+-- Lists of lines: the line of a block, the lines of a set, their order, and one line among the others.
+use Rattle.std.proofs.Common.{◌≡◌, ◌≢◌, ℕ, ◌+◌, ◌<◌, ◌≤◌, ◌==◌, false, not, cond, eqb, List, [], ◌∷◌, ◌++◌}
+use Rattle.std.proofs.Common.{length, Some, None, sym, ◌∙◌, ap, refl, arith, ⊎_elim, find}
+use Rattle.std.proofs.lemmas.List.{append-nil}
+use Rattle.std.proofs.lemmas.Bool.{eq-eqb, eqb-true}
 use Rattle.std.proofs.lemmas.Bool.Decides.{eqb_tells}
 use Rattle.cache_core.specs.Geometry.{GeometryValue, set_of_block}
-use Rattle.cache_core.specs.Machine.{Line, is_block, lines_of_set, without, exchange, least}
-use Rattle.cache_core.specs.Stands.{Falls, CountsUp, Absent, Distinct}
+use Rattle.cache_core.proofs.Lists.{cases, filter_comm, find-filter}
+use Rattle.cache_core.specs.declared.outcome.Repl.{Repl}
+use Rattle.cache_core.specs.declared.outcome.Repl.TheVariants.{Lru, Fifo, Random}
+use Rattle.cache_core.specs.Machine.{Line, is_block, lines_of_set, without, exchange, least, with_line_at, key_at}
+use Rattle.cache_core.specs.Rules.{Place, InFront, InPlace, rules}
+use Rattle.cache_core.specs.Stands.{Falls, CountsUp, InOrder, Absent, Distinct}
 
 pub ne-eqb : (a b : ℕ) → a ≢ b → eqb a b ≡ false
 ne-eqb a b h = ⊎_elim (λ t. absurd (h t.1)) (λ f. f.0) (eqb_tells a b)
@@ -61,78 +66,64 @@ pub record Found (b : ℕ) (ls : List Line) (line : Line) : Type 0 where
 
 pub found : (b : ℕ) (ls : List Line) (line : Line) → find (is_block b) ls ≡ Some line → Found b ls line
 found b [] line h = absurd cc
-found b (l ∷ ls) line h = ⊎_elim
-    (λ t. let s : Some l ≡ Some line = subst (λ v. cond v (Some l) (find (is_block b) ls) ≡ Some line) t.0 h in
-    let e : l ≡ line = cc in
-    record { front = []; back = ls; split = ap (λ x. x ∷ ls) e; here = sym (ap (λ x. x.block) e) ∙ t.1 })
-    (λ f. let s : find (is_block b) ls ≡ Some line = subst (λ v. cond v (Some l) (find (is_block b) ls) ≡ Some line) f.0 h in
-    let r = found b ls line s in
+found b (l ∷ ls) line h =
+    cases (λ t. (l.block == b) ≡ t → cond t (Some l) (find (is_block b) ls) ≡ Some line → Found b (l ∷ ls) line) (l.block == b)
+    (λ _ t s. let e : l ≡ line = cc in
+    record { front = []; back = ls; split = ap (λ x. x ∷ ls) e; here = sym (ap (λ x. x.block) e) ∙ eqb-true l.block b t })
+    (λ _ _ s. let r = found b ls line s in
     record { front = l ∷ r.front; back = r.back; split = ap (λ xs. l ∷ xs) r.split; here = r.here })
-    (eqb_tells l.block b)
+    refl h
 
 pub not_found : (b : ℕ) (ls : List Line) → find (is_block b) ls ≡ None → Absent b ls
 not_found b [] h = tt
-not_found b (l ∷ ls) h = ⊎_elim
-    (λ t. let s : Some l ≡ None = subst (λ v. cond v (Some l) (find (is_block b) ls) ≡ None) t.0 h in absurd cc)
-    (λ f. (f.1, not_found b ls (subst (λ v. cond v (Some l) (find (is_block b) ls) ≡ None) f.0 h)))
-    (eqb_tells l.block b)
+not_found b (l ∷ ls) h =
+    let other : l.block ≢ b = grind arith in
+    let rest : find (is_block b) ls ≡ None = grind arith in
+    (other, not_found b ls rest)
+
+pub find_split : (b : ℕ) (xs : List Line) (x : Line) (ys : List Line) → x.block ≡ b → Absent b xs → find (is_block b) (xs ++ x ∷ ys) ≡ Some x
+find_split b [] x ys e h = grind (arith, e)
+find_split b (z ∷ xs) x ys e h = grind (arith, h.0, find_split b xs x ys e h.1)
 
 -- edits where the block is absent, and round its line
 pub without_absent : (b : ℕ) (ls : List Line) → Absent b ls → without b ls ≡ ls
 without_absent b [] h = refl
-without_absent b (l ∷ ls) h = rw (ne-eqb l.block b h.0) (ap (λ xs. l ∷ xs) (without_absent b ls h.1))
+without_absent b (l ∷ ls) h = grind (arith, h.0, without_absent b ls h.1)
 
 pub without_split : (b : ℕ) (xs : List Line) (x : Line) (ys : List Line) → x.block ≡ b → Absent b xs → Absent b ys →
     without b (xs ++ x ∷ ys) ≡ xs ++ ys
-without_split b [] x ys e f h = rw (eq-eqb x.block b e) (without_absent b ys h)
-without_split b (z ∷ xs) x ys e f h = rw (ne-eqb z.block b f.0) (ap (λ zs. z ∷ zs) (without_split b xs x ys e f.1 h))
+without_split b [] x ys e f h = grind (arith, e, without_absent b ys h)
+without_split b (z ∷ xs) x ys e f h = grind (arith, f.0, without_split b xs x ys e f.1 h)
 
 pub exchange_absent : (b : ℕ) (new : Line) (ls : List Line) → Absent b ls → exchange b new ls ≡ ls
 exchange_absent b new [] h = refl
-exchange_absent b new (l ∷ ls) h = rw (ne-eqb l.block b h.0) (ap (λ xs. l ∷ xs) (exchange_absent b new ls h.1))
+exchange_absent b new (l ∷ ls) h = grind (arith, h.0, exchange_absent b new ls h.1)
 
 pub exchange_split : (b : ℕ) (new : Line) (xs : List Line) (x : Line) (ys : List Line) → x.block ≡ b → Absent b xs → Absent b ys →
     exchange b new (xs ++ x ∷ ys) ≡ xs ++ new ∷ ys
-exchange_split b new [] x ys e f h = rw (eq-eqb x.block b e) (ap (λ zs. new ∷ zs) (exchange_absent b new ys h))
-exchange_split b new (z ∷ xs) x ys e f h = rw (ne-eqb z.block b f.0) (ap (λ zs. z ∷ zs) (exchange_split b new xs x ys e f.1 h))
+exchange_split b new [] x ys e f h = grind (arith, e, exchange_absent b new ys h)
+exchange_split b new (z ∷ xs) x ys e f h = grind (arith, f.0, exchange_split b new xs x ys e f.1 h)
 
 -- the lines of a set
 pub find_in_set : (g : GeometryValue) (b : ℕ) (ls : List Line) → find (is_block b) (lines_of_set g (set_of_block g b) ls) ≡ find (is_block b) ls
-find_in_set g b [] = refl
-find_in_set g b (l ∷ ls) = ⊎_elim
-    (λ t. let s : eqb (set_of_block g l.block) (set_of_block g b) ≡ true = eq-eqb _ _ (ap (set_of_block g) t.1) in
-    rw (s, t.0) refl)
-    (λ f. rw f.0 (⊎_elim
-    (λ t. rw (t.0, f.0) (find_in_set g b ls))
-    (λ o. rw o.0 (find_in_set g b ls))
-    (eqb_tells (set_of_block g l.block) (set_of_block g b))))
-    (eqb_tells l.block b)
+find_in_set g b ls = find-filter (λ line. set_of_block g line.block == set_of_block g b) (is_block b) ls
+    (λ l e. eq-eqb _ _ (ap (set_of_block g) (eqb-true l.block b e)))
 
 pub absent_other : (g : GeometryValue) (k b : ℕ) (ls : List Line) → k ≢ set_of_block g b → Absent b (lines_of_set g k ls)
 absent_other g k b [] ne = tt
-absent_other g k b (l ∷ ls) ne = ⊎_elim
-    (λ t. rw t.0 ((λ e. ne (sym t.1 ∙ ap (set_of_block g) e)), absent_other g k b ls ne))
-    (λ f. rw f.0 (absent_other g k b ls ne))
-    (eqb_tells (set_of_block g l.block) k)
+absent_other g k b (l ∷ ls) ne =
+    cases (λ t. (set_of_block g l.block == k) ≡ t → Absent b (cond t (l ∷ lines_of_set g k ls) (lines_of_set g k ls))) (set_of_block g l.block == k)
+    (λ _ t. ((λ e. ne (sym (eqb-true _ _ t) ∙ ap (set_of_block g) e)), absent_other g k b ls ne)) (λ _ _. absent_other g k b ls ne) refl
 
 pub set_without : (g : GeometryValue) (k b : ℕ) (ls : List Line) → lines_of_set g k (without b ls) ≡ without b (lines_of_set g k ls)
-set_without g k b [] = refl
-set_without g k b (l ∷ ls) = ⊎_elim
-    (λ t. rw t.0 (⊎_elim (λ s. rw (s.0, t.0) (set_without g k b ls)) (λ o. rw o.0 (set_without g k b ls)) (eqb_tells (set_of_block g l.block) k)))
-    (λ f. rw f.0 (⊎_elim (λ s. rw (s.0, f.0) (ap (λ xs. l ∷ xs) (set_without g k b ls))) (λ o. rw o.0 (set_without g k b ls))
-    (eqb_tells (set_of_block g l.block) k)))
-    (eqb_tells l.block b)
+set_without g k b ls = filter_comm (λ line. set_of_block g line.block == k) (λ line. not (is_block b line)) ls
 
 pub set_exchange : (g : GeometryValue) (k b : ℕ) (new : Line) (ls : List Line) → set_of_block g new.block ≡ set_of_block g b →
     lines_of_set g k (exchange b new ls) ≡ exchange b new (lines_of_set g k ls)
 set_exchange g k b new [] e = refl
-set_exchange g k b new (l ∷ ls) e = ⊎_elim
-    (λ t. let q : set_of_block g new.block ≡ set_of_block g l.block = e ∙ ap (set_of_block g) (sym t.1) in
-    rw (t.0, q) (⊎_elim (λ s. rw (s.0, t.0) (ap (λ xs. new ∷ xs) (set_exchange g k b new ls e))) (λ o. rw o.0 (set_exchange g k b new ls e))
-    (eqb_tells (set_of_block g l.block) k)))
-    (λ f. rw f.0 (⊎_elim (λ s. rw (s.0, f.0) (ap (λ xs. l ∷ xs) (set_exchange g k b new ls e))) (λ o. rw o.0 (set_exchange g k b new ls e))
-    (eqb_tells (set_of_block g l.block) k)))
-    (eqb_tells l.block b)
+set_exchange g k b new (l ∷ ls) e =
+    let same : l.block ≡ b → set_of_block g l.block ≡ set_of_block g new.block = λ q. ap (set_of_block g) q ∙ sym e in
+    grind (arith, same, set_exchange g k b new ls e)
 
 -- keys in order
 pub falls_weaker : (n m : ℕ) (ls : List Line) → n ≤ m → Falls n ls → Falls m ls
@@ -153,10 +144,7 @@ falls_last n (z ∷ xs) x f = omega (arith, f.0, falls_last z.key xs x f.1)
 
 pub least_last : (n : ℕ) (xs : List Line) (x : Line) → Falls n (xs ++ x ∷ []) → least (xs ++ x ∷ []) ≡ Some x
 least_last n [] x f = refl
-least_last n (z ∷ xs) x f =
-    let i = least_last z.key xs x f.1 in
-    let t : ltb z.key x.key ≡ false = le-ltb z.key x.key (omega (arith, falls_last z.key xs x f.1)) in
-    rw (i, t) refl
+least_last n (z ∷ xs) x f = grind (arith, falls_last z.key xs x f.1, least_last z.key xs x f.1)
 
 pub counts_instead : (n : ℕ) (xs : List Line) (x y : Line) (ys : List Line) → y.key ≡ x.key → CountsUp n (xs ++ x ∷ ys) →
     CountsUp n (xs ++ y ∷ ys)
@@ -169,27 +157,55 @@ counts_up_push n (z ∷ xs) x f e = (f.0, counts_up_push (n + 1) xs x f.1 (omega
 
 pub find_way : (n w : ℕ) (xs : List Line) (x : Line) (ys : List Line) → CountsUp n (xs ++ x ∷ ys) → w ≡ n + length xs →
     find (λ l. l.key == w) (xs ++ x ∷ ys) ≡ Some x
-find_way n w [] x ys f e = rw (eq-eqb x.key w (omega (arith, f.0))) refl
-find_way n w (z ∷ xs) x ys f e = rw (ne-eqb z.key w (λ q. absurd (omega (arith, f.0)))) (find_way (n + 1) w xs x ys f.1 (omega arith))
+find_way n w [] x ys f e = grind (arith, f.0)
+find_way n w (z ∷ xs) x ys f e = grind (arith, f.0, find_way (n + 1) w xs x ys f.1 (omega arith))
 
--- a line in the place of another one of its block
-pub record InPlace (xs : List Line) (x y : Line) (ys : List Line) : Type 0 where
-  pub front : Absent y.block xs
-  pub back : Absent y.block ys
-  pub exchanged : exchange y.block y (xs ++ x ∷ ys) ≡ xs ++ y ∷ ys
-  pub taken_out : without y.block (xs ++ x ∷ ys) ≡ xs ++ ys
-  pub distinct : Distinct (xs ++ y ∷ ys)
-  pub others : Distinct (y ∷ (xs ++ ys))
+-- an element among others: in front of them, or between them
+abbrev pub around : {A : Type 0} → Place → A → List A → List A → List A
+around InFront y xs ys = y ∷ (xs ++ ys)
+around InPlace y xs ys = xs ++ y ∷ ys
 
-pub in_place : (xs : List Line) (x y : Line) (ys : List Line) → x.block ≡ y.block → Distinct (xs ++ x ∷ ys) → InPlace xs x y ys
-in_place xs x y ys e d =
-    let front : Absent y.block xs = subst (λ n. Absent n xs) e (distinct_front xs x ys d) in
-    let back : Absent y.block ys = subst (λ n. Absent n ys) e (distinct_back xs x ys d) in
-    record {
-      front = front;
-      back = back;
-      exchanged = exchange_split y.block y xs x ys e front back;
-      taken_out = without_split y.block xs x ys e front back;
-      distinct = distinct_instead xs y ys (distinct_without xs x ys d) front back;
-      others = (absent_append y.block xs ys front back, distinct_without xs x ys d);
-    }
+pub distinct_around : (p : Place) (y : Line) (xs ys : List Line) → Absent y.block xs → Absent y.block ys → Distinct (xs ++ ys) →
+    Distinct (around p y xs ys)
+distinct_around InFront y xs ys f b d = (absent_append y.block xs ys f b, d)
+distinct_around InPlace y xs ys f b d = distinct_instead xs y ys d f b
+
+-- a line that goes among others, where none leaves, and where one does
+pub with_line_at-none : (p : Place) (y : Line) (ls : List Line) → with_line_at p y None ls ≡ around p y ls []
+with_line_at-none InFront y ls = ap (λ s. y ∷ s) (sym (append-nil ls))
+with_line_at-none InPlace y ls = refl
+
+pub with_line_at-some : (p : Place) (y gone : Line) (xs : List Line) (x : Line) (ys : List Line) → x.block ≡ gone.block → Absent gone.block xs →
+    Absent gone.block ys → with_line_at p y (Some gone) (xs ++ x ∷ ys) ≡ around p y xs ys
+with_line_at-some InFront y gone xs x ys e f b = ap (λ s. y ∷ s) (without_split gone.block xs x ys e f b)
+with_line_at-some InPlace y gone xs x ys e f b = exchange_split gone.block y xs x ys e f b
+
+-- the order of a set later, and with another line among its own: in front with the clock as its key, or in a place with the key there
+pub order_later : (p : Place) (c : ℕ) (ls : List Line) → InOrder p c ls → InOrder p (c + 1) ls
+order_later InFront c ls o = falls_weaker (c + 1) (c + 1 + 1) ls (omega arith) o
+order_later InPlace c ls o = o
+
+order_front : (c : ℕ) (xs : List Line) (x y : Line) (ys : List Line) → y.key ≡ c + 1 → InOrder InFront c (xs ++ x ∷ ys) →
+    InOrder InFront (c + 1) (y ∷ (xs ++ ys))
+order_front c xs x y ys e o = (omega (arith, e), rw e (falls_without (c + 1) xs x ys o))
+
+order_instead : (p : Place) (c : ℕ) (xs : List Line) (x y : Line) (ys : List Line) → y.key ≡ x.key → InOrder p c (xs ++ x ∷ ys) →
+    InOrder p (c + 1) (xs ++ y ∷ ys)
+order_instead InFront c xs x y ys e o = order_later InFront c (xs ++ y ∷ ys) (falls_instead (c + 1) xs x y ys e o)
+order_instead InPlace c xs x y ys e o = counts_instead 0 xs x y ys e o
+
+pub order_placed : (p : Place) (c : ℕ) (xs : List Line) (x y : Line) (ys : List Line) → y.key ≡ key_at p (c + 1) x.key →
+    InOrder p c (xs ++ x ∷ ys) → InOrder p (c + 1) (around p y xs ys)
+order_placed InFront c xs x y ys e o = order_front c xs x y ys e o
+order_placed InPlace c xs x y ys e o = order_instead InPlace c xs x y ys e o
+
+pub order_pushed : (p : Place) (c : ℕ) (ls : List Line) (y : Line) → y.key ≡ key_at p (c + 1) (length ls) → InOrder p c ls →
+    InOrder p (c + 1) (around p y ls [])
+order_pushed InFront c ls y e o = (omega (arith, e), rw (e, append-nil ls) o)
+order_pushed InPlace c ls y e o = counts_up_push 0 ls y o (omega (arith, e))
+
+pub order_touched : (policy : Repl) (c : ℕ) (xs : List Line) (x y : Line) (ys : List Line) → y.key ≡ key_at (rules policy).touched (c + 1) x.key →
+    InOrder (rules policy).placed c (xs ++ x ∷ ys) → InOrder (rules policy).placed (c + 1) (around (rules policy).touched y xs ys)
+order_touched Lru c xs x y ys e o = order_front c xs x y ys e o
+order_touched Fifo c xs x y ys e o = order_instead InFront c xs x y ys e o
+order_touched Random c xs x y ys e o = order_instead InPlace c xs x y ys e o

@@ -18,9 +18,7 @@ use Rattle.cache_core.specs.Systems.{machine_of, takes, events_for, sent, below,
 use Rattle.cache_core.specs.Arrivals.{arrives, arrives_first, arrive_below, at_memory, passes, lower_arrivals, arrivals_of, arrivals_from}
 use Rattle.cache_core.specs.LogLaws.{is_same, planned_of, events_at, lines_at, access_line, access_lines, LinesLaw, GrowthLaw}
 use Rattle.cache_core.proofs.Pushes.{with_effects_push, with_effects_flush}
-use Rattle.cache_core.proofs.SystemPushes.{events_taken, events_left, events_flush, below_push, below_flush}
-use Rattle.cache_core.proofs.LowerLaw.{with_refs, with_refs-cons}
-use Rattle.cache_core.proofs.LogLaw.{untaken_sent}
+use Rattle.cache_core.proofs.SystemPushes.{events_taken, events_left, events_flush, below_push, below_flush, with_refs, with_refs-cons, untaken_sent}
 use Rattle.cache_core.proofs.LogParts.{OnlyAt, quiet_memory, quiet_flushes, at_first, at_lower, whole_log}
 
 pub same : (name : CacheName) → is_same name name ≡ true
@@ -51,8 +49,7 @@ module _ (seed : ℕ) (name : CacheName) where
   all_shown : (planned : Option PlannedCache) (events : List Event) (ref : Ref) →
       flat_map (lines_at name) (arrives seed name planned events ref) ≡ arrives seed name planned events ref
   all_shown None events ref = refl
-  all_shown (Some planned) events ref =
-      ap (λ b. cond b (arrives seed name (Some planned) events ref) [] ++ []) (same name)
+  all_shown (Some planned) events ref = cc (same name)
 
   first_shown : (planned : Option PlannedCache) (earlier : List Event) (ref : Ref) →
       access_lines seed name planned (events_for name (earlier ++ event.Reference ref ∷ []))
@@ -114,9 +111,7 @@ module _ (plan : PlannedCaches) (seed : ℕ) where
           ≡ access_lines seed L2U plan.second before
           ++ flat_map (lines_at L2U) (cond b (arrive_below seed plan.second before down) (Bypassed ref ∷ []))
       by_test true t = below_shown seed plan.second before down
-      by_test false t =
-          ap (λ refs. access_lines seed L2U plan.second (with_refs before refs)) (untaken_sent plan seed earlier ref t)
-          ∙ ap (access_lines seed L2U plan.second) (append-nil before) ∙ sym (append-nil (access_lines seed L2U plan.second before))
+      by_test false t = cc (untaken_sent plan seed earlier ref t, append-nil before, append-nil (access_lines seed L2U plan.second before))
 
   abbrev whole : CacheName → List Event → List Arrival
   whole name events = access_lines seed name (planned_of plan name) (events_at plan seed name events)
@@ -124,19 +119,11 @@ module _ (plan : PlannedCaches) (seed : ℕ) where
   reference_shown : (name : CacheName) (earlier : List Event) (ref : Ref) →
       whole name (earlier ++ event.Reference ref ∷ [])
       ≡ whole name earlier ++ flat_map (lines_at name) (arrivals_of plan seed earlier (event.Reference ref))
-  reference_shown L1I earlier ref =
-      first_shown seed L1I plan.i earlier ref
-      ∙ ap (λ lines. whole L1I earlier ++ lines) (sym (at_first (lines_at L1I) plan seed earlier ref L1I refl (only_lines seed L1I)))
-  reference_shown L1D earlier ref =
-      first_shown seed L1D plan.d earlier ref
-      ∙ ap (λ lines. whole L1D earlier ++ lines) (sym (at_first (lines_at L1D) plan seed earlier ref L1D refl (only_lines seed L1D)))
-  reference_shown L1U earlier ref =
-      first_shown seed L1U plan.u earlier ref
-      ∙ ap (λ lines. whole L1U earlier ++ lines) (sym (at_first (lines_at L1U) plan seed earlier ref L1U refl (only_lines seed L1U)))
+  reference_shown L1I earlier ref = cc (first_shown seed L1I plan.i earlier ref, at_first (lines_at L1I) plan seed earlier ref L1I refl (only_lines seed L1I))
+  reference_shown L1D earlier ref = cc (first_shown seed L1D plan.d earlier ref, at_first (lines_at L1D) plan seed earlier ref L1D refl (only_lines seed L1D))
+  reference_shown L1U earlier ref = cc (first_shown seed L1U plan.u earlier ref, at_first (lines_at L1U) plan seed earlier ref L1U refl (only_lines seed L1U))
   reference_shown L2U earlier ref =
-      lower_shown earlier ref
-      ∙ ap (λ lines. whole L2U earlier ++ lines)
-      (sym (at_lower (lines_at L2U) plan seed earlier ref (λ r h v. refl) (λ r h v. refl) (λ r h v. refl)))
+      cc (lower_shown earlier ref, at_lower (lines_at L2U) plan seed earlier ref (λ r h v. refl) (λ r h v. refl) (λ r h v. refl))
 
   flush_shown : (name : CacheName) (earlier : List Event) → whole name (earlier ++ event.Flush ∷ []) ≡ whole name earlier
   flush_shown L1I earlier = ap (access_lines seed L1I plan.i) (events_flush L1I earlier) ∙ lines_flush seed L1I plan.i (events_for L1I earlier)

@@ -1,20 +1,21 @@
 -- The second level and memory: what arrives at them, and what they count.
-use Rattle.std.proofs.Common.{◌≡◌, ℕ, ◌+◌, not, Bool, true, false, cond, List, [], ◌∷◌, ◌++◌, map, Option, Some, None, refl, sym}
+use Rattle.std.proofs.Common.{◌≡◌, ℕ, ◌+◌, not, Bool, true, false, cond, List, [], ◌∷◌, ◌++◌, Option, Some, None, refl, sym}
 use Rattle.std.proofs.Common.{◌∙◌}
-use Rattle.std.proofs.Common.{ap, subst, arith, append_assoc, append-nil}
+use Rattle.std.proofs.Common.{ap, subst, arith, append-nil}
 use Rattle.std.specs.Prelude.{count_by, MatchOption}
 use Rattle.std.proofs.lemmas.List.Sums.{sum_by-cons, sum_by-append}
 use Rattle.trace_core.specs.declared.events.Ref.{Ref}
 use Rattle.trace_core.specs.declared.events.Event.{Event}
 use Rattle.trace_core.specs.declared.events.Event.TheVariants as event
+use Rattle.trace_core.specs.Events.{is_write}
 use Rattle.cache_core.specs.declared.plan.PlannedCache.{PlannedCache}
 use Rattle.cache_core.specs.declared.system_cache.SystemCache.{SystemCache}
 use Rattle.cache_core.specs.declared.system.Memory.{Memory}
-use Rattle.cache_core.specs.Outcomes.{is_write}
 use Rattle.cache_core.specs.Plans.{IsPlannedCache}
 use Rattle.cache_core.specs.Systems.{machine_of, to_memory}
 use Rattle.cache_core.specs.SystemSteps.{present_refs, reaches, all_reach, Descends, AllDescend}
-use Rattle.cache_core.proofs.SystemPushes.{down_if_planned, memory_push}
+use Rattle.cache_core.specs.Arrivals.{passes}
+use Rattle.cache_core.proofs.SystemPushes.{memory_push, with_refs, with_refs-cons}
 use Rattle.cache_core.proofs.FirstLevelLaw.{enters, KeptIfPlanned, down_list}
 
 abbrev pub is_read_of : Ref → Bool
@@ -51,20 +52,12 @@ pub record Lower (seed : ℕ) (planned : Option PlannedCache) (events : List Eve
   pub reads : memory.reads ≡ count_by is_read_of (to_memory seed planned events)
   pub writes : memory.writes ≡ count_by is_write_of (to_memory seed planned events) + flushed
 
--- these references behind some events
-abbrev pub with_refs : List Event → List Ref → List Event
-with_refs events refs = events ++ map (λ x. event.Reference x) refs
-
-pub with_refs-cons : (events : List Event) (ref : Ref) (refs : List Ref) →
-    with_refs (events ++ event.Reference ref ∷ []) refs ≡ with_refs events (ref ∷ refs)
-with_refs-cons events ref refs = append_assoc events (event.Reference ref ∷ []) (map (λ x. event.Reference x) refs)
-
 module _ (seed flushed : ℕ) where
   reached : (planned : Option PlannedCache) (events : List Event) (cache next : Option SystemCache) (memory after : Memory) (ref : Ref) →
       Lower seed planned events flushed cache memory → KeptIfPlanned seed planned (events ++ event.Reference ref ∷ []) next →
-      after ≡ all_reach memory (down_if_planned seed planned events ref) → Lower seed planned (events ++ event.Reference ref ∷ []) flushed next after
+      after ≡ all_reach memory (passes seed planned events ref) → Lower seed planned (events ++ event.Reference ref ∷ []) flushed next after
   reached planned events cache next memory after ref l k e =
-      let down = down_if_planned seed planned events ref in
+      let down = passes seed planned events ref in
       let before = to_memory seed planned events in
       let more : (p : Ref → Bool) → count_by p (to_memory seed planned (events ++ event.Reference ref ∷ [])) ≡ count_by p before + count_by p down =
       λ p. ap (count_by p) (memory_push seed planned events ref) ∙ sum_by-append (λ x. cond (p x) 1 0) before down in

@@ -1,11 +1,10 @@
 -- The LRU machine with write-allocate holds the fronts of the stacks, after every list of events.
-use Rattle.std.proofs.Common.{◌≡◌, ℕ, zero, suc, ◌+◌, ◌≤◌, Bool, true, not, cond, eqb, ltb, List, [], ◌∷◌, ◌++◌, take, map}
-use Rattle.std.proofs.Common.{append_assoc, append-nil, refl, sym, ◌∙◌, ap, subst, arith, ⊎_elim, find}
+use Rattle.std.proofs.Common.{◌≡◌, ℕ, zero, suc, ◌+◌, ◌≤◌, Bool, not, cond, ltb, List, [], ◌∷◌, ◌++◌, take, map}
+use Rattle.std.proofs.Common.{append_assoc, append-nil, refl, sym, ◌∙◌, ap, subst, arith, find}
 use Rattle.std.specs.Prelude.{is_some, fold}
 use Rattle.std.specs.List.{list_any, count_by}
 use Rattle.std.proofs.lemmas.List.Folds.{list_any_kept}
-use Rattle.std.proofs.lemmas.Bool.{ne_eqb, eq-eqb, and_parts, and_from, lt-ltb, ltb-true}
-use Rattle.std.proofs.lemmas.Bool.Decides.{eqb_tells}
+use Rattle.std.proofs.lemmas.Bool.{ne_eqb, and_parts, and_from, lt-ltb, ltb-true}
 use Rattle.std.proofs.lemmas.List.{length-map}
 use Rattle.std.proofs.lemmas.List.Sums.{sum_by-cons}
 use Rattle.trace_core.specs.declared.events.Ref.{Ref}
@@ -18,7 +17,7 @@ use Rattle.cache_core.specs.Geometry.{GeometryValue, block_of, set_of_block}
 use Rattle.cache_core.specs.Outcomes.{Effect}
 use Rattle.cache_core.specs.Machine.{Machine, MachineState, Line, slot_of, is_block, lines_of_set, start, step, next, run, with_effects_from, effects}
 use Rattle.cache_core.specs.Stands.{IsSoundState}
-use Rattle.cache_core.specs.Windows.{window, window_after, distinct_of_set, has_last, distance, is_hit, is_evict, occurrences, counts}
+use Rattle.cache_core.specs.Windows.{Occurrence, window, window_after, distinct_of_set, has_last, distance, is_hit, is_evict, occurrences, counts}
 use Rattle.cache_core.specs.LruLaws.{lru_machine, holds, HitLaw, VictimLaw, CountLaw, NextLaw, HitInclusion, HeldInclusion}
 use Rattle.cache_core.proofs.Lists.{is}
 use Rattle.cache_core.proofs.Distances.{distinct_of_set-nil, distinct_of_set-other}
@@ -100,55 +99,31 @@ stacked_run g write w st [] some h = h
 stacked_run g write w st (v ∷ events) some h =
     stacked_run g write (window_after g w v) (next (lru_machine g write) st v) events some (stacked_next g write w st v some h)
 
-pub hits_from : (g : GeometryValue) (write : WriteMode) (w : List ℕ) (st : MachineState) (events : List Event) → 1 ≤ g.e → IsStacked g write w st →
-    map (λ a. a.hit) (effects_from (lru_machine g write) st events) ≡ map (is_hit g) (occurrences_from g w events)
+-- what each effect says by one test, the windows say by another, if the two agree for one reference
+lru_from : (f : Effect → Bool) (p : Occurrence → Bool) (g : GeometryValue) (write : WriteMode) → 1 ≤ g.e →
+    ((w : List ℕ) (st : MachineState) (ref : Ref) → IsStacked g write w st →
+    f (step (lru_machine g write) st ref).effect ≡ p (record { block = block_of g ref.addr; window = w })) →
+    (w : List ℕ) (st : MachineState) (events : List Event) → IsStacked g write w st →
+    map f (effects_from (lru_machine g write) st events) ≡ map p (occurrences_from g w events)
 unfolding occurrences_from
-hits_from g write w st [] some h = refl
-hits_from g write w st (event.Reference ref ∷ events) some h =
-    let f = follows g write w st ref some h in
-    let m : Machine = lru_machine g write in
-    ap (λ t. t ∷ map (λ a. a.hit) (effects_from m (step m st ref).after events)) f.hits
-    ∙ ap (λ ts. is_hit g (record { block = block_of g ref.addr; window = w }) ∷ ts)
-    (hits_from g write (block_of g ref.addr ∷ w) (step m st ref).after events some f.stacked)
-hits_from g write w st (event.Flush ∷ events) some h =
-    hits_from g write [] (next (lru_machine g write) st event.Flush) events some (stacked_next g write w st event.Flush some h)
-
-pub victims_from : (g : GeometryValue) (write : WriteMode) (w : List ℕ) (st : MachineState) (events : List Event) → 1 ≤ g.e → IsStacked g write w st →
-    map (λ a. is_some a.evicted) (effects_from (lru_machine g write) st events) ≡ map (is_evict g) (occurrences_from g w events)
-unfolding occurrences_from
-victims_from g write w st [] some h = refl
-victims_from g write w st (event.Reference ref ∷ events) some h =
-    let f = follows g write w st ref some h in
-    let m : Machine = lru_machine g write in
-    ap (λ t. t ∷ map (λ a. is_some a.evicted) (effects_from m (step m st ref).after events)) f.evicts
-    ∙ ap (λ ts. is_evict g (record { block = block_of g ref.addr; window = w }) ∷ ts)
-    (victims_from g write (block_of g ref.addr ∷ w) (step m st ref).after events some f.stacked)
-victims_from g write w st (event.Flush ∷ events) some h =
-    victims_from g write [] (next (lru_machine g write) st event.Flush) events some (stacked_next g write w st event.Flush some h)
+lru_from f p g write some agree w st [] h = refl
+lru_from f p g write some agree w st (event.Reference ref ∷ events) h =
+    let stacked = (follows g write w st ref some h).stacked in
+    cc (agree w st ref h, lru_from f p g write some agree (block_of g ref.addr ∷ w) (step (lru_machine g write) st ref).after events stacked)
+lru_from f p g write some agree w st (event.Flush ∷ events) h =
+    lru_from f p g write some agree [] (next (lru_machine g write) st event.Flush) events (stacked_next g write w st event.Flush some h)
 
 -- a count over a list is one over the results of its tests
-pub count_by-map : {X : Type 0} (p : X → Bool) (xs : List X) → count_by p xs ≡ count_by (λ b. b) (map p xs)
-count_by-map p [] = refl
-count_by-map p (x ∷ xs) =
-    sum_by-cons (λ y. cond (p y) 1 0) x xs ∙ ap (λ n. cond (p x) 1 0 + n) (count_by-map p xs) ∙ sym (sum_by-cons (λ b. cond b 1 0) (p x) (map p xs))
-
-pub count_by-not : {X : Type 0} (p : X → Bool) (xs : List X) → count_by (λ x. not (p x)) xs ≡ count_by not (map p xs)
-count_by-not p [] = refl
-count_by-not p (x ∷ xs) =
-    sum_by-cons (λ y. cond (not (p y)) 1 0) x xs ∙ ap (λ n. cond (not (p x)) 1 0 + n) (count_by-not p xs)
-    ∙ sym (sum_by-cons (λ b. cond (not b) 1 0) (p x) (map p xs))
+pub count_by-map : {X : Type 0} (q : Bool → Bool) (p : X → Bool) (xs : List X) → count_by (λ x. q (p x)) xs ≡ count_by q (map p xs)
+count_by-map q p [] = refl
+count_by-map q p (x ∷ xs) =
+    omega (arith, sum_by-cons (λ y. cond (q (p y)) 1 0) x xs, sum_by-cons (λ b. cond (q b) 1 0) (p x) (map p xs), count_by-map q p xs)
 
 -- a block is held if it is among the front of its set's stack
 any_set : (g : GeometryValue) (x : ℕ) (lines : List Line) →
     list_any (is_block x) lines ≡ list_any (is x) (blocks_in (lines_of_set g (set_of_block g x) lines))
 any_set g x [] = refl
-any_set g x (l ∷ ls) = ⊎_elim
-    (λ t. let s : eqb (set_of_block g l.block) (set_of_block g x) ≡ true = eq-eqb _ _ (ap (set_of_block g) t.1) in rw (s, t.0) refl)
-    (λ f. rw f.0 (⊎_elim
-    (λ t. rw (t.0, f.0) (any_set g x ls))
-    (λ o. rw o.0 (any_set g x ls))
-    (eqb_tells (set_of_block g l.block) (set_of_block g x))))
-    (eqb_tells l.block x)
+any_set g x (l ∷ ls) = let same : l.block ≡ x → set_of_block g l.block ≡ set_of_block g x = ap (set_of_block g) in grind (arith, same, any_set g x ls)
 
 pub holds_is : (g : GeometryValue) (write : WriteMode) (w : List ℕ) (st : MachineState) (x : ℕ) → IsStacked g write w st →
     holds st x ≡ list_any (is x) (take g.e (distinct_of_set g (set_of_block g x) w))
@@ -156,21 +131,29 @@ holds_is g write w st x h = any_set g x st.lines ∙ ap (list_any (is x)) (h.fro
 
 -- the machine hits where the windows say so, and a block leaves there
 pub hit_law : HitLaw
-hit_law g write events some = hits_from g write [] start events some (stacked_start g write) ∙ ap (map (is_hit g)) (sym (occurrences-from g events))
+hit_law g write events some =
+    lru_from (λ a. a.hit) (is_hit g) g write some (λ w st ref h. (follows g write w st ref some h).hits) [] start events (stacked_start g write)
+    ∙ ap (map (is_hit g)) (sym (occurrences-from g events))
 
 pub victim_law : VictimLaw
-victim_law g write events some = victims_from g write [] start events some (stacked_start g write) ∙ ap (map (is_evict g)) (sym (occurrences-from g events))
+victim_law g write events some =
+    lru_from (λ a. is_some a.evicted) (is_evict g) g write some (λ w st ref h. (follows g write w st ref some h).evicts) [] start events
+    (stacked_start g write) ∙ ap (map (is_evict g)) (sym (occurrences-from g events))
 
 -- so the machine's counts are the windows'
 pub count_law : CountLaw
 unfolding counts
 count_law g write events some =
     let all = effects (lru_machine g write) events in
-    let hits = count_by-map (λ a. a.hit) all ∙ ap (count_by (λ t. t)) (hit_law g write events some) ∙ sym (count_by-map (is_hit g) (occurrences g events)) in
-    let misses = count_by-not (λ a. a.hit) all ∙ ap (count_by not) (hit_law g write events some) ∙ sym (count_by-not (is_hit g) (occurrences g events)) in
-    let evictions =
-    count_by-map (λ a. is_some a.evicted) all ∙ ap (count_by (λ t. t)) (victim_law g write events some)
-    ∙ sym (count_by-map (is_evict g) (occurrences g events)) in
+    let kept : Bool → Bool = λ b. b in
+    let told = hit_law g write events some in
+    let hits : count_by (λ a. a.hit) all ≡ count_by (is_hit g) (occurrences g events) =
+    count_by-map kept (λ a. a.hit) all ∙ ap (count_by kept) told ∙ sym (count_by-map kept (is_hit g) (occurrences g events)) in
+    let misses : count_by (λ a. not a.hit) all ≡ count_by (λ p. not (is_hit g p)) (occurrences g events) =
+    count_by-map not (λ a. a.hit) all ∙ ap (count_by not) told ∙ sym (count_by-map not (is_hit g) (occurrences g events)) in
+    let evictions : count_by (λ a. is_some a.evicted) all ≡ count_by (is_evict g) (occurrences g events) =
+    count_by-map kept (λ a. is_some a.evicted) all ∙ ap (count_by kept) (victim_law g write events some)
+    ∙ sym (count_by-map kept (is_evict g) (occurrences g events)) in
     cc (hits, misses, evictions)
 
 -- the window of a list, carried along

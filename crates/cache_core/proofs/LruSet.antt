@@ -1,12 +1,12 @@
 -- One visit of a set of an LRU cache. The stack of a set is its different blocks, the most recent first; the set holds its front again.
-use Rattle.std.proofs.Common.{◌≡◌, ℕ, zero, suc, ◌+◌, ◌<◌, ◌≤◌, Bool, true, false, not, ◌&&◌, ◌||◌, ◌==◌, cond, eqb, ltb}
+use Rattle.std.proofs.Common.{◌≡◌, ℕ, zero, suc, ◌+◌, ◌-◌, ◌<◌, ◌≤◌, Bool, true, false, not, ◌&&◌, ◌==◌, cond, eqb, ltb}
 use Rattle.std.proofs.Common.{leb, min, List, [], ◌∷◌, ◌++◌, length, take, map, get_or, set, Option, Some, None, refl, sym, ◌∙◌, ap, arith}
-use Rattle.std.proofs.Common.{length-take, length-append, one-add}
+use Rattle.std.proofs.Common.{length-take, one-add}
 use Rattle.std.specs.Prelude.{is_some, slice_get, remove}
 use Rattle.std.specs.List.{list_any, list_all, position_or_len}
-use Rattle.std.proofs.lemmas.Bool.{and_from, or_parts, ltb-true, eqb-true, false≢true}
+use Rattle.std.proofs.lemmas.Bool.{or_parts, ltb-true, false≢true}
 use Rattle.std.proofs.lemmas.Bool.Decides.{nat_tests}
-use Rattle.std.proofs.lemmas.List.{take_all, take_at, length-map, map-append}
+use Rattle.std.proofs.lemmas.List.{append-nil, drop_all, take_all, length-map}
 use Rattle.std.proofs.lemmas.List.Edits.{length-remove}
 use Rattle.std.proofs.lemmas.List.Sums.{prefix_len-le-length}
 use Rattle.trace_core.specs.declared.events.Ref.{Ref}
@@ -19,7 +19,7 @@ use Rattle.cache_core.specs.Geometry.{GeometryValue, block_of, set_of_block}
 use Rattle.cache_core.specs.Outcomes.{dirties}
 use Rattle.cache_core.specs.Order.{Visits, VisitsAt, Touches, TakesIn, marked, position_of}
 use Rattle.cache_core.specs.Windows.{Occurrence, distinct_of_set, distance, seen, is_hit, is_evict}
-use Rattle.cache_core.proofs.Lists.{cases, is, other, IsOnce-take, remove_is, filter_all, list_any_is, position_or_len-take}
+use Rattle.cache_core.proofs.Lists.{is, other, IsOnce-take, remove_is, filter_all, list_any_is, position_or_len-take}
 use Rattle.cache_core.proofs.Distances.{IsOnce-distinct_of_set, distance_is, has_last_is, take-distinct_of_set-same}
 
 abbrev pub blocks_of : List Slot → List ℕ
@@ -32,45 +32,21 @@ len_blocks x (slot ∷ slots) = ap (λ n. cond (not (eqb slot.block x)) (1 + n) 
 
 test_blocks : (x : ℕ) (slots : List Slot) →
     ltb (position_or_len (λ (slot : Slot). slot.block == x) slots) (length slots) ≡ list_any (is x) (blocks_of slots)
-test_blocks x slots =
-    ap (λ n. ltb n (length slots)) (len_blocks x slots) ∙ ap (ltb (position_or_len (is x) (blocks_of slots))) (sym (length-map slots (λ slot. slot.block)))
-    ∙ sym (list_any_is (is x) (blocks_of slots))
+test_blocks x slots = cc (len_blocks x slots, length-map slots (λ slot. slot.block), list_any_is (is x) (blocks_of slots))
 
 record FoundAt (x : ℕ) (slots : List Slot) (at : ℕ) : Type 0 where
   there : list_any (is x) (blocks_of slots) ≡ true
   index : at ≡ position_or_len (is x) (blocks_of slots)
 
--- the index that is found, if any, by whether the block is among the slots
-abbrev position_if : Bool → ℕ → List Slot → Option ℕ
-position_if found x slots = cond found (Some (position_or_len (λ (slot : Slot). slot.block == x) slots)) None
-
 position_some : (x : ℕ) (slots : List Slot) (at : ℕ) → position_of x slots ≡ Some at → FoundAt x slots at
-position_some x slots at e = by_test (ltb (position_or_len (λ (slot : Slot). slot.block == x) slots) (length slots)) refl e
-  where
-    by_test : (b : Bool) → ltb (position_or_len (λ (slot : Slot). slot.block == x) slots) (length slots) ≡ b → position_if b x slots ≡ Some at →
-        FoundAt x slots at
-    by_test true t q =
-        let same : position_or_len (λ (slot : Slot). slot.block == x) slots ≡ at = cc in
-        record { there = sym (test_blocks x slots) ∙ t; index = sym same ∙ len_blocks x slots }
-    by_test false t q = absurd cc
+position_some x slots at e = record { there = grind (arith, e, test_blocks x slots); index = grind (arith, e, len_blocks x slots) }
 
 pub position_none : (x : ℕ) (slots : List Slot) → position_of x slots ≡ None → list_any (is x) (blocks_of slots) ≡ false
-position_none x slots e = by_test (ltb (position_or_len (λ (slot : Slot). slot.block == x) slots) (length slots)) refl e
-  where
-    by_test : (b : Bool) → ltb (position_or_len (λ (slot : Slot). slot.block == x) slots) (length slots) ≡ b → position_if b x slots ≡ None →
-        list_any (is x) (blocks_of slots) ≡ false
-    by_test true t q = absurd cc
-    by_test false t q = sym (test_blocks x slots) ∙ t
+position_none x slots e = grind (arith, e, test_blocks x slots)
 
 at_position : (x : ℕ) (xs : List ℕ) → list_any (is x) xs ≡ true → slice_get xs (position_or_len (is x) xs) ≡ Some x
 at_position x [] h = absurd (false≢true h)
-at_position x (y ∷ ys) h =
-    cases
-    (λ b. (b ≡ eqb y x) → ((b || list_any (is x) ys) ≡ true) → slice_get (y ∷ ys) (cond (not b) (1 + position_or_len (is x) ys) 0) ≡ Some x)
-    (eqb y x)
-    (λ e k _. ap Some (eqb-true y x e))
-    (λ e k t. rw one-add (at_position x ys t))
-    refl h
+at_position x (y ∷ ys) h = let rest = at_position x ys in grind (arith, one-add, h, rest)
 
 block_at : (slots : List Slot) (n : ℕ) (y : Slot) → slice_get slots n ≡ Some y → slice_get (blocks_of slots) n ≡ Some y.block
 block_at [] n y e = absurd cc
@@ -95,9 +71,7 @@ blocks_marked true slots at = blocks_set slots at (record { block = 0; dirty = f
 
 none_is : (x : ℕ) (xs : List ℕ) → list_any (is x) xs ≡ false → list_all (other x) xs ≡ true
 none_is x [] h = refl
-none_is x (y ∷ ys) h =
-    let parts = or_parts (eqb y x) (list_any (is x) ys) h in
-    and_from (not (eqb y x)) (list_all (other x) ys) (ap not parts.0) (none_is x ys parts.1)
+none_is x (y ∷ ys) h = let parts = or_parts (eqb y x) (list_any (is x) ys) h in grind (arith, parts.0, none_is x ys parts.1)
 
 hit_within : (d n m : ℕ) → d ≤ n → (ltb d n && ltb d m) ≡ ltb (min d m) (min m n)
 hit_within d n m h = grind (arith, nat_tests)
@@ -139,6 +113,10 @@ not_full e n h = grind (arith, nat_tests)
 
 full : (e n : ℕ) → min e n ≡ e → leb e n ≡ true
 full e n h = grind (arith, nat_tests)
+
+-- a block in front of others, whose last one goes
+last_out : (n x : ℕ) (xs : List ℕ) → length xs ≡ suc n → x ∷ remove xs n ≡ take (suc n) (x ∷ xs)
+last_out n x xs e = ap (λ r. x ∷ r) (ap (λ s. take n xs ++ s) (drop_all (suc n) xs (omega (arith, e))) ∙ append-nil (take n xs))
 
 module _ (g : GeometryValue) (p : Occurrence) (some : 1 ≤ g.e) where
   -- the index of the block among the front's blocks
@@ -209,15 +187,11 @@ module _ (g : GeometryValue) (p : Occurrence) (some : 1 ≤ g.e) where
       }
   fill_moves number d old new outcome (Some gone) h none taken hit left =
       let m = misses old h none in
-      let keep : List Slot = taken.1.0 in
-      let ends : front g p ≡ blocks_of keep ++ gone.block ∷ [] =
-      sym h ∙ ap blocks_of taken.1.1 ∙ map-append (λ (slot : Slot). slot.block) keep (gone ∷ []) in
-      let count : length (p.block ∷ blocks_of keep) ≡ g.e =
-      omega (arith, m.long, taken.0, ap length ends, length-append (blocks_of keep) (gone.block ∷ [])) in
-      let cut : take g.e (p.block ∷ (blocks_of keep ++ gone.block ∷ [])) ≡ p.block ∷ blocks_of keep =
-      take_at (p.block ∷ blocks_of keep) (gone.block ∷ []) g.e count in
+      let last : ℕ = length old - 1 in
+      let count : suc last ≡ g.e = omega (arith, taken.0) in
       record {
-        front = ap blocks_of taken.1.2 ∙ sym cut ∙ ap (λ xs. take g.e (p.block ∷ xs)) (sym ends) ∙ miss_front m.absent;
+        front = ap blocks_of taken.1.1 ∙ ap (λ xs. p.block ∷ xs) (blocks_remove old last ∙ ap (λ xs. remove xs last) h)
+            ∙ last_out last p.block (front g p) (omega (arith, m.long, taken.0)) ∙ ap (λ n. take n (p.block ∷ front g p)) count ∙ miss_front m.absent;
         hits = hit ∙ sym m.missed;
         evicts = ap is_some left
             ∙ sym (evict_is g p false m.missed ∙ full g.e (length (stack g p)) (omega (arith, m.long, taken.0, length-take g.e (stack g p))));

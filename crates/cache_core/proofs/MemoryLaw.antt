@@ -2,22 +2,23 @@
 use Rattle.std.proofs.Common.{◌≡◌, ℕ, not, ◌||◌, ◌&&◌, Bool, true, false, cond, List, [], ◌∷◌, ◌++◌, Option, Some, None, refl, sym, ap, ◌∙◌}
 use Rattle.std.proofs.Common.{append_assoc, append-nil}
 use Rattle.std.specs.Prelude.{flat_map, filter, is_some, is_none}
+use Rattle.std.proofs.Math.Path.{fun_ext}
 use Rattle.std.proofs.lemmas.Grind.{flat_map-append}
 use Rattle.std.proofs.lemmas.List.Elements.{filter-append}
 use Rattle.trace_core.specs.declared.events.Ref.{Ref}
 use Rattle.trace_core.specs.declared.events.Event.{Event}
 use Rattle.trace_core.specs.declared.events.Event.TheVariants as event
+use Rattle.trace_core.specs.Events.{is_fetch, references_in}
 use Rattle.cache_core.specs.declared.arrival.Arrival.{Arrival}
 use Rattle.cache_core.specs.declared.arrival.Arrival.TheVariants.{Bypassed}
 use Rattle.cache_core.specs.declared.plan.PlannedCache.{PlannedCache}
 use Rattle.cache_core.specs.declared.plan.CacheName.TheVariants.{L2U}
 use Rattle.cache_core.specs.Plans.{PlannedCaches}
-use Rattle.cache_core.specs.Systems.{is_fetch, sent, below, is_taken, references_in, to_memory}
+use Rattle.cache_core.specs.Systems.{sent, below, is_taken, to_memory}
 use Rattle.cache_core.specs.Arrivals.{arrives, arrives_below, arrive_below, at_memory, passes, lower_arrivals, arrivals_of}
 use Rattle.cache_core.specs.LogLaws.{refs_at_memory, refs_past, is_left_out, MemoryLaw, BypassedLaw}
-use Rattle.cache_core.proofs.SystemPushes.{references_push, references_flush, below_push, below_flush, memory_push, memory_flush, down_if_planned}
-use Rattle.cache_core.proofs.LowerLaw.{with_refs, with_refs-cons}
-use Rattle.cache_core.proofs.LogLaw.{passes_is, untaken_sent, none_reached}
+use Rattle.cache_core.proofs.SystemPushes.{references_push, references_flush, below_push, below_flush, memory_push, memory_flush, memory_nil}
+use Rattle.cache_core.proofs.SystemPushes.{with_refs, with_refs-cons, untaken_sent}
 use Rattle.cache_core.proofs.LogParts.{none_then, quiet_arrives, quiet_below, quiet_flushes, at_lower, whole_log}
 
 abbrev at : List Arrival → List Ref
@@ -28,11 +29,11 @@ all_at [] = refl
 all_at (ref ∷ refs) = ap (λ xs. ref ∷ xs) (all_at refs)
 
 one_at : (seed : ℕ) (second : Option PlannedCache) (before : List Event) (ref : Ref) →
-    at (arrives_below seed second before ref) ≡ down_if_planned seed second before ref
+    at (arrives_below seed second before ref) ≡ passes seed second before ref
 one_at seed second before ref =
     none_then refs_at_memory (arrives seed L2U second before ref) (at_memory (passes seed second before ref))
     (quiet_arrives refs_at_memory seed L2U second before ref (λ r h v. refl))
-    ∙ all_at (passes seed second before ref) ∙ sym (passes_is seed second before ref)
+    ∙ all_at (passes seed second before ref)
 
 memory_below : (seed : ℕ) (second : Option PlannedCache) (before : List Event) (refs : List Ref) →
     to_memory seed second (with_refs before refs) ≡ to_memory seed second before ++ at (arrive_below seed second before refs)
@@ -42,7 +43,7 @@ memory_below seed second before (ref ∷ refs) =
     let later = arrive_below seed second more refs in
     ap (to_memory seed second) (sym (with_refs-cons before ref refs)) ∙ memory_below seed second more refs
     ∙ ap (λ xs. xs ++ at later) (memory_push seed second before ref)
-    ∙ append_assoc (to_memory seed second before) (down_if_planned seed second before ref) (at later)
+    ∙ append_assoc (to_memory seed second before) (passes seed second before ref) (at later)
     ∙ ap (λ xs. to_memory seed second before ++ xs)
     (sym (flat_map-append refs_at_memory (arrives_below seed second before ref) later ∙ ap (λ xs. xs ++ at later) (one_at seed second before ref)))
 
@@ -62,22 +63,17 @@ module _ (plan : PlannedCaches) (seed : ℕ) where
       by_test : (b : Bool) → is_taken plan ref ≡ b →
           to_memory seed plan.second (with_refs before down) ≡ whole earlier ++ at (cond b (arrive_below seed plan.second before down) (Bypassed ref ∷ []))
       by_test true t = memory_below seed plan.second before down
-      by_test false t =
-          ap (λ refs. to_memory seed plan.second (with_refs before refs)) (untaken_sent plan seed earlier ref t)
-          ∙ ap (to_memory seed plan.second) (append-nil before) ∙ sym (append-nil (whole earlier))
+      by_test false t = cc (untaken_sent plan seed earlier ref t, append-nil before, append-nil (whole earlier))
 
   more : (earlier : List Event) (e : Event) → whole (earlier ++ e ∷ []) ≡ whole earlier ++ at (arrivals_of plan seed earlier e)
-  more earlier (event.Reference ref) =
-      lower earlier ref
-      ∙ ap (λ xs. whole earlier ++ xs)
-      (sym (at_lower refs_at_memory plan seed earlier ref (λ r h v. refl) (λ r h v. refl) (λ r h v. refl)))
+  more earlier (event.Reference ref) = cc (lower earlier ref, at_lower refs_at_memory plan seed earlier ref (λ r h v. refl) (λ r h v. refl) (λ r h v. refl))
   more earlier event.Flush =
       ap (to_memory seed plan.second) (below_flush plan seed earlier) ∙ memory_flush seed plan.second (below plan seed earlier)
       ∙ sym (append-nil (whole earlier))
       ∙ ap (λ xs. whole earlier ++ xs) (sym (quiet_flushes refs_at_memory plan seed earlier (λ n. refl) (λ n. refl) (λ n. refl) (λ n. refl)))
 
 pub memory_law : MemoryLaw
-memory_law plan seed events = whole_log refs_at_memory plan seed (whole plan seed) (none_reached seed plan.second) (more plan seed) events
+memory_law plan seed events = whole_log refs_at_memory plan seed (whole plan seed) (memory_nil seed plan.second) (more plan seed) events
 
 -- the bypassed references
 left_out : (fetch : Bool) (i d u : Option PlannedCache) →
@@ -91,6 +87,9 @@ left_out false None (Some d) None = refl
 left_out false (Some i) None None = refl
 left_out false (Some i) (Some d) None = refl
 left_out fetch i d (Some u) = refl
+
+pub left_out_is : (plan : PlannedCaches) → is_left_out plan ≡ (λ ref. not (is_taken plan ref))
+left_out_is plan = fun_ext (λ ref. left_out (is_fetch ref.access) plan.i plan.d plan.u)
 
 module _ (plan : PlannedCaches) (seed : ℕ) where
   abbrev past : List Event → List Ref
@@ -111,8 +110,7 @@ module _ (plan : PlannedCaches) (seed : ℕ) where
       ∙ ap (λ xs. past earlier ++ xs)
       (past_lower earlier ref ∙ sym (at_lower refs_past plan seed earlier ref (λ r h v. refl) (λ r h v. refl) (λ r h v. refl)))
   past_more earlier event.Flush =
-      ap (filter (is_left_out plan)) (references_flush earlier) ∙ sym (append-nil (past earlier))
-      ∙ ap (λ xs. past earlier ++ xs) (sym (quiet_flushes refs_past plan seed earlier (λ n. refl) (λ n. refl) (λ n. refl) (λ n. refl)))
+      cc (references_flush earlier, append-nil (past earlier), quiet_flushes refs_past plan seed earlier (λ n. refl) (λ n. refl) (λ n. refl) (λ n. refl))
 
 pub bypassed_law : BypassedLaw
 bypassed_law plan seed events = whole_log refs_past plan seed (past plan seed) refl (past_more plan seed) events

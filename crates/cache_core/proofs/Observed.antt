@@ -7,9 +7,9 @@ use Rattle.std.proofs.lemmas.List.{map-append}
 use Rattle.trace_core.specs.declared.events.Ref.{Ref}
 use Rattle.trace_core.specs.declared.events.Event.{Event}
 use Rattle.trace_core.specs.declared.events.Event.TheVariants as event
+use Rattle.trace_core.specs.Events.{is_fetch}
 use Rattle.cache_core.specs.declared.arrival.Arrival.{Arrival}
 use Rattle.cache_core.specs.declared.arrival.Arrival.TheVariants.{Bypassed, Flush, Memory}
-use Rattle.cache_core.specs.declared.outcome.Design.{Design}
 use Rattle.cache_core.specs.declared.outcome.Outcome.{Outcome}
 use Rattle.cache_core.specs.declared.plan.PlannedCache.{PlannedCache}
 use Rattle.cache_core.specs.declared.plan.CacheName.{CacheName}
@@ -21,7 +21,7 @@ use Rattle.cache_core.specs.CacheSteps.{Enters, Empties, system_cache_contents}
 use Rattle.cache_core.specs.Machine.{run, step}
 use Rattle.cache_core.specs.Plans.{IsPlan, IsPlannedCache, PlannedCaches}
 use Rattle.cache_core.specs.Stands.{CacheStandsFor}
-use Rattle.cache_core.specs.Systems.{machine_of, events_for, takes, is_fetch, is_taken, below, sent}
+use Rattle.cache_core.specs.Systems.{machine_of, events_for, takes, is_taken, below, sent}
 use Rattle.cache_core.specs.SystemStands.{PlannedCacheStandsFor}
 use Rattle.cache_core.specs.SystemSteps.{present_refs, Descends}
 use Rattle.cache_core.proofs.DownLaw.{down_law}
@@ -61,9 +61,7 @@ entered seed name (Some planned) events old ref outcome new l (there, is, s) e =
     let effect = (step m (run m events) ref).effect in
     record {
       stands = (new, refl, r.0);
-      seen =
-          ap (λ (d : Design). arrival_at name d.geometry ref outcome.hit outcome.evicted ∷ []) stands.design
-          ∙ ap (λ (o : Outcome). arrival_at name planned.design.geometry ref o.hit o.evicted ∷ []) r.1;
+      seen = cc (stands.design, r.1);
       sends = ap (λ (o : Outcome). present_refs o.down) r.1 ∙ present_refs_two effect.down (down_law m events ref);
     }
 
@@ -171,8 +169,7 @@ module _ (plan : PlannedCaches) (seed : ℕ) (events : List Event) (ref : Ref) w
 
   pub seen_below : (refs : List Ref) → refs ≡ sent plan seed events ref → false ≡ not (is_taken plan ref) →
       arrive_below seed plan.second (below plan seed events) refs ≡ lower_arrivals plan seed events ref
-  seen_below refs e t =
-      ap (arrive_below seed plan.second (below plan seed events)) e ∙ by_test (is_taken plan ref) t
+  seen_below refs e t = cc (e, by_test (is_taken plan ref) t)
     where
       by_test : (b : Bool) → false ≡ not b → lower true ≡ lower b
       by_test true t = refl

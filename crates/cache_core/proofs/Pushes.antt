@@ -1,5 +1,5 @@
 -- One more event at the end of a list.
-use Rattle.std.proofs.Common.{◌≡◌, ℕ, ◌+◌, ◌<◌, cond, Bool, List, [], ◌∷◌, ◌++◌, map, take, length, get_or, refl, ap, ◌∙◌}
+use Rattle.std.proofs.Common.{◌≡◌, ℕ, ◌+◌, ◌<◌, cond, Bool, List, [], ◌∷◌, ◌++◌, map, take, length, get_or, refl, ap}
 use Rattle.std.specs.Prelude.{fold, count_by}
 use Rattle.std.proofs.lemmas.List.{take_more, map-append}
 use Rattle.std.proofs.lemmas.List.Sums.{sum_by_push}
@@ -14,8 +14,7 @@ count_by_push p xs x = sum_by_push (λ y. cond (p y) 1 0) xs x
 with_effects_push_from : (m : Machine) (st : MachineState) (events : List Event) (ref : Ref) →
     with_effects_from m st (events ++ event.Reference ref ∷ []) ≡ with_effects_from m st events ++ (ref, (step m (fold (next m) st events) ref).effect) ∷ []
 with_effects_push_from m st [] ref = refl
-with_effects_push_from m st (event.Reference r ∷ events) ref =
-    ap (λ xs. (r, (step m st r).effect) ∷ xs) (with_effects_push_from m (step m st r).after events ref)
+with_effects_push_from m st (event.Reference r ∷ events) ref = cc (with_effects_push_from m (step m st r).after events ref)
 with_effects_push_from m st (event.Flush ∷ events) ref = with_effects_push_from m (next m st event.Flush) events ref
 
 pub with_effects_push : (m : Machine) (events : List Event) (ref : Ref) →
@@ -33,5 +32,4 @@ with_effects_flush m events = with_effects_flush_from m start events
 
 pub taken_more : (refs : List Ref) (i : ℕ) (d : Ref) → i < length refs →
     map (λ x. event.Reference x) (take (i + 1) refs) ≡ map (λ x. event.Reference x) (take i refs) ++ event.Reference (get_or refs i d) ∷ []
-taken_more refs i d h =
-    ap (map (λ x. event.Reference x)) (take_more refs i d h) ∙ map-append (λ x. event.Reference x) (take i refs) (get_or refs i d ∷ [])
+taken_more refs i d h = cc (take_more refs i d h, map-append (λ x. event.Reference x) (take i refs) (get_or refs i d ∷ []))

@@ -23,9 +23,7 @@ sets_of-set ways (f ∷ fs) zero n start slots e h =
     rw z refl
 sets_of-set ways (f ∷ fs) (suc k) n start slots e h =
     let s : start ≡ ways + k * ways = e ∙ omega (arith, suc-mul k ways) in
-    ap (λ (xs : List (List Slot)). take f slots ∷ xs)
-    (sets_of-set ways fs k n (k * ways) (drop ways slots) refl (omega arith)
-    ∙ ap (λ xs. set (sets_of ways (drop ways slots) fs) k (take n xs)) (drop-drop (k * ways) ways slots ∙ ap (λ m. drop m slots) (sym s)))
+    cc (sets_of-set ways fs k n (k * ways) (drop ways slots) refl (omega arith), drop-drop (k * ways) ways slots, s)
 
 -- the dirty slots of a set are no longer there once it is emptied
 pub dirty_emptied : (ways : ℕ) (filled : List ℕ) (k count : ℕ) (slots : List Slot) → k < length filled → count ≡ get_or filled k 0

@@ -28,8 +28,7 @@ get_or-sets_of ways (f ∷ fs) zero start slots e h =
     rw z refl
 get_or-sets_of ways (f ∷ fs) (suc k) start slots e h =
     let s : start ≡ ways + k * ways = e ∙ omega (arith, suc-mul k ways) in
-    get_or-sets_of ways fs k (k * ways) (drop ways slots) refl (omega arith)
-    ∙ ap (take (get_or fs k 0)) (drop-drop (k * ways) ways slots ∙ ap (λ n. drop n slots) (sym s))
+    cc (get_or-sets_of ways fs k (k * ways) (drop ways slots) refl (omega arith), drop-drop (k * ways) ways slots, s)
 
 All-rest : {X : Type 0} (P : X → Type 0) (x : X) (xs : List X) → All P (x ∷ xs) → All P xs
 All-rest P x xs h k d l = h (suc k) d (omega arith)
@@ -136,8 +135,7 @@ module _ (d : Design) (filled : List ℕ) (k n ways : ℕ) (slots segment : List
       let new = sets_of d.geometry.e (with_segment ways k slots segment) (set filled k n) in
       let same : slots_of old k ≡ slots_of old (set_of d.geometry ref.addr) = ap (slots_of old) s in
       let here : take n segment ≡ slots_of new (set_of d.geometry ref.addr) =
-      sym (ap (λ xs. slots_of xs (set_of d.geometry ref.addr)) sets_written ∙ ap (λ j. get_or (set old k (take n segment)) j []) (sym s)
-      ∙ get_or-set_same old k (take n segment) [] (omega (arith, length-sets_of d.geometry.e filled slots, in_filled))) in
+      cc (sets_written, s, get_or-set_same old k (take n segment) [] (omega (arith, length-sets_of d.geometry.e filled slots, in_filled))) in
       record {
         visit =
             subst (λ xs. Visits d policy numbers ref xs outcome (slots_of new (set_of d.geometry ref.addr)) numbers') (set_read ∙ same)

@@ -1,7 +1,7 @@
 -- The machine stays sound, whatever references and flushes come.
-use Rattle.std.proofs.Common.{◌≡◌, ℕ, ◌+◌, ◌%◌, ◌<◌, ◌≤◌, Bool, true, false, List, [], ◌∷◌, ◌++◌, length, get_or}
+use Rattle.std.proofs.Common.{◌≡◌, ℕ, ◌+◌, ◌<◌, ◌≤◌, Bool, true, false, List, [], ◌∷◌, length, get_or}
 use Rattle.std.proofs.Common.{Option, Some, None, sym, ap, refl, subst, arith, ⊎_elim, map, find, length-set, length-append}
-use Rattle.std.specs.Prelude.{MatchBool, slice_set, remove, fold}
+use Rattle.std.specs.Prelude.{MatchBool, remove, fold}
 use Rattle.std.proofs.lemmas.List.{length-map}
 use Rattle.std.proofs.lemmas.List.Edits.{length-remove}
 use Rattle.std.proofs.lemmas.List.Quantifiers.{position-Some}
@@ -14,72 +14,55 @@ use Rattle.cache_core.specs.declared.outcome.Slot.{Slot}
 use Rattle.cache_core.specs.declared.outcome.Outcome.{Outcome}
 use Rattle.cache_core.specs.declared.outcome.Design.{Design}
 use Rattle.cache_core.specs.declared.outcome.Repl.{Repl}
-use Rattle.cache_core.specs.declared.outcome.Repl.TheVariants.{Lru, Fifo, Random}
 use Rattle.cache_core.specs.Geometry.{set_of_block, block_of}
 use Rattle.cache_core.specs.Outcomes.{outcome_of, on_hit, on_placing, on_passing, dirties, allocates}
 use Rattle.cache_core.specs.Machine.{Machine, MachineState, slot_of, is_block, lines_of_set, start, step, next, run}
-use Rattle.cache_core.specs.Order.{Visits, VisitsAt, Fills, PassesOn, Touches, TakesIn, marked, position_of, random_numbers_after}
+use Rattle.cache_core.specs.Order.{Visits, VisitsAt, Fills, PassesOn, Moves, TakesIn, with_slot_at, victim_at, marked, position_of, random_numbers_after}
+use Rattle.cache_core.specs.Rules.{Place, InFront, InPlace, rules}
 use Rattle.cache_core.specs.Stands.{IsSoundState}
 use Rattle.cache_core.proofs.StateLaw.{step_agrees, sound_step}
 use Rattle.cache_core.proofs.Visits.{at_each}
 use Rattle.cache_core.proofs.FlushLaw.{start_sound, empty_good}
-use Rattle.cache_core.proofs.Lawful.{marked_length}
+use Rattle.cache_core.proofs.Lawful.{marked_length, victim_within}
 
-touch_exists : (p : Repl) (slots : List Slot) (at : ℕ) → at < length slots →
-    (new : List Slot) × Touches (Some p) slots at new × (length new ≡ length slots)
-touch_exists Lru slots at h =
+touch_exists : (p : Place) (slots : List Slot) (at : ℕ) → at < length slots → (new : List Slot) × Moves p slots at new × (length new ≡ length slots)
+touch_exists InFront slots at h =
     let x = get_or slots at (record { block = 0; dirty = false }) in
     (x ∷ remove slots at, (x, slice_get-get_or slots at (record { block = 0; dirty = false }) h, refl), omega (arith, length-remove slots at h))
-touch_exists Fifo slots at h = (slots, refl, refl)
-touch_exists Random slots at h = (slots, refl, refl)
+touch_exists InPlace slots at h = (slots, refl, refl)
 
-record Unsnoc (slots : List Slot) : Type 0 where
-  front : List Slot
-  gone : Slot
-  split : slots ≡ front ++ gone ∷ []
-
-unsnoc : (slots : List Slot) → 0 < length slots → Unsnoc slots
-unsnoc [] h = absurd (omega arith)
-unsnoc (x ∷ []) h = record { front = []; gone = x; split = refl }
-unsnoc (x ∷ y ∷ slots) h =
-    let r = unsnoc (y ∷ slots) (omega arith) in
-    record { front = x ∷ r.front; gone = r.gone; split = ap (λ s. x ∷ s) r.split }
-
-record Placed (p : Repl) (number capacity : ℕ) (slots : List Slot) (slot : Slot) : Type 0 where
+record Placed (policy : Repl) (number capacity : ℕ) (slots : List Slot) (slot : Slot) : Type 0 where
   evicted : Option Slot
   new : List Slot
-  places : TakesIn (Some p) number capacity slots slot evicted new
+  places : TakesIn (Some policy) number capacity slots slot evicted new
   few : length new ≤ capacity
 
--- a slot put in front of a full set, whose last one leaves
-front_placed : (p : Repl) (number capacity : ℕ) (slots : List Slot) (slot : Slot) (u : Unsnoc slots) → length slots ≡ capacity →
-    TakesIn (Some p) number capacity slots slot (Some u.gone) (slot ∷ u.front) → Placed p number capacity slots slot
-front_placed p number capacity slots slot u e places =
-    record { evicted = Some u.gone; new = slot ∷ u.front; places = places; few = omega (arith, length-append u.front (u.gone ∷ []), ap length u.split) }
+length-pushed : (p : Place) (slot : Slot) (slots : List Slot) → length (with_slot_at p slot None slots) ≡ length slots + 1
+length-pushed InFront slot slots = omega arith
+length-pushed InPlace slot slots = length-append slots (slot ∷ [])
 
-place_exists : (p : Repl) (number capacity : ℕ) (slots : List Slot) (slot : Slot) → 0 < capacity → length slots ≤ capacity → Placed p number capacity slots slot
-place_exists p number capacity slots slot r l = ⊎_elim
-    (λ (t : length slots < capacity). insert p t)
-    (λ (f : capacity ≤ length slots). exchange p (omega arith))
+length-exchanged : (p : Place) (slot : Slot) (at : ℕ) (slots : List Slot) → at < length slots → length (with_slot_at p slot (Some at) slots) ≡ length slots
+length-exchanged InFront slot at slots h = omega (arith, length-remove slots at h)
+length-exchanged InPlace slot at slots h = length-set slots at slot
+
+place_exists : (policy : Repl) (number capacity : ℕ) (slots : List Slot) (slot : Slot) → 0 < capacity → length slots ≤ capacity →
+    Placed policy number capacity slots slot
+place_exists policy number capacity slots slot r l =
+    let to = (rules policy).placed in
+    let at = victim_at (rules policy).victim number slots in
+    let none : Slot = record { block = 0; dirty = false } in
+    ⊎_elim
+    (λ (t : length slots < capacity).
+    record { evicted = None; new = with_slot_at to slot None slots; places = (t, refl); few = omega (arith, t, length-pushed to slot slots) })
+    (λ (f : capacity ≤ length slots).
+    let within = victim_within (rules policy).victim number slots (omega arith) in
+    record {
+      evicted = Some (get_or slots at none);
+      new = with_slot_at to slot (Some at) slots;
+      places = (omega arith, (slice_get-get_or slots at none within, refl));
+      few = omega (arith, l, length-exchanged to slot at slots within);
+    })
     (cases_lt (length slots) capacity)
-  where
-    insert : (q : Repl) → length slots < capacity → Placed q number capacity slots slot
-    insert Lru t = record { evicted = None; new = slot ∷ slots; places = (t, refl); few = omega arith }
-    insert Fifo t = record { evicted = None; new = slot ∷ slots; places = (t, refl); few = omega arith }
-    insert Random t = record { evicted = None; new = slots ++ slot ∷ []; places = (t, refl); few = omega (arith, length-append slots (slot ∷ [])) }
-
-    exchange : (q : Repl) → length slots ≡ capacity → Placed q number capacity slots slot
-    exchange Lru e = let u = unsnoc slots (omega arith) in front_placed Lru number capacity slots slot u e (e, (u.front, u.split, refl))
-    exchange Fifo e = let u = unsnoc slots (omega arith) in front_placed Fifo number capacity slots slot u e (e, (u.front, u.split, refl))
-    exchange Random e =
-        let way : number % length slots < length slots = omega arith in
-        let none : Slot = record { block = 0; dirty = false } in
-        record {
-          evicted = Some (get_or slots (number % length slots) none);
-          new = slice_set slots (number % length slots) slot;
-          places = (e, (slice_get-get_or slots (number % length slots) none way, refl));
-          few = omega (arith, length-set slots (number % length slots) slot);
-        }
 
 -- some visit of a set, whatever the reference
 pub record Visited (d : Design) (p : Repl) (numbers : ℕ → ℕ) (ref : Ref) (slots : List Slot) : Type 0 where
@@ -125,7 +108,7 @@ visit_exists d p numbers ref slots r l = by_index (position_of b slots) refl
         let s = marked (dirties d.write ref.access) slots at in
         let same : length s ≡ length slots = marked_length (dirties d.write ref.access) slots at in
         let h : at < length s = omega (arith, (position-Some _ slots at (record { block = 0; dirty = false }) e).0, same) in
-        let x = touch_exists p s at h in
+        let x = touch_exists (rules p).touched s at h in
         visited (Some at) (outcome_of (on_hit d.write ref)) x.0 numbers e (record { order = x.1; undrawn = refl; effect = refl })
         (omega (arith, x.2, same))
 
@@ -152,7 +135,7 @@ sound_ref m st ref r s f =
 pub sound_next : (m : Machine) (st : MachineState) (e : Event) → 0 < m.design.geometry.e → IsSoundState m st → IsFew m st →
     IsSoundState m (next m st e) × IsFew m (next m st e)
 sound_next m st (event.Reference ref) r s f = sound_ref m st ref r s f
-sound_next m st event.Flush r s f = ((λ k. empty_good m st.clock), (λ k. omega arith))
+sound_next m st event.Flush r s f = ((λ k. empty_good (rules m.policy).placed st.clock), (λ k. omega arith))
 
 fold_sound : (m : Machine) (st : MachineState) (events : List Event) → 0 < m.design.geometry.e → IsSoundState m st → IsFew m st →
     IsSoundState m (fold (next m) st events) × IsFew m (fold (next m) st events)

@@ -1,38 +1,39 @@
 -- A new system, a step, a flush and a run of a system, as its caches see them and as their machines see them.
-use Rattle.std.proofs.Common.{◌≡◌, ℕ, ◌+◌, not, Bool, true, false, List, [], ◌∷◌, ◌++◌, Option, Some, None, refl, sym, ◌∙◌}
-use Rattle.std.proofs.Common.{ap, subst, arith}
+use Rattle.std.proofs.Common.{◌≡◌, ℕ, ◌+◌, not, Bool, List, [], ◌∷◌, ◌++◌, Option, Some, None, refl, sym, ◌∙◌}
+use Rattle.std.proofs.Common.{ap, ap₂, subst, arith}
 use Rattle.std.proofs.Common.{append_assoc, append-nil, length, length-append}
-use Rattle.std.specs.Prelude.{count_by, is_none, MatchOption}
+use Rattle.std.specs.Prelude.{sum, count_by, is_none, MatchOption}
+use Rattle.std.proofs.lemmas.List.Sums.{sum_by_push}
 use Rattle.trace_core.specs.declared.events.Ref.{Ref}
 use Rattle.trace_core.specs.declared.events.Event.{Event}
 use Rattle.trace_core.specs.declared.events.Event.TheVariants as event
+use Rattle.trace_core.specs.Events.{one_if, references_in}
 use Rattle.cache_core.specs.declared.plan.PlannedCache.{PlannedCache}
-use Rattle.cache_core.specs.declared.plan.CacheName.{CacheName}
 use Rattle.cache_core.specs.declared.plan.CacheName.TheVariants.{L1I, L1D, L1U}
 use Rattle.cache_core.specs.declared.stats.CacheStats.{CacheStats}
 use Rattle.cache_core.specs.declared.stats.Stats.{Stats}
 use Rattle.cache_core.specs.declared.system_cache.SystemCache.{SystemCache}
 use Rattle.cache_core.specs.declared.system.Memory.{Memory}
 use Rattle.cache_core.specs.Machine.{Machine, run, dirty_count}
-use Rattle.cache_core.specs.Order.{one_if}
 use Rattle.cache_core.specs.Plans.{PlannedCaches, IsPlan}
 use Rattle.cache_core.specs.CacheSteps.{system_cache_contents, Empties}
-use Rattle.cache_core.specs.Systems.{machine_of, takes, events_for, sent, below, cache_stats, flushed_if_planned, references_in, to_memory, is_taken}
+use Rattle.cache_core.specs.CacheStats.{count_flush}
+use Rattle.cache_core.specs.Systems.{machine_of, events_for, sent, below, flush_counts, flush_copybacks, to_memory, is_taken}
 use Rattle.cache_core.specs.SystemSteps.{SystemValue, present_refs, AccessesFirstLevel, AllDescend, StepsSystem, FlushesSystem, EmptiesCache}
 use Rattle.cache_core.specs.SystemSteps.{IsNewSystemCache, IsNewCache, IsNewSystem}
 use Rattle.cache_core.specs.SystemStands.{SystemStandsFor, SystemRuns, NewSystemLaw, StepLaw, SystemFlushLaw, SystemRunLaw}
 use Rattle.cache_core.proofs.RunLaw.{start_law, flush_run}
 use Rattle.cache_core.proofs.Pushes.{count_by_push}
-use Rattle.cache_core.proofs.SystemPushes.{counts_flush, flushed_flush, events_taken, events_left, events_flush, references_push, references_flush}
-use Rattle.cache_core.proofs.SystemPushes.{below_push, below_flush, memory_flush, flushed_if_planned_push}
+use Rattle.cache_core.proofs.SystemPushes.{counts_flush, flush_counts_flush, flush_counts_taken, flush_counts_refs, flush_counts_nil, events_flush}
+use Rattle.cache_core.proofs.SystemPushes.{references_push, references_flush, below_push, below_flush, with_refs, memory_flush, memory_nil}
 use Rattle.cache_core.proofs.FirstLevelLaw.{Kept, KeptIfPlanned, with_counts, stands_of, counts_is, down_list, FirstKept, first_keeps}
-use Rattle.cache_core.proofs.LowerLaw.{is_read_of, is_write_of, Lower, with_refs, with_refs-cons, lower_after}
+use Rattle.cache_core.proofs.LowerLaw.{is_read_of, is_write_of, Lower, lower_after}
 
 -- how many dirty lines the flushes of a list find in all caches
 abbrev pub flushed_all : PlannedCaches → ℕ → List Event → ℕ
 flushed_all plan seed events =
-    flushed_if_planned seed plan.i (events_for L1I events) + flushed_if_planned seed plan.d (events_for L1D events)
-    + flushed_if_planned seed plan.u (events_for L1U events) + flushed_if_planned seed plan.second (below plan seed events)
+    flush_copybacks seed plan.i (events_for L1I events) + flush_copybacks seed plan.d (events_for L1D events)
+    + flush_copybacks seed plan.u (events_for L1U events) + flush_copybacks seed plan.second (below plan seed events)
 
 -- a reference that no cache takes
 abbrev pub is_untaken : PlannedCaches → Ref → Bool
@@ -86,21 +87,13 @@ new_cache seed (Some planned) cache n =
     let stands = start_law (machine_of seed planned) (system_cache_contents n.0) new.design new.policy new.random_numbers new.empty in
     (n.0, n.1, record { stands = stands; counts = new.counts })
 
-memory_nil : (seed : ℕ) (planned : Option PlannedCache) → to_memory seed planned [] ≡ []
-memory_nil seed None = refl
-memory_nil seed (Some planned) = refl
-
-flushed_nil : (seed : ℕ) (planned : Option PlannedCache) → flushed_if_planned seed planned [] ≡ 0
-flushed_nil seed None = refl
-flushed_nil seed (Some planned) = refl
-
 kept_new : (plan : PlannedCaches) (seed : ℕ) (v : SystemValue) → IsNewSystem plan seed v → SystemKept plan seed [] v
 kept_new plan seed v n =
     let none : to_memory seed plan.second [] ≡ [] = memory_nil seed plan.second in
     let unread : v.memory.reads ≡ 0 = ap (λ (m : Memory). m.reads) n.memory in
     let unwritten : v.memory.writes ≡ 0 = ap (λ (m : Memory). m.writes) n.memory in
     let unflushed : flushed_all plan seed [] ≡ 0 =
-    omega (arith, flushed_nil seed plan.i, flushed_nil seed plan.d, flushed_nil seed plan.u, flushed_nil seed plan.second) in
+    rw (flush_counts_nil seed plan.i, flush_counts_nil seed plan.d, flush_counts_nil seed plan.u, flush_counts_nil seed plan.second) refl in
     record {
       i = new_cache seed plan.i v.i n.i;
       d = new_cache seed plan.d v.d n.d;
@@ -116,38 +109,21 @@ kept_new plan seed v n =
 pub new_law : NewSystemLaw
 new_law plan seed v n = stands_kept plan seed [] v (kept_new plan seed v n) n.steps
 
--- a step: no dirty line is flushed
-flushed_refs : (seed : ℕ) (planned : Option PlannedCache) (events : List Event) (refs : List Ref) →
-    flushed_if_planned seed planned (with_refs events refs) ≡ flushed_if_planned seed planned events
-flushed_refs seed planned events [] = ap (flushed_if_planned seed planned) (append-nil events)
-flushed_refs seed planned events (ref ∷ refs) =
-    ap (flushed_if_planned seed planned) (sym (with_refs-cons events ref refs))
-    ∙ flushed_refs seed planned (events ++ event.Reference ref ∷ []) refs ∙ flushed_if_planned_push seed planned events ref
-
-flushed_name : (seed : ℕ) (name : CacheName) (planned : Option PlannedCache) (events : List Event) (ref : Ref) →
-    flushed_if_planned seed planned (events_for name (events ++ event.Reference ref ∷ [])) ≡ flushed_if_planned seed planned (events_for name events)
-flushed_name seed name planned events ref = by_test (takes name ref) refl
-  where
-    flushed : List Event → ℕ
-    flushed = flushed_if_planned seed planned
-
-    by_test : (b : Bool) → takes name ref ≡ b → flushed (events_for name (events ++ event.Reference ref ∷ [])) ≡ flushed (events_for name events)
-    by_test true t = ap flushed (events_taken name events ref t) ∙ flushed_if_planned_push seed planned (events_for name events) ref
-    by_test false t = ap flushed (events_left name events ref t)
-
+-- a step
 module _ (plan : PlannedCaches) (seed : ℕ) (events : List Event) (ref : Ref) where
   -- the events with the reference
   abbrev more : List Event
   more = events ++ event.Reference ref ∷ []
 
-  pub flushed_step : flushed_all plan seed events ≡ flushed_all plan seed more
+  -- no dirty line is flushed
+  flushed_step : flushed_all plan seed events ≡ flushed_all plan seed more
   flushed_step = omega (
     arith,
-    flushed_name seed L1I plan.i events ref,
-    flushed_name seed L1D plan.d events ref,
-    flushed_name seed L1U plan.u events ref,
-    ap (flushed_if_planned seed plan.second) (below_push plan seed events ref)
-        ∙ flushed_refs seed plan.second (below plan seed events) (sent plan seed events ref),
+    ap sum (flush_counts_taken seed L1I plan.i events ref),
+    ap sum (flush_counts_taken seed L1D plan.d events ref),
+    ap sum (flush_counts_taken seed L1U plan.u events ref),
+    ap (flush_copybacks seed plan.second) (below_push plan seed events ref)
+        ∙ ap sum (flush_counts_refs seed plan.second (below plan seed events) (sent plan seed events ref)),
   )
 
   bypassed_step : (old new : ℕ) (down : Bool) → new ≡ old + one_if down → down ≡ is_untaken plan ref →
@@ -209,8 +185,7 @@ empties m events old dirty new k e =
     record {
       kept = record {
         stands = r.0;
-        counts = e.counts ∙ ap (λ (s : CacheStats). record s { copybacks = s.copybacks + dirty }) k.counts
-            ∙ ap (λ n. record (cache_stats m events) { copybacks = (cache_stats m events).copybacks + n }) r.1 ∙ sym (counts_flush m events);
+        counts = e.counts ∙ ap₂ (λ (n : ℕ) (s : CacheStats). count_flush n s) r.1 k.counts ∙ sym (counts_flush m events);
       };
       found = r.1;
     }
@@ -218,7 +193,7 @@ empties m events old dirty new k e =
 -- a cache that was flushed between two lists of the events that come to it
 record FlushedBetween (seed : ℕ) (planned : Option PlannedCache) (before after : List Event) (dirty : ℕ) (new : Option SystemCache) : Type 0 where
   kept : KeptIfPlanned seed planned after new
-  found : flushed_if_planned seed planned after ≡ flushed_if_planned seed planned before + dirty
+  found : flush_copybacks seed planned after ≡ flush_copybacks seed planned before + dirty
 
 emptied_if_planned : (seed : ℕ) (planned : Option PlannedCache) (events after : List Event) (cache : Option SystemCache) (dirty : ℕ)
     (new : Option SystemCache) → after ≡ events ++ event.Flush ∷ [] → KeptIfPlanned seed planned events cache → EmptiesCache cache dirty new →
@@ -232,7 +207,9 @@ emptied_if_planned seed (Some planned) events after cache dirty new is k e =
     let r = empties m events k.0 dirty f.0 k.2 f.2 in
     rw is record {
       kept = (f.0, f.1, r.kept);
-      found = flushed_flush m events ∙ ap (λ n. flushed_if_planned seed (Some planned) events + n) (sym r.found);
+      found =
+          ap sum (flush_counts_flush m events) ∙ sum_by_push (λ n. n) (flush_counts m events) (dirty_count (run m events))
+          ∙ ap (λ n. flush_copybacks seed (Some planned) events + n) (sym r.found);
     }
 
 module _ (plan : PlannedCaches) (seed : ℕ) (events : List Event) where

@@ -1,94 +1,139 @@
 -- A system's lists of events and counts, with one more event.
-use Rattle.std.proofs.Common.{◌≡◌, ℕ, ◌+◌, ◌&&◌, not, Bool, true, false, cond, List, [], ◌∷◌, ◌++◌, map, Option, Some, None, refl}
-use Rattle.std.proofs.Common.{sym, ◌∙◌, ap, arith, append_assoc, append-nil}
-use Rattle.std.specs.Prelude.{fold, count_by, flat_map, is_some}
+use Rattle.std.proofs.Common.{◌≡◌, ℕ, ◌+◌, Bool, true, false, cond, List, [], ◌∷◌, ◌++◌, map, Option, Some, None, refl}
+use Rattle.std.proofs.Common.{sym, ◌∙◌, ap, ap₂, arith, add_assoc, append_assoc, append-nil}
+use Rattle.std.specs.Prelude.{fold, sum, flat_map, unwrap_or, is_some, ◌&&◌, ◌||◌}
+use Rattle.std.specs.Option.{option_map}
+use Rattle.std.proofs.lemmas.Bool.{or_parts}
 use Rattle.std.proofs.lemmas.Grind.{flat_map-append}
 use Rattle.std.proofs.lemmas.List.Elements.{filter-append}
+use Rattle.std.proofs.lemmas.List.Sums.{fold-append, sum_by_push}
+use Rattle.trace_core.specs.declared.events.Access.{Access}
 use Rattle.trace_core.specs.declared.events.Ref.{Ref}
 use Rattle.trace_core.specs.declared.events.Event.{Event}
 use Rattle.trace_core.specs.declared.events.Event.TheVariants as event
+use Rattle.trace_core.specs.Events.{one_if, references_in}
+use Rattle.cache_core.specs.declared.outcome.Slot.{Slot}
 use Rattle.cache_core.specs.declared.plan.PlannedCache.{PlannedCache}
 use Rattle.cache_core.specs.declared.plan.CacheName.{CacheName}
-use Rattle.cache_core.specs.Outcomes.{Effect, is_write, outcome_of}
+use Rattle.cache_core.specs.declared.plan.CacheName.TheVariants.{L1I, L1D, L1U}
+use Rattle.cache_core.specs.declared.stats.CacheStats.{CacheStats}
+use Rattle.cache_core.specs.Outcomes.{Effect}
 use Rattle.cache_core.specs.Machine.{Machine, MachineState, start, run, next, step, with_effects, dirty_count}
-use Rattle.cache_core.specs.Order.{is_dirty, one_if}
 use Rattle.cache_core.specs.Plans.{PlannedCaches}
-use Rattle.cache_core.specs.Systems.{stats_from, machine_of, is_fetch, is_read, takes, takes_event, events_for, sent, below_from, below, flushed_from, flushed}
-use Rattle.cache_core.specs.Systems.{cache_stats, flushed_if_planned, references_in, to_memory}
-use Rattle.cache_core.specs.SystemCaches.{stats_after}
-use Rattle.cache_core.proofs.Pushes.{count_by_push, with_effects_push, with_effects_flush}
-
--- the dirty blocks that its flushes find
-flushed_push_from : (m : Machine) (st : MachineState) (events : List Event) (ref : Ref) →
-    flushed_from m st (events ++ event.Reference ref ∷ []) ≡ flushed_from m st events
-flushed_push_from m st [] ref = refl
-flushed_push_from m st (event.Reference r ∷ events) ref = flushed_push_from m (step m st r).after events ref
-flushed_push_from m st (event.Flush ∷ events) ref = ap (λ n. dirty_count st + n) (flushed_push_from m (next m st event.Flush) events ref)
-
-pub flushed_push : (m : Machine) (events : List Event) (ref : Ref) → flushed m (events ++ event.Reference ref ∷ []) ≡ flushed m events
-flushed_push m events ref = flushed_push_from m start events ref
-
-flushed_flush_from : (m : Machine) (st : MachineState) (events : List Event) →
-    flushed_from m st (events ++ event.Flush ∷ []) ≡ flushed_from m st events + dirty_count (fold (next m) st events)
-flushed_flush_from m st [] = omega arith
-flushed_flush_from m st (event.Reference r ∷ events) = flushed_flush_from m (step m st r).after events
-flushed_flush_from m st (event.Flush ∷ events) = omega (arith, flushed_flush_from m (next m st event.Flush) events)
-
-pub flushed_flush : (m : Machine) (events : List Event) → flushed m (events ++ event.Flush ∷ []) ≡ flushed m events + dirty_count (run m events)
-flushed_flush m events = flushed_flush_from m start events
-
--- its counts
-stats_push : (all : List (Ref × Effect)) (flushes : ℕ) (ref : Ref) (a : Effect) →
-    stats_from (all ++ (ref, a) ∷ []) flushes ≡ stats_after (stats_from all flushes) ref (outcome_of a)
-stats_push all flushes ref a =
-    let more : (p : Ref × Effect → Bool) → count_by p (all ++ (ref, a) ∷ []) ≡ count_by p all + cond (p (ref, a)) 1 0 =
-    λ p. count_by_push p all (ref, a) in
-    let copybacks : count_by (λ (p : Ref × Effect). is_dirty p.1.evicted) (all ++ (ref, a) ∷ []) + flushes
-    ≡ count_by (λ (p : Ref × Effect). is_dirty p.1.evicted) all + flushes + one_if (is_dirty a.evicted) =
-    omega (arith, more (λ p. is_dirty p.1.evicted)) in
-    cc (
-      more (λ p. is_fetch p.0.access),
-      more (λ p. is_fetch p.0.access && not p.1.hit),
-      more (λ p. is_read p.0.access),
-      more (λ p. is_read p.0.access && not p.1.hit),
-      more (λ p. is_write p.0.access),
-      more (λ p. is_write p.0.access && not p.1.hit),
-      more (λ p. is_some p.1.evicted),
-      copybacks,
-    )
-
-pub counts_push : (m : Machine) (events : List Event) (ref : Ref) →
-    cache_stats m (events ++ event.Reference ref ∷ []) ≡ stats_after (cache_stats m events) ref (outcome_of (step m (run m events) ref).effect)
-counts_push m events ref =
-    ap (λ all. stats_from all (flushed m (events ++ event.Reference ref ∷ []))) (with_effects_push m events ref)
-    ∙ ap (stats_from (with_effects m events ++ (ref, (step m (run m events) ref).effect) ∷ [])) (flushed_push m events ref)
-    ∙ stats_push (with_effects m events) (flushed m events) ref (step m (run m events) ref).effect
-
-pub counts_flush : (m : Machine) (events : List Event) →
-    cache_stats m (events ++ event.Flush ∷ [])
-    ≡ record (cache_stats m events) { copybacks = (cache_stats m events).copybacks + dirty_count (run m events) }
-counts_flush m events =
-    let all = with_effects m events in
-    let copybacks : count_by (λ (p : Ref × Effect). is_dirty p.1.evicted) all + flushed m (events ++ event.Flush ∷ [])
-    ≡ count_by (λ (p : Ref × Effect). is_dirty p.1.evicted) all + flushed m events + dirty_count (run m events) =
-    omega (arith, flushed_flush m events) in
-    ap (λ xs. stats_from xs (flushed m (events ++ event.Flush ∷ []))) (with_effects_flush m events)
-    ∙ ap (λ n. record (cache_stats m events) { copybacks = n }) copybacks
+use Rattle.cache_core.specs.CacheStats.{stats_from, count_access, count_flush}
+use Rattle.cache_core.specs.Systems.{machine_of, takes, takes_event, events_for, sends, sent, below_from, below, to_memory, is_taken}
+use Rattle.cache_core.specs.Systems.{flush_counts_from, flush_counts, flush_counts_if_planned, cache_stats}
+use Rattle.cache_core.specs.Arrivals.{passes}
+use Rattle.cache_core.proofs.Pushes.{with_effects_push, with_effects_flush}
 
 -- the events of a cache of the first level
 pub events_taken : (name : CacheName) (events : List Event) (ref : Ref) → takes name ref ≡ true →
     events_for name (events ++ event.Reference ref ∷ []) ≡ events_for name events ++ event.Reference ref ∷ []
-events_taken name events ref t =
-    filter-append (takes_event name) events (event.Reference ref ∷ []) ∙ ap (λ b. events_for name events ++ cond b (event.Reference ref ∷ []) []) t
+events_taken name events ref t = cc (filter-append (takes_event name) events (event.Reference ref ∷ []), t)
 
 pub events_left : (name : CacheName) (events : List Event) (ref : Ref) → takes name ref ≡ false →
     events_for name (events ++ event.Reference ref ∷ []) ≡ events_for name events
-events_left name events ref t =
-    filter-append (takes_event name) events (event.Reference ref ∷ []) ∙ ap (λ b. events_for name events ++ cond b (event.Reference ref ∷ []) []) t
-    ∙ append-nil (events_for name events)
+events_left name events ref t = cc (filter-append (takes_event name) events (event.Reference ref ∷ []), t, append-nil (events_for name events))
 
 pub events_flush : (name : CacheName) (events : List Event) → events_for name (events ++ event.Flush ∷ []) ≡ events_for name events ++ event.Flush ∷ []
 events_flush name events = filter-append (takes_event name) events (event.Flush ∷ [])
+
+-- these references behind some events
+abbrev pub with_refs : List Event → List Ref → List Event
+with_refs events refs = events ++ map (λ x. event.Reference x) refs
+
+pub with_refs-cons : (events : List Event) (ref : Ref) (refs : List Ref) →
+    with_refs (events ++ event.Reference ref ∷ []) refs ≡ with_refs events (ref ∷ refs)
+with_refs-cons events ref refs = append_assoc events (event.Reference ref ∷ []) (map (λ x. event.Reference x) refs)
+
+-- the dirty blocks that each flush finds
+flush_counts_push_from : (m : Machine) (st : MachineState) (events : List Event) (ref : Ref) →
+    flush_counts_from m st (events ++ event.Reference ref ∷ []) ≡ flush_counts_from m st events
+flush_counts_push_from m st [] ref = refl
+flush_counts_push_from m st (event.Reference r ∷ events) ref = flush_counts_push_from m (step m st r).after events ref
+flush_counts_push_from m st (event.Flush ∷ events) ref = ap (λ ns. dirty_count st ∷ ns) (flush_counts_push_from m (next m st event.Flush) events ref)
+
+flush_counts_flush_from : (m : Machine) (st : MachineState) (events : List Event) →
+    flush_counts_from m st (events ++ event.Flush ∷ []) ≡ flush_counts_from m st events ++ dirty_count (fold (next m) st events) ∷ []
+flush_counts_flush_from m st [] = refl
+flush_counts_flush_from m st (event.Reference r ∷ events) = flush_counts_flush_from m (step m st r).after events
+flush_counts_flush_from m st (event.Flush ∷ events) = ap (λ ns. dirty_count st ∷ ns) (flush_counts_flush_from m (next m st event.Flush) events)
+
+pub flush_counts_flush : (m : Machine) (events : List Event) →
+    flush_counts m (events ++ event.Flush ∷ []) ≡ flush_counts m events ++ dirty_count (run m events) ∷ []
+flush_counts_flush m events = flush_counts_flush_from m start events
+
+pub flush_counts_push : (seed : ℕ) (planned : Option PlannedCache) (events : List Event) (ref : Ref) →
+    flush_counts_if_planned seed planned (events ++ event.Reference ref ∷ []) ≡ flush_counts_if_planned seed planned events
+flush_counts_push seed None events ref = refl
+flush_counts_push seed (Some planned) events ref = flush_counts_push_from (machine_of seed planned) start events ref
+
+pub flush_counts_taken : (seed : ℕ) (name : CacheName) (planned : Option PlannedCache) (events : List Event) (ref : Ref) →
+    flush_counts_if_planned seed planned (events_for name (events ++ event.Reference ref ∷ []))
+    ≡ flush_counts_if_planned seed planned (events_for name events)
+flush_counts_taken seed name planned events ref = by_test (takes name ref) refl
+  where
+    counts : List Event → List ℕ
+    counts = flush_counts_if_planned seed planned
+
+    by_test : (b : Bool) → takes name ref ≡ b → counts (events_for name (events ++ event.Reference ref ∷ [])) ≡ counts (events_for name events)
+    by_test true t = ap counts (events_taken name events ref t) ∙ flush_counts_push seed planned (events_for name events) ref
+    by_test false t = ap counts (events_left name events ref t)
+
+pub flush_counts_refs : (seed : ℕ) (planned : Option PlannedCache) (events : List Event) (refs : List Ref) →
+    flush_counts_if_planned seed planned (with_refs events refs) ≡ flush_counts_if_planned seed planned events
+flush_counts_refs seed planned events [] = ap (flush_counts_if_planned seed planned) (append-nil events)
+flush_counts_refs seed planned events (ref ∷ refs) =
+    ap (flush_counts_if_planned seed planned) (sym (with_refs-cons events ref refs))
+    ∙ flush_counts_refs seed planned (events ++ event.Reference ref ∷ []) refs ∙ flush_counts_push seed planned events ref
+
+pub flush_counts_nil : (seed : ℕ) (planned : Option PlannedCache) → flush_counts_if_planned seed planned [] ≡ []
+flush_counts_nil seed None = refl
+flush_counts_nil seed (Some planned) = refl
+
+-- its statistics: an access and a flush may change places
+pub flush_then_access : (access : Access) (hit : Bool) (evicted : Option Bool) (dirty : ℕ) (s : CacheStats) →
+    count_access access hit evicted (count_flush dirty s) ≡ count_flush dirty (count_access access hit evicted s)
+flush_then_access access hit evicted dirty s =
+    let more = one_if (unwrap_or evicted false) in
+    let copybacks : s.copybacks + dirty + more ≡ s.copybacks + more + dirty = omega arith in
+    cc
+
+pub two_flushes : (m n : ℕ) (s : CacheStats) → count_flush n (count_flush m s) ≡ count_flush (m + n) s
+two_flushes m n s = ap (λ k. record s { copybacks = k }) (add_assoc s.copybacks m n)
+
+-- one access more, by the effect of its reference
+abbrev pub count_effect : CacheStats → Ref × Effect → CacheStats
+count_effect s p = count_access p.0.access p.1.hit (option_map (λ slot. slot.dirty) p.1.evicted) s
+
+some_is : (evicted : Option Slot) → is_some evicted ≡ is_some (option_map (λ slot. slot.dirty) evicted)
+some_is None = refl
+some_is (Some slot) = refl
+
+stats_push : (all : List (Ref × Effect)) (p : Ref × Effect) → stats_from (all ++ p ∷ []) ≡ count_effect (stats_from all) p
+stats_push all p = simp fold-append (cc (some_is p.1.evicted))
+
+-- so the steps, one after another, count what is defined
+pub stats_steps : (before all : List (Ref × Effect)) → fold count_effect (stats_from before) all ≡ stats_from (before ++ all)
+stats_steps before [] = ap stats_from (sym (append-nil before))
+stats_steps before (p ∷ all) =
+    ap (λ s. fold count_effect s all) (sym (stats_push before p)) ∙ stats_steps (before ++ p ∷ []) all ∙ ap stats_from (append_assoc before (p ∷ []) all)
+
+pub counts_push : (m : Machine) (events : List Event) (ref : Ref) →
+    cache_stats m (events ++ event.Reference ref ∷ []) ≡ count_effect (cache_stats m events) (ref, (step m (run m events) ref).effect)
+counts_push m events ref =
+    let effect = (step m (run m events) ref).effect in
+    ap₂ (λ (ns : List ℕ) (all : List (Ref × Effect)). count_flush (sum ns) (stats_from all)) (flush_counts_push_from m start events ref)
+    (with_effects_push m events ref)
+    ∙ ap (count_flush (sum (flush_counts m events))) (stats_push (with_effects m events) (ref, effect))
+    ∙ sym (flush_then_access ref.access effect.hit (option_map (λ slot. slot.dirty) effect.evicted) (sum (flush_counts m events)) _)
+
+pub counts_flush : (m : Machine) (events : List Event) →
+    cache_stats m (events ++ event.Flush ∷ []) ≡ count_flush (dirty_count (run m events)) (cache_stats m events)
+counts_flush m events =
+    ap₂ (λ (ns : List ℕ) (all : List (Ref × Effect)). count_flush (sum ns) (stats_from all)) (flush_counts_flush m events) (with_effects_flush m events)
+    ∙ ap (λ n. count_flush n (stats_from (with_effects m events))) (sum_by_push (λ n. n) (flush_counts m events) (dirty_count (run m events)))
+    ∙ sym (two_flushes (sum (flush_counts m events)) (dirty_count (run m events)) _)
 
 -- the references
 pub references_push : (events : List Event) (ref : Ref) → references_in (events ++ event.Reference ref ∷ []) ≡ references_in events ++ ref ∷ []
@@ -105,9 +150,7 @@ references_flush (event.Flush ∷ events) = references_flush events
 below_push_from : (plan : PlannedCaches) (seed : ℕ) (earlier events : List Event) (ref : Ref) →
     below_from plan seed earlier (events ++ event.Reference ref ∷ [])
     ≡ below_from plan seed earlier events ++ map (λ x. event.Reference x) (sent plan seed (earlier ++ events) ref)
-below_push_from plan seed earlier [] ref =
-    append-nil (map (λ x. event.Reference x) (sent plan seed earlier ref))
-    ∙ ap (λ es. map (λ x. event.Reference x) (sent plan seed es ref)) (sym (append-nil earlier))
+below_push_from plan seed earlier [] ref = cc (append-nil (map (λ x. event.Reference x) (sent plan seed earlier ref)), append-nil earlier)
 below_push_from plan seed earlier (event.Reference r ∷ events) ref =
     ap (λ es. map (λ x. event.Reference x) (sent plan seed earlier r) ++ es) (below_push_from plan seed (earlier ++ event.Reference r ∷ []) events ref)
     ∙ sym (append_assoc (map (λ x. event.Reference x) (sent plan seed earlier r)) (below_from plan seed (earlier ++ event.Reference r ∷ []) events) _)
@@ -116,9 +159,7 @@ below_push_from plan seed earlier (event.Reference r ∷ events) ref =
     ++ map (λ x. event.Reference x) (sent plan seed es ref))
     (append_assoc earlier (event.Reference r ∷ []) events)
 below_push_from plan seed earlier (event.Flush ∷ events) ref =
-    ap (λ es. event.Flush ∷ es) (below_push_from plan seed (earlier ++ event.Flush ∷ []) events ref)
-    ∙ ap (λ es. event.Flush ∷ (below_from plan seed (earlier ++ event.Flush ∷ []) events ++ map (λ x. event.Reference x) (sent plan seed es ref)))
-    (append_assoc earlier (event.Flush ∷ []) events)
+    cc (below_push_from plan seed (earlier ++ event.Flush ∷ []) events ref, append_assoc earlier (event.Flush ∷ []) events)
 
 pub below_push : (plan : PlannedCaches) (seed : ℕ) (events : List Event) (ref : Ref) →
     below plan seed (events ++ event.Reference ref ∷ []) ≡ below plan seed events ++ map (λ x. event.Reference x) (sent plan seed events ref)
@@ -128,9 +169,11 @@ below_flush_from : (plan : PlannedCaches) (seed : ℕ) (earlier events : List Ev
     below_from plan seed earlier (events ++ event.Flush ∷ []) ≡ below_from plan seed earlier events ++ event.Flush ∷ []
 below_flush_from plan seed earlier [] = refl
 below_flush_from plan seed earlier (event.Reference r ∷ events) =
-    ap (λ es. map (λ x. event.Reference x) (sent plan seed earlier r) ++ es) (below_flush_from plan seed (earlier ++ event.Reference r ∷ []) events)
-    ∙ sym (append_assoc (map (λ x. event.Reference x) (sent plan seed earlier r)) (below_from plan seed (earlier ++ event.Reference r ∷ []) events)
-    (event.Flush ∷ []))
+    cc (
+      below_flush_from plan seed (earlier ++ event.Reference r ∷ []) events,
+      append_assoc (map (λ x. event.Reference x) (sent plan seed earlier r)) (below_from plan seed (earlier ++ event.Reference r ∷ []) events)
+          (event.Flush ∷ []),
+    )
 below_flush_from plan seed earlier (event.Flush ∷ events) = ap (λ es. event.Flush ∷ es) (below_flush_from plan seed (earlier ++ event.Flush ∷ []) events)
 
 pub below_flush : (plan : PlannedCaches) (seed : ℕ) (events : List Event) →
@@ -138,12 +181,8 @@ pub below_flush : (plan : PlannedCaches) (seed : ℕ) (events : List Event) →
 below_flush plan seed events = below_flush_from plan seed [] events
 
 -- what reaches memory
-abbrev pub down_if_planned : ℕ → Option PlannedCache → List Event → Ref → List Ref
-down_if_planned seed None events ref = ref ∷ []
-down_if_planned seed (Some planned) events ref = (step (machine_of seed planned) (run (machine_of seed planned) events) ref).effect.down
-
 pub memory_push : (seed : ℕ) (planned : Option PlannedCache) (events : List Event) (ref : Ref) →
-    to_memory seed planned (events ++ event.Reference ref ∷ []) ≡ to_memory seed planned events ++ down_if_planned seed planned events ref
+    to_memory seed planned (events ++ event.Reference ref ∷ []) ≡ to_memory seed planned events ++ passes seed planned events ref
 memory_push seed None events ref = references_push events ref
 memory_push seed (Some planned) events ref =
     let m = machine_of seed planned in
@@ -156,7 +195,19 @@ pub memory_flush : (seed : ℕ) (planned : Option PlannedCache) (events : List E
 memory_flush seed None events = references_flush events
 memory_flush seed (Some planned) events = ap (flat_map (λ p. p.1.down)) (with_effects_flush (machine_of seed planned) events)
 
-pub flushed_if_planned_push : (seed : ℕ) (planned : Option PlannedCache) (events : List Event) (ref : Ref) →
-    flushed_if_planned seed planned (events ++ event.Reference ref ∷ []) ≡ flushed_if_planned seed planned events
-flushed_if_planned_push seed None events ref = refl
-flushed_if_planned_push seed (Some planned) events ref = flushed_push (machine_of seed planned) events ref
+pub memory_nil : (seed : ℕ) (planned : Option PlannedCache) → to_memory seed planned [] ≡ []
+memory_nil seed None = refl
+memory_nil seed (Some planned) = refl
+
+-- a reference that no cache takes sends nothing down
+none_sent : (seed : ℕ) (name : CacheName) (planned : Option PlannedCache) (events : List Event) (ref : Ref) →
+    (is_some planned && takes name ref) ≡ false → sends seed name planned events ref ≡ []
+none_sent seed name None events ref u = refl
+none_sent seed name (Some planned) events ref u =
+    ap (λ b. cond b (step (machine_of seed planned) (run (machine_of seed planned) (events_for name events)) ref).effect.down []) u
+
+pub untaken_sent : (plan : PlannedCaches) (seed : ℕ) (events : List Event) (ref : Ref) → is_taken plan ref ≡ false → sent plan seed events ref ≡ []
+untaken_sent plan seed events ref e =
+    let (ui, d) = or_parts (is_some plan.u || (is_some plan.i && takes L1I ref)) (is_some plan.d && takes L1D ref) e in
+    let (u, i) = or_parts (is_some plan.u) (is_some plan.i && takes L1I ref) ui in
+    rw (none_sent seed L1I plan.i events ref i, none_sent seed L1D plan.d events ref d, none_sent seed L1U plan.u events ref (ap (λ b. b && true) u)) refl

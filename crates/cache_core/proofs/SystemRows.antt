@@ -10,7 +10,7 @@ use Rattle.cache_core.specs.declared.outcome.AllocMode.TheVariants.{Always, Neve
 use Rattle.cache_core.specs.declared.plan.PlannedCache.{PlannedCache}
 use Rattle.cache_core.specs.declared.stats.Stats.{Stats}
 use Rattle.cache_core.specs.Systems.{system_run}
-use Rattle.cache_core.specs.SystemSteps.{no_counts}
+use Rattle.cache_core.specs.CacheStats.{no_counts}
 use Rattle.cache_core.specs.Plans.{PlannedCaches}
 use Rattle.rand_pcg.specs.Lcg.{state_after}
 use Rattle.cache_core.proofs.MachineRows.{read, write, fetch, six}

@@ -1,79 +1,98 @@
--- What arrives at a cache of the first level is what it takes.
-use Rattle.std.proofs.Common.{◌≡◌, ℕ, Bool, true, false, cond, List, [], ◌∷◌, ◌++◌, Option, Some, None, refl, sym, ap, ◌∙◌, append-nil}
-use Rattle.std.specs.Prelude.{flat_map}
-use Rattle.std.proofs.lemmas.List.Elements.{filter-append}
-use Rattle.std.specs.Option.{option_map}
+-- What arrives at a cache is what it takes, or what the first level sends: its lines show its accesses.
+use Rattle.std.proofs.Common.{◌≡◌, ℕ, Bool, true, false, cond, List, [], ◌∷◌, ◌++◌, map, Option, Some, None, refl, sym, ap, ◌∙◌}
+use Rattle.std.specs.Prelude.{flat_map, filter, is_some}
+use Rattle.std.proofs.lemmas.Bool.{true≢false}
 use Rattle.trace_core.specs.declared.events.Ref.{Ref}
 use Rattle.trace_core.specs.declared.events.Event.{Event}
 use Rattle.trace_core.specs.declared.events.Event.TheVariants as event
-use Rattle.cache_core.specs.declared.arrival.Victim.{Victim}
-use Rattle.cache_core.specs.declared.arrival.Arrival.TheVariants.{Cache}
+use Rattle.trace_core.specs.Events.{references_in}
+use Rattle.cache_core.specs.declared.arrival.Arrival.{Arrival}
+use Rattle.cache_core.specs.declared.arrival.Arrival.TheVariants.{Cache, Memory, Bypassed, Flush}
 use Rattle.cache_core.specs.declared.plan.PlannedCache.{PlannedCache}
 use Rattle.cache_core.specs.declared.plan.CacheName.{CacheName}
-use Rattle.cache_core.specs.declared.plan.CacheName.TheVariants.{L1I, L1D, L1U}
+use Rattle.cache_core.specs.declared.plan.CacheName.TheVariants.{L1I, L1D, L1U, L2U}
+use Rattle.cache_core.specs.Geometry.{GeometryValue}
+use Rattle.cache_core.specs.Machine.{Machine, MachineState, start, step, next, with_effects_from}
 use Rattle.cache_core.specs.Plans.{PlannedCaches}
-use Rattle.cache_core.specs.Machine.{run, step}
-use Rattle.cache_core.specs.Systems.{machine_of, takes, events_for, references_in}
-use Rattle.cache_core.specs.Arrivals.{victim_of, arrives, arrives_first, arrivals_of}
-use Rattle.cache_core.specs.LogLaws.{refs_at, if_there, FetchCacheLaw, DataCacheLaw, UnifiedCacheLaw}
-use Rattle.cache_core.proofs.SystemPushes.{references_push, references_flush}
-use Rattle.cache_core.proofs.LogParts.{OnlyAt, at_first, quiet_flushes, whole_log}
+use Rattle.cache_core.specs.Systems.{machine_of, takes, events_for}
+use Rattle.cache_core.specs.Arrivals.{arrivals}
+use Rattle.cache_core.specs.LogLaws.{is_same, planned_of, events_at, refs_at, lines_at, access_line, access_lines, if_there}
+use Rattle.cache_core.specs.LogLaws.{FetchCacheLaw, DataCacheLaw, UnifiedCacheLaw, SecondLevelLaw}
+use Rattle.cache_core.proofs.LinesLaw.{same, lines_law}
 
-if_there-append : (planned : Option PlannedCache) (p : Ref → Bool) (xs ys : List Ref) →
-    if_there planned p (xs ++ ys) ≡ if_there planned p xs ++ if_there planned p ys
-if_there-append None p xs ys = refl
-if_there-append (Some planned) p xs ys = filter-append p xs ys
-
-module _ (name : CacheName) (shows : (ref : Ref) (hit : Bool) (victim : Option Victim) → refs_at name (Cache name ref hit victim) ≡ ref ∷ []) where
-  arrives_shown : (seed : ℕ) (planned : PlannedCache) (before : List Event) (ref : Ref) →
-      flat_map (refs_at name) (arrives seed name (Some planned) before ref) ≡ ref ∷ []
-  arrives_shown seed planned before ref =
-      let effect = (step (machine_of seed planned) (run (machine_of seed planned) before) ref).effect in
-      ap (λ xs. xs ++ []) (shows ref effect.hit (option_map (victim_of planned.design.geometry) effect.evicted))
-
-  pub first_shown : (seed : ℕ) (planned : Option PlannedCache) (earlier : List Event) (ref : Ref) →
-      flat_map (refs_at name) (arrives_first seed name planned earlier ref) ≡ if_there planned (takes name) (ref ∷ [])
-  first_shown seed None earlier ref = refl
-  first_shown seed (Some planned) earlier ref = by_test (takes name ref)
+module _ (name : CacheName) where
+  -- its references are those of its lines
+  refs_of_lines : (log : List Arrival) → flat_map (refs_at name) log ≡ flat_map (refs_at name) (flat_map (lines_at name) log)
+  refs_of_lines [] = refl
+  refs_of_lines (Cache at ref hit victim ∷ log) = by_test (is_same name at) refl (refs_of_lines log)
     where
-      by_test : (b : Bool) →
-          flat_map (refs_at name) (cond b (arrives seed name (Some planned) (events_for name earlier) ref) []) ≡ cond b (ref ∷ []) []
-      by_test true = arrives_shown seed planned (events_for name earlier) ref
-      by_test false = refl
+      rest : List Arrival
+      rest = flat_map (lines_at name) log
 
-  pub taken : (plan : PlannedCaches) (seed : ℕ) (planned : Option PlannedCache) →
-      ((earlier : List Event) (ref : Ref) → flat_map (refs_at name) (arrivals_of plan seed earlier (event.Reference ref))
-      ≡ flat_map (refs_at name) (arrives_first seed name planned earlier ref)) →
-      (earlier : List Event) (e : Event) →
-      if_there planned (takes name) (references_in (earlier ++ e ∷ []))
-      ≡ if_there planned (takes name) (references_in earlier) ++ flat_map (refs_at name) (arrivals_of plan seed earlier e)
-  taken plan seed planned only earlier (event.Reference ref) =
-      ap (if_there planned (takes name)) (references_push earlier ref) ∙ if_there-append planned (takes name) (references_in earlier) (ref ∷ [])
-      ∙ ap (λ xs. if_there planned (takes name) (references_in earlier) ++ xs)
-      (sym (only earlier ref ∙ first_shown seed planned earlier ref))
-  taken plan seed planned only earlier event.Flush =
-      ap (if_there planned (takes name)) (references_flush earlier) ∙ sym (append-nil (if_there planned (takes name) (references_in earlier)))
-      ∙ ap (λ xs. if_there planned (takes name) (references_in earlier) ++ xs)
-      (sym (quiet_flushes (refs_at name) plan seed earlier (λ n. refl) (λ n. refl) (λ n. refl) (λ n. refl)))
+      by_test : (b : Bool) → is_same name at ≡ b → flat_map (refs_at name) log ≡ flat_map (refs_at name) rest →
+          cond (is_same name at) (ref ∷ []) [] ++ flat_map (refs_at name) log
+          ≡ flat_map (refs_at name) (cond (is_same name at) (Cache at ref hit victim ∷ []) [] ++ rest)
+      by_test true t same = rw (t, t) (ap (λ refs. ref ∷ refs) same)
+      by_test false t same = rw t same
+  refs_of_lines (Memory ref ∷ log) = refs_of_lines log
+  refs_of_lines (Bypassed ref ∷ log) = refs_of_lines log
+  refs_of_lines (Flush at dirty ∷ log) = refs_of_lines log
 
-none_taken : (planned : Option PlannedCache) (p : Ref → Bool) → if_there planned p [] ≡ []
-none_taken None p = refl
-none_taken (Some planned) p = refl
+  -- and these those that come to it
+  refs_shown : (m : Machine) (g : GeometryValue) (st : MachineState) (events : List Event) →
+      flat_map (refs_at name) (map (access_line name g) (with_effects_from m st events)) ≡ references_in events
+  refs_shown m g st [] = refl
+  refs_shown m g st (event.Reference ref ∷ events) =
+      ap (λ b. cond b (ref ∷ []) [] ++ flat_map (refs_at name) (map (access_line name g) (with_effects_from m (step m st ref).after events))) (same name)
+      ∙ ap (λ refs. ref ∷ refs) (refs_shown m g (step m st ref).after events)
+  refs_shown m g st (event.Flush ∷ events) = refs_shown m g (next m st event.Flush) events
 
-only_refs : (name : CacheName) → OnlyAt (refs_at name) name
-only_refs name = (λ other e r h v. ap (λ b. cond b (r ∷ []) []) e, λ r. refl, λ r. refl)
+  -- all of them, if there is a cache
+  abbrev all_if_there : Option PlannedCache → List Ref → List Ref
+  all_if_there None refs = []
+  all_if_there (Some planned) refs = refs
+
+  arrived : (plan : PlannedCaches) (seed : ℕ) (events : List Event) →
+      flat_map (refs_at name) (arrivals plan seed events) ≡ all_if_there (planned_of plan name) (references_in (events_at plan seed name events))
+  arrived plan seed events =
+      refs_of_lines (arrivals plan seed events) ∙ ap (flat_map (refs_at name)) (lines_law name plan seed events)
+      ∙ by_plan (planned_of plan name) (events_at plan seed name events)
+    where
+      by_plan : (planned : Option PlannedCache) (here : List Event) →
+          flat_map (refs_at name) (access_lines seed name planned here) ≡ all_if_there planned (references_in here)
+      by_plan None here = refl
+      by_plan (Some planned) here = refs_shown (machine_of seed planned) planned.design.geometry start here
+
+  -- a cache of the first level gets what it takes
+  references_for : (events : List Event) → references_in (events_for name events) ≡ filter (takes name) (references_in events)
+  references_for [] = refl
+  references_for (event.Reference ref ∷ events) = by_test (takes name ref) (references_for events)
+    where
+      by_test : (b : Bool) → references_in (events_for name events) ≡ filter (takes name) (references_in events) →
+          references_in (cond b (event.Reference ref ∷ events_for name events) (events_for name events))
+          ≡ cond b (ref ∷ filter (takes name) (references_in events)) (filter (takes name) (references_in events))
+      by_test true same = ap (λ refs. ref ∷ refs) same
+      by_test false same = same
+  references_for (event.Flush ∷ events) = references_for events
+
+  taken : (planned : Option PlannedCache) (events : List Event) →
+      all_if_there planned (references_in (events_for name events)) ≡ if_there planned (takes name) (references_in events)
+  taken None events = refl
+  taken (Some planned) events = references_for events
 
 pub fetch_cache_law : FetchCacheLaw
-fetch_cache_law plan seed =
-    whole_log (refs_at L1I) plan seed (λ events. if_there plan.i (takes L1I) (references_in events)) (none_taken plan.i (takes L1I))
-    (taken L1I (λ r h v. refl) plan seed plan.i (λ earlier ref. at_first (refs_at L1I) plan seed earlier ref L1I refl (only_refs L1I)))
+fetch_cache_law plan seed events = arrived L1I plan seed events ∙ taken L1I plan.i events
 
 pub data_cache_law : DataCacheLaw
-data_cache_law plan seed =
-    whole_log (refs_at L1D) plan seed (λ events. if_there plan.d (takes L1D) (references_in events)) (none_taken plan.d (takes L1D))
-    (taken L1D (λ r h v. refl) plan seed plan.d (λ earlier ref. at_first (refs_at L1D) plan seed earlier ref L1D refl (only_refs L1D)))
+data_cache_law plan seed events = arrived L1D plan seed events ∙ taken L1D plan.d events
 
 pub unified_cache_law : UnifiedCacheLaw
-unified_cache_law plan seed =
-    whole_log (refs_at L1U) plan seed (λ events. if_there plan.u (takes L1U) (references_in events)) (none_taken plan.u (takes L1U))
-    (taken L1U (λ r h v. refl) plan seed plan.u (λ earlier ref. at_first (refs_at L1U) plan seed earlier ref L1U refl (only_refs L1U)))
+unified_cache_law plan seed events = arrived L1U plan seed events ∙ taken L1U plan.u events
+
+pub second_level_law : SecondLevelLaw
+second_level_law plan seed events there = arrived L2U plan seed events ∙ by_plan plan.second there
+  where
+    by_plan : (planned : Option PlannedCache) → is_some planned ≡ true →
+        all_if_there L2U planned (references_in (events_at plan seed L2U events)) ≡ references_in (events_at plan seed L2U events)
+    by_plan None none = absurd (true≢false (sym none))
+    by_plan (Some planned) t = refl

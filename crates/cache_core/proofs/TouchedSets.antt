@@ -1,10 +1,10 @@
 -- What a list of touched sets says of the counts, kept as the counts change.
-use Rattle.std.proofs.Common.{◌≡◌, ◌<◌, ◌+◌, ◌++◌, ◌||◌, ◌&&◌, not, Bool, true, false, cond, eqb, ltb, ℕ, zero, suc, List, []}
+use Rattle.std.proofs.Common.{◌≡◌, ◌<◌, ◌+◌, ◌++◌, ◌||◌, ◌&&◌, not, false, cond, eqb, ltb, ℕ, zero, suc, List, []}
 use Rattle.std.proofs.Common.{◌∷◌, Option, Some, None, length, get_or, set, replicate, drop, refl, sym, subst, ap, ◌∙◌, arith, ⊎_elim}
 use Rattle.std.proofs.Common.{length-set, add-one, drop-cons, get_or-set_same, get_or-set_other}
 use Rattle.std.specs.Prelude.{All, IfSome}
 use Rattle.std.specs.List.{list_any}
-use Rattle.std.proofs.lemmas.Bool.{cases_eq, eq-eqb, eqb-true, ne_eqb, false≢true}
+use Rattle.std.proofs.lemmas.Bool.{cases_eq, ne_eqb}
 use Rattle.std.proofs.lemmas.List.Elements.{All-nil, All-cons, All-tail, All-append}
 use Rattle.std.proofs.lemmas.List.Folds.{list_any-append}
 use Rattle.cache_core.specs.Touched.{TouchedValue, Covers, ListsFilled, after_count, joined}
@@ -27,14 +27,6 @@ zero_at (suc n) (suc k) = zero_at n k
 pub covers_none : (touched : TouchedValue) (capacity n : ℕ) (counts : List ℕ) → touched ≡ record { capacity = capacity; listed = Some [] } →
     counts ≡ replicate n 0 → Covers touched counts
 covers_none touched capacity n counts is none = rw (is, none) record { within = All-nil (λ k. k < length (replicate n 0)); others = λ k _. zero_at n k }
-
-or_left : (a b : Bool) → (a || b) ≡ false → a ≡ false
-or_left true b h = h
-or_left false b h = refl
-
-or_right : (a b : Bool) → (a || b) ≡ false → b ≡ false
-or_right true b h = absurd (false≢true (sym h))
-or_right false b h = h
 
 -- a count changes, and is 0 then if its set is not listed
 changed : (sets counts : List ℕ) (k n : ℕ) → k < length counts → ListsFilled sets counts →
@@ -73,14 +65,11 @@ longer : (sets counts : List ℕ) (k : ℕ) → k < length counts → ListsFille
 longer sets counts k lt l = record {
   within = All-append (λ j. j < length counts) sets (k ∷ []) l.within (All-cons (λ j. j < length counts) k [] lt (All-nil (λ j. j < length counts)));
   others = λ j unlisted.
-      l.others j (or_left _ (list_any (λ other. eqb other j) (k ∷ [])) (sym (list_any-append (λ other. eqb other j) sets (k ∷ [])) ∙ unlisted));
+      l.others j (grind (arith, list_any-append (λ other. eqb other j) sets (k ∷ []), unlisted));
 }
 
 last_listed : (sets : List ℕ) (k n : ℕ) → list_any (λ other. eqb other k) (sets ++ k ∷ []) ≡ false → n ≡ 0
-last_listed sets k n unlisted =
-    let last : (eqb k k || false) ≡ false =
-    or_right (list_any (λ other. eqb other k) sets) _ (sym (list_any-append (λ other. eqb other k) sets (k ∷ [])) ∙ unlisted) in
-    absurd (false≢true (sym (or_left (eqb k k) false last) ∙ eq-eqb k k refl))
+last_listed sets k n unlisted = grind (arith, list_any-append (λ other. eqb other k) sets (k ∷ []), unlisted)
 
 covers_joined : (capacity k n : ℕ) (listed : Option (List ℕ)) (counts : List ℕ) → k < length counts →
     IfSome listed (λ sets. ListsFilled sets counts) → IfSome (joined capacity k listed) (λ sets. ListsFilled sets (set counts k n))
@@ -97,10 +86,7 @@ covers_kept k n (Some sets) counts lt h l = changed sets counts k n lt l (λ unl
 
 -- a count that did not grow from 0
 not_grown : (before after : ℕ) → (eqb before 0 && not (eqb after 0)) ≡ false → before ≡ 0 → after ≡ 0
-not_grown before after h e =
-    let some : not (eqb after 0) ≡ false = ap (λ b. b && not (eqb after 0)) (sym (eq-eqb before 0 e)) ∙ h in
-    cases (λ b. (eqb after 0 ≡ b) → (not b ≡ false) → after ≡ 0) (eqb after 0) (λ _ is _. eqb-true after 0 is)
-    (λ _ _ n. absurd (false≢true (sym n))) refl some
+not_grown before after h e = grind (arith, h, e)
 
 -- the count of a set changes
 pub covers_change : (touched : TouchedValue) (counts : List ℕ) (k before after : ℕ) → k < length counts → before ≡ get_or counts k 0 →

@@ -1,7 +1,9 @@
+pub mod Powers
 pub mod Geometry
 pub mod Windows
 pub mod Outcomes
 pub mod RandomNumbers
+pub mod Rules
 pub mod Machine
 pub mod Order
 pub mod Slab
@@ -10,6 +12,7 @@ pub mod Stands
 pub mod LruLaws
 pub mod Simulation
 pub mod Plans
+pub mod CacheStats
 pub mod Systems
 pub mod Arrivals
 pub mod SystemCaches

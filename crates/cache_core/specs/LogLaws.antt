@@ -7,6 +7,7 @@ use Rattle.trace_core.specs.declared.events.Ref.{Ref}
 use Rattle.trace_core.specs.declared.events.Access.TheVariants.{Fetch, Read, Write}
 use Rattle.trace_core.specs.declared.events.Event.{Event}
 use Rattle.trace_core.specs.declared.events.Event.TheVariants as event
+use Rattle.trace_core.specs.Events.{is_fetch, is_write, references_in}
 use Rattle.cache_core.specs.declared.outcome.Design.{Design}
 use Rattle.cache_core.specs.declared.outcome.WriteMode.{WriteMode}
 use Rattle.cache_core.specs.declared.outcome.WriteMode.TheVariants.{Back, Through}
@@ -19,10 +20,10 @@ use Rattle.cache_core.specs.declared.arrival.Victim.{Victim}
 use Rattle.cache_core.specs.declared.arrival.Arrival.{Arrival}
 use Rattle.cache_core.specs.declared.arrival.Arrival.TheVariants.{Cache, Memory, Bypassed, Flush}
 use Rattle.cache_core.specs.Geometry.{GeometryValue}
-use Rattle.cache_core.specs.Outcomes.{Effect, is_write}
-use Rattle.cache_core.specs.Machine.{Machine, run, dirty_count, with_effects}
+use Rattle.cache_core.specs.Outcomes.{Effect}
+use Rattle.cache_core.specs.Machine.{with_effects}
 use Rattle.cache_core.specs.Plans.{PlannedCaches, IsPlan}
-use Rattle.cache_core.specs.Systems.{machine_of, events_for, is_fetch, below, references_in, to_memory}
+use Rattle.cache_core.specs.Systems.{machine_of, events_for, below, to_memory, flush_counts_if_planned}
 use Rattle.cache_core.specs.Arrivals.{arrivals_from, arrivals}
 
 -- whether two names are the same
@@ -81,6 +82,11 @@ DataCacheLaw = (plan : PlannedCaches) (seed : ℕ) (events : List Event) →
 abbrev pub UnifiedCacheLaw : Type 0
 UnifiedCacheLaw = (plan : PlannedCaches) (seed : ℕ) (events : List Event) →
     flat_map (refs_at L1U) (arrivals plan seed events) ≡ if_there plan.u (λ ref. true) (references_in events)
+
+-- what arrives at the second level is, in order, what the first sends
+abbrev pub SecondLevelLaw : Type 0
+SecondLevelLaw = (plan : PlannedCaches) (seed : ℕ) (events : List Event) → is_some plan.second ≡ true →
+    flat_map (refs_at L2U) (arrivals plan seed events) ≡ references_in (below plan seed events)
 
 -- a dirty victim is written back at its address
 abbrev pub victim_write : Option Victim → List Ref
@@ -210,18 +216,7 @@ abbrev pub dirty_at : CacheName → Arrival → List ℕ
 dirty_at name (Flush at dirty) = if is_same name at then dirty ∷ [] else []
 dirty_at name _ = []
 
--- how many dirty blocks each flush finds, where it comes after these events
-abbrev pub found_from : Machine → List Event → List Event → List ℕ
-found_from m before [] = []
-found_from m before (event.Reference ref ∷ events) = found_from m (before ++ event.Reference ref ∷ []) events
-found_from m before (event.Flush ∷ events) = dirty_count (run m before) ∷ found_from m (before ++ event.Flush ∷ []) events
-
--- the same of all events of a cache, if there is one
-abbrev pub found : ℕ → Option PlannedCache → List Event → List ℕ
-found seed None events = []
-found seed (Some planned) events = found_from (machine_of seed planned) [] events
-
 -- the lines of the flushes of a cache show, in order, how many dirty blocks each finds
 abbrev pub FlushCountsLaw : Type 0
 FlushCountsLaw = (name : CacheName) (plan : PlannedCaches) (seed : ℕ) (events : List Event) →
-    flat_map (dirty_at name) (arrivals plan seed events) ≡ found seed (planned_of plan name) (events_at plan seed name events)
+    flat_map (dirty_at name) (arrivals plan seed events) ≡ flush_counts_if_planned seed (planned_of plan name) (events_at plan seed name events)

@@ -1,6 +1,6 @@
 -- The stamp machine: a cache as a map. It holds blocks, each with a stamp (its key) and a dirty mark; the key says which
 -- block of a full set leaves. (LRU by stamps: Mattson, Gecsei, Slutz and Traiger 1970.)
-use Rattle.std.specs.Prelude.{ℕ, ◌+◌, ◌%◌, Bool, true, false, ◌||◌, ◌&&◌, not, List, [], ◌∷◌, ◌++◌, Option, Some, None}
+use Rattle.std.specs.Prelude.{ℕ, ◌+◌, ◌%◌, Bool, ◌||◌, ◌&&◌, not, List, [], ◌∷◌, ◌++◌, Option, Some, None}
 use Rattle.std.specs.Prelude.{if◌then◌else◌, ◌==◌, nat_lt, length, filter, map, find, fold, count_by, is_some}
 use Rattle.trace_core.specs.declared.events.Ref.{Ref}
 use Rattle.trace_core.specs.declared.events.Event.{Event}
@@ -9,9 +9,9 @@ use Rattle.cache_core.specs.declared.outcome.Slot.{Slot}
 use Rattle.cache_core.specs.declared.outcome.Counts.{Counts}
 use Rattle.cache_core.specs.declared.outcome.Design.{Design}
 use Rattle.cache_core.specs.declared.outcome.Repl.{Repl}
-use Rattle.cache_core.specs.declared.outcome.Repl.TheVariants.{Lru, Fifo, Random}
 use Rattle.cache_core.specs.Geometry.{GeometryValue, block_of, set_of_block, set_of}
 use Rattle.cache_core.specs.Outcomes.{Effect, on_hit, on_placing, on_passing, dirties, allocates}
+use Rattle.cache_core.specs.Rules.{Place, InFront, InPlace, Victim, Last, Drawn, rules, draws}
 
 -- a block that is held. Its key is the clock of the last touch or placing (LRU), the clock of placing
 -- (FIFO), or the way (random)
@@ -72,35 +72,39 @@ abbrev pub least : List Line → Option Line
 least [] = None
 least (line ∷ lines) = Some (lesser line (least lines))
 
--- the victim in a full set, where number is the next random number
-abbrev pub victim : Repl → ℕ → ℕ → List Line → Option Line
-victim Lru ways number lines = least lines
-victim Fifo ways number lines = least lines
-victim Random ways number lines = find (λ line. line.key == number % ways) lines
+-- the victim in a full set: the line with the least key (LRU, FIFO), or the line of the way that was drawn (random)
+abbrev pub victim : Victim → ℕ → List Line → Option Line
+victim Last way lines = least lines
+victim Drawn way lines = find (λ line. line.key == way) lines
 
--- whether a policy draws a random number for a block that is placed in a full set
-abbrev pub draws : Repl → Bool
-draws Lru = false
-draws Fifo = false
-draws Random = true
+-- the lines with a new one: in front of them, or in the place of the line that goes, and behind them if none goes
+abbrev pub with_line_at : Place → Line → Option Line → List Line → List Line
+with_line_at InFront new None lines = new ∷ lines
+with_line_at InFront new (Some gone) lines = new ∷ without gone.block lines
+with_line_at InPlace new None lines = lines ++ new ∷ []
+with_line_at InPlace new (Some gone) lines = exchange gone.block new lines
+
+-- the key of a line that goes there: the clock in front, and else what its place has
+abbrev pub key_at : Place → ℕ → ℕ → ℕ
+key_at InFront clock there = clock
+key_at InPlace clock there = there
 
 -- the lines after a touch of this one: LRU puts it in front with this clock as its key, the others leave it where it is
 abbrev pub with_touch : Repl → ℕ → Line → List Line → List Line
-with_touch Lru clock line lines = record line { key = clock } ∷ without line.block lines
-with_touch Fifo clock line lines = exchange line.block line lines
-with_touch Random clock line lines = exchange line.block line lines
+with_touch policy clock line lines =
+    let to = (rules policy).touched in with_line_at to (record line { key = key_at to clock line.key }) (Some line) lines
 
--- the lines with a new block placed at this clock in a set that held so many blocks, in place of this line, if any
+-- the key of the line that goes, or of the next way if none goes from a set of so many blocks
+abbrev pub key_there : Option Line → ℕ → ℕ
+key_there None count = count
+key_there (Some gone) count = gone.key
+
+-- The lines with a new block placed at this clock in a set that held so many blocks, in place of this line, if any: LRU and FIFO put
+-- it in front with the clock as its key, random in the way of the line that goes, or in the next one.
 abbrev pub with_block : Repl → ℕ → ℕ → Slot → Option Line → List Line → List Line
-with_block Random clock count new None lines = lines ++ record { block = new.block; key = count; dirty = new.dirty } ∷ []
-with_block Random clock count new (Some gone) lines =
-    exchange gone.block (record { block = new.block; key = gone.key; dirty = new.dirty }) lines
-with_block Lru clock count new None lines = record { block = new.block; key = clock; dirty = new.dirty } ∷ lines
-with_block Lru clock count new (Some gone) lines =
-    record { block = new.block; key = clock; dirty = new.dirty } ∷ without gone.block lines
-with_block Fifo clock count new None lines = record { block = new.block; key = clock; dirty = new.dirty } ∷ lines
-with_block Fifo clock count new (Some gone) lines =
-    record { block = new.block; key = clock; dirty = new.dirty } ∷ without gone.block lines
+with_block policy clock count new gone lines =
+    let to = (rules policy).placed in
+    with_line_at to (record { block = new.block; key = key_at to clock (key_there gone count); dirty = new.dirty }) gone lines
 
 -- whether a set is full
 abbrev pub is_full : Machine → MachineState → ℕ → Bool
@@ -120,7 +124,7 @@ placing m ref block leaving st =
         clock = st.clock + 1;
         lines = with_block m.policy (st.clock + 1) (length (lines_of_set m.design.geometry set st.lines))
             (record { block = block; dirty = dirties m.design.write ref.access }) leaving st.lines;
-        drawn = (if is_full m st set && draws m.policy then st.drawn + 1 else st.drawn);
+        drawn = (if is_full m st set && draws (rules m.policy).victim then st.drawn + 1 else st.drawn);
       };
       effect = on_placing m.design.geometry m.design.write ref block (option_slot leaving);
     }
@@ -150,7 +154,8 @@ step_with m ref leaving st =
 abbrev pub leaves : Machine → MachineState → ℕ → Option Line
 leaves m st set =
     let here = lines_of_set m.design.geometry set st.lines in
-    if nat_lt (length here) m.design.geometry.e then None else victim m.policy m.design.geometry.e (m.random_numbers st.drawn) here
+    if nat_lt (length here) m.design.geometry.e then None
+    else victim (rules m.policy).victim (m.random_numbers st.drawn % m.design.geometry.e) here
 
 -- one reference, where the line leaves that the policy names
 abbrev pub step : Machine → MachineState → Ref → Step

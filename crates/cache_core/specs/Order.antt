@@ -1,40 +1,54 @@
 -- What a cache holds, each set in its policy's order, and one access to it.
-use Rattle.std.specs.Prelude.{◌≡◌, ◌≢◌, ◌<◌, ◌≤◌, ℕ, ◌+◌, ◌%◌, Bool, true, false, List, [], ◌∷◌, ◌++◌, Option}
+use Rattle.std.specs.Prelude.{◌≡◌, ◌≢◌, ◌<◌, ◌≤◌, ℕ, ◌+◌, ◌-◌, ◌%◌, Bool, true, false, List, [], ◌∷◌, ◌++◌, Option}
 use Rattle.std.specs.Prelude.{Some, None, if◌then◌else◌, ◌==◌, length, MatchOption, MatchBool, slice_get, slice_set, slice_index_or, remove}
-use Rattle.std.specs.Prelude.{position, sum_by, count_by, replicate, IsPermutation}
+use Rattle.std.specs.Prelude.{position, sum_by, count_by, replicate, IsPermutation, unwrap_or}
+use Rattle.std.specs.Option.{option_map}
 use Rattle.trace_core.specs.declared.events.Ref.{Ref}
+use Rattle.trace_core.specs.Events.{is_write, one_if}
 use Rattle.cache_core.specs.declared.outcome.Slot.{Slot}
 use Rattle.cache_core.specs.declared.outcome.Outcome.{Outcome}
 use Rattle.cache_core.specs.declared.outcome.Design.{Design}
 use Rattle.cache_core.specs.declared.outcome.Repl.{Repl}
-use Rattle.cache_core.specs.declared.outcome.Repl.TheVariants.{Lru, Fifo, Random}
 use Rattle.cache_core.specs.Geometry.{block_of, set_of}
-use Rattle.cache_core.specs.Outcomes.{outcome_of, on_hit, on_placing, on_passing, dirties, allocates, is_write}
+use Rattle.cache_core.specs.Outcomes.{outcome_of, on_hit, on_placing, on_passing, dirties, allocates}
+use Rattle.cache_core.specs.Rules.{Place, InFront, InPlace, Victim, Last, Drawn, rules, draws}
+
+-- the slot at an index comes to the front, or stays where it is
+abbrev pub Moves : Place → List Slot → ℕ → List Slot → Type 0
+Moves InFront old at new = (x : Slot) × (slice_get old at ≡ Some x) × (new ≡ x ∷ remove old at)
+Moves InPlace old at new = new ≡ old
 
 -- A touch of the slot at an index. LRU brings it to the front; FIFO and random leave the order. Of any
 -- other policy it is known that the slots are the same.
 abbrev pub Touches : Option Repl → List Slot → ℕ → List Slot → Type 0
 Touches None old at new = IsPermutation old new
-Touches (Some Lru) old at new = (x : Slot) × (slice_get old at ≡ Some x) × (new ≡ x ∷ remove old at)
-Touches (Some Fifo) old at new = new ≡ old
-Touches (Some Random) old at new = new ≡ old
+Touches (Some policy) old at new = Moves (rules policy).touched old at new
+
+-- the slots with a new one: in front of them, or in the place of that at an index, which goes, and behind them if none goes
+abbrev pub with_slot_at : Place → Slot → Option ℕ → List Slot → List Slot
+with_slot_at InFront slot None old = slot ∷ old
+with_slot_at InFront slot (Some at) old = slot ∷ remove old at
+with_slot_at InPlace slot None old = old ++ slot ∷ []
+with_slot_at InPlace slot (Some at) old = slice_set old at slot
 
 -- A slot put into a set that is not full: LRU and FIFO put it in front, random in the next way.
 abbrev pub Inserts : Option Repl → List Slot → Slot → List Slot → Type 0
 Inserts None old slot new = IsPermutation (slot ∷ old) new
-Inserts (Some Lru) old slot new = new ≡ slot ∷ old
-Inserts (Some Fifo) old slot new = new ≡ slot ∷ old
-Inserts (Some Random) old slot new = new ≡ old ++ slot ∷ []
+Inserts (Some policy) old slot new = new ≡ with_slot_at (rules policy).placed slot None old
+
+-- the index of the slot that leaves a full set: the last one, or the one that the random number names
+abbrev pub victim_at : Victim → ℕ → List Slot → ℕ
+victim_at Last number slots = length slots - 1
+victim_at Drawn number slots = number % length slots
 
 -- A slot put into a full set, where one leaves: LRU and FIFO put it in front and take out the last,
 -- random exchanges the way that the random number names.
 abbrev pub Exchanges : Option Repl → ℕ → List Slot → Slot → Slot → List Slot → Type 0
 Exchanges None number old slot gone new =
     (rest : List Slot) × IsPermutation old (gone ∷ rest) × IsPermutation (slot ∷ rest) new
-Exchanges (Some Lru) number old slot gone new = (front : List Slot) × (old ≡ front ++ gone ∷ []) × (new ≡ slot ∷ front)
-Exchanges (Some Fifo) number old slot gone new = (front : List Slot) × (old ≡ front ++ gone ∷ []) × (new ≡ slot ∷ front)
-Exchanges (Some Random) number old slot gone new =
-    (slice_get old (number % length old) ≡ Some gone) × (new ≡ slice_set old (number % length old) slot)
+Exchanges (Some policy) number old slot gone new =
+    let at = victim_at (rules policy).victim number old in
+    (slice_get old at ≡ Some gone) × (new ≡ with_slot_at (rules policy).placed slot (Some at) old)
 
 -- A slot placed in a set of this capacity, by what leaves.
 abbrev pub TakesIn : Option Repl → ℕ → ℕ → List Slot → Slot → Option Slot → List Slot → Type 0
@@ -43,10 +57,8 @@ TakesIn policy number capacity old slot (Some gone) new = (length old ≡ capaci
 
 -- only random draws a random number, and only when a slot leaves
 abbrev pub random_numbers_after : Option Repl → Option Slot → (ℕ → ℕ) → ℕ → ℕ
-random_numbers_after (Some Random) (Some _) numbers n = numbers (n + 1)
-random_numbers_after (Some Random) None numbers n = numbers n
-random_numbers_after (Some Lru) _ numbers n = numbers n
-random_numbers_after (Some Fifo) _ numbers n = numbers n
+random_numbers_after (Some policy) (Some _) numbers n = if draws (rules policy).victim then numbers (n + 1) else numbers n
+random_numbers_after (Some policy) None numbers n = numbers n
 random_numbers_after None _ numbers n = numbers n
 
 -- the slots with that at an index marked dirty, if it is to be
@@ -129,12 +141,7 @@ pub record FlushesCache (old : Contents) (dirty : ℕ) (new : Contents) : Type 0
 
 -- whether there is a slot, and it is dirty
 abbrev pub is_dirty : Option Slot → Bool
-is_dirty None = false
-is_dirty (Some slot) = slot.dirty
-
--- 1 where something is so, and else 0
-abbrev pub one_if : Bool → ℕ
-one_if b = if b then 1 else 0
+is_dirty slot = unwrap_or (option_map (λ s. s.dirty) slot) false
 
 -- after an access at most one more slot is dirty, the one that left counted too, and that only after a write
 abbrev pub DirtiesByWrites : List (List Slot) → Ref → Outcome → List (List Slot) → Type 0

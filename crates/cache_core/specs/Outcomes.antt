@@ -4,6 +4,7 @@ use Rattle.std.specs.Prelude.{ℕ, Bool, true, false, not, List, [], ◌∷◌, 
 use Rattle.trace_core.specs.declared.events.Ref.{Ref}
 use Rattle.trace_core.specs.declared.events.Access.{Access}
 use Rattle.trace_core.specs.declared.events.Access.TheVariants.{Fetch, Read, Write}
+use Rattle.trace_core.specs.Events.{is_write}
 use Rattle.cache_core.specs.declared.outcome.Slot.{Slot}
 use Rattle.cache_core.specs.declared.outcome.Outcome.{Outcome}
 use Rattle.cache_core.specs.declared.outcome.WriteMode.{WriteMode}
@@ -11,12 +12,6 @@ use Rattle.cache_core.specs.declared.outcome.WriteMode.TheVariants.{Back, Throug
 use Rattle.cache_core.specs.declared.outcome.AllocMode.{AllocMode}
 use Rattle.cache_core.specs.declared.outcome.AllocMode.TheVariants.{Always, Never}
 use Rattle.cache_core.specs.Geometry.{GeometryValue, address_of}
-
--- whether an access is a write
-abbrev pub is_write : Access → Bool
-is_write Fetch = false
-is_write Read = false
-is_write Write = true
 
 -- whether a reference marks its line dirty: a write, in a write-back cache
 abbrev pub dirties : WriteMode → Access → Bool

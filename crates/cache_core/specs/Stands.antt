@@ -4,11 +4,10 @@ use Rattle.trace_core.specs.declared.events.Ref.{Ref}
 use Rattle.trace_core.specs.declared.events.Event.{Event}
 use Rattle.trace_core.specs.declared.events.Event.TheVariants as event
 use Rattle.cache_core.specs.declared.outcome.Outcome.{Outcome}
-use Rattle.cache_core.specs.declared.outcome.Repl.{Repl}
-use Rattle.cache_core.specs.declared.outcome.Repl.TheVariants.{Lru, Fifo, Random}
 use Rattle.cache_core.specs.Machine.{Machine, MachineState, Line, run, slot_of, lines_of_set, step, dirty_count}
 use Rattle.cache_core.specs.Order.{Contents, Accesses, FlushesCache, slots_of}
 use Rattle.cache_core.specs.Outcomes.{outcome_of}
+use Rattle.cache_core.specs.Rules.{Place, InFront, InPlace, rules}
 
 -- Each set holds the slots of the machine's lines of it, in their order, and the random numbers still to come
 -- are those that the machine hasn't drawn.
@@ -29,11 +28,10 @@ abbrev pub CountsUp : ℕ → List Line → Type 0
 CountsUp n [] = Unit {0}
 CountsUp n (line ∷ lines) = (line.key ≡ n) × CountsUp (n + 1) lines
 
--- the lines of a set are in the policy's order: the newest key first, or way after way
-abbrev pub InOrder : Repl → ℕ → List Line → Type 0
-InOrder Lru clock lines = Falls (clock + 1) lines
-InOrder Fifo clock lines = Falls (clock + 1) lines
-InOrder Random clock lines = CountsUp 0 lines
+-- the lines of a set are in order: the newest key first where a new block goes in front, and else way after way
+abbrev pub InOrder : Place → ℕ → List Line → Type 0
+InOrder InFront clock lines = Falls (clock + 1) lines
+InOrder InPlace clock lines = CountsUp 0 lines
 
 -- no line of this block
 abbrev pub Absent : ℕ → List Line → Type 0
@@ -45,14 +43,14 @@ abbrev pub Distinct : List Line → Type 0
 Distinct [] = Unit {0}
 Distinct (l ∷ ls) = Absent l.block ls × Distinct ls
 
--- what the lines of a set keep: each block has one at most, and they are in the policy's order
-pub record IsGood (policy : Repl) (clock : ℕ) (ls : List Line) : Type 0 where
+-- what the lines of a set keep, by where a new block goes: each block has one at most, and they are in order
+pub record IsGood (placed : Place) (clock : ℕ) (ls : List Line) : Type 0 where
   pub distinct : Distinct ls
-  pub order : InOrder policy clock ls
+  pub order : InOrder placed clock ls
 
 -- each set of the machine is good
 abbrev pub IsSoundState : Machine → MachineState → Type 0
-IsSoundState m st = (k : ℕ) → IsGood m.policy st.clock (lines_of_set m.design.geometry k st.lines)
+IsSoundState m st = (k : ℕ) → IsGood (rules m.policy).placed st.clock (lines_of_set m.design.geometry k st.lines)
 
 -- a cache that holds what the machine holds after a list of events
 abbrev pub CacheStandsFor : Machine → List Event → Contents → Type 0

@@ -2,18 +2,18 @@
 use Rattle.std.specs.Prelude.{◌≡◌, ◌≤◌, ℕ, ◌+◌, ◌*◌, ◌^◌, Bool, List, [], ◌∷◌, Option, Some, None, if◌then◌else◌}
 use Rattle.std.specs.Prelude.{MatchOption, MatchBool, is_some, is_none}
 use Rattle.trace_core.specs.declared.events.Ref.{Ref}
+use Rattle.trace_core.specs.Events.{is_fetch, is_write, one_if}
 use Rattle.cache_core.specs.declared.outcome.Outcome.{Outcome}
 use Rattle.cache_core.specs.declared.stats.CacheStats.{CacheStats}
 use Rattle.cache_core.specs.declared.stats.Stats.{Stats}
 use Rattle.cache_core.specs.declared.system_cache.SystemCache.{SystemCache}
 use Rattle.cache_core.specs.declared.system.Memory.{Memory}
-use Rattle.cache_core.specs.Order.{one_if}
-use Rattle.cache_core.specs.Outcomes.{is_write}
-use Rattle.cache_core.specs.Systems.{is_fetch, random_numbers_for}
+use Rattle.cache_core.specs.Systems.{random_numbers_for}
 use Rattle.cache_core.specs.declared.plan.PlannedCache.{PlannedCache}
 use Rattle.cache_core.specs.Plans.{PlannedCaches}
 use Rattle.cache_core.specs.Slab.{empty_sets}
-use Rattle.cache_core.specs.SystemCaches.{policy_of, random_numbers_of, accesses}
+use Rattle.cache_core.specs.CacheStats.{no_counts, accesses}
+use Rattle.cache_core.specs.SystemCaches.{policy_of, random_numbers_of}
 use Rattle.cache_core.specs.CacheSteps.{Enters, Empties}
 
 -- the references that are there, in order
@@ -148,10 +148,6 @@ stats_of v = record {
   memory_writes = v.memory.writes;
   bypassed = v.bypassed;
 }
-
--- the counts of a new cache
-abbrev pub no_counts : CacheStats
-no_counts = record { fetches = 0; fetch_misses = 0; reads = 0; read_misses = 0; writes = 0; write_misses = 0; evictions = 0; copybacks = 0 }
 
 -- a new cache of a system: empty, under its policy, with the random numbers of the seed
 pub record IsNewSystemCache (seed : ℕ) (planned : PlannedCache) (cache : SystemCache) : Type 0 where

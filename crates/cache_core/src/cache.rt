@@ -2,7 +2,7 @@
 ghost use Rattle.std.specs.Prelude.{◌≡◌, ◌≤◌, ◌<◌, ◌+◌, ◌*◌, ◌^◌, ℕ, length, take, Some};
 ghost use Rattle.std.specs.Prelude.{IfOk, All, Option, IfSome, option_to_list, count_by};
 ghost use Rattle.std.specs.Prelude.{replicate};
-ghost use Rattle.cache_core.specs.Geometry.{address_of};
+ghost use Rattle.cache_core.specs.Geometry.{IsGeometry, address_of};
 ghost use Rattle.cache_core.specs.Outcomes.{outcome_of, on_hit, on_placing, on_passing, dirties};
 ghost use Rattle.cache_core.specs.Outcomes.{allocates, writes_through, block_load_access};
 ghost use Rattle.cache_core.specs.Order.{Touches, Visits, position_of, Accesses, FlushesCache};
@@ -65,8 +65,8 @@ impl<P: Replacement> Cache<P> {
             cache.design ≡ record { geometry = geometry; write = write; allocate = allocate }) }
         ensures policy { IfOk result (λ cache. cache.policy ≡ policy) }
         ensures empty { IfOk result (λ cache. cache.sets ≡ empty_sets geometry) }
+        ensures limits { IsGeometry geometry }
     {
-        geometry.limits();
         let free = Slot {
             block: 0,
             dirty: false,
@@ -149,7 +149,6 @@ fn visit_slab<P: Replacement>(
         (sets_of design.geometry.e slots.new filled.new) }
     ensures victim { IfSome result.evicted (λ slot. slot.block * 2 ^ design.geometry.b < 2 ^ 64) }
 {
-    design.geometry.limits();
     let ways = design.geometry.e() as usize;
     let number = design.geometry.set_of(reference.addr) as usize;
     let start = number * ways;

@@ -62,7 +62,8 @@ impl Geometry {
 
     /// The number of lines in a set.
     pub fn e(&self) -> u64
-        ensures { result ≡ self.now.e }
+        ensures value { result ≡ self.now.e }
+        ensures limits { IsGeometry self.now }
     {
         self.e
     }
@@ -72,13 +73,6 @@ impl Geometry {
         ensures { result ≡ self.now.b }
     {
         self.b
-    }
-
-    /// States the limits for a caller's proof. It runs no code.
-    pub fn limits(&self)
-        ensures { IsGeometry self.now }
-    {
-        let _ = &self.s;
     }
 
     /// The number of sets.
@@ -92,6 +86,7 @@ impl Geometry {
     pub fn lines(&self) -> u64
         ensures value { result ≡ self.now.e * 2 ^ self.now.s }
         ensures few { result ≤ 2 ^ 22 }
+        ensures limits { IsGeometry self.now }
     {
         self.e << self.s
     }
@@ -108,6 +103,7 @@ impl Geometry {
     pub fn block_of(&self, addr: u64) -> u64
         ensures value { result ≡ block_of self.now addr }
         ensures address { address_of self.now result ≤ addr }
+        ensures past_first { 2 ^ 20 ≤ addr → 1 ≤ result }
     {
         addr >> self.b
     }

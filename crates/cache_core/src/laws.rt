@@ -14,9 +14,10 @@ ghost use Rattle.cache_core.specs.LruLaws.{HitInclusion, HeldInclusion};
 ghost use Rattle.cache_core.specs.Plans.{GeometryLaw};
 ghost use Rattle.cache_core.specs.SystemStands.{NewSystemLaw, StepLaw, SystemFlushLaw};
 ghost use Rattle.cache_core.specs.SystemStands.{SystemRunLaw};
-ghost use Rattle.cache_core.specs.ArrivalStats.{LogLaw, SecondLevelLaw};
+ghost use Rattle.cache_core.specs.ArrivalStats.{LogLaw};
 ghost use Rattle.cache_core.specs.LogLaws.{MemoryLaw, BypassedLaw, FetchCacheLaw, DataCacheLaw};
-ghost use Rattle.cache_core.specs.LogLaws.{UnifiedCacheLaw, FollowLaw, LinesLaw, GrowthLaw};
+ghost use Rattle.cache_core.specs.LogLaws.{UnifiedCacheLaw, SecondLevelLaw, FollowLaw, LinesLaw};
+ghost use Rattle.cache_core.specs.LogLaws.{GrowthLaw};
 ghost use Rattle.cache_core.specs.LogLaws.{FlushNamesLaw, FlushCountsLaw};
 
 /// A reference puts its block in front of the window, and a flush empties it.

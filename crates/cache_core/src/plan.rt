@@ -237,17 +237,10 @@ impl Plan {
         })
     }
 
-    /// States the invariant for a caller's proof: some first level, none beside a unified one, and
-    /// each cache within the limits. It runs no code.
-    pub fn limits(&self)
-        ensures { IsPlan self.now }
-    {
-        let _ = &self.i;
-    }
-
     /// The cache for fetches.
     pub(crate) fn first_i(&self) -> Option<PlannedCache>
-        ensures { result ≡ self.now.i }
+        ensures value { result ≡ self.now.i }
+        ensures limits { IsPlan self.now }
     {
         self.i
     }

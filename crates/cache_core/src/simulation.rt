@@ -56,7 +56,6 @@ impl Simulation {
     pub fn new(alloc: Global, geometry: Geometry) -> Result<Simulation, AllocError>
         ensures { IfOk result (SimulationStandsFor geometry []) }
     {
-        geometry.limits();
         let policy = Lru::new();
         let cache = Cache::new(alloc, geometry, policy, WriteMode::Back, AllocMode::Always)?;
         let counts = Counts {

@@ -1,8 +1,9 @@
 //! The statistics of a system of caches.
+use trace_core::events::Access;
 
 /// What one cache counted: its accesses and misses by kind, its evictions, and its copybacks, the
 /// dirty blocks that were evicted or flushed.
-#[derive(Clone, Copy, Debug, PartialEq, Eq)]
+#[derive(Clone, Copy, Debug, Default, PartialEq, Eq)]
 pub struct CacheStats {
     pub fetches: u64,
     pub fetch_misses: u64,
@@ -12,6 +13,50 @@ pub struct CacheStats {
     pub write_misses: u64,
     pub evictions: u64,
     pub copybacks: u64,
+}
+
+impl CacheStats {
+    ghost use Rattle.std.specs.Prelude.{◌≡◌, ◌≤◌, ◌<◌, ◌+◌, ◌^◌};
+    ghost use Rattle.cache_core.specs.CacheStats.{accesses, count_access, count_flush, IsCounted};
+
+    /// Counts an access: whether it hit, and whether the block that it evicted was dirty, if it
+    /// evicted one.
+    #[inline(always)]
+    pub(crate) fn count_access(&mut self, access: Access, hit: bool, evicted: Option<bool>)
+        requires few { accesses self.old < 2 ^ 62 }
+        requires counted { IsCounted self.old }
+        requires copybacks { self.old.copybacks ≤ self.old.writes }
+        ensures value { self.new ≡ count_access access hit evicted self.old }
+        ensures counted { IsCounted self.new }
+    {
+        let missed = u64::from(!hit);
+        match access {
+            Access::Fetch => {
+                self.fetches += 1;
+                self.fetch_misses += missed;
+            }
+            Access::Read => {
+                self.reads += 1;
+                self.read_misses += missed;
+            }
+            Access::Write => {
+                self.writes += 1;
+                self.write_misses += missed;
+            }
+        }
+        if let Some(dirty) = evicted {
+            self.evictions += 1;
+            self.copybacks += u64::from(dirty);
+        }
+    }
+
+    /// Counts a flush that found so many dirty blocks.
+    pub(crate) fn count_flush(&mut self, dirty: u64)
+        requires few { self.old.copybacks + dirty < 2 ^ 64 }
+        ensures { self.new ≡ count_flush dirty self.old }
+    {
+        self.copybacks += dirty;
+    }
 }
 
 /// What a system counted: for each of its caches; what came to memory, where a fetch is a read, and

@@ -63,7 +63,8 @@ impl System {
     /// its own, of this seed. Takes the memory of all its caches; it fails only if there is too
     /// little.
     pub fn new(alloc: Global, plan: Plan, seed: u64) -> Result<Self, AllocError>
-        ensures { IfOk result (IsNewSystem plan seed) }
+        ensures new { IfOk result (IsNewSystem plan seed) }
+        ensures limits { IsPlan plan }
     {
         let i = new_cache(alloc, plan.first_i(), seed)?;
         let d = new_cache(alloc, plan.first_d(), seed)?;

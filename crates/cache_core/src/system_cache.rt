@@ -2,7 +2,8 @@
 ghost use Rattle.std.specs.Prelude.{◌≡◌, ◌≤◌, ◌<◌, ◌+◌, ◌^◌, ◌∷◌, [], Some, IfOk};
 ghost use Rattle.cache_core.specs.Arrivals.{Saw, arrival_at};
 ghost use Rattle.cache_core.specs.Order.{dirty_slots};
-ghost use Rattle.cache_core.specs.SystemCaches.{policy_of, random_numbers_of, accesses, IsCounted};
+ghost use Rattle.cache_core.specs.CacheStats.{accesses, IsCounted};
+ghost use Rattle.cache_core.specs.SystemCaches.{policy_of, random_numbers_of};
 ghost use Rattle.cache_core.specs.Systems.{random_numbers_for};
 
 use crate::arrival::{Observer, arrival_at};
@@ -12,7 +13,7 @@ use crate::plan::{CacheName, PlannedCache};
 use crate::replacement::{Fifo, Lru, Random, Replacement};
 use crate::stats::CacheStats;
 use std::alloc::{AllocError, Global};
-use trace_core::events::{Access, Ref};
+use trace_core::events::Ref;
 
 /// A policy that is chosen when the system is made.
 #[derive(Drop)]
@@ -52,7 +53,8 @@ impl Replacement for ChosenPolicy {
 pub(crate) struct SystemCache {
     pub(crate) cache: Cache<ChosenPolicy>,
     pub(crate) stats: CacheStats,
-    ghost counted: { IsCounted stats (dirty_slots cache.sets) },
+    ghost counted: { IsCounted stats },
+    ghost written: { stats.copybacks + dirty_slots cache.sets ≤ stats.writes },
 }
 
 /// The policy that is named, with a generator of this seed.
@@ -84,16 +86,7 @@ impl SystemCache {
             design.write,
             design.allocate,
         )?;
-        let stats = CacheStats {
-            fetches: 0,
-            fetch_misses: 0,
-            reads: 0,
-            read_misses: 0,
-            writes: 0,
-            write_misses: 0,
-            evictions: 0,
-            copybacks: 0,
-        };
+        let stats = CacheStats::default();
         Ok(SystemCache { cache, stats })
     }
 
@@ -115,26 +108,9 @@ impl SystemCache {
     {
         let geometry = self.cache.geometry();
         let outcome = self.cache.access(reference);
-        let missed = u64::from(!outcome.hit);
-        let stats = &mut self.stats;
-        match reference.access {
-            Access::Fetch => {
-                stats.fetches += 1;
-                stats.fetch_misses += missed;
-            }
-            Access::Read => {
-                stats.reads += 1;
-                stats.read_misses += missed;
-            }
-            Access::Write => {
-                stats.writes += 1;
-                stats.write_misses += missed;
-            }
-        }
-        if let Some(victim) = outcome.evicted {
-            stats.evictions += 1;
-            stats.copybacks += u64::from(victim.dirty);
-        }
+        let evicted = outcome.evicted.map(|slot| slot.dirty);
+        self.stats
+            .count_access(reference.access, outcome.hit, evicted);
         observer.see(arrival_at(name, geometry, reference, &outcome));
         outcome
     }
@@ -143,10 +119,8 @@ impl SystemCache {
     pub(crate) fn flush(&mut self) -> u64
         ensures { Empties self.old result self.new }
     {
-        // Read so that the proof knows its range: copybacks stay at or below it.
-        let _writes = self.stats.writes;
         let dirty = self.cache.flush();
-        self.stats.copybacks += dirty;
+        self.stats.count_flush(dirty);
         dirty
     }
 }

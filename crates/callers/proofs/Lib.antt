@@ -1,1 +1,1 @@
-mod Fronts
+mod Lasts

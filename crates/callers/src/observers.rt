@@ -6,9 +6,8 @@ ghost use Rattle.cache_core.specs.Plans.{PlannedCaches, IsPlan};
 ghost use Rattle.cache_core.specs.SystemStands.{SystemStandsFor};
 ghost use Rattle.cache_core.specs.Arrivals.{arrivals_of};
 
-use cache_core::arrival::{Arrival, MAX_ARRIVALS, Observer};
-use cache_core::system::{MAX_STEPS, System};
-use trace_core::events::Ref;
+use cache_core::{Arrival, MAX_ARRIVALS, MAX_STEPS, Observer, System};
+use trace_core::Ref;
 
 /// Counts what it sees, up to as many as one step can show.
 #[derive(Drop)]

@@ -2,35 +2,40 @@
 ghost use Rattle.std.specs.Prelude.{◌≡◌, ◌≤◌, IfOk};
 ghost use Rattle.cache_core.specs.Slab.{empty_sets};
 
-use cache_core::cache::Cache;
-use cache_core::geometry::Geometry;
-use cache_core::outcome::{AllocMode, Slot, WriteMode};
-use cache_core::replacement::{Lru, Replacement};
+use cache_core::{AllocMode, Cache, Geometry, Lru, Replacement, Slot, WriteMode};
 use std::alloc::{AllocError, Global};
 
-/// Most recently used: the slot of the last use or placing is evicted. It stands in front.
+/// LRU insertion (Qureshi and others 2007): a new slot is placed last, and is evicted next unless
+/// it is used again, which brings it to the front.
 #[derive(Clone, Copy, Debug)]
-pub struct Mru;
+pub struct LruInsertion;
 
-impl Replacement for Mru {
+impl Replacement for LruInsertion {
     fn touch(&mut self, set: &mut [Slot], at: usize) -> usize {
         Lru::new().touch(set, at)
     }
 
     fn place(&mut self, set: &mut [Slot], filled: usize, new: Slot) -> (usize, Option<Slot>) {
         if filled < set.len() {
-            return Lru::new().place(set, filled, new);
+            set[filled] = new;
+            return (filled, None);
         }
-        let gone = set[0];
-        set[0] = new;
-        (0, Some(gone))
+        let last = set.len() - 1;
+        let gone = set[last];
+        set[last] = new;
+        (last, Some(gone))
     }
 }
 
 /// An empty cache under this policy, write-back and write-allocate.
-pub fn mru_cache(alloc: Global, geometry: Geometry) -> Result<Cache<Mru>, AllocError>
+pub fn lru_insertion_cache(
+    alloc: Global,
+    geometry: Geometry,
+) -> Result<Cache<LruInsertion>, AllocError>
     ensures empty { IfOk result (λ cache. cache.sets ≡ empty_sets geometry) }
-    ensures geometry { IfOk result (λ cache. cache.design.geometry ≡ geometry) }
+    ensures design { IfOk result (λ cache. cache.design
+        ≡ record { geometry = geometry; write = WriteMode.Back; allocate = AllocMode.Always }) }
 {
-    Cache::new(alloc, geometry, Mru, WriteMode::Back, AllocMode::Always)
+    let (write, allocate) = (WriteMode::Back, AllocMode::Always);
+    Cache::new(alloc, geometry, LruInsertion, write, allocate)
 }

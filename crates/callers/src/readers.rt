@@ -3,11 +3,7 @@ ghost use Rattle.std.specs.Prelude.{◌≡◌, IfOk, IfSome, None};
 ghost use Rattle.trace_core.specs.Reading.{reading};
 
 use std::alloc::Global;
-use trace_core::events::Entry;
-use trace_core::fault::RunFault;
-use trace_core::io::Source;
-use trace_core::line::Format;
-use trace_core::reader::{Lines, MAX_LINES};
+use trace_core::{Entry, Format, Lines, MAX_LINES, RunFault, Source};
 
 /// The entries of a whole trace with the numbers of their lines, whatever pieces the source gives
 /// it in. Where it returns them, the trace has no fault.

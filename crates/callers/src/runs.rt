@@ -4,15 +4,13 @@ ghost use Rattle.arguments.specs.Job.{max_lines_of};
 ghost use Rattle.commands.specs.CsimText.{csim_text};
 ghost use Rattle.commands.specs.Execute.{task_of};
 
-use arguments::job::Job;
-use cache_core::geometry::Geometry;
+use arguments::Job;
+use cache_core::Geometry;
 use commands::csim::csim;
 use commands::execute::execute;
 use std::alloc::Global;
 use trace_core::devices::{ArraySink, TapeSource};
-use trace_core::fault::RunFault;
-use trace_core::io::Sink;
-use trace_core::reader::MAX_LINES;
+use trace_core::{MAX_LINES, RunFault, Sink};
 
 /// All that `csim -v` writes of a trace in memory, in an array.
 pub fn csim_in_memory(alloc: Global, geometry: Geometry, text: &[u8]) -> Result<ArraySink, RunFault>

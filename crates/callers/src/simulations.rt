@@ -1,11 +1,10 @@
 //! The separate simulation of one configuration.
 ghost use Rattle.std.specs.Prelude.{◌≡◌, ◌*◌, IfOk};
 
-use cache_core::geometry::Geometry;
-use cache_core::outcome::Counts;
 use cache_core::simulate::simulate;
+use cache_core::{Counts, Geometry};
 use std::alloc::{AllocError, Global};
-use trace_core::events::{Access, Ref};
+use trace_core::{Access, Ref};
 
 /// A read of a block of 16 bytes.
 fn read(block: u8) -> Ref

@@ -3,7 +3,7 @@ ghost use Rattle.std.specs.Prelude.{◌≡◌, None, IfOk};
 ghost use Rattle.sweep_core.specs.Table.{table};
 
 use std::alloc::{AllocError, Global};
-use sweep_core::space::{Config, Space};
+use sweep_core::{Config, Space};
 
 /// All configurations of a space, in a list: those of its table.
 pub fn all_configs(alloc: Global, space: &Space) -> Result<Vec<Config>, AllocError>

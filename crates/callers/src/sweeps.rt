@@ -4,11 +4,10 @@ ghost use Rattle.trace_core.specs.Reading.{first_fault};
 ghost use Rattle.sweep_core.specs.SweepText.{sweep_text};
 
 use std::alloc::Global;
-use sweep_core::request::Request;
-use sweep_core::sweep::{SweepFault, sweep};
+use sweep_core::sweep::sweep;
+use sweep_core::{Request, SweepFault};
 use trace_core::devices::{ArraySink, TapeSource};
-use trace_core::io::Sink;
-use trace_core::reader::MAX_LINES;
+use trace_core::{MAX_LINES, Sink};
 
 /// The table of a trace in memory, in an array: all that a sweep of the text writes.
 pub fn sweep_in_memory(

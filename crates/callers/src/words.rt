@@ -3,11 +3,10 @@ ghost use Rattle.std.specs.Prelude.{◌≡◌, ℕ, List, Ok, Option, Some, IfOk
 ghost use Rattle.arguments.specs.CommandLine.{command_of};
 ghost use Rattle.arguments.specs.Job.{max_lines_of};
 
-use arguments::faults::WordsFault;
-use arguments::job::Job;
 use arguments::parse::parse;
+use arguments::{Job, WordsFault};
 use std::alloc::Global;
-use trace_core::reader::MAX_LINES;
+use trace_core::MAX_LINES;
 
 /// The job that the words of a command line mean, whatever file they name. The first word is the
 /// program's name.

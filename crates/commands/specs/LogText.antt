@@ -1,13 +1,12 @@
 -- What `log` writes of a trace: a line for each arrival, and one for each cache that is flushed. The layout is this project's.
-use Rattle.std.specs.Prelude.{true, Bool, ℕ, List, [], ◌++◌, Option, None, Some, if◌then◌else◌, flat_map, codes}
+use Rattle.std.specs.Prelude.{true, Bool, ℕ, List, [], ◌∷◌, ◌++◌, Option, None, Some, if◌then◌else◌, flat_map, codes}
 use Rattle.std.specs.Fmt.{decimal}
-use Rattle.trace_core.specs.declared.events.Access.{Access}
-use Rattle.trace_core.specs.declared.events.Access.TheVariants.{Fetch, Read, Write}
 use Rattle.trace_core.specs.declared.events.Ref.{Ref}
 use Rattle.trace_core.specs.declared.events.Entry.{Entry}
 use Rattle.trace_core.specs.declared.events.Kind.TheVariants.{All}
 use Rattle.trace_core.specs.declared.line.Format.{Format}
 use Rattle.trace_core.specs.Events.{events_of}
+use Rattle.trace_core.specs.Line.{din_label}
 use Rattle.trace_core.specs.Reading.{events}
 use Rattle.trace_core.specs.Task.{Task}
 use Rattle.trace_core.specs.Text.{hexadecimal}
@@ -17,15 +16,9 @@ use Rattle.cache_core.specs.declared.arrival.Arrival.TheVariants.{Cache, Memory,
 use Rattle.cache_core.specs.Plans.{PlannedCaches, cache_name}
 use Rattle.cache_core.specs.Arrivals.{arrivals}
 
--- the label of a reference in a din trace, with a space on both sides
-abbrev pub din_label : Access → List ℕ
-din_label Read = codes " 0 "
-din_label Write = codes " 1 "
-din_label Fetch = codes " 2 "
-
 -- the label and the address, as a din trace has them
 abbrev pub reference_text : Ref → List ℕ
-reference_text ref = din_label ref.access ++ hexadecimal ref.addr
+reference_text ref = codes " " ++ din_label ref.access ∷ codes " " ++ hexadecimal ref.addr
 
 -- whether it hit
 abbrev pub result_text : Bool → List ℕ

@@ -45,10 +45,12 @@ pub fn csim<S: Source, K: Sink>(
     let mut text = Text::new();
     while let Some((_, entry)) = lines.next(source)? {
         let lookups = step(&mut simulation, entry);
-        write_line(verbose, &mut text, entry, lookups, sink)?;
+        if verbose {
+            write_line(&mut text, entry, lookups, sink)?;
+        }
     }
     set_summary(&mut text, simulation.counts());
-    write_last(&text, sink)?;
+    write_last(text.as_slice(), sink)?;
     Ok(())
 }
 

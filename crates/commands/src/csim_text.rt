@@ -1,11 +1,10 @@
 //! The lines that `csim` writes.
-ghost use Rattle.std.specs.Prelude.{◌≡◌, ◌+◌, ◌≤◌, [], ◌++◌, length, flat_map, if◌then◌else◌};
+ghost use Rattle.std.specs.Prelude.{◌≡◌, ◌+◌, ◌≤◌, [], ◌++◌, length, flat_map};
 ghost use Rattle.std.specs.Option.{option_to_list};
 ghost use Rattle.trace_core.specs.Device.{Writes};
 ghost use Rattle.commands.specs.CsimText.{letter_of, lookup_text, item_line, line_of};
 ghost use Rattle.commands.specs.CsimText.{lookups_of_pair, summary};
 
-use crate::text::CAPACITY;
 use cache_core::outcome::Counts;
 use cache_core::simulation::Lookup;
 use trace_core::events::{Entry, Item, Op};
@@ -19,26 +18,26 @@ const LOOKUP: usize = 14;
 /// an LF.
 const LINE: usize = 2 + HEXADECIMAL + 1 + DECIMAL + 2 * LOOKUP + 1;
 
-/// Writes the line of an entry, if lines are wanted.
+/// The most bytes of the summary, which is longer than a line: the names of three numbers, these
+/// numbers, and an LF.
+pub(crate) const SUMMARY: usize = (5 + 8 + 11) + 3 * DECIMAL + 1;
+
+/// Writes the line of an entry whose references had these lookups.
 pub(crate) fn write_line<K: Sink>(
-    verbose: bool,
-    text: &mut Text<CAPACITY>,
+    text: &mut Text<SUMMARY>,
     entry: Entry,
     lookups: (Option<Lookup>, Option<Lookup>),
     sink: &mut K,
 ) -> Result<(), DeviceFault>
     ensures { Writes (K.view sink.old) (K.view sink.new) result
-        (if verbose then line_of entry (lookups_of_pair lookups) else []) }
+        (line_of entry (lookups_of_pair lookups)) }
 {
-    if !verbose {
-        return Ok(());
-    }
     set_line(text, entry, lookups);
     write_all(sink, text.as_slice())
 }
 
 /// Makes a text the summary.
-pub(crate) fn set_summary(text: &mut Text<CAPACITY>, counts: Counts)
+pub(crate) fn set_summary(text: &mut Text<SUMMARY>, counts: Counts)
     ensures { text.new ≡ summary counts }
 {
     text.clear();
@@ -52,7 +51,7 @@ pub(crate) fn set_summary(text: &mut Text<CAPACITY>, counts: Counts)
 }
 
 /// Makes a text the line of an entry whose references had these lookups.
-fn set_line(text: &mut Text<CAPACITY>, entry: Entry, lookups: (Option<Lookup>, Option<Lookup>))
+fn set_line(text: &mut Text<SUMMARY>, entry: Entry, lookups: (Option<Lookup>, Option<Lookup>))
     ensures { text.new ≡ line_of entry (lookups_of_pair lookups) }
 {
     text.clear();
@@ -62,8 +61,8 @@ fn set_line(text: &mut Text<CAPACITY>, entry: Entry, lookups: (Option<Lookup>, O
 }
 
 /// Adds the line of an item whose references had these lookups.
-fn push_item(text: &mut Text<CAPACITY>, item: Item, lookups: (Option<Lookup>, Option<Lookup>))
-    requires { length text.old + LINE ≤ CAPACITY }
+fn push_item(text: &mut Text<SUMMARY>, item: Item, lookups: (Option<Lookup>, Option<Lookup>))
+    requires { length text.old + LINE ≤ SUMMARY }
     ensures { text.new ≡ text.old ++ item_line (letter_of item.op) item (lookups_of_pair lookups) }
 {
     let Some(letter) = letter(item.op) else {
@@ -91,8 +90,8 @@ fn letter(op: Op) -> Option<u8>
 }
 
 /// Adds the text of a lookup, if there is one.
-fn push_lookup(text: &mut Text<CAPACITY>, lookup: Option<Lookup>)
-    requires { length text.old + LOOKUP ≤ CAPACITY }
+fn push_lookup(text: &mut Text<SUMMARY>, lookup: Option<Lookup>)
+    requires { length text.old + LOOKUP ≤ SUMMARY }
     ensures value { text.new ≡ text.old ++ flat_map lookup_text (option_to_list lookup) }
     ensures short { length text.new ≤ length text.old + LOOKUP }
 {

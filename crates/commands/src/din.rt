@@ -40,13 +40,12 @@ pub fn din<S: Source, K: Sink>(
     ensures { Performs (din_task plan seed format max_lines) result
         S.view source.old source.new K.view sink.old sink.new }
 {
-    plan.limits();
     let mut lines = Lines::new(alloc, format, max_lines)?;
     let system = System::new(alloc, plan, seed)?;
     let stats = stats_of_trace(system, &mut lines, source)?;
     let mut text = Text::new();
     set_report(&mut text, &stats);
-    write_last(&text, sink)?;
+    write_last(text.as_slice(), sink)?;
     Ok(())
 }
 

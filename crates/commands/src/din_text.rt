@@ -2,7 +2,6 @@
 ghost use Rattle.std.specs.Prelude.{◌≡◌, ◌+◌, ◌≤◌, ◌++◌, length};
 ghost use Rattle.commands.specs.DinText.{field, cache_line, report_of};
 
-use crate::text::CAPACITY;
 use cache_core::plan::CacheName;
 use cache_core::stats::{CacheStats, Stats};
 use trace_core::text::{DECIMAL, Text};
@@ -21,7 +20,7 @@ const BYPASSED_LINE: usize = 9 + DECIMAL + 1;
 pub(crate) const REPORT: usize = 4 * CACHE_LINE + MEMORY_LINE + BYPASSED_LINE;
 
 /// Makes a text the report.
-pub(crate) fn set_report(text: &mut Text<CAPACITY>, stats: &Stats)
+pub(crate) fn set_report(text: &mut Text<REPORT>, stats: &Stats)
     ensures { text.new ≡ report_of stats.now }
 {
     text.clear();
@@ -37,29 +36,39 @@ pub(crate) fn set_report(text: &mut Text<CAPACITY>, stats: &Stats)
 }
 
 /// Adds the line of a cache, if there is one.
-fn push_cache(text: &mut Text<CAPACITY>, name: CacheName, stats: Option<CacheStats>)
-    requires { length text.old + CACHE_LINE ≤ CAPACITY }
+fn push_cache(text: &mut Text<REPORT>, name: CacheName, stats: Option<CacheStats>)
+    requires { length text.old + CACHE_LINE ≤ REPORT }
     ensures value { text.new ≡ text.old ++ cache_line name stats }
     ensures short { length text.new ≤ length text.old + CACHE_LINE }
 {
     let Some(stats) = stats else {
         return;
     };
+    let CacheStats {
+        fetches,
+        fetch_misses,
+        reads,
+        read_misses,
+        writes,
+        write_misses,
+        evictions,
+        copybacks,
+    } = stats;
     text.push(name.text().as_bytes());
-    push_field(text, b" fetches=", stats.fetches);
-    push_field(text, b" fetch-misses=", stats.fetch_misses);
-    push_field(text, b" reads=", stats.reads);
-    push_field(text, b" read-misses=", stats.read_misses);
-    push_field(text, b" writes=", stats.writes);
-    push_field(text, b" write-misses=", stats.write_misses);
-    push_field(text, b" evictions=", stats.evictions);
-    push_field(text, b" copybacks=", stats.copybacks);
+    push_field(text, b" fetches=", fetches);
+    push_field(text, b" fetch-misses=", fetch_misses);
+    push_field(text, b" reads=", reads);
+    push_field(text, b" read-misses=", read_misses);
+    push_field(text, b" writes=", writes);
+    push_field(text, b" write-misses=", write_misses);
+    push_field(text, b" evictions=", evictions);
+    push_field(text, b" copybacks=", copybacks);
     text.push(b"\n");
 }
 
 /// Adds a name, and a number after it.
-fn push_field(text: &mut Text<CAPACITY>, name: &[u8], number: u64)
-    requires { length text.old + length name.now + DECIMAL ≤ CAPACITY }
+fn push_field(text: &mut Text<REPORT>, name: &[u8], number: u64)
+    requires { length text.old + length name.now + DECIMAL ≤ REPORT }
     ensures value { text.new ≡ text.old ++ field name.now number }
     ensures short { length text.new ≤ length text.old + length name.now + DECIMAL }
 {

@@ -13,7 +13,6 @@ use trace_core::fault::RunFault;
 use trace_core::io::{Sink, Source, write_all};
 use trace_core::line::Format;
 use trace_core::reader::{Lines, MAX_LINES};
-use trace_core::text::Text;
 
 /// Runs a trace through the caches of a plan, and writes the lines of the arrivals of each entry as
 /// soon as its references were made; after the last one the sink is flushed, once. Each cache with
@@ -37,7 +36,6 @@ pub fn log<S: Source, K: Sink>(
     ensures { Performs (log_task plan seed format max_lines) result
         S.view source.old source.new K.view sink.old sink.new }
 {
-    plan.limits();
     let mut lines = Lines::new(alloc, format, max_lines)?;
     let mut system = System::new(alloc, plan, seed)?;
     let mut log = LogText::new();
@@ -55,6 +53,6 @@ pub fn log<S: Source, K: Sink>(
         }
         write_all(sink, log.text.as_slice())?;
     }
-    write_last(&Text::new(), sink)?;
+    write_last(&[], sink)?;
     Ok(())
 }

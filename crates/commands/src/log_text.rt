@@ -1,11 +1,11 @@
 //! The lines that `log` writes.
 ghost use Rattle.std.specs.Prelude.{◌≡◌, ◌+◌, ◌≤◌, [], ◌++◌, length};
-ghost use Rattle.commands.specs.LogText.{din_label, reference_text, victim_text, result_text};
+ghost use Rattle.commands.specs.LogText.{reference_text, victim_text, result_text};
 ghost use Rattle.commands.specs.LogText.{arrival_line};
 
-use crate::text::CAPACITY;
-use cache_core::arrival::{Arrival, Observer, Victim};
-use trace_core::events::{Access, Ref};
+use cache_core::arrival::{Arrival, MAX_ARRIVALS, Observer, Victim};
+use trace_core::events::Ref;
+use trace_core::line::din_label;
 use trace_core::text::{DECIMAL, HEXADECIMAL, Text};
 
 /// The most bytes of a reference: its label between spaces, and its address.
@@ -17,10 +17,13 @@ const VICTIM: usize = 10 + HEXADECIMAL + 6;
 /// The most bytes of a line: the name of a cache, a reference, a miss, what it evicted, and an LF.
 const LINE: usize = 4 + REFERENCE + 5 + VICTIM + 1;
 
+/// The most bytes of an entry: the lines of two references.
+const ENTRY: usize = 2 * MAX_ARRIVALS * LINE;
+
 /// The lines of the arrivals since it was cleared.
 #[derive(Drop)]
 pub(crate) struct LogText {
-    pub(crate) text: Text<CAPACITY>,
+    pub(crate) text: Text<ENTRY>,
 }
 
 impl LogText {
@@ -42,12 +45,11 @@ impl LogText {
 impl Observer for LogText {
     ghost use Rattle.std.specs.Prelude.{◌≡◌, ◌-◌, ◌/◌, length};
     ghost use Rattle.commands.specs.LogText.{arrival_lines};
-    ghost use Rattle.commands.specs.declared.log_text.TheConstants.{LINE};
-    ghost use Rattle.commands.specs.declared.text.TheConstants.{CAPACITY};
+    ghost use Rattle.commands.specs.declared.log_text.TheConstants.{ENTRY, LINE};
 
     ghost has_seen = { λ log arrivals. log.text ≡ arrival_lines arrivals };
 
-    ghost room = { λ log. (CAPACITY - length log.text) / LINE };
+    ghost room = { λ log. (ENTRY - length log.text) / LINE };
 
     fn see(&mut self, arrival: Arrival) {
         push_arrival(&mut self.text, arrival);
@@ -55,8 +57,8 @@ impl Observer for LogText {
 }
 
 /// Adds the line of an arrival.
-fn push_arrival(text: &mut Text<CAPACITY>, arrival: Arrival)
-    requires { length text.old + LINE ≤ CAPACITY }
+fn push_arrival(text: &mut Text<ENTRY>, arrival: Arrival)
+    requires { length text.old + LINE ≤ ENTRY }
     ensures value { text.new ≡ text.old ++ arrival_line arrival }
     ensures short { length text.new ≤ length text.old + LINE }
 {
@@ -90,25 +92,13 @@ fn push_arrival(text: &mut Text<CAPACITY>, arrival: Arrival)
 }
 
 /// Adds the label and the address of a reference, as a din trace has them.
-fn push_reference(text: &mut Text<CAPACITY>, reference: Ref)
-    requires { length text.old + REFERENCE ≤ CAPACITY }
+fn push_reference(text: &mut Text<ENTRY>, reference: Ref)
+    requires { length text.old + REFERENCE ≤ ENTRY }
     ensures value { text.new ≡ text.old ++ reference_text reference }
     ensures short { length text.new ≤ length text.old + REFERENCE }
 {
-    text.push(din_label(reference.access));
+    text.push(&[b' ', din_label(reference.access), b' ']);
     text.push_hexadecimal(reference.addr);
-}
-
-/// The label of a reference in a din trace, with a space on both sides.
-fn din_label(access: Access) -> &'static [u8]
-    ensures value { result.now ≡ din_label access }
-    ensures short { length result.now ≡ 3 }
-{
-    match access {
-        Access::Read => b" 0 ",
-        Access::Write => b" 1 ",
-        Access::Fetch => b" 2 ",
-    }
 }
 
 /// What a line says of a hit or a miss.
@@ -120,8 +110,8 @@ fn result_text(hit: bool) -> &'static [u8]
 }
 
 /// Adds the evicted block, if there is one.
-fn push_victim(text: &mut Text<CAPACITY>, victim: Option<Victim>)
-    requires { length text.old + VICTIM ≤ CAPACITY }
+fn push_victim(text: &mut Text<ENTRY>, victim: Option<Victim>)
+    requires { length text.old + VICTIM ≤ ENTRY }
     ensures value { text.new ≡ text.old ++ victim_text victim }
     ensures short { length text.new ≤ length text.old + VICTIM }
 {

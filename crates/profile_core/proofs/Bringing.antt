@@ -1,6 +1,6 @@
 -- A list y ∷ ys that gets a block x in front, which is not its front already: where x stood, how many comparisons find
 -- that, and the row that holds the list then.
-use Rattle.std.proofs.Common.{◌≡◌, ℕ, zero, suc, ◌+◌, ◌-◌, ◌<◌, ◌≤◌, ◌⊎◌, inl, inr, Bool, true, false, not, cond, eqb, ltb}
+use Rattle.std.proofs.Common.{◌≡◌, ℕ, zero, suc, ◌+◌, ◌-◌, ◌<◌, ◌≤◌, ◌⊎◌, inl, inr, Bool, true, false, cond, eqb, ltb}
 use Rattle.std.proofs.Common.{List, [], ◌∷◌, ◌++◌, length, take, drop, get_or, set, refl, sym, ◌∙◌, ap, arith, add-one}
 use Rattle.std.proofs.Common.{◌^◌, length-take, length-append, length-drop, length-set}
 use Rattle.std.specs.List.{remove}
@@ -10,7 +10,7 @@ use Rattle.std.proofs.lemmas.List.{take_all, take_at, length-take-le}
 use Rattle.cache_core.proofs.Lists.{list_any_is}
 use Rattle.profile_core.specs.declared.recency.Touch.TheVariants.{Behind, New}
 use Rattle.profile_core.specs.declared.recency.Shifted.TheVariants.{Found, Out}
-use Rattle.profile_core.specs.Moves.{index_of, is_in, is_front, is_second, move_to_front, touch_of, shifted_of}
+use Rattle.profile_core.specs.Moves.{index_of, is_front, is_second, move_to_front, touch_of, shifted_of}
 use Rattle.profile_core.specs.Slab.{IsBroughtInRow}
 use Rattle.profile_core.proofs.Shifting.{other_front, index_behind, index-le, length-remove, remove_end}
 
@@ -28,25 +28,16 @@ absent_at b p n e out le = grind (arith, nat_tests)
 
 module _ (x : ℕ) (xs : List ℕ) where
   pub shifted_index : (distance : ℕ) → Found distance ≡ shifted_of x xs → (distance ≡ index_of x xs) × (distance < length xs)
-  shifted_index distance is =
-      let at = found_at (is_in x xs) distance (index_of x xs) (get_or xs (length xs - 1) 0) is in
-      let lt : index_of x xs < length xs = ltb-true (index_of x xs) (length xs) (sym (list_any_is (λ z. eqb z x) xs) ∙ at.0) in
-      (at.1, omega (arith, at.1, lt))
+  shifted_index distance is = grind (arith, found_at, get_or, ltb-true, list_any_is)
 
   pub shifted_last : (last : ℕ) → Out last ≡ shifted_of x xs → (index_of x xs ≡ length xs) × (last ≡ get_or xs (length xs - 1) 0)
-  shifted_last last is =
-      let at = out_at (is_in x xs) last (index_of x xs) (get_or xs (length xs - 1) 0) is in
-      (absent_at (is_in x xs) (index_of x xs) (length xs) (list_any_is (λ z. eqb z x) xs) at.0 (index-le x xs), at.1)
+  shifted_last last is = grind (arith, out_at, get_or, absent_at, list_any_is, index-le)
 
   pub touch_found : (distance : ℕ) → Found distance ≡ shifted_of x xs → Behind distance ≡ touch_of x xs
-  touch_found distance is =
-      let at = found_at (is_in x xs) distance (index_of x xs) (get_or xs (length xs - 1) 0) is in
-      ap (λ p. Behind p) at.1 ∙ sym (ap (λ b. cond b (Behind (index_of x xs)) (New (length xs))) at.0)
+  touch_found distance is = grind (arith, found_at, get_or)
 
   pub touch_new : (last : ℕ) → Out last ≡ shifted_of x xs → New (length xs) ≡ touch_of x xs
-  touch_new last is =
-      let at = out_at (is_in x xs) last (index_of x xs) (get_or xs (length xs - 1) 0) is in
-      sym (ap (λ b. cond b (Behind (index_of x xs)) (New (length xs))) at.0)
+  touch_new last is = grind (arith, out_at, get_or)
 
 -- the block that fell out, put behind the others
 put_last : (y h : ℕ) (rest : List ℕ) → h < length rest
@@ -75,15 +66,7 @@ module _ {x y h : ℕ} {rest after : List ℕ} (s : IsShifted x y h rest after) 
   passed = s.after_is ∙ ap (λ j. take j others) size
 
   pub after_long : length after ≡ h
-  after_long =
-      ap length passed ∙ length-take h others
-      ∙ omega (
-        arith,
-        length-append (take (index_of x list) list) (drop (suc (index_of x list)) list),
-        length-take (index_of x list) list,
-        length-drop (suc (index_of x list)) list,
-        size,
-      )
+  after_long = grind (arith, length-take, length-append, length-drop)
 
   -- as much of the row as before holds the list again
   row_kept : take h others ≡ take (length rest) others → take (suc h) (x ∷ (after ++ drop h rest)) ≡ take (length rest + 1) (x ∷ others)
@@ -167,9 +150,7 @@ second_long x (y ∷ []) second = absurd (cc)
 second_long x (y ∷ z ∷ zs) second = omega arith
 
 exchanged : (x y z : ℕ) (zs : List ℕ) → (y ≡ x → ⊥) → eqb z x ≡ true → move_to_front x (y ∷ z ∷ zs) ≡ x ∷ y ∷ zs
-exchanged x y z zs ne second =
-    let here : index_of x (z ∷ zs) ≡ 0 = ap (λ b. cond (not b) (1 + index_of x zs) 0) second in
-    ap (λ i. x ∷ remove (y ∷ z ∷ zs) i) (index_behind x y (z ∷ zs) ne ∙ ap suc here)
+exchanged x y z zs ne second = grind (arith, index_behind)
 
 exchanged_long : (x : ℕ) (xs : List ℕ) → is_front x xs ≡ false → is_second x xs ≡ true → length (move_to_front x xs) ≡ length xs
 exchanged_long x [] other second = absurd (cc)
@@ -188,8 +169,4 @@ exchanged_in x (suc (suc len)) f (y ∷ ys) two some other second =
 -- a row of some list that exchanges its first two blocks
 pub row_exchanged : (x len f n : ℕ) (rest list : List ℕ) → list ≡ take len (f ∷ rest) → length list ≡ len → len ≤ n + 1 → length rest ≡ n
     → is_front x list ≡ false → is_second x list ≡ true → take len (x ∷ set rest 0 f) ≡ take (n + 1) (move_to_front x list)
-row_exchanged x len f n rest list is size short long other second =
-    let two : 1 < len = omega (arith, second_long x list second, size) in
-    exchanged_in x len f rest two (omega (arith, two, short, long)) (ap (is_front x) (sym is) ∙ other) (ap (is_second x) (sym is) ∙ second)
-    ∙ ap (move_to_front x) (sym is)
-    ∙ sym (take_all (n + 1) (move_to_front x list) (omega (arith, exchanged_long x list other second, size, short)))
+row_exchanged x len f n rest list is size short long other second = grind (arith, second_long, exchanged_in, take_all, exchanged_long)

@@ -112,13 +112,7 @@ one_of_both false ds ms i n here le = omega (arith, sum-raise ms n le)
 
 pub after_fed : (v : ProfileState) (x : ℕ) → length (list_of v (set_of_block v.geometry x)) ≤ length v.distances
     → length (list_of v (set_of_block v.geometry x)) < length v.misses_by_occupancy → fed_of (after_reference v x) ≡ fed_of v + 1
-after_fed v x near far =
-    let xs : List ℕ = list_of v (set_of_block v.geometry x) in
-    one_of_both (is_in x xs) v.distances v.misses_by_occupancy (index_of x xs) (length xs)
-    (λ inside.
-    let lt : index_of x xs < length xs = ltb-true (index_of x xs) (length xs) (sym (list_any_is (λ z. eqb z x) xs) ∙ inside) in
-    omega (arith, lt, near))
-    far
+after_fed v x near far = grind (arith, one_of_both, ltb-true, list_any_is)
 
 -- The state after a reference, part by part.
 module _ (v : ProfileState) (x k : ℕ) (of_set : k ≡ set_of_block v.geometry x) where
@@ -162,9 +156,7 @@ module _ (v : ProfileState) (x k : ℕ) (of_set : k ≡ set_of_block v.geometry 
   -- the front, which stays
   pub front_step : (distances' : List ℕ) → is_front x (list_of v k) ≡ true → length (list_of v k) ≤ v.geometry.e → distances' ≡ raise v.distances 0
       → record v { distances = distances'; probes = v.probes + 1 } ≡ after_reference v x
-  front_step distances' front short raised =
-      found_step 0 (v.probes + 1) v.lists distances' (found_front x (list_of v k) front)
-      (sym (ap (set v.lists k) (front_stays x v.geometry.e (list_of v k) front short) ∙ set-get_or v.lists k [])) raised refl
+  front_step distances' front short raised = grind (arith, found_step, found_front, front_stays, set-get_or)
 
 -- A new profile, whose lists are empty and whose numbers are all 0
 first-zero : (n : ℕ) → 1 ≤ n → take {A = ℕ} 1 (replicate n 0) ≡ 0 ∷ []

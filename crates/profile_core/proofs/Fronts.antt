@@ -1,5 +1,5 @@
 -- References that find their block in front: they can be counted later, and a front in one profile is a front in each that refines it.
-use Rattle.std.proofs.Common.{◌≡◌, ℕ, zero, suc, ◌+◌, ◌-◌, ◌*◌, ◌/◌, ◌%◌, ◌^◌, ◌<◌, ◌≤◌, ◌&&◌, Bool, true, false, not, cond, eqb, leb, min, List, [], ◌∷◌, ◌++◌}
+use Rattle.std.proofs.Common.{◌≡◌, ℕ, zero, suc, ◌+◌, ◌-◌, ◌*◌, ◌/◌, ◌%◌, ◌^◌, ◌<◌, ◌≤◌, ◌&&◌, Bool, true, false, not, cond, eqb, leb, List, [], ◌∷◌, ◌++◌}
 use Rattle.std.proofs.Common.{length, take, get_or, set, sum, refl, sym, ◌∙◌, ap, subst, arith, ⊎_elim, length-set, length-take, get_or-set_other, fold}
 use Rattle.std.specs.Prelude.{replicate}
 use Rattle.std.proofs.Math.Nat.{div-div-eq-div-mul, suc-mul}
@@ -12,16 +12,16 @@ use Rattle.trace_core.specs.declared.events.Ref.{Ref}
 use Rattle.trace_core.specs.declared.events.Event.{Event}
 use Rattle.trace_core.specs.declared.events.Event.TheVariants as event
 use Rattle.cache_core.specs.Geometry.{GeometryValue, IsGeometry, block_of, set_of_block, set_of}
-use Rattle.cache_core.specs.Windows.{Occurrence, distinct_of_set, window, has_last, distance, seen}
+use Rattle.cache_core.specs.Windows.{Occurrence, distinct_of_set, window, has_last, distance}
 use Rattle.cache_core.specs.LruLaws.{occurrence_after}
 use Rattle.cache_core.proofs.Lists.{cases}
-use Rattle.profile_core.specs.Moves.{is_front, move_to_front, is_in, index_of}
+use Rattle.profile_core.specs.Moves.{is_front, is_in, index_of}
 use Rattle.profile_core.specs.State.{ProfileState, IsSound, empty, list_of, raise, fed_of, after_reference, after_flush, after_event, most_references}
 use Rattle.profile_core.specs.State.{compared_behind, distances_of}
 use Rattle.profile_core.specs.Fronts.{finds_front, after_unless_front, after_fronts, caught_up, is_refined, IsFit, Leads}
 use Rattle.profile_core.specs.ProfileStandsFor.{ProfileStandsFor}
 use Rattle.profile_core.specs.Slab.{Lists}
-use Rattle.profile_core.proofs.Feeding.{FoundAt, found_front, after_fed, front_step, sum-distances}
+use Rattle.profile_core.proofs.Feeding.{found_front, after_fed, front_step, sum-distances}
 use Rattle.profile_core.proofs.Fed.{state_of}
 use Rattle.profile_core.proofs.Runs.{event_stands, geometry_after, stands_after}
 use Rattle.profile_core.proofs.Steps.{Finds, finds}
@@ -75,22 +75,14 @@ fronts_none v = ap (λ ds. record v { distances = ds; probes = v.probes + 0 }) (
     {x = v.probes + 0} {y = v.probes} (omega arith)
 
 pub fronts_fronts : (m n : ℕ) (v : ProfileState) → after_fronts m (after_fronts n v) ≡ after_fronts (n + m) v
-fronts_fronts m n v =
-    let distances : lift m (lift n v.distances) ≡ lift (n + m) v.distances = lift-lift m n v.distances in
-    let probes : v.probes + n + m ≡ v.probes + (n + m) = omega arith in
-    cc
+fronts_fronts m n v = grind (arith, lift-lift)
 
 pub fronts_fed : (n : ℕ) (v : ProfileState) → IsFit v → fed_of (after_fronts n v) ≡ fed_of v + n
 fronts_fed n v h = omega (arith, sum-lift n v.distances (omega (arith, h.some, h.distance_count)))
 
 -- a reference after them is one before them
 pub reference_fronts : (n : ℕ) (v : ProfileState) (x : ℕ) → after_reference (after_fronts n v) x ≡ after_fronts n (after_reference v x)
-reference_fronts n v x =
-    let xs : List ℕ = list_of v (set_of_block v.geometry x) in
-    let distances : cond (is_in x xs) (raise (lift n v.distances) (index_of x xs)) (lift n v.distances)
-    ≡ lift n (cond (is_in x xs) (raise v.distances (index_of x xs)) v.distances) = raise_if-lift (is_in x xs) n v.distances (index_of x xs) in
-    let probes : (v.probes + n) + min (index_of x xs + 1) (length xs) ≡ (v.probes + min (index_of x xs + 1) (length xs)) + n = omega arith in
-    cc
+reference_fronts n v x = grind (arith, raise_if-lift)
 
 -- a reference that finds its block in front is one of them
 pub front_reference : (v : ProfileState) (x : ℕ) → IsFit v → finds_front v x ≡ true → after_reference v x ≡ after_fronts 1 v
@@ -98,9 +90,7 @@ front_reference v x h front =
     sym (front_step v x (set_of_block v.geometry x) refl (raise v.distances 0) front (h.short (set_of_block v.geometry x)) refl)
 
 pub reference_fed : (v : ProfileState) (x : ℕ) → IsFit v → fed_of (after_reference v x) ≡ fed_of v + 1
-reference_fed v x h =
-    let k : ℕ = set_of_block v.geometry x in
-    after_fed v x (omega (arith, h.short k, h.distance_count)) (omega (arith, h.short k, h.occupancy_count))
+reference_fed v x h = grind (arith, after_fed)
 
 -- the fields of a profile that counts n more in front
 grows : (p f e n : ℕ) → 1 ≤ e → p ≤ f * e → p + n ≤ (f + n) * e
@@ -152,29 +142,15 @@ module _ {g : GeometryValue} {lists : Lists} {behind missed : List ℕ} {probes 
       }
 
   pub counted_after : (n : ℕ) → state_of g lists behind missed (probes + n) ≡ after_fronts n v
-  counted_after n =
-      let s : ProfileState = state_of g lists behind missed probes in
-      let distances : distances_of (probes + n) behind missed ≡ lift n (distances_of probes behind missed) =
-      counted behind probes (compared_behind behind missed) n h.told in
-      let here : state_of g lists behind missed (probes + n) ≡ after_fronts n s = ap (λ ds. record s { distances = ds; probes = probes + n }) distances in
-      here ∙ ap (after_fronts n) view_is
+  counted_after n = grind (arith, state_of)
 
 -- A profile that lags behind by references that found their block in front, and catches up.
 pub caught_more : (n : ℕ) (v : ProfileState) (x : ℕ) → IsFit v → fed_of v ≤ n
     → caught_up (n + 1) (after_unless_front v x) ≡ after_reference (caught_up n v) x
-caught_more n v x h le =
-    cases (λ b. caught_up (n + 1) (cond b v (after_reference v x)) ≡ after_reference (caught_up n v) x) (finds_front v x)
-    (λ front.
-    ap (λ m. after_fronts m v) (omega (arith, le)) ∙ sym (fronts_fronts (n - fed_of v) 1 v)
-    ∙ ap (after_fronts (n - fed_of v)) (sym (front_reference v x h front)) ∙ sym (reference_fronts (n - fed_of v) v x))
-    (λ other.
-    ap (λ m. after_fronts m (after_reference v x)) (omega (arith, reference_fed v x h)) ∙ sym (reference_fronts (n - fed_of v) v x))
+caught_more n v x h le = grind (arith, fronts_fronts, front_reference, reference_fronts, reference_fed)
 
 pub fed_more : (n : ℕ) (v : ProfileState) (x : ℕ) → IsFit v → fed_of v ≤ n → fed_of (after_unless_front v x) ≤ n + 1
-fed_more n v x h le =
-    cases (λ b. fed_of (cond b v (after_reference v x)) ≤ n + 1) (finds_front v x)
-    (λ front. omega (arith, le))
-    (λ other. omega (arith, le, reference_fed v x h))
+fed_more n v x h le = grind (arith, reference_fed)
 
 pub fit_behind : (n : ℕ) (v : ProfileState) → IsFit (after_fronts n v) → IsFit v
 fit_behind n v h = record {
@@ -229,19 +205,7 @@ front_of_take x y (suc e) ys some = refl
 
 fronts_after : (v : ProfileState) (x y : ℕ) → IsFit v
     → finds_front (after_reference v y) x ≡ cond (eqb (set_of_block v.geometry y) (set_of_block v.geometry x)) (eqb y x) (finds_front v x)
-fronts_after v x y h =
-    let g = v.geometry in
-    let list : List ℕ = take v.geometry.e (move_to_front y (list_of v (set_of_block g y))) in
-    let inside : set_of_block g y < length v.lists = omega (arith, h.set_count, mod_below y (2 ^ g.s) (pow_pos g.s)) in
-    ⊎_elim
-    (λ (same : set_of_block g y ≡ set_of_block g x).
-    ap (is_front x) (get_or-set_at v.lists (set_of_block g y) (set_of_block g x) list [] (sym same) inside)
-    ∙ front_of_take x y g.e _ h.some
-    ∙ sym (ap (λ b. cond b (eqb y x) (finds_front v x)) (eq-eqb _ _ same)))
-    (λ (apart : set_of_block g y ≡ set_of_block g x → ⊥).
-    ap (is_front x) (get_or-set_other v.lists (set_of_block g y) (set_of_block g x) list [] (λ e. apart (sym e)))
-    ∙ sym (ap (λ b. cond b (eqb y x) (finds_front v x)) (ne_eqb _ _ apart)))
-    (cases_eq (set_of_block g y) (set_of_block g x))
+fronts_after v x y h = grind (arith, mod_below, pow_pos, get_or-set_at, front_of_take, eq-eqb, get_or-set_other, ne_eqb, cases_eq)
 
 leads_reference : (v w : ProfileState) → IsFit v → IsFit w → IsFiner v.geometry w.geometry → Leads v w → (y : ℕ)
     → Leads (after_reference v (block_of v.geometry y)) (after_reference w (block_of w.geometry y))
@@ -268,12 +232,7 @@ no_front (suc n) zero x = refl
 no_front (suc n) (suc k) x = no_front n k x
 
 leads_empty : (v w : ProfileState) → v.lists ≡ replicate (2 ^ v.geometry.s) [] → Leads v w
-leads_empty v w none = λ a front.
-    let x : ℕ = block_of v.geometry a in
-    let outside : false ≡ true =
-    sym (no_front (2 ^ v.geometry.s) (set_of_block v.geometry x) x) ∙ sym (ap (λ (ls : List (List ℕ)). is_front x
-    (get_or ls (set_of_block v.geometry x) [])) none) ∙ front in
-    absurd (cc)
+leads_empty v w none = grind (arith, no_front, get_or)
 
 leads_event : (v w : ProfileState) → IsFit v → IsFit w → IsFiner v.geometry w.geometry → Leads v w → (e : Event) → Leads (after_event v e) (after_event w e)
 leads_event v w fit fit' finer leads (event.Reference r) = leads_reference v w fit fit' finer leads r.addr
@@ -298,10 +257,7 @@ leads_after g h es one other refined =
 
 pub front_refined : (g h : GeometryValue) (es : List Event) (addr : ℕ) → IsGeometry g → IsGeometry h → is_refined g h ≡ true
     → finds_front (fold after_event (empty g) es) (block_of g addr) ≡ true → finds_front (fold after_event (empty h) es) (block_of h addr) ≡ true
-front_refined g h es addr one other refined front =
-    let v : ProfileState = fold after_event (empty g) es in let w : ProfileState = fold after_event (empty h) es in
-    sym (ap (λ k. finds_front w (block_of k addr)) (geometry_after es (empty h)))
-    ∙ leads_after g h es one other refined addr (ap (λ k. finds_front v (block_of k addr)) (geometry_after es (empty g)) ∙ front)
+front_refined g h es addr one other refined front = grind (arith, geometry_after, leads_after)
 
 -- The same in the words of the definitions: a distance of 0 is one of 0 in a geometry that refines it.
 front_of_found : (x : ℕ) (xs : List ℕ) → is_in x xs ≡ true → index_of x xs ≡ 0 → is_front x xs ≡ true
@@ -333,20 +289,10 @@ module _ (g : GeometryValue) (es : List Event) (r : Ref) (is : IsGeometry g) whe
   front_there = ap (λ h. is_front at.block (list_of state (set_of_block h at.block))) (geometry_after es (empty g))
 
   front_from : has_last at ≡ true → distance g at ≡ 0 → finds_front state at.block ≡ true
-  front_from last near =
-      let f = finds_there in
-      let seen_some : distance g at < seen g at = ltb-true _ _ (sym f.last ∙ last) in
-      front_there
-      ∙ front_of_found at.block (list_of state (set_of_block g at.block))
-      (f.found ∙ lt-ltb _ _ (omega (arith, near, seen_some, is.some))) (omega (arith, f.index, near))
+  front_from last near = grind (arith, finds_there, ltb-true, front_there, front_of_found, lt-ltb)
 
   near_from : finds_front state at.block ≡ true → (has_last at ≡ true) × (distance g at ≡ 0)
-  near_from front =
-      let f = finds_there in
-      let found : FoundAt at.block 0 (list_of state (set_of_block g at.block)) = found_front at.block _ (sym front_there ∙ front) in
-      let near : distance g at ≡ 0 = omega (arith, f.index, found.distance_is, is.some) in
-      let inside = ltb-true _ _ (sym f.found ∙ found.inside) in
-      (f.last ∙ lt-ltb _ _ (omega (arith, near, inside)), near)
+  near_from front = grind (arith, finds_there, found_front, front_there, ltb-true, lt-ltb)
 
 pub near_refined : (g h : GeometryValue) (es : List Event) (r : Ref) → IsGeometry g → IsGeometry h → is_refined g h ≡ true
     → has_last (occurrence_after g es r) ≡ true → distance g (occurrence_after g es r) ≡ 0

@@ -25,9 +25,7 @@ drop-later (n ∷ ns) h (suc k) some = refl
 
 -- all numbers without those from a later index on
 pub sum-rest : (ns : List ℕ) (h to : ℕ) → 1 ≤ to → sum (take to (set ns 0 h)) + sum (take (length ns - to) (drop to ns)) ≡ sum (set ns 0 h)
-sum-rest ns h to some =
-    let whole = take_all (length ns - to) (drop to ns) (omega (arith, length-drop to ns)) in
-    omega (arith, sum-split (set ns 0 h) to, ap sum (drop-later ns h to some), ap sum whole)
+sum-rest ns h to some = grind (arith, take_all, length-drop, sum-split, drop-later)
 
 -- what a step of hit sums adds up: the numbers of two histograms between two associativities
 pub record IsStep (v : ProfileState) (from to hits free fed more_hits more_free : ℕ) : Type 0 where

@@ -56,19 +56,14 @@ length-remove xs i lt = omega (arith, length-append (take i xs) (drop (suc i) xs
 
 pub moved_found : (x y i : ℕ) (xs : List ℕ) → index_of x xs ≡ i → i < length xs
     → take (i + 1) (y ∷ xs) ++ drop (i + 1) xs ≡ take (length xs) (y ∷ remove xs (index_of x xs))
-moved_found x y i xs at lt =
-    ap (λ j. take j (y ∷ xs) ++ drop j xs) (add-one i)
-    ∙ sym (take_all (length xs) (y ∷ remove xs i) (omega (arith, length-remove xs i lt)))
-    ∙ ap (λ j. take (length xs) (y ∷ remove xs j)) (sym at)
+moved_found x y i xs at lt = grind (arith, add-one, take_all, length-remove)
 
 pub remove_end : (xs : List ℕ) (n : ℕ) → length xs ≤ n → remove xs n ≡ xs
 remove_end xs n le = ap (λ ys. ys ++ drop (suc n) xs) (take_all n xs le) ∙ ap (λ ys. xs ++ ys) (drop_all (suc n) xs (omega arith)) ∙ append-nil xs
 
 pub moved_out : (x y i : ℕ) (xs : List ℕ) → index_of x xs ≡ length xs → i ≡ length xs
     → take i (y ∷ xs) ++ drop i xs ≡ take (length xs) (y ∷ remove xs (index_of x xs))
-moved_out x y i xs at e =
-    ap (λ ys. take i (y ∷ xs) ++ ys) (drop_all i xs (omega arith)) ∙ append-nil (take i (y ∷ xs)) ∙ ap (λ j. take j (y ∷ xs)) e
-    ∙ ap (λ ys. take (length xs) (y ∷ ys)) (sym (ap (remove xs) at ∙ remove_end xs (length xs) (omega arith)))
+moved_out x y i xs at e = grind (arith, drop_all, append-nil, remove_end)
 
 -- a front that is another block
 pub other_front : (x y : ℕ) (ys : List ℕ) → is_front x (y ∷ ys) ≡ false → y ≡ x → ⊥

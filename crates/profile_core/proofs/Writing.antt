@@ -1,6 +1,6 @@
 -- A set's row is written anew: what stands in all lists then, and that the rows are still sound.
 use Rattle.std.proofs.Common.{◌≡◌, ℕ, suc, ◌+◌, ◌-◌, ◌*◌, ◌<◌, ◌≤◌, ◌^◌, List, [], ◌∷◌, ◌++◌, length, take, drop, get_or, set}
-use Rattle.std.proofs.Common.{refl, sym, ◌∙◌, ap, subst, arith, ⊎_elim, add-one, length-take, length-append, length-drop, length-set}
+use Rattle.std.proofs.Common.{refl, sym, ◌∙◌, ap, subst, arith, add-one, length-take, length-append, length-drop, length-set}
 use Rattle.std.proofs.Common.{get_or-set_same, get_or-set_other, true, false, not, ◌&&◌, cond, eqb}
 use Rattle.std.proofs.Math.Seq.{take-nil}
 use Rattle.std.proofs.lemmas.Bool.{cases_eq, ne_eqb}
@@ -100,18 +100,10 @@ module _ {n k held front : ℕ} {fronts slab lens : List ℕ} {lists : List (Lis
     front_other i ne = ap (λ fs. get_or fs i 0) w.fronts_are ∙ get_or-set_other fronts k i front' 0 ne
 
     short_after : Short n lens'
-    short_after i lt =
-        ⊎_elim
-        (λ (e : i ≡ k). subst (λ (m : ℕ). m ≤ n + 1) (sym (len_at i e)) w.short)
-        (λ (ne : i ≡ k → ⊥). subst (λ (m : ℕ). m ≤ n + 1) (sym (len_other i ne)) (t.row.sound.short i (omega (arith, lens_long))))
-        (cases_eq i k)
+    short_after i lt = grind (arith, len_at, len_other, lens_long, cases_eq)
 
     blank_after : (i : ℕ) → get_or lens' i 0 ≡ 0 → get_or fronts' i 0 ≡ 0
-    blank_after i none =
-        ⊎_elim
-        (λ (e : i ≡ k). absurd (omega (arith, len_at i e, none, w.some)))
-        (λ (ne : i ≡ k → ⊥). front_other i ne ∙ t.row.sound.blank i (sym (len_other i ne) ∙ none))
-        (cases_eq i k)
+    blank_after i none = grind (arith, len_at, front_other, len_other, cases_eq)
 
     pub sound_after : IsSlab n fronts' slab' lens'
     sound_after = record {

@@ -5,3 +5,5 @@
 pub mod laws;
 pub mod profile;
 mod recency;
+
+pub use profile::{MAX_REFERENCES, Profile};

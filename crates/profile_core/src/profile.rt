@@ -105,8 +105,8 @@ impl Profile {
         ensures step { self.new ≡ after_reference self.old (block_of self.old.geometry addr) }
         ensures one_more { fed_of self.new ≡ fed_of self.old + 1 }
     {
-        self.geometry.limits();
-        if self.feed_unless_front(addr, false) {
+        let block = self.geometry.block_of(addr);
+        if self.feed_block_unless_front(block, false) {
             self.count_fronts(1);
         }
     }
@@ -123,8 +123,19 @@ impl Profile {
         ensures front { result ≡ finds_front self.old (block_of self.old.geometry addr) }
         ensures step { self.new ≡ after_unless_front self.old (block_of self.old.geometry addr) }
     {
-        self.geometry.limits();
         let block = self.geometry.block_of(addr);
+        self.feed_block_unless_front(block, past_first)
+    }
+
+    /// Feeds one reference by its block, unless it finds it in front. `past_first` may say that it
+    /// is not block 0.
+    #[inline(always)]
+    fn feed_block_unless_front(&mut self, block: u64, past_first: bool) -> bool
+        requires few { fed_of self.old < MAX_REFERENCES }
+        requires known { past_first ≡ true → 1 ≤ block }
+        ensures front { result ≡ finds_front self.old block }
+        ensures step { self.new ≡ after_unless_front self.old block }
+    {
         let set = self.geometry.set_of_block(block) as usize;
         if self.lists.is_front(set, block, past_first) {
             true
@@ -209,8 +220,8 @@ impl Profile {
         self.hits() + total(&self.misses_by_occupancy)
     }
 
-    /// How many references found their block: the comparisons, less `d` for each reference found
-    /// at distance `d`, and less `n` for each that was not found among `n` blocks.
+    /// How many references found their block: the comparisons less `d` for each found at distance
+    /// `d`, less `n` for each missed among `n` blocks.
     fn hits(&self) -> u64
         ensures { result ≡ sum self.now.distances }
     {
@@ -277,10 +288,10 @@ impl Profile {
         }
     }
 
-    /// The same counts as `counts`, by sums that this profile began, at an associativity not below
-    /// theirs, which becomes `e`. Nothing is fed between the two. The first call goes over
-    /// the histograms as `fed` does, each later one over the numbers between the two
-    /// associativities: all calls for the same sums cost about `5 * depth` additions.
+    /// What `counts` returns, by sums that `begin_sums` of this profile began. They are brought up
+    /// to `e` lines per set, so `e` may only rise from call to call, and nothing may be fed in
+    /// between. A call adds up what the histograms have between the two associativities: all calls
+    /// for the same sums, with `begin_sums`, cost about `5 * depth` additions.
     pub fn counts_next(&self, sums: &mut HitSums, e: u64) -> Counts
         requires some { 1 ≤ e }
         requires within { e ≤ self.now.geometry.e }

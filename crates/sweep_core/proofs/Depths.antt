@@ -1,37 +1,22 @@
 -- The depth of a pair is the greatest valid associativity, and gives a geometry.
-use Rattle.std.proofs.Common.{◌≡◌, ℕ, ◌*◌, ◌^◌, ◌<◌, ◌≤◌, Bool, true, ◌&&◌, List, map, refl, sym, ap, ◌∙◌, arith, Option, None, Some, inl, inr, subst}
+use Rattle.std.proofs.Common.{◌≡◌, ℕ, ◌*◌, ◌^◌, ◌≤◌, Bool, true, ◌&&◌, List, map, refl, ap, ◌∙◌, arith, Option, inl, inr, subst}
 use Rattle.std.specs.Prelude.{filter}
 use Rattle.std.specs.List.{AllByRecursion as Each}
-use Rattle.std.specs.Int.{w64, bit_at}
-use Rattle.std.proofs.lemmas.Bool.{and_parts, and_from, eqb-true, eq-eqb, cases_lt, cases_eq}
-use Rattle.std.proofs.lemmas.Nat.{pow_pos, pow-add}
-use Rattle.std.proofs.lemmas.Nat.Bits.{bit_at-trailing_zeros, bit_at-pow_other}
-use Rattle.std.proofs.Math.Pow.{pow-lt}
+use Rattle.std.proofs.lemmas.Bool.{and_parts, and_from, eqb-true, eq-eqb, cases_lt}
+use Rattle.std.proofs.lemmas.Nat.{pow-add}
 use Rattle.std.proofs.Math.Nat.{mul_comm}
 use Rattle.sweep_core.proofs.Lists.{Member, Each-weaker, Each-both, Each-map, Each-filter, Member-map, passes-all, kept-of, max-is, max-above}
-use Rattle.sweep_core.proofs.Powers.{power-of}
+use Rattle.cache_core.proofs.PowersOfTwo.{log2-pow, log2-is}
 use Rattle.cache_core.specs.Geometry.{IsGeometry, geometry_value, size_of}
 use Rattle.sweep_core.specs.declared.space.Config.{Config}
-use Rattle.sweep_core.specs.Space.{Ranges, is_power, is_valid, bytes_of, config}
-use Rattle.sweep_core.specs.Table.{is_less, is_after, table, all_configs}
-use Rattle.sweep_core.specs.SweepText.{log2, geometry_of_config}
+use Rattle.sweep_core.specs.Space.{Ranges, is_valid, bytes_of, config}
+use Rattle.cache_core.specs.Powers.{log2}
+use Rattle.sweep_core.specs.Table.{is_after, table, all_configs}
+use Rattle.sweep_core.specs.SweepText.{geometry_of_config}
 use Rattle.sweep_core.specs.Work.{depth, has_pair}
 use Rattle.sweep_core.proofs.Validity.{IsLimited, valid_of, power-exponent}
-use Rattle.sweep_core.proofs.Orders.{is_less-from, is_less-trans}
-use Rattle.sweep_core.proofs.Next.{valid-member}
-
--- the logarithm of a power
-pub log2-pow : (k : ℕ) → k < 64 → log2 (2 ^ k) ≡ k
-log2-pow k h =
-    let fits : 2 ^ k < 2 ^ 64 = pow-lt h in
-    let t = bit_at-trailing_zeros w64 (2 ^ k) (pow_pos k) fits in
-    elim (cases_eq (log2 (2 ^ k)) k) [
-      | inl same ↦ same
-      | inr other ↦ let none : bit_at (2 ^ k) (log2 (2 ^ k)) ≡ 0 = bit_at-pow_other k (log2 (2 ^ k)) other in absurd (omega (arith, t.1))
-    ]
-
-pub log2-is : (n : ℕ) → is_power n ≡ true → 2 ^ log2 n ≡ n
-log2-is n h = let k = power-of n h in ap (λ m. 2 ^ log2 m) k.2 ∙ ap (λ i. 2 ^ i) (log2-pow k.0 k.1) ∙ sym k.2
+use Rattle.sweep_core.proofs.Tables.{valid-member}
+use Rattle.sweep_core.proofs.Orders.{is_less-from, later_after}
 
 pub geometry-of : (space : Ranges) (c : Config) → IsLimited space → is_valid space c ≡ true → IsGeometry (geometry_of_config c)
 geometry-of space c l h =
@@ -58,11 +43,10 @@ bytes-are space c h =
     ∙ mul_comm c.assoc (c.sets * c.bsize) ∙ ap (λ x. x * c.assoc) (mul_comm c.sets c.bsize)
 
 wider-after : (after : Option Config) (c : Config) (n : ℕ) → is_after after c ≡ true → c.assoc ≤ n → is_after after (config c.bsize c.sets n) ≡ true
-wider-after None c n h w = refl
-wider-after (Some a) c n h w =
+wider-after after c n h w =
     elim (cases_lt c.assoc n) [
-      | inl more ↦ is_less-trans a c (config c.bsize c.sets n) h (is_less-from c (config c.bsize c.sets n) (inr (refl, inr (refl, more))))
-      | inr same ↦ let e : n ≡ c.assoc = omega arith in subst (λ (k : ℕ). is_less a (config c.bsize c.sets k) ≡ true) (sym e) h
+      | inl more ↦ later_after after c (config c.bsize c.sets n) h (is_less-from c (config c.bsize c.sets n) (inr (refl, inr (refl, more))))
+      | inr same ↦ subst (λ (k : ℕ). is_after after (config c.bsize c.sets k) ≡ true) {x = c.assoc} {y = n} (omega arith) h
     ]
 
 pub depth-is : (space : Ranges) (after : Option Config) (c : Config) (n : ℕ) → IsLimited space → is_valid space c ≡ true → is_after after c ≡ true

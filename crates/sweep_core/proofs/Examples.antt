@@ -16,7 +16,8 @@ use Rattle.sweep_core.specs.declared.space.Which.{Which}
 use Rattle.sweep_core.specs.declared.space.Which.TheVariants.{Bsize, Sets, Assoc, Size}
 use Rattle.sweep_core.specs.declared.space.Cause.{Cause}
 use Rattle.sweep_core.specs.declared.space.Cause.TheVariants.{NotPower, Limit, Reversed}
-use Rattle.sweep_core.specs.Space.{Ranges, ranges, space_of, is_power, config}
+use Rattle.sweep_core.specs.Space.{Ranges, ranges, space_of, config}
+use Rattle.cache_core.specs.Powers.{is_power}
 use Rattle.sweep_core.specs.Table.{table, all_configs}
 use Rattle.sweep_core.specs.SweepText.{sweep_text, sweep_task, row_counts, rows_text, configs_of, rows_of}
 use Rattle.sweep_core.specs.Work.{sweep_work, work, pairs, depth}
@@ -56,143 +57,17 @@ nine = codes "0 10\n0 20\n1 20\n0 22\n1 18\n0 110\n0 210\n0 12\n1 12\n"
 abbrev small : Request
 small = sweep (ranges (16, 16) (1, 2) (1, 2) (16, 64) false)
 
-small-text : sweep_text small nine ≡ header ++ codes "16,1,1,16,3,6,5\n16,1,2,32,4,5,3\n16,2,1,32,4,5,3\n16,2,2,64,4,5,2\n"
-unfolding sweep_text table all_configs is_power count_trailing_zeros rows_text counts occurrences_after window distinct distinct_of_set digits
-small-text = refl
-
-small-work : sweep_work small nine ≡ 21
-unfolding sweep_work table all_configs is_power count_trailing_zeros work pairs depth probes occurrences_after window distinct distinct_of_set
-small-work = refl
-
-small-profiles : profiles_of small ≡ (16, 1, 2) ∷ (16, 2, 2) ∷ []
-unfolding table all_configs is_power count_trailing_zeros pairs depth
-small-profiles = refl
-
 -- one set of up to four ways, and of powers of two alone
 abbrev one_set : Bool → Request
 one_set powers = sweep (ranges (16, 16) (1, 1) (1, 4) (0, 1024) powers)
-
-one_set-rows : rows (one_set false) nine ≡ (16, 1, 1, 3, 6, 5) ∷ (16, 1, 2, 4, 5, 3) ∷ (16, 1, 3, 5, 4, 1) ∷ (16, 1, 4, 5, 4, 0) ∷ []
-unfolding table all_configs is_power count_trailing_zeros counts occurrences_after window distinct distinct_of_set
-one_set-rows = refl
-
-one_set-work : sweep_work (one_set false) nine ≡ 14
-unfolding sweep_work table all_configs is_power count_trailing_zeros work pairs depth probes occurrences_after window distinct distinct_of_set
-one_set-work = refl
-
-powers-rows : rows (one_set true) nine ≡ (16, 1, 1, 3, 6, 5) ∷ (16, 1, 2, 4, 5, 3) ∷ (16, 1, 4, 5, 4, 0) ∷ []
-unfolding table all_configs is_power count_trailing_zeros counts occurrences_after window distinct distinct_of_set
-powers-rows = refl
-
-powers-profiles : profiles_of (one_set true) ≡ (16, 1, 4) ∷ []
-unfolding table all_configs is_power count_trailing_zeros pairs depth
-powers-profiles = refl
-
--- resumed after a row, after triples that are no configurations, and after the last row
-resumed-text : sweep_text (after (config 16 1 2) small) nine ≡ codes "16,2,1,32,4,5,3\n16,2,2,64,4,5,2\n"
-unfolding sweep_text table all_configs is_power count_trailing_zeros rows_text counts occurrences_after window distinct distinct_of_set digits
-resumed-text = refl
-
-resumed-work : sweep_work (after (config 16 1 2) small) nine ≡ 9
-unfolding sweep_work table all_configs is_power count_trailing_zeros work pairs depth probes occurrences_after window distinct distinct_of_set
-resumed-work = refl
-
-resumed-profiles : profiles_of (after (config 16 1 2) small) ≡ (16, 2, 2) ∷ []
-unfolding table all_configs is_power count_trailing_zeros pairs depth
-resumed-profiles = refl
-
-resumed_between-rows : rows (after (config 16 1 7) small) nine ≡ (16, 2, 1, 4, 5, 3) ∷ (16, 2, 2, 4, 5, 2) ∷ []
-unfolding table all_configs is_power count_trailing_zeros counts occurrences_after window distinct distinct_of_set
-resumed_between-rows = refl
-
-resumed_last-rows : rows (after (config 16 2 2) small) nine ≡ []
-unfolding table all_configs is_power count_trailing_zeros counts occurrences_after window distinct distinct_of_set
-resumed_last-rows = refl
-
-resumed_far-rows : rows (after (config 18446744073709551615 0 0) small) nine ≡ []
-unfolding table all_configs is_power count_trailing_zeros counts occurrences_after window distinct distinct_of_set
-resumed_far-rows = refl
-
--- resumed in the middle of a pair, its profile is as deep as ever
-resumed_within-profiles : profiles_of (after (config 16 1 1) small) ≡ (16, 1, 2) ∷ (16, 2, 2) ∷ []
-unfolding table all_configs is_power count_trailing_zeros pairs depth
-resumed_within-profiles = refl
 
 -- a range of sizes
 abbrev of_32_bytes : Request
 of_32_bytes = sweep (ranges (16, 16) (1, 2) (1, 2) (32, 32) false)
 
-of_32_bytes-rows : rows of_32_bytes nine ≡ (16, 1, 2, 4, 5, 3) ∷ (16, 2, 1, 4, 5, 3) ∷ []
-unfolding table all_configs is_power count_trailing_zeros counts occurrences_after window distinct distinct_of_set
-of_32_bytes-rows = refl
-
-of_32_bytes-work : sweep_work of_32_bytes nine ≡ 19
-unfolding sweep_work table all_configs is_power count_trailing_zeros work pairs depth probes occurrences_after window distinct distinct_of_set
-of_32_bytes-work = refl
-
-of_32_bytes-profiles : profiles_of of_32_bytes ≡ (16, 1, 2) ∷ (16, 2, 1) ∷ []
-unfolding table all_configs is_power count_trailing_zeros pairs depth
-of_32_bytes-profiles = refl
-
-no_size-rows : rows (sweep (ranges (16, 16) (1, 2) (1, 2) (65, 66) false)) nine ≡ []
-unfolding table all_configs is_power count_trailing_zeros counts occurrences_after window distinct distinct_of_set
-no_size-rows = refl
-
--- the first rows alone: the pairs are fewer, the depths the same
-one_row-work : sweep_work (with_rows 1 small) nine ≡ 12
-unfolding sweep_work table all_configs is_power count_trailing_zeros work pairs depth probes occurrences_after window distinct distinct_of_set
-one_row-work = refl
-
-one_row-profiles : profiles_of (with_rows 1 small) ≡ (16, 1, 2) ∷ []
-unfolding table all_configs is_power count_trailing_zeros pairs depth
-one_row-profiles = refl
-
-no_row-rows : rows (with_rows 0 small) nine ≡ []
-unfolding table all_configs is_power count_trailing_zeros counts occurrences_after window distinct distinct_of_set
-no_row-rows = refl
-
-no_row-work : sweep_work (with_rows 0 small) nine ≡ 0
-unfolding sweep_work table all_configs is_power count_trailing_zeros work pairs depth probes occurrences_after window distinct distinct_of_set
-no_row-work = refl
-
-no_row-profiles : profiles_of (with_rows 0 small) ≡ []
-unfolding table all_configs is_power count_trailing_zeros pairs depth
-no_row-profiles = refl
-
-first_page-rows : rows (with_rows 2 small) nine ≡ (16, 1, 1, 3, 6, 5) ∷ (16, 1, 2, 4, 5, 3) ∷ []
-unfolding table all_configs is_power count_trailing_zeros counts occurrences_after window distinct distinct_of_set
-first_page-rows = refl
-
-second_page-rows : rows (with_rows 9 (after (config 16 1 2) small)) nine ≡ (16, 2, 1, 4, 5, 3) ∷ (16, 2, 2, 4, 5, 2) ∷ []
-unfolding table all_configs is_power count_trailing_zeros counts occurrences_after window distinct distinct_of_set
-second_page-rows = refl
-
--- a trace on which first-in first-out has more misses with more ways
-twelve-rows : rows (sweep (ranges (16, 16) (1, 1) (3, 5) (0, 1024) false))
-    (codes "0 10\n0 20\n0 30\n0 40\n0 10\n0 20\n0 50\n0 10\n0 20\n0 30\n0 40\n0 50\n") ≡ (16, 1, 3, 2, 10, 7) ∷ (16, 1, 4, 4, 8, 4) ∷ (16, 1, 5, 7, 5, 0) ∷ []
-unfolding table all_configs is_power count_trailing_zeros counts occurrences_after window distinct distinct_of_set
-twelve-rows = refl
-
 -- a single configuration
 abbrev one : ℕ → ℕ → ℕ → ℕ → Request
 one b s e z = sweep (ranges (b, b) (s, s) (e, e) (z, z) false)
-
-empty-rows : rows (one 1 1 1 1) [] ≡ (1, 1, 1, 0, 0, 0) ∷ []
-unfolding table all_configs is_power count_trailing_zeros counts occurrences_after window distinct distinct_of_set
-empty-rows = refl
-
--- a flush between references, also one whose kind is left out
-flushed-rows : rows (one 16 1 1 16) (codes "0 10\n4 0\n0 10\n3 0\n") ≡ (16, 1, 1, 0, 2, 0) ∷ []
-unfolding table all_configs is_power count_trailing_zeros counts occurrences_after window distinct distinct_of_set
-flushed-rows = refl
-
-flushed_other-rows : rows (one 16 1 1 16) (codes "0 10\n4 0\n0 20\n") ≡ (16, 1, 1, 0, 2, 0) ∷ []
-unfolding table all_configs is_power count_trailing_zeros counts occurrences_after window distinct distinct_of_set
-flushed_other-rows = refl
-
-flushed_fetches-rows : rows (of_kind FetchOnly (one 16 1 1 16)) (codes "2 10\n4 0\n2 10\n") ≡ (16, 1, 1, 0, 2, 0) ∷ []
-unfolding table all_configs is_power count_trailing_zeros counts occurrences_after window distinct distinct_of_set
-flushed_fetches-rows = refl
 
 -- a lackey log
 abbrev log : List ℕ
@@ -201,74 +76,109 @@ log = codes "==1234== Lackey, an example Valgrind tool\nI  0023C790,2\n S BE8019
 abbrev of_log : Kind → Request
 of_log kind = record (one 16 1 1 16) { kind = kind; format = Lackey }
 
-log-rows : rows (of_log All) log ≡ (16, 1, 1, 1, 3, 2) ∷ []
-unfolding table all_configs is_power count_trailing_zeros counts occurrences_after window distinct distinct_of_set
-log-rows = refl
+-- the texts of two tables: whole, and resumed after a row
+texts :
+    (sweep_text small nine ≡ header ++ codes "16,1,1,16,3,6,5\n16,1,2,32,4,5,3\n16,2,1,32,4,5,3\n16,2,2,64,4,5,2\n")
+    × (sweep_text (after (config 16 1 2) small) nine ≡ codes "16,2,1,32,4,5,3\n16,2,2,64,4,5,2\n")
+unfolding sweep_text table all_configs is_power count_trailing_zeros rows_text counts occurrences_after window distinct distinct_of_set digits
+texts = (refl, refl)
 
-log_data-rows : rows (of_log DataOnly) log ≡ (16, 1, 1, 1, 2, 1) ∷ []
-unfolding table all_configs is_power count_trailing_zeros counts occurrences_after window distinct distinct_of_set
-log_data-rows = refl
+-- the comparisons of sweeps: whole, resumed, of one size, and of the first rows alone, which have fewer pairs as deep as ever
+works :
+    (sweep_work small nine ≡ 21)
+    × (sweep_work (one_set false) nine ≡ 14)
+    × (sweep_work (after (config 16 1 2) small) nine ≡ 9)
+    × (sweep_work of_32_bytes nine ≡ 19)
+    × (sweep_work (with_rows 1 small) nine ≡ 12)
+    × (sweep_work (with_rows 0 small) nine ≡ 0)
+unfolding sweep_work table all_configs is_power count_trailing_zeros work pairs depth probes occurrences_after window distinct distinct_of_set
+works = (refl, refl, refl, refl, refl, refl)
 
-log_fetches-rows : rows (of_log FetchOnly) log ≡ (16, 1, 1, 0, 1, 0) ∷ []
+-- their profiles; where a sweep is resumed in the middle of a pair, the pair's is as deep as ever
+profiles :
+    (profiles_of small ≡ (16, 1, 2) ∷ (16, 2, 2) ∷ [])
+    × (profiles_of (one_set true) ≡ (16, 1, 4) ∷ [])
+    × (profiles_of (after (config 16 1 2) small) ≡ (16, 2, 2) ∷ [])
+    × (profiles_of (after (config 16 1 1) small) ≡ (16, 1, 2) ∷ (16, 2, 2) ∷ [])
+    × (profiles_of of_32_bytes ≡ (16, 1, 2) ∷ (16, 2, 1) ∷ [])
+    × (profiles_of (with_rows 1 small) ≡ (16, 1, 2) ∷ [])
+    × (profiles_of (with_rows 0 small) ≡ [])
+unfolding table all_configs is_power count_trailing_zeros pairs depth
+profiles = (refl, refl, refl, refl, refl, refl, refl)
+
+-- one set of up to four ways, and of powers of two alone; a range of sizes, and one with no cache
+ranges-rows :
+    (rows (one_set false) nine ≡ (16, 1, 1, 3, 6, 5) ∷ (16, 1, 2, 4, 5, 3) ∷ (16, 1, 3, 5, 4, 1) ∷ (16, 1, 4, 5, 4, 0) ∷ [])
+    × (rows (one_set true) nine ≡ (16, 1, 1, 3, 6, 5) ∷ (16, 1, 2, 4, 5, 3) ∷ (16, 1, 4, 5, 4, 0) ∷ [])
+    × (rows of_32_bytes nine ≡ (16, 1, 2, 4, 5, 3) ∷ (16, 2, 1, 4, 5, 3) ∷ [])
+    × (rows (sweep (ranges (16, 16) (1, 2) (1, 2) (65, 66) false)) nine ≡ [])
 unfolding table all_configs is_power count_trailing_zeros counts occurrences_after window distinct distinct_of_set
-log_fetches-rows = refl
+ranges-rows = (refl, refl, refl, refl)
+
+-- resumed after triples that are no configurations, and after the last row
+resumed-rows :
+    (rows (after (config 16 1 7) small) nine ≡ (16, 2, 1, 4, 5, 3) ∷ (16, 2, 2, 4, 5, 2) ∷ [])
+    × (rows (after (config 16 2 2) small) nine ≡ [])
+    × (rows (after (config 18446744073709551615 0 0) small) nine ≡ [])
+unfolding table all_configs is_power count_trailing_zeros counts occurrences_after window distinct distinct_of_set
+resumed-rows = (refl, refl, refl)
+
+-- no row, and two pages
+pages-rows :
+    (rows (with_rows 0 small) nine ≡ [])
+    × (rows (with_rows 2 small) nine ≡ (16, 1, 1, 3, 6, 5) ∷ (16, 1, 2, 4, 5, 3) ∷ [])
+    × (rows (with_rows 9 (after (config 16 1 2) small)) nine ≡ (16, 2, 1, 4, 5, 3) ∷ (16, 2, 2, 4, 5, 2) ∷ [])
+unfolding table all_configs is_power count_trailing_zeros counts occurrences_after window distinct distinct_of_set
+pages-rows = (refl, refl, refl)
+
+-- a trace on which first-in first-out has more misses with more ways
+twelve-rows : rows (sweep (ranges (16, 16) (1, 1) (3, 5) (0, 1024) false))
+    (codes "0 10\n0 20\n0 30\n0 40\n0 10\n0 20\n0 50\n0 10\n0 20\n0 30\n0 40\n0 50\n") ≡ (16, 1, 3, 2, 10, 7) ∷ (16, 1, 4, 4, 8, 4) ∷ (16, 1, 5, 7, 5, 0) ∷ []
+unfolding table all_configs is_power count_trailing_zeros counts occurrences_after window distinct distinct_of_set
+twelve-rows = refl
+
+-- an empty trace; flushes between references, also of another kind
+flushed-rows :
+    (rows (one 1 1 1 1) [] ≡ (1, 1, 1, 0, 0, 0) ∷ [])
+    × (rows (one 16 1 1 16) (codes "0 10\n4 0\n0 10\n3 0\n") ≡ (16, 1, 1, 0, 2, 0) ∷ [])
+    × (rows (one 16 1 1 16) (codes "0 10\n4 0\n0 20\n") ≡ (16, 1, 1, 0, 2, 0) ∷ [])
+    × (rows (of_kind FetchOnly (one 16 1 1 16)) (codes "2 10\n4 0\n2 10\n") ≡ (16, 1, 1, 0, 2, 0) ∷ [])
+unfolding table all_configs is_power count_trailing_zeros counts occurrences_after window distinct distinct_of_set
+flushed-rows = (refl, refl, refl, refl)
+
+-- each kind of a lackey log
+log-rows :
+    (rows (of_log All) log ≡ (16, 1, 1, 1, 3, 2) ∷ [])
+    × (rows (of_log DataOnly) log ≡ (16, 1, 1, 1, 2, 1) ∷ [])
+    × (rows (of_log FetchOnly) log ≡ (16, 1, 1, 0, 1, 0) ∷ [])
+unfolding table all_configs is_power count_trailing_zeros counts occurrences_after window distinct distinct_of_set
+log-rows = (refl, refl, refl)
 
 -- at the limits
-many_sets-rows : rows (sweep (ranges (1, 1) (1048576, 1048576) (1, 2) (1, 4194304) false)) [] ≡ (1, 1048576, 1, 0, 0, 0) ∷ (1, 1048576, 2, 0, 0, 0) ∷ []
+limits-rows :
+    (rows (sweep (ranges (1, 1) (1048576, 1048576) (1, 2) (1, 4194304) false)) [] ≡ (1, 1048576, 1, 0, 0, 0) ∷ (1, 1048576, 2, 0, 0, 0) ∷ [])
+    × (rows (one 1 64 65536 4194304) [] ≡ (1, 64, 65536, 0, 0, 0) ∷ [])
+    × (rows (one 1 128 65536 8388608) [] ≡ [])
+    × (rows (one 1048576 64 65536 4398046511104) [] ≡ (1048576, 64, 65536, 0, 0, 0) ∷ [])
+    × (rows (one 1 1 4097 4097) [] ≡ (1, 1, 4097, 0, 0, 0) ∷ [])
 unfolding table all_configs is_power count_trailing_zeros counts occurrences_after window distinct distinct_of_set
-many_sets-rows = refl
+limits-rows = (refl, refl, refl, refl, refl)
 
-many_ways-rows : rows (one 1 64 65536 4194304) [] ≡ (1, 64, 65536, 0, 0, 0) ∷ []
-unfolding table all_configs is_power count_trailing_zeros counts occurrences_after window distinct distinct_of_set
-many_ways-rows = refl
-
-too_many_lines-rows : rows (one 1 128 65536 8388608) [] ≡ []
-unfolding table all_configs is_power count_trailing_zeros counts occurrences_after window distinct distinct_of_set
-too_many_lines-rows = refl
-
-largest-rows : rows (one 1048576 64 65536 4398046511104) [] ≡ (1048576, 64, 65536, 0, 0, 0) ∷ []
-unfolding table all_configs is_power count_trailing_zeros counts occurrences_after window distinct distinct_of_set
-largest-rows = refl
-
-odd_ways-rows : rows (one 1 1 4097 4097) [] ≡ (1, 1, 4097, 0, 0, 0) ∷ []
-unfolding table all_configs is_power count_trailing_zeros counts occurrences_after window distinct distinct_of_set
-odd_ways-rows = refl
-
--- which ranges are refused, and why
 abbrev refused : Which → Cause → Result Ranges SpaceFault
 refused which cause = Err (record { which = which; cause = cause })
 
-space-not_power : space_of (24, 24) (1, 2) (1, 2) (16, 64) false ≡ refused Bsize NotPower
+-- which ranges are refused, and why
+refusals :
+    (space_of (24, 24) (1, 2) (1, 2) (16, 64) false ≡ refused Bsize NotPower)
+    × (space_of (0, 0) (1, 2) (1, 2) (16, 64) false ≡ refused Bsize NotPower)
+    × (space_of (2097152, 2097152) (1, 2) (1, 2) (16, 64) false ≡ refused Bsize Limit)
+    × (space_of (16, 16) (4, 2) (1, 2) (16, 64) false ≡ refused Sets Reversed)
+    × (space_of (16, 16) (1, 2) (0, 0) (16, 64) false ≡ refused Assoc Limit)
+    × (space_of (1, 1) (1, 1) (65537, 65537) (65537, 65537) false ≡ refused Assoc Limit)
+    × (space_of (16, 16) (1, 2) (1, 2) (64, 16) false ≡ refused Size Reversed)
+    × (space_of (16, 16) (1, 2) (1, 2) (16, 64) false ≡ Ok (ranges (16, 16) (1, 2) (1, 2) (16, 64) false))
 unfolding is_power
-space-not_power = refl
-
-space-zero : space_of (0, 0) (1, 2) (1, 2) (16, 64) false ≡ refused Bsize NotPower
-unfolding is_power
-space-zero = refl
-
-space-limit : space_of (2097152, 2097152) (1, 2) (1, 2) (16, 64) false ≡ refused Bsize Limit
-unfolding is_power
-space-limit = refl
-
-space-reversed : space_of (16, 16) (4, 2) (1, 2) (16, 64) false ≡ refused Sets Reversed
-unfolding is_power
-space-reversed = refl
-
-space-no_way : space_of (16, 16) (1, 2) (0, 0) (16, 64) false ≡ refused Assoc Limit
-unfolding is_power
-space-no_way = refl
-
-space-ways : space_of (1, 1) (1, 1) (65537, 65537) (65537, 65537) false ≡ refused Assoc Limit
-unfolding is_power
-space-ways = refl
-
-space-sizes : space_of (16, 16) (1, 2) (1, 2) (64, 16) false ≡ refused Size Reversed
-unfolding is_power
-space-sizes = refl
-
-space-ok : space_of (16, 16) (1, 2) (1, 2) (16, 64) false ≡ Ok (ranges (16, 16) (1, 2) (1, 2) (16, 64) false)
-unfolding is_power
-space-ok = refl
+refusals = (refl, refl, refl, refl, refl, refl, refl, refl)
 
 -- a sweep doesn't write before the end of its trace, and at a fault nothing
 writes_late : (r : Request) → (sweep_task r).writes_early ≡ false

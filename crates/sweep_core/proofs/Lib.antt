@@ -1,11 +1,9 @@
 pub mod Lists
-pub mod Powers
 pub mod Orders
 pub mod Validity
 pub mod Ways
 pub mod Tables
-pub mod Search
-pub mod Next
+pub mod Walk
 pub mod Members
 pub mod Pages
 pub mod Depths

@@ -31,6 +31,10 @@ pub Each-append : {A : Type 0} (P : A → Type 0) (xs ys : List A) → Each P xs
 Each-append P [] ys p q = q
 Each-append P (x ∷ xs) ys p q = (p.0, Each-append P xs ys p.1 q)
 
+pub Each-split : {A : Type 0} (P : A → Type 0) (xs ys : List A) → Each P (xs ++ ys) → Each P xs × Each P ys
+Each-split P [] ys h = (tt, h)
+Each-split P (x ∷ xs) ys h = let w = Each-split P xs ys h.1 in ((h.0, w.0), w.1)
+
 pub Each-flat_map : {A B : Type 0} (P : B → Type 0) (f : A → List B) → (xs : List A) → Each (λ x. Each P (f x)) xs → Each P (flat_map f xs)
 Each-flat_map P f [] h = tt
 Each-flat_map P f (x ∷ xs) h = Each-append P (f x) (flat_map f xs) h.0 (Each-flat_map P f xs h.1)
@@ -135,9 +139,9 @@ pub filter-agree : {A : Type 0} (p q : A → Bool) (xs : List A) → Each (λ x.
 filter-agree p q [] h = refl
 filter-agree p q (x ∷ xs) h = rw h.0 (ap (λ l. cond (q x) (x ∷ l) l) (filter-agree p q xs h.1))
 
-pub filter-none : {A : Type 0} (p : A → Bool) → ((x : A) → p x ≡ false) → (xs : List A) → filter p xs ≡ []
-filter-none p h [] = refl
-filter-none p h (x ∷ xs) = cond-false _ _ _ (h x) ∙ filter-none p h xs
+pub filter-none : {A B : Type 0} (p : A → Bool) (f : B → A) → ((x : B) → p (f x) ≡ false) → (xs : List B) → filter p (map f xs) ≡ []
+filter-none p f h [] = refl
+filter-none p f h (x ∷ xs) = cond-false _ _ _ (h x) ∙ filter-none p f h xs
 
 pub max-is : (n : ℕ) (xs : List ℕ) (a : ℕ) → a ≤ n → Each (λ x. x ≤ n) xs → (a ≡ n) ⊎ Member n xs → fold max a xs ≡ n
 max-is n [] a low all (inl e) = e

@@ -12,10 +12,16 @@ use Rattle.sweep_core.specs.declared.profiles.PairProfile.{PairProfile}
 use Rattle.sweep_core.specs.Space.{is_valid, space_fault}
 use Rattle.sweep_core.specs.Table.{is_after, first_rows}
 use Rattle.sweep_core.specs.SweepText.{configs_of, rows_of}
+use Rattle.cache_core.specs.Powers.{log2}
 use Rattle.sweep_core.specs.Work.{pair_of, has_pair, pairs}
 use Rattle.sweep_core.specs.Runs.{run_of, rows_of_profile, BeginsWith}
 use Rattle.sweep_core.specs.Pass.{SweepStandsFor, WasFed}
 use Rattle.sweep_core.proofs.Lists.{Each-append, Each-take, Each-weaker, filter-all}
+use Rattle.sweep_core.specs.Walk.{HasDepth}
+use Rattle.cache_core.specs.Geometry.{IsGeometry, geometry_value}
+use Rattle.profile_core.specs.State.{empty}
+use Rattle.sweep_core.proofs.Validity.{IsLimited}
+use Rattle.sweep_core.proofs.Depths.{geometry-of, depth-is, same-geometry}
 use Rattle.sweep_core.proofs.Members.{table-each}
 use Rattle.sweep_core.proofs.Pairs.{Each-pairs, has_pair-from}
 use Rattle.sweep_core.proofs.Runs.{next, run-first}
@@ -55,6 +61,16 @@ pub record Making (r : Request) (made : List PairProfile) (left : List Config) :
 
 pub making-start : (r : Request) → Making r [] (rows_of r)
 making-start r = record { pairs = refl; rows = refl; fed = tt; belong = rows-belong r }
+
+-- a new profile of a pair, as deep as the pair
+pub new-fed : (r : Request) (x : PairProfile) {depth s b : ℕ} → HasDepth r.space x.first depth → is_after r.after x.first ≡ true → IsLimited r.space
+    → s ≡ log2 x.first.sets → b ≡ log2 x.first.bsize → x.profile ≡ empty (geometry_value s depth b) → WasFed (configs_of r) [] x
+new-fed r x {depth = n} d later limits sets bsize new =
+    let deep = depth-is r.space r.after x.first n limits d.valid later d.reached d.greatest in
+    record {
+      sound = subst IsGeometry (same-geometry refl (sym deep) refl) (geometry-of r.space (record x.first { assoc = n }) limits d.reached);
+      is = new ∙ ap empty (same-geometry sets (sym deep) bsize);
+    }
 
 module _ (r : Request) {made : List PairProfile} {left later : List Config} {run : Config × ℕ} (m : Making r made left)
     (b : BeginsWith r.space.powers left run later) where

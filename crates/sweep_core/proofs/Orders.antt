@@ -1,10 +1,10 @@
 -- The order of configurations.
-use Rattle.std.proofs.Common.{◌≡◌, ◌<◌, true, false, arith}
+use Rattle.std.proofs.Common.{◌≡◌, ◌<◌, true, false, arith, refl, Option, None, Some}
 use Rattle.std.proofs.lemmas.Bool.{ltb-true, or_cases, and_parts, eqb-true, lt-ltb, eq-eqb, or_left, or_right, and_from, false_from_ne_true}
 use Rattle.std.specs.Prelude.{◌⊎◌}
 use Rattle.std.proofs.Common.{inl, inr}
 use Rattle.sweep_core.specs.declared.space.Config.{Config}
-use Rattle.sweep_core.specs.Table.{is_less}
+use Rattle.sweep_core.specs.Table.{is_less, is_after}
 
 -- the order, as a fact
 abbrev pub Less : Config → Config → Type 0
@@ -29,13 +29,7 @@ is_less-from c d (inr (b, inl s)) = or_right _ _ (and_from _ _ (eq-eqb _ _ b) (o
 is_less-from c d (inr (b, inr (s, e))) = or_right _ _ (and_from _ _ (eq-eqb _ _ b) (or_right _ _ (and_from _ _ (eq-eqb _ _ s) (lt-ltb _ _ e))))
 
 Less-asym : (c d : Config) → Less c d → Less d c → ⊥
-Less-asym c d (inl a) (inl b) = omega arith
-Less-asym c d (inl a) (inr (b, more)) = omega arith
-Less-asym c d (inr (a, more)) (inl b) = omega arith
-Less-asym c d (inr (a, inl p)) (inr (b, inl q)) = omega arith
-Less-asym c d (inr (a, inl p)) (inr (b, inr (q, r))) = omega arith
-Less-asym c d (inr (a, inr (p, s))) (inr (b, inl q)) = omega arith
-Less-asym c d (inr (a, inr (p, s))) (inr (b, inr (q, r))) = omega arith
+Less-asym c d p q = grind arith
 
 pub is_less-asym : (c d : Config) → is_less c d ≡ true → is_less d c ≡ false
 is_less-asym c d h = false_from_ne_true _ (λ k. Less-asym c d (less_of c d h) (less_of d c k))
@@ -44,13 +38,12 @@ pub is_less-same : (c : Config) → is_less c c ≡ false
 is_less-same c = false_from_ne_true _ (λ k. Less-asym c c (less_of c c k) (less_of c c k))
 
 Less-trans : (a b c : Config) → Less a b → Less b c → Less a c
-Less-trans a b c (inl p) (inl q) = inl (omega arith)
-Less-trans a b c (inl p) (inr (q, more)) = inl (omega arith)
-Less-trans a b c (inr (p, more)) (inl q) = inl (omega arith)
-Less-trans a b c (inr (p, inl s)) (inr (q, inl t)) = inr (omega arith, inl (omega arith))
-Less-trans a b c (inr (p, inl s)) (inr (q, inr (t, u))) = inr (omega arith, inl (omega arith))
-Less-trans a b c (inr (p, inr (s, e))) (inr (q, inl t)) = inr (omega arith, inl (omega arith))
-Less-trans a b c (inr (p, inr (s, e))) (inr (q, inr (t, u))) = inr (omega arith, inr (omega arith, omega arith))
+Less-trans a b c p q = grind arith
 
 pub is_less-trans : (a b c : Config) → is_less a b ≡ true → is_less b c ≡ true → is_less a c ≡ true
 is_less-trans a b c p q = is_less-from a c (Less-trans a b c (less_of a b p) (less_of b c q))
+
+-- above one that is greater than a triple all are
+pub later_after : (after : Option Config) (c d : Config) → is_after after c ≡ true → is_less c d ≡ true → is_after after d ≡ true
+later_after None c d p q = refl
+later_after (Some a) c d p q = is_less-trans a c d p q

@@ -1,8 +1,8 @@
 -- What follows a member of the table is the table after it.
-use Rattle.std.proofs.Common.{◌≡◌, ℕ, Bool, true, false, ◌&&◌, List, [], ◌∷◌, ◌++◌, take, drop, take-append-drop, sym, ap, ◌∙◌, Option}
+use Rattle.std.proofs.Common.{◌≡◌, ℕ, Bool, true, false, ◌&&◌, List, [], ◌∷◌, ◌++◌, take, drop, take-append-drop, sym, refl, subst, cond, ap, ◌∙◌, Option}
 use Rattle.std.proofs.Common.{None, Some, inl, inr, append_assoc, append-nil}
 use Rattle.std.specs.Prelude.{filter}
-use Rattle.std.proofs.lemmas.Bool.{cases_Bool, cond-true, cond-false, and_right, and_parts}
+use Rattle.std.proofs.lemmas.Bool.{cases_Bool, cond-true, cond-false}
 use Rattle.sweep_core.specs.declared.space.Config.{Config}
 use Rattle.sweep_core.specs.Space.{Ranges, is_valid}
 use Rattle.sweep_core.specs.Table.{IsRising, is_less, is_after, table, all_configs, first_rows, more_rows}
@@ -10,72 +10,53 @@ use Rattle.std.specs.List.{flat_map}
 use Rattle.std.proofs.lemmas.List.Concat.{flat_map-append}
 use Rattle.std.proofs.Math.Seq.{take-add}
 use Rattle.trace_core.specs.declared.events.Event.{Event}
-use Rattle.sweep_core.specs.SweepText.{rows_text, row_of, row_counts, configs_of, header_of, sweep_text, ArePages}
+use Rattle.sweep_core.specs.SweepText.{rows_text, row_of, row_counts, configs_of, header_of, sweep_text}
+use Rattle.sweep_core.specs.Pages.{ArePages}
 use Rattle.sweep_core.specs.declared.request.Request.{Request}
 use Rattle.trace_core.specs.Reading.{events}
-use Rattle.sweep_core.proofs.Lists.{Member, Each-member, Each-weaker, filter-agree}
-use Rattle.sweep_core.proofs.Orders.{is_less-asym, is_less-same}
-use Rattle.sweep_core.proofs.Next.{later_after}
-use Rattle.sweep_core.proofs.Tables.{all_configs-rise}
+use Rattle.std.specs.List.{AllByRecursion as Each}
+use Rattle.sweep_core.proofs.Lists.{Each-split, filter-all}
+use Rattle.sweep_core.proofs.Members.{table-each, table-rises}
+use Rattle.sweep_core.proofs.Orders.{is_less-asym, is_less-same, later_after}
 
--- a member of what was kept is a member
-kept-member : (p : Config → Bool) (c : Config) (gs xs ys : List Config) → filter p gs ≡ xs ++ c ∷ ys → Member c gs
-kept-member p c [] xs ys e = absurd (none xs e)
-  where
-    none : (zs : List Config) → [] ≡ zs ++ c ∷ ys → ⊥
-    none [] h = cc
-    none (z ∷ zs) h = cc
-kept-member p c (g ∷ gs) xs ys e =
+-- a filter that another has gone before
+filter-again : (p q r : Config → Bool) → ((d : Config) → q d ≡ (p d && r d)) → (gs : List Config) → filter q gs ≡ filter r (filter p gs)
+filter-again p q r both [] = refl
+filter-again p q r both (g ∷ gs) =
     elim (cases_Bool (p g)) [
-      | inl passes ↦ kept (λ zs h. kept-member p c gs zs ys h) xs (sym (cond-true _ _ _ passes) ∙ e)
-      | inr fails ↦ inr (kept-member p c gs xs ys (sym (cond-false _ _ _ fails) ∙ e))
+      | inl passes ↦ ap (λ b. cond b (g ∷ filter q gs) (filter q gs)) (both g ∙ ap (λ b. b && r g) passes)
+          ∙ ap (λ l. cond (r g) (g ∷ l) l) (filter-again p q r both gs) ∙ ap (filter r) (sym (cond-true _ _ _ passes))
+      | inr fails ↦ cond-false _ _ _ (both g ∙ ap (λ b. b && r g) fails) ∙ filter-again p q r both gs ∙ ap (filter r) (sym (cond-false _ _ _ fails))
     ]
-  where
-    kept : ((zs : List Config) → filter p gs ≡ zs ++ c ∷ ys → Member c gs) → (zs : List Config) → g ∷ filter p gs ≡ zs ++ c ∷ ys → Member c (g ∷ gs)
-    kept more [] h = inl cc
-    kept more (z ∷ zs) h = inr (more zs cc)
 
--- what follows c among those that pass p are those that pass q, which are the ones that pass p and are greater than c
-rest-after : (p q : Config → Bool) (c : Config) → ((d : Config) → is_less c d ≡ true → p d ≡ q d) → ((d : Config) → is_less c d ≡ false → q d ≡ false)
-    → (gs xs ys : List Config) → IsRising gs → filter p gs ≡ xs ++ c ∷ ys → filter q gs ≡ ys
-rest-after p q c later earlier [] xs ys r e = absurd (kept-member p c [] xs ys e)
-rest-after p q c later earlier (g ∷ gs) xs ys r e =
-    elim (cases_Bool (p g)) [
-      | inl passes ↦ kept (λ zs h. rest-after p q c later earlier gs zs ys r.1 h) xs (sym (cond-true _ _ _ passes) ∙ e)
-      | inr fails ↦
-          let more : filter p gs ≡ xs ++ c ∷ ys = sym (cond-false _ _ _ fails) ∙ e in
-          cond-false _ _ _ (earlier g (is_less-asym g c (Each-member _ c gs r.0 (kept-member p c gs xs ys more))))
-          ∙ rest-after p q c later earlier gs xs ys r.1 more
-    ]
-  where
-    kept : ((zs : List Config) → filter p gs ≡ zs ++ c ∷ ys → filter q gs ≡ ys) → (zs : List Config) → g ∷ filter p gs ≡ zs ++ c ∷ ys → filter q (g ∷ gs) ≡ ys
-    kept go [] h =
-        let same : g ≡ c = cc in let rest : filter p gs ≡ ys = cc in
-        cond-false _ _ _ (earlier g (ap (is_less c) same ∙ is_less-same c))
-        ∙ sym (filter-agree p q gs (Each-weaker _ _ (λ d less. later d (ap (λ x. is_less x d) (sym same) ∙ less)) gs r.0)) ∙ rest
-    kept go (z ∷ zs) h =
-        let more : filter p gs ≡ zs ++ c ∷ ys = cc in
-        cond-false _ _ _ (earlier g (is_less-asym g c (Each-member _ c gs r.0 (kept-member p c gs zs ys more)))) ∙ go zs more
-
-kept-passes : (p : Config → Bool) (c : Config) (gs xs ys : List Config) → filter p gs ≡ xs ++ c ∷ ys → p c ≡ true
-kept-passes p c [] xs ys e = absurd (kept-member p c [] xs ys e)
-kept-passes p c (g ∷ gs) xs ys e =
-    elim (cases_Bool (p g)) [
-      | inl passes ↦ kept passes (λ zs h. kept-passes p c gs zs ys h) xs (sym (cond-true _ _ _ passes) ∙ e)
-      | inr fails ↦ kept-passes p c gs xs ys (sym (cond-false _ _ _ fails) ∙ e)
-    ]
-  where
-    kept : p g ≡ true → ((zs : List Config) → filter p gs ≡ zs ++ c ∷ ys → p c ≡ true) → (zs : List Config) → g ∷ filter p gs ≡ zs ++ c ∷ ys → p c ≡ true
-    kept k more [] h = let same : g ≡ c = cc in ap p (sym same) ∙ k
-    kept k more (z ∷ zs) h = more zs cc
+-- what is greater than a member of a rising list is what follows it
+rest-of : (c : Config) (xs ys : List Config) → IsRising (xs ++ c ∷ ys) → filter (is_less c) (xs ++ c ∷ ys) ≡ ys
+rest-of c [] ys r = cond-false _ _ _ (is_less-same c) ∙ filter-all (is_less c) ys r.0
+rest-of c (x ∷ xs) ys r =
+    cond-false _ _ _ (is_less-asym x c (Each-split (λ d. is_less x d ≡ true) xs (c ∷ ys) r.0).1.0) ∙ rest-of c xs ys r.1
 
 pub table-rest : (space : Ranges) (after : Option Config) (c : Config) (xs ys : List Config) → table space after ≡ xs ++ c ∷ ys → table space (Some c) ≡ ys
 unfolding table
 table-rest space after c xs ys e =
-    let here = (and_parts _ _ (kept-passes (λ d. is_valid space d && is_after after d) c (all_configs space.assoc) xs ys e)).1 in
-    rest-after (λ d. is_valid space d && is_after after d) (λ d. is_valid space d && is_less c d) c
-    (λ d less. ap (λ x. is_valid space d && x) (later_after after c d here less ∙ sym less)) (λ d less. and_right _ _ less)
-    (all_configs space.assoc) xs ys (all_configs-rise space.assoc) e
+    let here = (Each-split _ xs (c ∷ ys) (subst (Each (λ d. (is_valid space d ≡ true) × (is_after after d ≡ true))) e (table-each space after))).1.0.1 in
+    filter-again (λ d. is_valid space d && is_after after d) (λ d. is_valid space d && is_less c d) (is_less c) (λ d. later d here) (all_configs space.assoc)
+    ∙ ap (filter (is_less c)) e ∙ rest-of c xs ys (subst IsRising e (table-rises space after))
+  where
+    later : (d : Config) → is_after after c ≡ true → (is_valid space d && is_less c d) ≡ ((is_valid space d && is_after after d) && is_less c d)
+    later d here =
+        elim (cases_Bool (is_less c d)) [
+          | inl less ↦ rw (less, later_after after c d here less) (same (is_valid space d))
+          | inr other ↦ rw other (none (is_valid space d) (is_after after d))
+        ]
+      where
+        same : (v : Bool) → (v && true) ≡ ((v && true) && true)
+        same true = refl
+        same false = refl
+
+        none : (v a : Bool) → (v && false) ≡ ((v && a) && false)
+        none true true = refl
+        none true false = refl
+        none false a = refl
 
 pub first_rows-join : {A : Type 0} (n : ℕ) (m : Option ℕ) (xs : List A) → take n xs ++ first_rows m (drop n xs) ≡ first_rows (more_rows n m) xs
 first_rows-join n None xs = take-append-drop n xs

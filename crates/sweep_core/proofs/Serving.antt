@@ -1,5 +1,5 @@
 -- The profiles of a sweep have the counts of their rows.
-use Rattle.std.proofs.Common.{◌≡◌, ℕ, suc, ◌*◌, ◌^◌, ◌<◌, ◌≤◌, Bool, None, List, [], ◌∷◌, ◌++◌, length, get_or, refl, sym, ap, ◌∙◌, arith, subst}
+use Rattle.std.proofs.Common.{◌≡◌, ℕ, suc, ◌*◌, ◌^◌, ◌<◌, ◌≤◌, Bool, None, List, [], ◌∷◌, length, get_or, refl, sym, ap, ◌∙◌, arith, subst}
 use Rattle.std.specs.Prelude.{flat_map}
 use Rattle.std.specs.List.{AllByRecursion as Each}
 use Rattle.trace_core.specs.declared.events.Event.{Event}
@@ -10,14 +10,16 @@ use Rattle.sweep_core.specs.declared.space.Config.{Config}
 use Rattle.sweep_core.specs.declared.request.Request.{Request}
 use Rattle.sweep_core.specs.declared.profiles.PairProfile.{PairProfile}
 use Rattle.sweep_core.specs.Space.{space_fault, bytes_of}
-use Rattle.sweep_core.specs.SweepText.{log2, row_counts, configs_of, rows_of}
+use Rattle.sweep_core.specs.SweepText.{row_counts, configs_of, rows_of}
+use Rattle.cache_core.specs.Powers.{log2}
 use Rattle.sweep_core.specs.Work.{pair_of, depth}
 use Rattle.sweep_core.specs.Runs.{next_ways, run_of, rows_of_profile, Serves, ServesRows}
 use Rattle.sweep_core.specs.Pass.{SweepStandsFor, WasFed}
-use Rattle.sweep_core.proofs.Lists.{Each-self, Each-both, Each-get_or}
+use Rattle.sweep_core.proofs.Lists.{Each-self, Each-both, Each-split, Each-get_or}
 use Rattle.sweep_core.proofs.Validity.{IsLimited, space-limited, valid_of, products}
 use Rattle.sweep_core.proofs.Depths.{depth-above}
-use Rattle.sweep_core.proofs.Runs.{next, of_ways, next-more, run-first, run-pair}
+use Rattle.sweep_core.proofs.Ways.{next-more}
+use Rattle.sweep_core.proofs.Runs.{next, of_ways, run-first, run-pair}
 use Rattle.sweep_core.proofs.Making.{Belongs, rows-belong, first-each}
 use Rattle.sweep_core.proofs.Standing.{stands, geometry-kept}
 
@@ -39,11 +41,6 @@ rows-sized r sound =
     (rows-belong r)
     (first-each (λ c. c.assoc ≤ depth (configs_of r) (pair_of c)) r.rows (configs_of r)
     (Each-self (λ c. c.assoc ≤ depth (configs_of r) (pair_of c)) (configs_of r) (λ c m. depth-above (configs_of r) c m)))
-
--- what is true of each row is true of each profile's
-Each-split : (P : Config → Type 0) (xs ys : List Config) → Each P (xs ++ ys) → Each P xs × Each P ys
-Each-split P [] ys h = (tt, h)
-Each-split P (x ∷ xs) ys h = let w = Each-split P xs ys h.1 in ((h.0, w.0), w.1)
 
 module _ (r : Request) (es : List Event) where
   serves : (x : PairProfile) → WasFed (configs_of r) es x → Each (Sized r) (rows_of_profile r.space.powers x) → ServesRows r.space.powers es x

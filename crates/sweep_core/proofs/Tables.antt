@@ -1,31 +1,15 @@
 -- Rising lists of configurations.
-use Rattle.std.proofs.Common.{◌≡◌, ℕ, suc, zero, ◌+◌, ◌-◌, ◌^◌, ◌<◌, ◌≤◌, Bool, true, false, List, [], ◌∷◌, ◌++◌, map, refl, sym, ap, ◌∙◌, arith}
-use Rattle.std.specs.Prelude.{filter, flat_map, ⊤}
+use Rattle.std.proofs.Common.{◌≡◌, ℕ, suc, zero, ◌+◌, ◌-◌, ◌^◌, ◌<◌, ◌≤◌, true, List, [], ◌∷◌, ◌++◌, map, refl, sym, ap, ◌∙◌, arith, subst}
+use Rattle.std.specs.Prelude.{flat_map, ⊤}
 use Rattle.std.proofs.Common.{inl, inr}
 use Rattle.std.specs.List.{range_with_len, AllByRecursion as Each}
-use Rattle.std.proofs.lemmas.Bool.{cases_Bool, false≢true, cond-true, cond-false}
 use Rattle.std.proofs.Math.Pow.{pow-lt}
 use Rattle.sweep_core.specs.declared.space.Config.{Config}
 use Rattle.sweep_core.specs.Table.{IsRising, is_less, powers_of_two, numbers, all_configs}
-use Rattle.sweep_core.specs.Space.{config}
-use Rattle.sweep_core.proofs.Lists.{Member, Each-member, Each-weaker, Each-append, Each-flat_map, Member-flat_map, Member-map, Member-range, filter-agree}
-use Rattle.sweep_core.proofs.Orders.{is_less-asym, is_less-same, is_less-from}
-
--- the least that passes p stands first, and then those that pass q, which are the greater ones
-pub filter-peel : (p q : Config → Bool) (c : Config) → p c ≡ true → ((d : Config) → p d ≡ true → is_less d c ≡ false)
-    → ((d : Config) → is_less c d ≡ true → p d ≡ q d) → ((d : Config) → is_less c d ≡ false → q d ≡ false)
-    → (xs : List Config) → IsRising xs → Member c xs → filter p xs ≡ c ∷ filter q xs
-filter-peel p q c pc least later earlier [] r m = absurd m
-filter-peel p q c pc least later earlier (x ∷ xs) r (inl e) =
-    let px : p x ≡ true = ap p e ∙ pc in
-    let qx : q x ≡ false = earlier x (ap (is_less c) e ∙ is_less-same c) in
-    let rest : filter p xs ≡ filter q xs = filter-agree p q xs (Each-weaker _ _ (λ d h. later d (ap (λ y. is_less y d) (sym e) ∙ h)) xs r.0) in
-    cond-true _ _ _ px ∙ ap (λ y. y ∷ filter p xs) e ∙ ap (λ l. c ∷ l) (rest ∙ sym (cond-false _ _ _ qx))
-filter-peel p q c pc least later earlier (x ∷ xs) r (inr m) =
-    let below : is_less x c ≡ true = Each-member _ c xs r.0 m in
-    let px : p x ≡ false = elim (cases_Bool (p x)) [ inl passes ↦ absurd (false≢true (sym (least x passes) ∙ below)) | inr fails ↦ fails ] in
-    let qx : q x ≡ false = earlier x (is_less-asym x c below) in
-    cond-false _ _ _ px ∙ filter-peel p q c pc least later earlier xs r.1 m ∙ ap (λ l. c ∷ l) (sym (cond-false _ _ _ qx))
+use Rattle.sweep_core.specs.Space.{Ranges, config, is_valid}
+use Rattle.sweep_core.proofs.Lists.{Member, Each-weaker, Each-append, Each-flat_map, Member-flat_map, Member-map, Member-range}
+use Rattle.sweep_core.proofs.Validity.{IsLimited, valid_of, power-exponent}
+use Rattle.sweep_core.proofs.Orders.{is_less-from}
 
 Rising-append : (xs ys : List Config) → IsRising xs → IsRising ys → Each (λ x. Each (λ y. is_less x y ≡ true) ys) xs → IsRising (xs ++ ys)
 Rising-append [] ys p q h = q
@@ -100,3 +84,12 @@ all_configs-member range i j e hi hj low high =
     (Member-flat_map (λ s. map (config (2 ^ i) s) (numbers range)) (2 ^ j) _ powers_of_two
     (Member-map (λ k. 2 ^ k) j (range_with_len 0 21) (Member-range j 0 21 (omega arith) (omega arith)))
     (Member-map (config (2 ^ i) (2 ^ j)) e (numbers range) (Member-range e range.0 (range.1 + 1 - range.0) low (omega arith))))
+
+-- a configuration of a space stands among all
+pub valid-member : (space : Ranges) (c : Config) → IsLimited space → is_valid space c ≡ true → Member c (all_configs space.assoc)
+valid-member space c l h =
+    let v = valid_of space c h in
+    let i = power-exponent c.bsize v.block_power (omega (arith, v.bsize.1, l.bsize.1)) in
+    let j = power-exponent c.sets v.set_power (omega (arith, v.sets.1, l.sets.1)) in
+    let same : config (2 ^ i.0) (2 ^ j.0) c.assoc ≡ c = ap (λ x. config x (2 ^ j.0) c.assoc) (sym i.2) ∙ ap (λ y. config c.bsize y c.assoc) (sym j.2) in
+    subst (λ (d : Config). Member d (all_configs space.assoc)) same (all_configs-member space.assoc i.0 j.0 c.assoc i.1 j.1 v.assoc.0 v.assoc.1)

@@ -6,8 +6,9 @@ use Rattle.std.proofs.Math.Nat.{mul-le-mul}
 use Rattle.sweep_core.specs.declared.space.Config.{Config}
 use Rattle.sweep_core.specs.declared.space.Which.{Which}
 use Rattle.sweep_core.specs.declared.space.Cause.{Cause}
-use Rattle.sweep_core.specs.Space.{Ranges, is_power, is_in_range, bytes_of, is_valid, limit_cause, power_cause, first_cause, space_fault}
-use Rattle.sweep_core.proofs.Powers.{power-of}
+use Rattle.sweep_core.specs.Space.{Ranges, is_in_range, bytes_of, is_valid, limit_cause, power_cause, first_cause, space_fault}
+use Rattle.cache_core.specs.Powers.{is_power}
+use Rattle.cache_core.proofs.PowersOfTwo.{power-of}
 
 -- a number is none below the lowest and none above the greatest of a range
 abbrev pub Within : ℕ × ℕ → ℕ → Type 0
@@ -30,11 +31,11 @@ in_range-within range n h = let w = and_parts _ _ h in (leb-true _ _ w.0, leb-tr
 pub is_in_range-from : (range : ℕ × ℕ) (n : ℕ) → Within range n → is_in_range range n ≡ true
 is_in_range-from range n h = and_from _ _ (le-leb _ _ h.0) (le-leb _ _ h.1)
 
-implied : (b p : Bool) → (not b || p) ≡ true → b ≡ true → p ≡ true
+pub implied : (b p : Bool) → (not b || p) ≡ true → b ≡ true → p ≡ true
 implied true p h e = h
 implied false p h e = absurd (false≢true e)
 
-implies : (b p : Bool) → (b ≡ true → p ≡ true) → (not b || p) ≡ true
+pub implies : (b p : Bool) → (b ≡ true → p ≡ true) → (not b || p) ≡ true
 implies true p h = h refl
 implies false p h = refl
 

@@ -1,203 +1,277 @@
--- The least and the greatest associativity with which a space has a configuration of a pair.
-use Rattle.std.proofs.Common.{◌≡◌, ℕ, ◌+◌, ◌*◌, ◌/◌, ◌^◌, ◌<◌, ◌≤◌, max, true, false, sym, ap, ◌∙◌, arith, Some, None, inl, inr, subst}
-use Rattle.std.specs.Prelude.{min}
-use Rattle.std.specs.Int.{div_ceil}
-use Rattle.std.proofs.lemmas.Bool.{cases_lt, false≢true, false_from_ne_true}
-use Rattle.std.proofs.lemmas.Nat.{le-div}
+-- The associativities with which a space has configurations of a pair: those between two numbers that are allowed, each the next one.
+use Rattle.std.proofs.Common.{◌≡◌, ℕ, suc, zero, ◌+◌, ◌-◌, ◌*◌, ◌/◌, ◌^◌, ◌<◌, ◌≤◌, max, Bool, true, false, not, ◌&&◌, ◌||◌, leb, refl, sym, ap, ◌∙◌, arith}
+use Rattle.std.proofs.Common.{Option, None, inl, inr, [], ◌∷◌, map}
+use Rattle.std.specs.Prelude.{min, filter}
+use Rattle.std.specs.Int.{div_ceil, IsPowerOfTwo}
+use Rattle.std.specs.List.{range_with_len}
+use Rattle.std.proofs.lemmas.Bool.{cases_lt, false≢true, false_from_ne_true, and_parts, and_from, cond-true, cond-false, leb-true, le-leb}
+use Rattle.std.proofs.lemmas.Nat.{le-div, pow-add, pow_pos}
+use Rattle.std.proofs.Math.Pow.{pow_mono}
 use Rattle.std.proofs.lemmas.Grind.{div_ceil_times}
-use Rattle.std.proofs.Math.Nat.{mul-le-mul, mul-le-mul_left, mul-le-mul_right, add-mul, mul_comm, div-mul-le_self}
+use Rattle.std.proofs.Math.Nat.{mul-le-mul, mul-le-mul_left, mul-le-mul_right, add-mul, mul_comm, div-mul-le_self, mul_assoc}
 use Rattle.sweep_core.specs.declared.space.Config.{Config}
-use Rattle.sweep_core.specs.Space.{Ranges, is_power, is_in_range, is_valid, space_fault, config}
-use Rattle.sweep_core.specs.Least.{IsLeastFrom}
-use Rattle.sweep_core.proofs.Powers.{power-floor, is_power-pow}
-use Rattle.sweep_core.proofs.Validity.{Within, IsValid, IsLimited, space-limited, in_range-within, valid_of, is_valid-from, products}
+use Rattle.sweep_core.specs.Space.{Ranges, is_in_range, is_valid, space_fault, config}
+use Rattle.cache_core.specs.Powers.{is_power, log2}
+use Rattle.sweep_core.specs.Runs.{next_ways, ways_after, run_of}
+use Rattle.sweep_core.specs.declared.space.configs.Ways.{Ways}
+use Rattle.sweep_core.specs.Table.{is_after, numbers}
+use Rattle.sweep_core.specs.Walk.{IsAllowed, NoWays, AreWays, HasRows, rows_of_pair}
+use Rattle.sweep_core.proofs.Lists.{filter-none}
+use Rattle.cache_core.proofs.PowersOfTwo.{power-of, power-floor, is_power-pow, is_power-of, below-64, next_power-least, log2-pow}
+use Rattle.sweep_core.proofs.Validity.{Within, IsLimited, space-limited, in_range-within, is_in_range-from, valid_of, is_valid-from, implied, implies}
 
--- the product of a pair fits
-pair-products : (space : Ranges) (b s : ℕ) → IsLimited space → is_in_range space.bsize b ≡ true → is_in_range space.sets s ≡ true
-    → (0 < b * s) × (b * s < 2 ^ 64)
-pair-products space b s l p q =
-    let hb : Within space.bsize b = in_range-within _ _ p in let hs : Within space.sets s = in_range-within _ _ q in
-    let bs : b * s ≤ 1048576 * 1048576 = mul-le-mul {n₁ = b} {m₁ = s} {n₂ = 1048576} {m₂ = 1048576} (omega arith) (omega arith) in
-    let one : 1 * 1 ≤ b * s = mul-le-mul {n₁ = 1} {m₁ = 1} {n₂ = b} {m₂ = s} (omega arith) (omega arith) in
-    (omega arith, omega arith)
+-- two tests that hold where the other does
+same_tests : (p q : Bool) → (p ≡ true → q ≡ true) → (q ≡ true → p ≡ true) → p ≡ q
+same_tests true q h k = sym (h refl)
+same_tests false true h k = k refl
+same_tests false false h k = refl
 
--- What a space, seen from inside, has of a pair in its ranges.
-pub record PairFacts (r : Ranges) (b s : ℕ) : Type 0 where
-  pub limits : IsLimited r
-  pub some : 0 < b * s
-  pub fits : b * s < 2 ^ 64
+-- a pair in the ranges of a space
+pub record IsOfSpace (space : Ranges) (b s : ℕ) : Type 0 where
+  pub limits : IsLimited space
+  pub block : Within space.bsize b
+  pub set : Within space.sets s
+  pub block_power : is_power b ≡ true
+  pub set_power : is_power s ≡ true
 
-pub pair-facts : {r now : Ranges} {b s : ℕ} → r ≡ now → space_fault r ≡ None → is_in_range now.bsize b ≡ true → is_in_range now.sets s ≡ true
-    → PairFacts r b s
-pair-facts {r} {now} {b} {s} same sound block set =
-    let l = space-limited r sound in
-    let p = pair-products r b s l (ap (λ x. is_in_range x.bsize b) same ∙ block) (ap (λ x. is_in_range x.sets s) same ∙ set) in
-    record { limits = l; some = p.0; fits = p.1 }
+pub of_space : {space now : Ranges} {b s : ℕ} → space ≡ now → space_fault space ≡ None → is_in_range now.bsize b ≡ true → is_in_range now.sets s ≡ true
+    → is_power b ≡ true → is_power s ≡ true → IsOfSpace space b s
+of_space {space} {now} {b} {s} same sound block set block_power set_power = record {
+  limits = space-limited space sound;
+  block = in_range-within _ _ (ap (λ r. is_in_range r.bsize b) same ∙ block);
+  set = in_range-within _ _ (ap (λ r. is_in_range r.sets s) same ∙ set);
+  block_power = block_power;
+  set_power = set_power;
+}
 
--- and of a configuration that it has
-pub record OwnFacts (r : Ranges) (c : Config) : Type 0 where
-  pub limits : IsLimited r
-  pub valid : IsValid r c
-  pub set : 1 ≤ c.sets
-  pub some : 0 < c.bsize * c.sets
-  pub fits : c.bsize * c.sets < 2 ^ 64
+module _ {space : Ranges} {b s : ℕ} (p : IsOfSpace space b s) where
+  pub some_sets : 0 < s
+  some_sets = omega (arith, p.set.0, p.limits.sets.0)
 
-pub own-facts : {r now : Ranges} (c : Config) → r ≡ now → space_fault r ≡ None → is_valid now c ≡ true → OwnFacts r c
-own-facts {r} c same sound own =
-    let l = space-limited r sound in
-    let v = valid_of r c (ap (λ x. is_valid x c) same ∙ own) in
-    let p = products r c.bsize c.sets c.assoc l v.bsize v.sets v.assoc in
-    record { limits = l; valid = v; set = omega (arith, v.sets.0, l.sets.0); some = p.0; fits = p.1 }
+  pub pair_some : 0 < b * s
+  pair_some =
+      let one = mul-le-mul {n₁ = 1} {m₁ = 1} {n₂ = b} {m₂ = s} (omega (arith, p.block.0, p.limits.bsize.0)) (omega (arith, p.set.0, p.limits.sets.0)) in
+      omega arith
 
--- a valid associativity is at least the lowest that may be
-low-le : (space : Ranges) (b s e least low : ℕ) → 0 < b * s → low ≡ max (max least space.assoc.0) (div_ceil space.size.0 (b * s))
-    → least ≤ e → IsValid space (config b s e) → low ≤ e
-low-le space b s e least low some is from v =
-    let t = div_ceil_times space.size.0 (b * s) some in
-    let size : space.size.0 ≤ b * s * e = v.size.0 in
-    let ways : space.assoc.0 ≤ e = v.assoc.0 in
-    let ceil : div_ceil space.size.0 (b * s) ≤ e =
-    elim (cases_lt e (div_ceil space.size.0 (b * s))) [
-      | inl less ↦ let m : (e + 1) * (b * s) ≤ div_ceil space.size.0 (b * s) * (b * s) = mul-le-mul_right (b * s) (omega arith) in
-          absurd (omega (arith, mul_comm (b * s) e, add-mul e 1 (b * s)))
-      | inr more ↦ more
-    ] in
-    omega arith
+  pub pair_fits : b * s < 2 ^ 64
+  pair_fits =
+      let most = mul-le-mul {n₁ = b} {m₁ = s} {n₂ = 1048576} {m₂ = 1048576} (omega (arith, p.block.1, p.limits.bsize.1))
+      (omega (arith, p.set.1, p.limits.sets.1)) in
+      omega arith
 
--- a number between the lowest and a valid associativity is valid, if it is a power where that is wanted
-valid-between : (space : Ranges) (b s n e least low : ℕ) → 0 < b * s → low ≡ max (max least space.assoc.0) (div_ceil space.size.0 (b * s))
-    → low ≤ n → n ≤ e → (space.powers ≡ true → is_power n ≡ true) → IsValid space (config b s e) → IsValid space (config b s n)
-valid-between space b s n e least low some is from below power v =
-    let t = div_ceil_times space.size.0 (b * s) some in
-    let m : div_ceil space.size.0 (b * s) * (b * s) ≤ n * (b * s) = mul-le-mul_right (b * s) (omega arith) in
-    let up : b * s * n ≤ b * s * e = mul-le-mul_left (b * s) below in
-    let size : b * s * e ≤ space.size.1 = v.size.1 in
-    let lines : e * s ≤ 2 ^ 22 = v.lines in
-    let fewer : n * s ≤ e * s = mul-le-mul_right s below in
-    let high : e ≤ space.assoc.1 = v.assoc.1 in
-    record {
-      bsize = v.bsize;
-      sets = v.sets;
-      assoc = (omega arith, omega arith);
-      size = (omega (arith, mul_comm (b * s) n), omega arith);
-      block_power = v.block_power;
-      set_power = v.set_power;
-      way_power = power;
-      lines = omega arith;
-    }
+  pub few_ways : space.assoc.1 ≤ 65536
+  few_ways = p.limits.assoc.1
 
--- no associativity from `least` on is valid where the lowest is above the range
-none-above : (space : Ranges) (b s e least low : ℕ) → 0 < b * s → low ≡ max (max least space.assoc.0) (div_ceil space.size.0 (b * s))
-    → space.assoc.1 < low → least ≤ e → is_valid space (config b s e) ≡ false
-none-above space b s e least low some is above from =
-    false_from_ne_true _ (λ h. let v = valid_of space (config b s e) h in let w : Within space.assoc e = v.assoc in
-    let m : low ≤ e = low-le space b s e least low some is from v in absurd (omega arith))
+  -- what the range, the size and the lines leave
+  pub ways-valid : {low high m n : ℕ} (e : ℕ) → n ≡ div_ceil space.size.0 (b * s) → low ≡ max space.assoc.0 n
+      → m ≡ min space.assoc.1 (4194304 / s) → high ≡ min m (space.size.1 / (b * s))
+      → is_valid space (config b s e) ≡ (is_in_range (low, high) e && (not space.powers || is_power e))
+  ways-valid {low} {high} e ceil least room most = same_tests _ _ (λ h.
+      let v = valid_of space (config b s e) h in
+      let up : div_ceil space.size.0 (b * s) ≤ e =
+      elim (cases_lt e (div_ceil space.size.0 (b * s))) [
+        | inl less ↦ let m : (e + 1) * (b * s) ≤ div_ceil space.size.0 (b * s) * (b * s) = mul-le-mul_right (b * s) (omega arith) in
+            absurd (omega (arith, v.size.0, div_ceil_times space.size.0 (b * s) pair_some, mul_comm (b * s) e, add-mul e 1 (b * s)))
+        | inr more ↦ more
+      ] in
+      let lines = le-div e 4194304 s some_sets (omega (arith, v.lines)) in
+      let size = le-div e space.size.1 (b * s) pair_some (omega (arith, v.size.1, mul_comm (b * s) e)) in
+      and_from _ _ (is_in_range-from (low, high) e (omega (arith, ceil, least, up, v.assoc.0), omega (arith, room, most, lines, size, v.assoc.1)))
+      (implies _ _ v.way_power))
+      (λ h.
+      let w = and_parts _ _ h in
+      let i : Within (low, high) e = in_range-within _ _ w.0 in
+      let up : div_ceil space.size.0 (b * s) * (b * s) ≤ e * (b * s) = mul-le-mul_right (b * s) (omega (arith, ceil, least, i.0)) in
+      let size : e * (b * s) ≤ space.size.1 / (b * s) * (b * s) = mul-le-mul_right (b * s) (omega (arith, most, i.1)) in
+      let lines : e * s ≤ 4194304 / s * s = mul-le-mul_right s (omega (arith, room, most, i.1)) in
+      is_valid-from space (config b s e) (record {
+        bsize = p.block;
+        sets = p.set;
+        assoc = (omega (arith, least, i.0), omega (arith, room, most, i.1));
+        size = (
+          omega (arith, up, div_ceil_times space.size.0 (b * s) pair_some, mul_comm (b * s) e),
+          omega (arith, size, div-mul-le_self space.size.1 (b * s), mul_comm (b * s) e),
+        );
+        block_power = p.block_power;
+        set_power = p.set_power;
+        way_power = implied _ _ w.1;
+        lines = omega (arith, lines, div-mul-le_self 4194304 s);
+      }))
 
--- none is valid where the first that may be isn't
-none-from : (space : Ranges) (b s n e least low : ℕ) → 0 < b * s → low ≡ max (max least space.assoc.0) (div_ceil space.size.0 (b * s))
-    → low ≤ n → (space.powers ≡ true → is_power n ≡ true) → (low ≤ e → (space.powers ≡ true → is_power e ≡ true) → n ≤ e)
-    → is_valid space (config b s n) ≡ false → least ≤ e → is_valid space (config b s e) ≡ false
-none-from space b s n e least low some is above power first fails from =
-    false_from_ne_true _ (λ h. let v = valid_of space (config b s e) h in
-    let w = valid-between space b s n e least low some is above (first (low-le space b s e least low some is from v) v.way_power) power v in
-    false≢true (sym fails ∙ is_valid-from space (config b s n) w))
+-- associativities grow
+pub next-more : (powers : Bool) (n : ℕ) → 1 ≤ n → n < next_ways powers n
+next-more true n h = omega arith
+next-more false n h = omega arith
 
--- The least: what may be begins at the greatest of three numbers.
-module _ {r now : Ranges} {m n low : ℕ} (b s least : ℕ) (same : r ≡ now) (sound : space_fault r ≡ None)
-    (block : is_in_range now.bsize b ≡ true) (set : is_in_range now.sets s ≡ true)
-    (ranged : m ≡ max least r.assoc.0) (sized : n ≡ div_ceil r.size.0 (b * s)) (both : low ≡ max m n) where
-  some : 0 < b * s
-  some = (pair-facts same sound block set).some
+after-none : (powers : Bool) (n : ℕ) → ways_after powers n 0 ≡ n
+after-none true n = omega arith
+after-none false n = omega arith
 
-  lowest : low ≡ max (max least r.assoc.0) (div_ceil r.size.0 (b * s))
-  lowest = both ∙ ap (λ x. max x n) ranged ∙ ap (max (max least r.assoc.0)) sized
+pub after-step : (powers : Bool) (n k : ℕ) → ways_after powers n (suc k) ≡ ways_after powers (next_ways powers n) k
+after-step true n k = let double : 2 ^ suc k ≡ 2 * 2 ^ k = omega arith in ap (λ p. n * p) double ∙ sym (mul_assoc n 2 (2 ^ k))
+after-step false n k = omega arith
 
-  -- none is valid where that is above the range
-  pub least-none : r.assoc.1 < low → (e : ℕ) → least ≤ e → is_valid now (config b s e) ≡ false
-  least-none above e from =
-      subst (λ (x : Ranges). is_valid x (config b s e) ≡ false) same (none-above r b s e least low some lowest above from)
+pub after-more : (powers : Bool) (n k : ℕ) → n ≤ ways_after powers n k
+after-more true n k = let m : n * 1 ≤ n * 2 ^ k = mul-le-mul_left n (pow_pos k) in omega arith
+after-more false n k = omega arith
 
-  module _ (k : ℕ) (from : low ≤ k) (first : (e : ℕ) → low ≤ e → (r.powers ≡ true → is_power e ≡ true) → k ≤ e) where
-    -- the first that may be is the least where it is valid
-    pub least-is : is_valid now (config b s k) ≡ true → IsLeastFrom least (λ e. is_valid now (config b s e)) (Some k)
-    least-is valid = (
-      omega (arith, lowest, from),
-      valid,
-      λ e high h.
-          let v = valid_of r (config b s e) (ap (λ x. is_valid x (config b s e)) same ∙ h) in
-          first e (low-le r b s e least low some lowest high v) v.way_power,
+-- the next power is a power
+next-counts : (powers : Bool) (n : ℕ) → n < 2 ^ 62 → IsAllowed powers n → IsAllowed powers (next_ways powers n)
+next-counts true n fits power h =
+    let k = power-of n (power h) in
+    let e : n * 2 ≡ 2 ^ suc k.0 = omega (arith, k.2) in
+    ap is_power e ∙ is_power-pow (suc k.0) (below-64 (n * 2) (suc k.0) (omega arith) e)
+next-counts false n fits power h = absurd (false≢true h)
+
+-- none that counts lies between
+gap : (powers : Bool) (n m : ℕ) → IsAllowed powers n → IsAllowed powers m → n < m → m < next_ways powers n → ⊥
+gap true n m p q more less =
+    let k = power-of n (p refl) in
+    let top : m ≤ 2 ^ k.0 = power-floor m k.0 m (omega (arith, k.2)) (q refl) (omega arith) in
+    omega (arith, k.2)
+gap false n m p q more less = omega arith
+
+-- from f on those that pass are n that follow one another
+abbrev Follow : (ℕ → Bool) → Bool → ℕ → ℕ → Type 0
+Follow q powers f zero = (e : ℕ) → f ≤ e → q e ≡ false
+Follow q powers f (suc n) = (q f ≡ true) × ((e : ℕ) → f < e → e < next_ways powers f → q e ≡ false) × Follow q powers (next_ways powers f) n
+
+-- those that count, from the first on up to a number
+follow : (q : ℕ → Bool) (powers : Bool) (f most n : ℕ) → ((e : ℕ) → f ≤ e → e ≤ most → IsAllowed powers e → q e ≡ true)
+    → ((e : ℕ) → q e ≡ true → (e ≤ most) × IsAllowed powers e) → 1 ≤ f → most < 2 ^ 62 → IsAllowed powers f
+    → ((k : ℕ) → k < n → ways_after powers f k ≤ most) → most < ways_after powers f n → Follow q powers f n
+follow q powers f most zero passes only some small counts within whole =
+    λ e from. false_from_ne_true _ (λ h. absurd (omega (arith, whole, after-none powers f, (only e h).0)))
+follow q powers f most (suc n) passes only some small counts within whole =
+    let low : f ≤ most = omega (arith, within 0 (omega arith), after-none powers f) in
+    let more = next-more powers f some in (
+      passes f (omega arith) low counts,
+      λ e from less. false_from_ne_true _ (λ h. gap powers f e counts (only e h).1 from less),
+      follow q powers (next_ways powers f) most n (λ e from. passes e (omega arith)) only (omega arith) small (next-counts powers f (omega arith) counts)
+          (λ k less. omega (arith, after-step powers f k, within (suc k) (omega arith))) (omega (arith, whole, after-step powers f n)),
     )
 
-    -- and where it isn't, none is
-    pub least-isnt : (r.powers ≡ true → is_power k ≡ true) → is_valid now (config b s k) ≡ false
-        → (e : ℕ) → least ≤ e → is_valid now (config b s e) ≡ false
-    least-isnt power fails e high =
-        subst (λ (x : Ranges). is_valid x (config b s e) ≡ false) same
-        (none-from r b s k e least low some lowest from power (first e) (ap (λ x. is_valid x (config b s k)) same ∙ fails) high)
+-- they are what a filter keeps of the numbers from a on
+pub kept-run : (p : Config → Bool) (powers : Bool) (b s len a f n : ℕ) → a ≤ f → 1 ≤ f → ((e : ℕ) → a ≤ e → e < f → p (config b s e) ≡ false)
+    → Follow (λ e. p (config b s e)) powers f n → ((e : ℕ) → p (config b s e) ≡ true → e < a + len)
+    → filter p (map (config b s) (range_with_len a len)) ≡ run_of powers (config b s f) n
+kept-run p powers b s zero a f zero from some none run within = refl
+kept-run p powers b s zero a f (suc n) from some none run within = absurd (omega (arith, within f run.0))
+kept-run p powers b s (suc len) a f n from some none run within =
+    elim (cases_lt a f) [
+      | inl less ↦ cond-false _ _ _ (none a (omega arith) less)
+          ∙ kept-run p powers b s len (a + 1) f n (omega arith) some (λ e low. none e (omega arith)) run (λ e h. omega (arith, within e h))
+      | inr here ↦ first n run {a = a} (omega arith) (λ e h. omega (arith, within e h)) (λ k m. kept-run p powers b s len (a + 1) k m)
+    ]
+  where
+    first : (m : ℕ) → Follow (λ e. p (config b s e)) powers f m → {a : ℕ} → a ≡ f → ((e : ℕ) → p (config b s e) ≡ true → e < (a + 1) + len)
+        → ((k m : ℕ) → a + 1 ≤ k → 1 ≤ k → ((e : ℕ) → a + 1 ≤ e → e < k → p (config b s e) ≡ false) → Follow (λ e. p (config b s e)) powers k m
+        → ((e : ℕ) → p (config b s e) ≡ true → e < (a + 1) + len)
+        → filter p (map (config b s) (range_with_len (a + 1) len)) ≡ run_of powers (config b s k) m)
+        → filter p (map (config b s) (range_with_len a (suc len))) ≡ run_of powers (config b s f) m
+    first zero run {a} same within rest =
+        cond-false _ _ _ (run a (omega arith))
+        ∙ rest (a + 1) 0 (omega arith) (omega arith) (λ e low high. absurd (omega arith)) (λ e low. run e (omega arith)) within
+    first (suc m) run {a} same within rest =
+        cond-true _ _ _ (ap (λ e. p (config b s e)) same ∙ run.0)
+        ∙ ap (λ e. config b s e ∷ filter p (map (config b s) (range_with_len (a + 1) len))) same
+        ∙ ap (λ l. config b s f ∷ l) (rest (next_ways powers f) m (omega (arith, next-more powers f some)) (omega (arith, next-more powers f some))
+        (λ e low high. run.1 e (omega arith) high) run.2 within)
 
--- An associativity is valid that is a power where that is wanted, at most as large as what the range, the lines and the size leave,
--- and at least a valid one.
-valid-up : (space : Ranges) (b s e n : ℕ) → 0 < s → 0 < b * s → n ≤ space.assoc.1 → n ≤ 4194304 / s → n ≤ space.size.1 / (b * s) → e ≤ n
-    → (space.powers ≡ true → is_power n ≡ true) → IsValid space (config b s e) → IsValid space (config b s n)
-valid-up space b s e n ps pbs range lines size from power v =
-    let up : b * s * e ≤ b * s * n = mul-le-mul_left (b * s) from in
-    let low : space.size.0 ≤ b * s * e = v.size.0 in
-    let a : n * (b * s) ≤ space.size.1 / (b * s) * (b * s) = mul-le-mul_right (b * s) size in
-    let c : n * s ≤ 4194304 / s * s = mul-le-mul_right s lines in
-    let ways : space.assoc.0 ≤ e = v.assoc.0 in
+-- a pair has no row where no associativity gives one
+pub pair-none : (space : Ranges) (after : Option Config) (b s : ℕ)
+    → ((e : ℕ) → is_valid space (config b s e) ≡ true → is_after after (config b s e) ≡ true → ⊥) → rows_of_pair space after (b, s) ≡ []
+unfolding rows_of_pair
+pair-none space after b s none =
+    filter-none (λ c. is_valid space c && is_after after c) (config b s)
+    (λ e. false_from_ne_true _ (λ h. let w = and_parts _ _ h in none e w.0 w.1)) (numbers space.assoc)
+
+-- what a pair has, by the associativities that are left of it
+module _ (space : Ranges) (b s : ℕ) {low high lowest : ℕ} (least : ℕ) (after : Option Config) (is : lowest ≡ max low least)
+    (valid : (e : ℕ) → is_valid space (config b s e) ≡ (is_in_range (low, high) e && (not space.powers || is_power e)))
+    (later : (e : ℕ) → is_after after (config b s e) ≡ leb least e) (some : 1 ≤ low) (few : high < 2 ^ 17) where
+  abbrev passes : Config → Bool
+  passes c = is_valid space c && is_after after c
+
+  only : (e : ℕ) → passes (config b s e) ≡ true → (lowest ≤ e) × (e ≤ high) × IsAllowed space.powers e
+  only e h =
+      let w = and_parts _ _ h in let v = and_parts _ _ (sym (valid e) ∙ w.0) in let i : Within (low, high) e = in_range-within _ _ v.0 in
+      (omega (arith, is, i.0, leb-true least e (sym (later e) ∙ w.1)), i.1, implied _ _ v.1)
+
+  all : (e : ℕ) → low ≤ e → e ≤ high → IsAllowed space.powers e → is_valid space (config b s e) ≡ true
+  all e from to counts = valid e ∙ and_from _ _ (is_in_range-from (low, high) e (from, to)) (implies _ _ counts)
+
+  pub rows-none : NoWays lowest high space.powers → rows_of_pair space after (b, s) ≡ []
+  rows-none none = pair-none space after b s (λ e v a. let w = only e (and_from _ _ v a) in none e w.0 w.1 w.2)
+
+  module _ {w : Ways} (ways : AreWays lowest high space.powers w) where
+    within : w.first ≤ high
+    within = omega (arith, ways.within 0 (omega (arith, ways.some)), after-none space.powers w.first)
+
+    last-within : (w.first ≤ w.last) × (w.last ≤ high)
+    last-within = (
+      omega (arith, ways.last, after-more space.powers w.first (w.count - 1)),
+      omega (arith, ways.last, ways.within (w.count - 1) (omega (arith, ways.some))),
+    )
+
+    pub rows-some : HasRows space after (b, s) (record { first = config b s w.first; count = w.count; depth = w.last })
+    unfolding rows_of_pair
+    rows-some =
+        let first = all w.first (omega (arith, is, ways.from)) within ways.first in
+        let range = (valid_of space (config b s w.first) first).assoc in
+        record {
+          deep = record {
+            valid = first;
+            reached = all w.last (omega (arith, is, ways.from, last-within.0)) last-within.1 ways.deepest;
+            greatest = λ e h. let v = and_parts _ _ (sym (valid e) ∙ h) in ways.greatest e (in_range-within (low, high) e v.0).1 (implied _ _ v.1);
+          };
+          some = ways.some;
+          first = refl;
+          fits = omega (arith, few, ways.fits);
+          whole = kept-run passes space.powers b s _ space.assoc.0 w.first w.count (omega (arith, range.0)) (omega (arith, is, some, ways.from))
+              (λ e from less. false_from_ne_true _ (λ h. let o = only e h in absurd (omega (arith, less, ways.least e o.0 o.2))))
+              (follow (λ e. passes (config b s e)) space.powers w.first high w.count
+              (λ e from to counts. and_from _ _ (all e (omega (arith, is, from, ways.from)) to counts) (later e
+              ∙ le-leb least e (omega (arith, is, from, ways.from))))
+              (λ e h. let o = only e h in (o.1, o.2)) (omega (arith, is, some, ways.from)) (omega (arith, few)) ways.first ways.within ways.whole)
+              (λ e h. let r = (valid_of space (config b s e) (and_parts _ _ h).0).assoc in omega (arith, r.0, r.1));
+        }
+
+-- no power of two stands between two numbers where the greatest up to the one is below the least from the other on
+pub ways-none : (powers : Bool) (lowest most first k : ℕ) → powers ≡ true → IsPowerOfTwo first → first / 2 < max 1 lowest → most < 2 * 2 ^ k → 2 ^ k < first
+    → NoWays lowest most powers
+ways-none powers lowest most first k is power least above apart e low high counts =
+    omega (arith, next_power-least lowest first e power least low (counts is), power-floor most k e above (counts is) high)
+
+-- the exponents of two powers of two
+pub exponents : (first last k : ℕ) (power : IsPowerOfTwo first) → last ≡ 2 ^ k → k < 64 → first ≤ last
+    → (log2 first ≡ power.0) × (log2 last ≡ k) × (power.0 ≤ k)
+exponents first last k power top small le =
+    let up : power.0 ≤ k = elim (cases_lt k power.0) [
+      | inl less ↦ let more : 2 ^ suc k ≤ 2 ^ power.0 = pow_mono less in absurd (omega (arith, power.1, pow_pos k))
+      | inr more ↦ more
+    ] in
+    (ap log2 power.1 ∙ log2-pow power.0 (omega (arith, up, small)), ap log2 top ∙ log2-pow k small, up)
+
+pub ways-powers : (powers : Bool) (lowest most first last count k : ℕ) → powers ≡ true → most < 2 ^ 17 → IsPowerOfTwo first → lowest ≤ first
+    → first / 2 < max 1 lowest → last ≡ 2 ^ k → k < 64 → 2 ^ k ≤ most → most < 2 * 2 ^ k → first ≤ last → count ≡ log2 last - log2 first + 1
+    → AreWays lowest most powers (record { first = first; last = last; count = count })
+ways-powers false lowest most first last count k is few power from least top small below above le counted = absurd (false≢true is)
+ways-powers true lowest most first last count k is few power from least top small below above le counted =
+    let j = power.0 in
+    let logs = exponents first last k power top small le in
+    let after : (i : ℕ) → first * 2 ^ i ≡ 2 ^ (j + i) = λ i. ap (λ n. n * 2 ^ i) power.1 ∙ sym (pow-add 2 j i) in
+    let end : first * 2 ^ count ≡ 2 * 2 ^ k = after count ∙ ap (λ i. 2 ^ i) {x = j + count} {y = suc k} (omega (arith, counted, logs.0, logs.1, logs.2))
+    ∙ omega arith in
     record {
-      bsize = v.bsize;
-      sets = v.sets;
-      assoc = (omega arith, range);
-      size = (omega arith, omega (arith, mul_comm (b * s) n, div-mul-le_self space.size.1 (b * s)));
-      block_power = v.block_power;
-      set_power = v.set_power;
-      way_power = power;
-      lines = omega (arith, div-mul-le_self 4194304 s);
+      some = omega (arith, counted);
+      from = from;
+      first = λ _. is_power-of first power (omega arith);
+      least = λ e low counts. next_power-least lowest first e power least low (counts refl);
+      within = λ i less. let within : 2 ^ (j + i) ≤ 2 ^ k = pow_mono (omega (arith, counted, less, logs.0, logs.1, logs.2)) in omega (arith, after i);
+      whole = omega (arith, end);
+      last = after (count - 1) ∙ ap (λ i. 2 ^ i) {x = j + (count - 1)} {y = k} (omega (arith, counted, logs.0, logs.1, logs.2)) ∙ sym top;
+      deepest = λ _. ap is_power top ∙ is_power-pow k small;
+      greatest = λ e high counts. omega (arith, power-floor most k e above (counts refl) high);
+      fits = omega (arith, end);
     }
-
--- a valid associativity is at most what the lines and the size leave
-valid-most : (space : Ranges) (b s e : ℕ) → 0 < s → 0 < b * s → IsValid space (config b s e)
-    → (e ≤ 4194304 / s) × (e ≤ space.size.1 / (b * s))
-valid-most space b s e ps pbs v =
-    let size : b * s * e ≤ space.size.1 = v.size.1 in
-    let lines : e * s ≤ 4194304 = v.lines in
-    (le-div e 4194304 s ps lines, le-div e space.size.1 (b * s) pbs (omega (arith, mul_comm (b * s) e)))
-
--- The greatest: the range, the lines and the size leave so many.
-module _ {r now : Ranges} {m n : ℕ} (c : Config) (same : r ≡ now) (sound : space_fault r ≡ None) (own : is_valid now c ≡ true)
-    (ranged : m ≡ min r.assoc.1 (4194304 / c.sets)) (sized : n ≡ min m (r.size.1 / (c.bsize * c.sets))) where
-  facts : OwnFacts r c
-  facts = own-facts c same sound own
-
-  -- each valid one is at most that
-  pub most-above : (e : ℕ) → is_valid now (config c.bsize c.sets e) ≡ true → e ≤ n
-  most-above e h =
-      let v = valid_of r (config c.bsize c.sets e) (ap (λ x. is_valid x (config c.bsize c.sets e)) same ∙ h) in
-      let up = valid-most r c.bsize c.sets e facts.set facts.some v in
-      omega (arith, ranged, sized, v.assoc.1, up.0, up.1)
-
-  pub most-some : 1 ≤ n
-  most-some = omega (arith, most-above c.assoc own, facts.valid.assoc.0, facts.limits.assoc.0)
-
-  -- one up to that is valid which isn't below a valid one, and a power where that is wanted
-  valid-to : (k : ℕ) → c.assoc ≤ k → k ≤ n → (r.powers ≡ true → is_power k ≡ true) → is_valid now (config c.bsize c.sets k) ≡ true
-  valid-to k from below power =
-      subst (λ (x : Ranges). is_valid x (config c.bsize c.sets k) ≡ true) same
-      (is_valid-from r (config c.bsize c.sets k) (valid-up r c.bsize c.sets c.assoc k facts.set facts.some
-      (omega (arith, below, ranged, sized)) (omega (arith, below, ranged, sized)) (omega (arith, below, sized)) from power facts.valid))
-
-  -- where all associativities count, it is that
-  pub most-valid : r.powers ≡ false → is_valid now (config c.bsize c.sets n) ≡ true
-  most-valid all = valid-to n (most-above c.assoc own) (omega arith) (λ t. absurd (false≢true (sym all ∙ t)))
-
-  -- where powers of two alone count, it is the greatest up to that
-  module _ {p : ℕ} (k : ℕ) (powers : r.powers ≡ true) (is : p ≡ 2 ^ k) (up : n < 2 * 2 ^ k) where
-    pub power-above : (e : ℕ) → is_valid now (config c.bsize c.sets e) ≡ true → e ≤ p
-    power-above e h =
-        let v = valid_of r (config c.bsize c.sets e) (ap (λ x. is_valid x (config c.bsize c.sets e)) same ∙ h) in
-        subst (λ (x : ℕ). e ≤ x) (sym is) (power-floor n k e up (v.way_power powers) (most-above e h))
-
-    pub power-valid : k < 64 → 2 ^ k ≤ n → is_valid now (config c.bsize c.sets p) ≡ true
-    power-valid small low =
-        valid-to p (power-above c.assoc own) (omega (arith, is, low)) (λ _. ap is_power is ∙ is_power-pow k small)

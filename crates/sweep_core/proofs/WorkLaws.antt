@@ -7,8 +7,8 @@ use Rattle.std.proofs.lemmas.List.Kept.{AllPairs-cons, AllPairs-filter}
 use Rattle.std.proofs.lemmas.List.Sums.{sum_by-le-sum_by}
 use Rattle.trace_core.specs.declared.events.Event.{Event}
 use Rattle.trace_core.specs.declared.events.Event.TheVariants as event
+use Rattle.trace_core.specs.Events.{references_in}
 use Rattle.cache_core.specs.Geometry.{GeometryValue}
-use Rattle.cache_core.specs.Systems.{references_in}
 use Rattle.cache_core.specs.Windows.{occurrences, occurrences_after, probes}
 use Rattle.sweep_core.specs.declared.space.Config.{Config}
 use Rattle.sweep_core.specs.Work.{pair_of, has_pair, pairs, depth, geometry_of_pair, work, total_depth}

@@ -1,7 +1,8 @@
 pub mod Space
 pub mod Table
-pub mod Least
+pub mod Walk
 pub mod SweepText
+pub mod Pages
 pub mod Work
 pub mod Runs
 pub mod Pass

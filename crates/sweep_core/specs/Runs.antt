@@ -7,7 +7,7 @@ use Rattle.profile_core.specs.ProfileStandsFor.{ProfileStandsFor}
 use Rattle.sweep_core.specs.declared.space.Config.{Config}
 use Rattle.sweep_core.specs.declared.profiles.PairProfile.{PairProfile}
 use Rattle.sweep_core.specs.Space.{bytes_of}
-use Rattle.sweep_core.specs.SweepText.{log2}
+use Rattle.cache_core.specs.Powers.{log2}
 use Rattle.sweep_core.specs.Work.{pair_of, has_pair}
 
 -- the associativity after another: the next number, or where powers of two alone count, the next of these

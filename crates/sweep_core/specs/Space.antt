@@ -1,7 +1,7 @@
 -- Which configurations a space has, and which ranges make a space.
-use Rattle.std.specs.Prelude.{ℕ, ◌*◌, ◌^◌, ◌==◌, ◌&&◌, ◌||◌, not, nat_lt, nat_le, Bool, Option, None, Some, Result, Ok, Err, List, []}
+use Rattle.std.specs.Prelude.{ℕ, ◌*◌, ◌^◌, ◌&&◌, ◌||◌, not, nat_lt, nat_le, Bool, Option, None, Some, Result, Ok, Err, List, []}
 use Rattle.std.specs.Prelude.{◌∷◌, if◌then◌else◌, codes}
-use Rattle.std.specs.List.{list_any, range_with_len}
+use Rattle.cache_core.specs.Powers.{is_power}
 use Rattle.sweep_core.specs.declared.space.Config.{Config}
 use Rattle.sweep_core.specs.declared.space.Which.{Which}
 use Rattle.sweep_core.specs.declared.space.Which.TheVariants.{Bsize, Sets, Assoc, Size}
@@ -15,10 +15,6 @@ name_of Bsize = codes "bsize"
 name_of Sets = codes "sets"
 name_of Assoc = codes "assoc"
 name_of Size = codes "size"
-
--- 2 to some power below 64
-unfoldable pub is_power : ℕ → Bool
-is_power n = list_any (λ k. n == 2 ^ k) (range_with_len 0 64)
 
 -- the greatest block size, in bytes: the manual's limit, as the three that follow
 abbrev pub largest_block : ℕ

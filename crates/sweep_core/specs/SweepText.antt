@@ -1,21 +1,17 @@
 -- What a sweep writes.
-use Rattle.std.specs.Prelude.{◌≡◌, ℕ, false, Option, None, Some, List, [], ◌∷◌, ◌++◌, map, flat_map, take, drop, decimal, codes}
+use Rattle.std.specs.Prelude.{ℕ, false, Option, None, Some, List, [], ◌∷◌, ◌++◌, map, flat_map, decimal, codes}
 use Rattle.std.specs.List.{join_with_byte}
-use Rattle.std.specs.Int.{w64, trailing_zeros}
 use Rattle.trace_core.specs.declared.events.Event.{Event}
 use Rattle.trace_core.specs.Reading.{events}
 use Rattle.trace_core.specs.Task.{Task}
 use Rattle.cache_core.specs.declared.outcome.Counts.{Counts}
 use Rattle.cache_core.specs.Geometry.{GeometryValue, geometry_value}
+use Rattle.cache_core.specs.Powers.{log2}
 use Rattle.cache_core.specs.Windows.{counts}
 use Rattle.sweep_core.specs.declared.space.Config.{Config}
 use Rattle.sweep_core.specs.declared.request.Request.{Request}
 use Rattle.sweep_core.specs.Space.{bytes_of}
 use Rattle.sweep_core.specs.Table.{table, first_rows}
-
--- the exponent of a power of two
-abbrev pub log2 : ℕ → ℕ
-log2 n = trailing_zeros w64 n
 
 -- the geometry of a configuration
 abbrev pub geometry_of_config : Config → GeometryValue
@@ -61,12 +57,3 @@ sweep_text r text = table_text r (events r.format r.kind text)
 -- a sweep writes nothing before it has read a whole text
 unfoldable pub sweep_task : Request → Task
 sweep_task r = record { format = r.format; limit = r.max_lines; writes_early = false; whole = sweep_text r; partial = λ es. [] }
-
--- A sweep in pages of n rows: the first page, and then those after its last row, until no configuration follows.
-abbrev pub ArePages : ℕ → Request → List Request → Type 0
-ArePages n r [] = ⊥
-ArePages n r (page ∷ []) = (page ≡ record r { rows = Some n }) × (drop n (configs_of r) ≡ [])
-ArePages n r (page ∷ next ∷ more) =
-    (page ≡ record r { rows = Some n })
-    × (front : List Config) × (last : Config) × (take n (configs_of r) ≡ front ++ last ∷ [])
-    × ArePages n (record r { after = Some last }) (next ∷ more)

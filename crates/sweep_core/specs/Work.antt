@@ -7,7 +7,8 @@ use Rattle.cache_core.specs.Geometry.{GeometryValue, geometry_value}
 use Rattle.cache_core.specs.Windows.{probes}
 use Rattle.sweep_core.specs.declared.space.Config.{Config}
 use Rattle.sweep_core.specs.declared.request.Request.{Request}
-use Rattle.sweep_core.specs.SweepText.{log2, configs_of, rows_of}
+use Rattle.sweep_core.specs.SweepText.{configs_of, rows_of}
+use Rattle.cache_core.specs.Powers.{log2}
 
 -- the pair of block size and set count of a configuration
 abbrev pub pair_of : Config → ℕ × ℕ

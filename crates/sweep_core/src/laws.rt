@@ -4,14 +4,16 @@ ghost use Rattle.std.specs.Prelude.{◌≡◌, ◌≢◌, ◌≤◌, ◌*◌, �
 ghost use Rattle.std.specs.Prelude.{List, [], ◌∷◌, ◌++◌, flat_map, length};
 ghost use Rattle.std.specs.Prelude.{true, Option, None, Some, ◌↔◌, IsTrue, Contains, AllPairs};
 ghost use Rattle.trace_core.specs.Reading.{events};
+ghost use Rattle.trace_core.specs.Events.{references_in};
 ghost use Rattle.cache_core.specs.Geometry.{IsGeometry, size_of};
-ghost use Rattle.cache_core.specs.Systems.{references_in};
 ghost use Rattle.sweep_core.specs.declared.space.Config.{Config};
 ghost use Rattle.sweep_core.specs.declared.request.Request.{Request};
-ghost use Rattle.sweep_core.specs.Space.{Ranges, is_power, is_valid, space_fault, bytes_of};
+ghost use Rattle.sweep_core.specs.Space.{Ranges, is_valid, space_fault, bytes_of};
+ghost use Rattle.cache_core.specs.Powers.{is_power, log2};
 ghost use Rattle.sweep_core.specs.Table.{table, first_rows, more_rows, is_less, is_after, IsRising};
-ghost use Rattle.sweep_core.specs.SweepText.{log2, geometry_of_config, sweep_text};
-ghost use Rattle.sweep_core.specs.SweepText.{configs_of, rows_of, ArePages};
+ghost use Rattle.sweep_core.specs.SweepText.{geometry_of_config, sweep_text};
+ghost use Rattle.sweep_core.specs.SweepText.{configs_of, rows_of};
+ghost use Rattle.sweep_core.specs.Pages.{ArePages};
 ghost use Rattle.sweep_core.specs.Work.{pair_of, pairs, depth, total_depth, sweep_work};
 
 use crate::space::Config;

@@ -9,3 +9,8 @@ mod row_text;
 pub mod space;
 pub mod sweep;
 mod table;
+
+pub use request::Request;
+pub use space::configs::Configs;
+pub use space::{Cause, Config, Space, SpaceFault, Which};
+pub use sweep::SweepFault;

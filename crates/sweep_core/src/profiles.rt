@@ -1,19 +1,14 @@
 //! The profiles of a sweep: one for each pair of block size and set count that has a row.
-ghost use Rattle.std.specs.Prelude.{◌≡◌, ◌<◌, ◌^◌, [], true, Option, IfOk, MatchOption};
-ghost use Rattle.std.specs.Prelude.{length, sum_by};
-ghost use Rattle.cache_core.specs.Geometry.{IsGeometry};
-ghost use Rattle.profile_core.specs.State.{empty};
-ghost use Rattle.sweep_core.specs.Space.{is_valid};
-ghost use Rattle.sweep_core.specs.Table.{table, first_rows, is_after};
-ghost use Rattle.sweep_core.specs.Work.{pair_of, geometry_of_pair};
+ghost use Rattle.std.specs.Prelude.{◌≡◌, [], None, IfOk, IfSome, MatchOption, length, sum_by};
+ghost use Rattle.sweep_core.specs.Space.{space_fault};
 ghost use Rattle.sweep_core.specs.Runs.{BeginsWith};
+ghost use Rattle.sweep_core.specs.Walk.{HasDepth, rows_left};
 ghost use Rattle.sweep_core.specs.Pass.{SweepStandsFor};
 ghost use Rattle.sweep_core.specs.Implied.{IsLinked, linked, implied_by};
-ghost use Rattle.sweep_core.specs.declared.space.Config.{Config};
 
 use crate::request::Request;
-use crate::space::configs::bits_of;
-use crate::space::{Config, Space};
+use crate::space::Config;
+use crate::space::configs::{PairRows, bits_of};
 use profile_core::profile::Profile;
 use std::alloc::{AllocError, Global};
 
@@ -38,17 +33,20 @@ pub(crate) fn make_profiles(
     ensures stands { IfOk result (λ made. SweepStandsFor request.now [] made.items) }
     ensures linked { IfOk result (λ made. IsLinked made.items) }
 {
-    request.space.limits();
     let mut made = Vec::new(alloc);
-    let mut after = request.after;
+    let mut pair = 0;
     let mut most = request.rows;
-    while let Some((first, rows)) = take_pair(&request.space, &mut after, &mut most) {
-        let profile = make_profile(alloc, &request.space, &first)?;
+    while let Some(rows) = take_pair(request, &mut pair, &mut most) {
+        let PairRows {
+            first,
+            count,
+            depth,
+        } = rows;
         made.push(PairProfile {
             first,
-            rows,
+            rows: count,
             implied: 0,
-            profile,
+            profile: Profile::new(alloc, bits_of(first.bsize), bits_of(first.sets), depth)?,
         })?;
     }
     link(&mut made);
@@ -80,51 +78,25 @@ fn implied_by(profile: &Profile, others: &[PairProfile]) -> usize
     count
 }
 
-/// Takes the next pair that has a row after `after`: returns its first row, and how many it has.
-/// Then `after` is the pair's deepest cache, and `most` how many rows may still follow.
-fn take_pair(
-    space: &Space,
-    after: &mut Option<Config>,
-    most: &mut Option<u64>,
-) -> Option<(Config, u64)>
-    ensures { MatchOption result (first_rows most.old (table space.now after.old) ≡ [])
-        (λ run. BeginsWith space.now.powers (first_rows most.old (table space.now after.old)) run
-        (first_rows most.new (table space.now after.new))) }
+/// Takes the next pair that has a row, from the pair with the index `pair` on: returns its rows.
+/// Then `most` is how many rows may still follow.
+fn take_pair(request: &Request, pair: &mut u32, most: &mut Option<u64>) -> Option<PairRows>
+    ensures rows { MatchOption result (rows_left request.now pair.old most.old ≡ [])
+        (λ rows. BeginsWith request.now.space.powers (rows_left request.now pair.old most.old)
+        (rows.first, rows.count) (rows_left request.now pair.new most.new)) }
+    ensures depth { IfSome result (λ rows. HasDepth request.now.space rows.first rows.depth) }
+    ensures limits { space_fault request.now.space ≡ None }
 {
-    space.limits();
-    let first = space.next_after(*after)?;
-    let depth = space.depth_of(&first);
-    let all = space.rows_to(&first, depth);
-    *after = Some(Config {
-        assoc: depth,
-        ..first
-    });
-    let rows = match *most {
-        None => all,
-        Some(limit) => {
-            if limit == 0 {
-                return None;
-            }
-            let rows = limit.min(all);
-            *most = Some(limit - rows);
-            rows
-        }
+    let rows = request.space.next_pair(request.after, pair)?;
+    let Some(limit) = *most else {
+        return Some(rows);
     };
-    Some((first, rows))
-}
-
-/// Makes the profile of a configuration's pair.
-fn make_profile(alloc: Global, space: &Space, config: &Config) -> Result<Profile, AllocError>
-    requires { is_valid space.now config.now ≡ true }
-    ensures begun { (after : Option Config) → is_after after config.now ≡ true →
-        IfOk result (λ made.
-        made ≡ empty (geometry_of_pair (table space.now after) (pair_of config.now))) }
-    ensures sound { IfOk result (λ made. IsGeometry made.geometry) }
-{
-    space.limits();
-    let Config { bsize, sets, .. } = *config;
-    let depth = space.depth_of(config);
-    Profile::new(alloc, bits_of(bsize), bits_of(sets), depth)
+    if limit == 0 {
+        return None;
+    }
+    let count = limit.min(rows.count);
+    *most = Some(limit - count);
+    Some(PairRows { count, ..rows })
 }
 
 /// The comparisons of all profiles.

@@ -2,10 +2,12 @@
 pub mod configs;
 
 ghost use Rattle.std.specs.Prelude.{◌≡◌, ◌<◌, ◌^◌, MatchResult, None, Some};
-ghost use Rattle.sweep_core.specs.Space.{is_power, is_in_range};
+ghost use Rattle.sweep_core.specs.Space.{is_in_range};
+ghost use Rattle.cache_core.specs.Powers.{is_power};
 ghost use Rattle.sweep_core.specs.Space.{order_cause, limit_cause, power_cause};
 
 use cache_core::geometry::{MAX_BITS, MAX_CACHE_LINES, MAX_WAYS};
+use cache_core::powers::is_power;
 use std::fmt;
 use std::marker::Model;
 use thiserror::Error;
@@ -143,14 +145,6 @@ impl Space {
         })
     }
 
-    /// States that the ranges are accepted ones, for a caller whose proof needs it. It computes
-    /// nothing.
-    pub fn limits(&self)
-        ensures { space_fault self.now ≡ None }
-    {
-        let _ = &self.powers;
-    }
-
     /// Whether a configuration is in the space. Its numbers may be any.
     pub fn has(&self, config: &Config) -> bool
         ensures { result ≡ is_valid self.now config.now }
@@ -216,12 +210,4 @@ fn is_in_range(range: (u64, u64), n: u64) -> bool
     ensures { result ≡ is_in_range range n }
 {
     range.0 <= n && n <= range.1
-}
-
-/// Whether a number is a power of two.
-#[inline]
-pub fn is_power(n: u64) -> bool
-    ensures { result ≡ is_power n }
-{
-    n.is_power_of_two()
 }

@@ -9,7 +9,7 @@ use Rattle.trace_core.proofs.Steps.{line-split, line-before}
 use Rattle.std.proofs.lemmas.List.{length-take-le, length-append, get_or_append_left}
 use Rattle.std.proofs.Math.Seq.{get_or-append_seam, take-append_seam, drop-append-add}
 use Rattle.trace_core.specs.Fields.{is_blank, is_trailing, trimmed, fields, ends_field, number_written, without_0x}
-use Rattle.trace_core.specs.Line.{meaning, din_entry, lackey_op, item, is_comma, is_message}
+use Rattle.trace_core.specs.Line.{meaning, din_op, labelled, lackey_op, is_comma, is_message}
 use Rattle.memchr.specs.Find.{IsFirstByte, is_byte}
 use Rattle.trace_core.specs.Lines.{is_line_feed, HoldsNoFeed}
 use Rattle.trace_core.specs.FastLine.{BeginsLine, BeginsLabel}
@@ -133,10 +133,23 @@ begins-field text rest end field label begun plain_label splits some plain = (
       ∙ ap (λ fs. (label ∷ []) ∷ fs) (fields-field field more some plain ends),
 )
 
-pub din-front : (text rest digits end : List ℕ) (label addr : ℕ) (op : Op) → 48 ≤ label → label ≤ 50 → din_entry label addr ≡ item op addr 0
+-- the labels of items
+din-labels : (label : ℕ) (op : Op) → din_op label ≡ Some op → (48 ≤ label) × (label ≤ 50)
+din-labels label op is = by_case (label == 48) (label == 49) (label == 50) refl refl refl is
+  where
+    by_case : (load store fetch : Bool) → (label == 48) ≡ load → (label == 49) ≡ store → (label == 50) ≡ fetch → din_op label ≡ Some op
+        → (48 ≤ label) × (label ≤ 50)
+    by_case true store fetch at _ _ is = (omega (arith, eqb-true label 48 at), omega (arith, eqb-true label 48 at))
+    by_case false true fetch _ at _ is = (omega (arith, eqb-true label 49 at), omega (arith, eqb-true label 49 at))
+    by_case false false true _ _ at is = (omega (arith, eqb-true label 50 at), omega (arith, eqb-true label 50 at))
+    by_case false false false l s f is = absurd (let none : None ≡ Some op = rw (l, s, f) at is in cc)
+
+pub din-front : (text rest digits end : List ℕ) (label addr : ℕ) (op : Op) → din_op label ≡ Some op
     → BeginsLabel text rest label → without_0x rest ≡ digits ++ end → number_written 16 16 digits ≡ Some addr
     → BeginsLine Din text end (record { op = op; addr = addr; size = 0 })
-din-front text rest digits end label addr op low high entry begun is number =
+din-front text rest digits end label addr op means begun is number =
+    let low : 48 ≤ label = (din-labels label op means).0 in
+    let high : label ≤ 50 = (din-labels label op means).1 in
     let written = number-digits 16 16 digits addr number in
     let of = field-of rest digits end is written.0 (digits-plain 16 refl digits written.1) (digits-unfed 16 refl digits written.1) in
     let low_test : nat_lt label 48 ≡ false = search (rules, tests) in
@@ -148,7 +161,7 @@ din-front text rest digits end label addr op low high entry begun is number =
       front = begun.front ++ of.field;
       splits = begins.0;
       no_line_feed = unfed-append begun.front of.field (begun.no_line_feed byte) of.unfed;
-      means = λ more ends. rw (begins.1 more ends, low_test, high_test, of.bare, number) (ap Ok entry);
+      means = λ more ends. rw (begins.1 more ends, low_test, high_test, of.bare, number) (ap (λ o. Ok (labelled label addr o)) means);
     }
 
 -- no operation is written by the first byte of a message

@@ -1,5 +1,5 @@
 -- The references of an item, and what a trace gives a cache.
-use Rattle.std.specs.Prelude.{ℕ, Bool, true, false, Option, None, Some, List, [], ◌∷◌, map, filter}
+use Rattle.std.specs.Prelude.{ℕ, Bool, true, false, Option, None, Some, List, [], ◌∷◌, map, filter, if◌then◌else◌}
 use Rattle.std.specs.Option.{option_to_list}
 use Rattle.trace_core.specs.declared.events.Op.{Op}
 use Rattle.trace_core.specs.declared.events.Op.TheVariants as op
@@ -44,3 +44,31 @@ abbrev pub events_of : Kind → Entry → List Event
 events_of kind (entry.Item item) =
     map event.Reference (filter (λ r. keeps kind r.access) ((references item).0 ∷ option_to_list (references item).1))
 events_of kind entry.Flush = event.Flush ∷ []
+
+-- whether an access is an instruction fetch
+abbrev pub is_fetch : Access → Bool
+is_fetch Fetch = true
+is_fetch Read = false
+is_fetch Write = false
+
+-- whether it is a data read
+abbrev pub is_read : Access → Bool
+is_read Fetch = false
+is_read Read = true
+is_read Write = false
+
+-- whether it is a write
+abbrev pub is_write : Access → Bool
+is_write Fetch = false
+is_write Read = false
+is_write Write = true
+
+-- 1 where something is so, and else 0
+abbrev pub one_if : Bool → ℕ
+one_if b = if b then 1 else 0
+
+-- the references of a list of events
+abbrev pub references_in : List Event → List Ref
+references_in [] = []
+references_in (event.Reference ref ∷ events) = ref ∷ references_in events
+references_in (event.Flush ∷ events) = references_in events

@@ -4,6 +4,8 @@ use Rattle.std.specs.List.{before_first, after_first}
 use Rattle.trace_core.specs.Fields.{trimmed, fields, number_written, without_0x}
 use Rattle.trace_core.specs.declared.events.Op.{Op}
 use Rattle.trace_core.specs.declared.events.Op.TheVariants.{Fetch, Load, Store, Modify}
+use Rattle.trace_core.specs.declared.events.Access.{Access}
+use Rattle.trace_core.specs.declared.events.Access.TheVariants as access
 use Rattle.trace_core.specs.declared.events.Entry.{Entry}
 use Rattle.trace_core.specs.declared.events.Entry.TheVariants as entry
 use Rattle.trace_core.specs.declared.line.Format.{Format}
@@ -20,15 +22,35 @@ abbrev pub or_fault : {T : Type 0} → LineFault → Option T → (T → Result 
 or_fault fault None next = Err fault
 or_fault fault (Some x) next = next x
 
--- what a line with this label, `0` to `4`, and this address means: a load, a store, a fetch (Dinero IV, traditional format),
--- nothing, a flush (these two are this project's)
+-- what the labels `0`, `1`, `2` mean (Dinero IV, traditional format)
+abbrev pub din_op : ℕ → Option Op
+din_op label =
+    if label == 48 then Some Load
+    else if label == 49 then Some Store
+    else if label == 50 then Some Fetch
+    else None
+
+-- the label of a reference
+abbrev pub din_label : Access → ℕ
+din_label access.Read = 48
+din_label access.Write = 49
+din_label access.Fetch = 50
+
+-- an item that is one access
+abbrev pub op_of : Access → Op
+op_of access.Read = Load
+op_of access.Write = Store
+op_of access.Fetch = Fetch
+
+-- what a line with this label, this operation of it if any, and this address means; `3` is nothing, and `4` a flush (these two are
+-- this project's)
+abbrev pub labelled : ℕ → ℕ → Option Op → Option Entry
+labelled label addr (Some op) = item op addr 0
+labelled label addr None = if label == 51 then None else Some entry.Flush
+
+-- what a line with this label, `0` to `4`, and this address means
 abbrev pub din_entry : ℕ → ℕ → Option Entry
-din_entry label addr =
-    if label == 48 then item Load addr 0
-    else if label == 49 then item Store addr 0
-    else if label == 50 then item Fetch addr 0
-    else if label == 51 then None
-    else Some entry.Flush
+din_entry label addr = labelled label addr (din_op label)
 
 -- the address in the second field, after an optional `0x`
 abbrev pub din_address : List (List ℕ) → Option ℕ

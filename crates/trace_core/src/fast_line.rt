@@ -7,14 +7,14 @@ ghost use Rattle.std.specs.Prelude.{◌≡◌, ℕ, ◌≤◌, List, ◌++◌, t
 ghost use Rattle.std.specs.List.{list_all};
 ghost use Rattle.memchr.specs.Find.{IsFirstByte, is_byte};
 ghost use Rattle.trace_core.specs.Fields.{is_blank, ends_field};
-ghost use Rattle.trace_core.specs.Line.{meaning, din_entry, item};
+ghost use Rattle.trace_core.specs.Line.{meaning};
 ghost use Rattle.trace_core.specs.FastLine.{BeginsLine, BeginsLabel};
 ghost use Rattle.trace_core.specs.declared.events.Entry.TheVariants as entry;
 
 use crate::digits::{split_hexadecimal, split_number};
 use crate::events::{Entry, Item, Op};
 use crate::limits::MAX_LINE;
-use crate::line::{Format, lackey_op, without_0x};
+use crate::line::{Format, din_op, lackey_op, without_0x};
 use memchr::memchr;
 
 /// The item of the line that a text begins with, and the index of the line's LF, if the line has
@@ -124,20 +124,6 @@ fn read_lackey_item(label: u8, rest: &[u8]) -> Option<(Item, &[u8])>
     let (size, rest) = split_number(10, 9, rest)?;
     let size = size as u32;
     Some((Item { op, addr, size }, rest))
-}
-
-/// What a din line with one of the labels `0` to `2` does with its address.
-#[inline(always)]
-fn din_op(label: u8) -> Option<Op>
-    ensures entry { IfSome result (λ op. (addr : ℕ) → din_entry label addr ≡ item op addr 0) }
-    ensures label { IfSome result (λ op. (48 ≤ label) × (label ≤ 50)) }
-{
-    match label {
-        b'0' => Some(Op::Load),
-        b'1' => Some(Op::Store),
-        b'2' => Some(Op::Fetch),
-        _ => None,
-    }
 }
 
 /// A label with the blanks beside it that tracers write, and what comes after them.

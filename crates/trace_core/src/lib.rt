@@ -15,3 +15,10 @@ pub mod reader;
 mod scan;
 mod state;
 pub mod text;
+
+pub use events::{Access, Entry, Event, Item, Kind, Op, Ref, refs_of};
+pub use fault::{RunFault, TraceFault};
+pub use io::{DeviceFault, FromRead, Sink, Source, ToWrite, write_all};
+pub use limits::{MAX_LINE, MAX_LINES};
+pub use line::{Format, LineFault, read_line};
+pub use reader::{Lines, ReaderState};

@@ -1,13 +1,14 @@
 //! Judging one line.
-ghost use Rattle.std.specs.Prelude.{◌≡◌, ◌≤◌, [], ◌∷◌, length, MatchOption};
+ghost use Rattle.std.specs.Prelude.{◌≡◌, ◌≤◌, [], ◌∷◌, length, MatchOption, Some};
 ghost use Rattle.std.specs.List.{position_or_len, before_first, after_first};
 ghost use Rattle.trace_core.specs.Fields.{is_blank, is_field_byte, is_trailing, trimmed, fields};
 ghost use Rattle.trace_core.specs.Fields.{without_0x};
-ghost use Rattle.trace_core.specs.Line.{meaning, din_meaning, din_address, din_entry};
-ghost use Rattle.trace_core.specs.Line.{lackey_meaning, lackey_access, lackey_op, item, is_comma};
+ghost use Rattle.trace_core.specs.Line.{meaning, din_meaning, din_address, din_entry, din_op};
+ghost use Rattle.trace_core.specs.Line.{lackey_meaning, lackey_access, lackey_op, is_comma};
+ghost use Rattle.trace_core.specs.Line.{din_label, op_of};
 
 use crate::digits::read_number;
-use crate::events::{Entry, Item, Op};
+use crate::events::{Access, Entry, Item, Op};
 use memchr::memchr;
 use thiserror::Error;
 
@@ -65,17 +66,39 @@ fn read_din(line: &[u8]) -> Result<Option<Entry>, LineFault>
 }
 
 /// What a din line with one of the labels `0` to `4` means.
-#[inline(always)]
 fn din_entry(label: u8, addr: u64) -> Option<Entry>
     ensures { result ≡ din_entry label addr }
 {
-    let item = |op| Some(Entry::Item(Item { op, addr, size: 0 }));
+    match din_op(label) {
+        Some(op) => Some(Entry::Item(Item { op, addr, size: 0 })),
+        None if label == b'3' => None,
+        None => Some(Entry::Flush),
+    }
+}
+
+/// What a din line with this label does with its address, if anything.
+#[inline(always)]
+pub(crate) fn din_op(label: u8) -> Option<Op>
+    ensures { result ≡ din_op label }
+{
     match label {
-        b'0' => item(Op::Load),
-        b'1' => item(Op::Store),
-        b'2' => item(Op::Fetch),
-        b'3' => None,
-        _ => Some(Entry::Flush),
+        b'0' => Some(Op::Load),
+        b'1' => Some(Op::Store),
+        b'2' => Some(Op::Fetch),
+        _ => None,
+    }
+}
+
+/// The label of a reference in a din trace.
+#[inline(always)]
+pub fn din_label(access: Access) -> u8
+    ensures label { result ≡ din_label access }
+    ensures meant { din_op result ≡ Some (op_of access) }
+{
+    match access {
+        Access::Read => b'0',
+        Access::Write => b'1',
+        Access::Fetch => b'2',
     }
 }
 

@@ -30,7 +30,6 @@ fn new_profile(alloc: Global, geometry: Geometry) -> Result<Profile, AllocError>
     ensures geometry { IfOk result (λ profile. profile.geometry ≡ geometry) }
     ensures unfed { IfOk result (λ profile. fed_of profile ≡ 0) }
 {
-    geometry.limits();
     Profile::new(alloc, geometry.b(), geometry.s(), geometry.e())
 }
 

@@ -41,7 +41,9 @@ static void *grown(void *memory, size_t size) {
 static const char *hexadecimal(const char *at, uint64_t *number) {
     static const signed char values[256] = {['0'] = 1, 2, 3, 4, 5, 6, 7, 8, 9, 10,
                                             ['A'] = 11, 12, 13, 14, 15, 16, ['a'] = 11, 12, 13, 14, 15, 16};
-    for (*number = 0; values[(unsigned char)*at]; at++) *number = *number << 4 | (uint64_t)(values[(unsigned char)*at] - 1);
+    uint64_t read = 0;
+    for (int value; (value = values[(unsigned char)*at]); at++) read = read << 4 | (unsigned)(value - 1);
+    *number = read;
     return at;
 }
 
@@ -176,58 +178,62 @@ static bool count_miss(uint32_t cell, uint64_t address) {
     return is_first;
 }
 
-// ---- References that have come from one log and not yet from the other
+// ---- References that wait for their line in a log
 
-struct waiting {
+struct reference {
     uint64_t address;
-    uint32_t cell;
-    bool counts;       // as a capacity miss, if the fully associative cache misses; from its log: whether it does
+    uint32_t number;  // of its program counter, or of its cell
+    bool counts;      // as a capacity miss, if the fully associative cache misses; from its log: whether it does
 };
-static struct waiting *queue;
-static size_t first, last, queue_room;
-static bool full_is_ahead;  // the log that these came from
+struct queue {
+    struct reference *held;
+    size_t first, last, room;  // the room is a power of two
+};
+static struct queue handed;    // references that were handed out and have not yet come in the first log
+static struct queue ahead[2];  // what has come from one log and not yet from the other: one of them is empty
 
-static void wait_for_other(bool is_full, struct waiting one) {
-    if (first == last) first = last = 0;
-    if (last == queue_room) {
-        memmove(queue, queue + first, (last - first) * sizeof *queue);
-        last -= first, first = 0;
-        if (2 * last >= queue_room) queue = grown(queue, (queue_room = 2 * queue_room + 4096) * sizeof *queue);
+static bool is_empty(const struct queue *queue) { return queue->first == queue->last; }
+
+static void push(struct queue *queue, struct reference one) {
+    if (queue->last - queue->first == queue->room) {
+        size_t room = queue->room ? 2 * queue->room : 1 << 16;
+        struct reference *larger = grown(NULL, room * sizeof *larger);
+        for (size_t i = queue->first; i < queue->last; i++)
+            larger[i & (room - 1)] = queue->held[i & (queue->room - 1)];
+        free(queue->held);
+        queue->held = larger, queue->room = room;
     }
-    full_is_ahead = is_full;
-    queue[last++] = one;
+    queue->held[queue->last++ & (queue->room - 1)] = one;
 }
 
-static void meet(bool is_full, struct waiting one) {
-    if (first == last || is_full == full_is_ahead) {
-        wait_for_other(is_full, one);
+// The first one, of this address.
+static struct reference popped(struct queue *queue, uint64_t address) {
+    if (is_empty(queue) || queue->held[queue->first & (queue->room - 1)].address != address) errx(FAILED, "a log is of another trace");
+    return queue->held[queue->first++ & (queue->room - 1)];
+}
+
+static void meet(bool is_full, struct reference one) {
+    if (is_empty(&ahead[!is_full])) {
+        push(&ahead[is_full], one);
         return;
     }
-    struct waiting other = queue[first++];
-    if (one.address != other.address) errx(FAILED, "two logs of the same trace differ");
-    if (one.counts && other.counts) ((struct cell *)cells)[is_full ? other.cell : one.cell].capacity++;
+    struct reference other = popped(&ahead[!is_full], one.address);
+    if (one.counts && other.counts) ((struct cell *)cells)[is_full ? other.number : one.number].capacity++;
 }
 
 #include "by-line-trace.h"
 
 // ---- The lines of a log
 
-struct log {
-    int descriptor;
-    bool is_full, has_ended;
-    size_t used;
-    char text[ROOM];
-};
 static const char *place;
 static unsigned shift;
-static bool has_full;
-static struct log logs[2];
+static int log_count;
 
 static void take_arrival(bool is_full, const char *outcome, uint64_t address) {
     uint64_t evicted;
     bool misses = *outcome == 'm', is_first = false;
     if (is_full) {
-        meet(true, (struct waiting){address, 0, misses});
+        meet(true, (struct reference){address, 0, misses});
         return;
     }
     uint32_t cell = cell_at(address);
@@ -238,46 +244,36 @@ static void take_arrival(bool is_full, const char *outcome, uint64_t address) {
         block_at(evicted >> shift)->evicted = cell + 1;
     }
     // what misses in the fully associative cache counts there, also where this one hits
-    if (has_full) meet(false, (struct waiting){address, cell, !is_first});
+    if (log_count > 1) meet(false, (struct reference){address, cell, !is_first});
     else if (misses && !is_first) ((struct cell *)cells)[cell].capacity++;
 }
 
-// Each reference has one line that is not of a second level, in the order of the trace.
-static void take_line(bool is_full, const char *line, const char *end) {
+// Takes a line, and answers the next one. Each reference has one line that is of the first level or bypasses it, in the
+// order of the trace.
+static const char *take_line(bool is_full, const char *line) {
     uint64_t address;
-    if (*line == 'm') return;  // what comes to memory
-    const char *space = memchr(line, ' ', (size_t)(end - line));
-    if (!space) errx(FAILED, "no line of a log: %.40s", line);
-    bool is_here = space - line == 4 && !memcmp(line, place, 4);
-    bool is_first_level = !is_full && line[1] != '2';
-    if (space[1] == 'f') {
-        if (is_here && !is_full) flushes++;
-        return;
+    bool is_here = !memcmp(line, place, 4), is_first_level = !is_full && (*line == 'b' || line[1] == '1');
+    const char *at = line + (*line == 'b' ? sizeof "bypassed" : sizeof "l1-d");
+    if (is_here && *at == 'f') {
+        flushes += !is_full;
+    } else if (is_here || (is_first_level && *at != 'f')) {
+        at = hexadecimal(at + 2, &address) + 1;
+        if (is_first_level) counter = popped(&handed, address).number;
+        if (is_here) take_arrival(is_full, at, address);
     }
-    if (!is_here && !is_first_level) return;
-    const char *outcome = hexadecimal(space + 3, &address) + 1;
-    if (is_first_level) {
-        if (handed_first == handed_last || handed[handed_first & (handed_room - 1)].address != address)
-            errx(FAILED, "a log is of another trace");
-        counter = handed[handed_first++ & (handed_room - 1)].counter;
-    }
-    if (is_here) take_arrival(is_full, outcome, address);
+    return (const char *)rawmemchr(at - 1, '\n') + 1;
 }
 
 static void read_log(struct log *log) {
-    ssize_t got = read(log->descriptor, log->text + log->used, ROOM - 1 - log->used);
+    ssize_t got = read(log->from, log->text + log->used, ROOM - log->used);
     if (got < 0 && errno != EINTR) err(FAILED, "a log can't be read");
-    if (got <= 0) {
-        log->has_ended = got == 0;
-        return;
-    }
+    if (got == 0) close_end(&log->from);
+    if (got <= 0) return;
     log->used += (size_t)got;
-    char *line = log->text, *end = log->text + log->used;
-    for (char *next; (next = memchr(line, '\n', (size_t)(end - line))); line = next + 1) {
-        *next = '\0';
-        take_line(log->is_full, line, next);
-    }
-    log->used = (size_t)(end - line);
+    const char *line = log->text, *last = memrchr(log->text, '\n', log->used);
+    if (!last) return;
+    while (line <= last) line = take_line(log == &logs[1], line);
+    log->used -= (size_t)(line - log->text);
     memmove(log->text, line, log->used);
 }
 
@@ -300,31 +296,30 @@ static void show_progress(void) {
     fprintf(stderr, "\r%s: %.1f million lines ", program_invocation_short_name, (double)trace.lines / 1e6);
 }
 
+// Waits until something can be written to a log or read from one, and does it.
+static void go_on(void) {
+    struct pollfd asked[4];
+    for (int i = 0; i < 2; i++) {
+        asked[i] = (struct pollfd){has_all(&logs[i]) ? -1 : logs[i].to, POLLOUT, 0};
+        asked[2 + i] = (struct pollfd){logs[i].from, POLLIN, 0};
+    }
+    if (poll(asked, 4, -1) < 0) return;
+    for (int i = 0; i < 2; i++) {
+        if (asked[2 + i].revents) read_log(&logs[i]);
+        if (asked[i].revents) write_trace(&logs[i]);
+    }
+}
+
 // Reads, hands out and counts, until the trace and the logs have ended.
 static void work(void) {
-    for (;;) {
-        bool all_out = is_handed_out(&hands[0]) && is_handed_out(&hands[1]);
-        if (all_out && trace.blanks) {
-            read_trace();
-            continue;
-        }
-        for (int i = 0; i < 2; i++)
-            if (all_out && trace.has_ended && hands[i].descriptor >= 0) close_hand(&hands[i]);
-        struct pollfd asked[5] = {{all_out && !trace.has_ended ? STDIN_FILENO : -1, POLLIN, 0}};
-        for (int i = 0; i < 2; i++) {
-            asked[1 + i] = (struct pollfd){is_handed_out(&hands[i]) ? -1 : hands[i].descriptor, POLLOUT, 0};
-            asked[3 + i] = (struct pollfd){logs[i].has_ended ? -1 : logs[i].descriptor, POLLIN, 0};
-        }
-        if (asked[0].fd < 0 && logs[0].has_ended && logs[1].has_ended) break;
-        if (poll(asked, 5, -1) < 0) continue;
-        for (int i = 0; i < 2; i++) {
-            if (asked[3 + i].revents) read_log(&logs[i]);
-            if (asked[1 + i].revents) write_trace(&hands[i]);
-        }
-        if (asked[0].revents) read_trace(), show_progress();
+    while (read_trace()) {
+        show_progress();
+        while (!has_all(&logs[0]) || !has_all(&logs[1])) go_on();
     }
+    for (int i = 0; i < log_count; i++) close_end(&logs[i].to);
+    while (logs[0].from >= 0 || logs[1].from >= 0) go_on();
     clear_progress();
-    if ((has_full && first != last) || handed_first != handed_last) exit(0);  // a log has gone away
+    if (!is_empty(&ahead[0]) || !is_empty(&ahead[1]) || !is_empty(&handed)) exit(0);  // a log has gone away
 }
 
 // ---- The whole
@@ -344,14 +339,6 @@ static void write_answer(void) {
     if (fflush(stdout) || ferror(stdout)) err(FAILED, "the counts can't be written");
 }
 
-// Opens what is of one log: where the trace goes to it, and where it comes from.
-static void open_both(int number, char **words) {
-    logs[number].is_full = number;
-    open_hand(&hands[number], words[0]);
-    if ((logs[number].descriptor = open(words[1], O_RDONLY | O_CLOEXEC)) < 0) err(FAILED, "%s", words[1]);
-    widen(logs[number].descriptor);
-}
-
 int main(int count, char **words) {
     if (count < 8) errx(FAILED, "this is the inner half of by-line");
     signal(SIGPIPE, SIG_IGN);
@@ -360,13 +347,9 @@ int main(int count, char **words) {
     place = words[3];
     shift = (unsigned)atoi(words[4]);
     read_objects(words[5]);
-    has_full = count > 9;
-    memset(blank_lines, '\n', sizeof blank_lines);
-    open_both(0, words + 6);
-    if (has_full) open_both(1, words + 8);
-    else logs[1].has_ended = true;
+    for (char **word = words + 6; word < words + count; word += 2) open_log(&logs[log_count++], word[0], word[1]);
     // number 0, with an address of no instruction
-    number_of(&counter_numbers, UINT64_MAX, &counters, sizeof(struct counter));
+    number_of_counter(fetched);
     widen(STDIN_FILENO);
     atexit(clear_progress);
     work();

@@ -90,7 +90,7 @@ class Names:
 
     def columns(self, cell, by):
         """What tells a row from others, in its columns."""
-        outer, inlined = cell.frames[0], [self.line(frame) for frame in cell.frames[1:] if frame.file]
+        outer, inlined = cell.frames[0], [self.line(frame) if frame.file else "?" for frame in cell.frames[1:]]
         line = self.line(outer) if outer.file else outer.function if outer.function.startswith("(") else f"({outer.function})"
         all_of_them = {"line": [line, " ".join(self.cut(inlined))], "function": [outer.function], "object": [cell.object]}
         return tuple(text for key in by for text in all_of_them[key])
@@ -120,8 +120,10 @@ def read_counts(asked, layout):
     return cells, pairs
 
 
-def share(misses, cells):
-    return f"{100 * misses / max(1, sum(cell.counts[1] for cell in cells)):.3f}"
+def shares(cells):
+    """A function that tells which share of all misses some are."""
+    total = sum(cell.counts[1] for cell in cells)
+    return lambda misses: f"{100 * misses / max(1, total):.3f}"
 
 
 def sums(pairs):
@@ -134,19 +136,19 @@ def sums(pairs):
 
 def table(asked, cells):
     """The rows of the table, the most misses first."""
-    names = Names(cells)
+    names, share = Names(cells), shares(cells)
     rows = sums((names.columns(cell, asked.by), cell.counts) for cell in cells)
     yield [*header(asked.by), *COUNTS, "share"]
     for key, counts in sorted(rows.items(), key=lambda row: (-row[1][1], row[0])):
-        yield [*key, *(counts[:3] + ["", ""] if asked.only_compulsory else counts), share(counts[1], cells)]
+        yield [*key, *(counts[:3] + ["", ""] if asked.only_compulsory else counts), share(counts[1])]
 
 
 def table_of_evictions(asked, cells, pairs):
-    names = Names(cells)
+    names, share = Names(cells), shares(cells)
     rows = sums((names.columns(cell, asked.by) + names.columns(by, asked.by), [misses]) for cell, by, misses in pairs)
     yield [*header(asked.by), *(f"evicted-by-{column}" for column in header(asked.by)), "misses", "share"]
     for key, (misses,) in sorted(rows.items(), key=lambda row: (-row[1][0], row[0])):
-        yield [*key, misses, share(misses, cells)]
+        yield [*key, misses, share(misses)]
 
 
 def counts_in(path, cells):
@@ -236,18 +238,16 @@ def length_of(path):
 
 def warn_of_lines(cells):
     """Warns of lines that may be wrong: those behind the end of their file, and of another finder."""
-    lines = collections.Counter()
+    files = collections.defaultdict(collections.Counter)
     for cell in cells:
-        for place in {(frame.file, frame.line) for frame in cell.frames if frame.file}:
-            lines[place] += cell.counts[0]
-    if lines and elf.line_finder() != elf.LLVM:
+        for file, line in {(frame.file, frame.line) for frame in cell.frames if frame.file}:
+            files[file][line] += cell.counts[0]
+    if files and elf.line_finder() != elf.LLVM:
         warn("llvm-addr2line is missing: apt-get install llvm; addr2line may name a wrong file for"
              " code of headers")
-    for path in sorted({path for path, _ in lines}):
+    for path, lines in sorted(files.items()):
         length = length_of(path)
-        if length is None:
-            continue
-        behind = sum(count for (file, line), count in lines.items() if file == path and line > length)
+        behind = 0 if length is None else sum(count for line, count in lines.items() if line > length)
         if behind:
             warn(f"{path}: {behind} references are at lines behind its end, {length}: is it the file"
                  " that was compiled?")
@@ -274,23 +274,17 @@ def report(asked, layout):
         tool.write_lines(lines_of(rows))
 
 
-def warn_of_new_files(layout, map_file):
-    """Warns of programs that are not what was traced: the addresses in the trace are of an earlier build."""
-    for path in layout.newer_than(map_file):
-        warn(f"{path} is newer than {map_file}: if it was built again since, its names and lines are"
-             " wrong; then trace it again")
-
-
 def main():
     tool.NAME = sys.argv[1]
     asked = arguments()
     layout = elf.Layout(asked.program, asked.base or 0, asked.map)
     if asked.command == "report":
         report(asked, layout)
-    else:
-        if asked.map:
-            warn_of_new_files(layout, asked.map)
-        tool.write_lines(f"{place.start:x} {place.end:x} {place.name}" for place in layout.objects())
+        return
+    for path in layout.newer_than(asked.map) if asked.map else ():  # the trace is of an earlier build
+        warn(f"{path} is newer than {asked.map}: if it was built again since, its names and lines are"
+             " wrong; then trace it again")
+    tool.write_lines(f"{place.start:x} {place.end:x} {place.name}" for place in layout.objects())
 
 
 main()

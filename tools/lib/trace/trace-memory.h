@@ -9,7 +9,7 @@
 #include <stdint.h>
 
 // LAYOUT changes with this file, so that two halves that were compiled from different ones don't meet.
-enum { LAYOUT = 3, BLOCKS = 64, REFERENCES = 4096 };
+enum { LAYOUT = 4, BLOCKS = 64, REFERENCES = 4096 };
 
 // references of one thread, in their order
 struct block {
@@ -24,6 +24,7 @@ struct memory {
     _Atomic bool loaded;          // the plugin is there
     _Atomic bool ran;             // the program's code was seen
     _Atomic bool began;           // so did the trace
+    _Atomic bool jumped;          // into the function that is traced, so it is not known where that returns
     _Atomic bool exited;          // the program ended by itself, so it is not another program since
     _Atomic bool forked;          // it has had children
     _Atomic int map_fault;        // why the map lacks something, as in errno; 0 where it lacks nothing

@@ -1,6 +1,6 @@
 // A plugin of QEMU's user-mode emulation: puts the references of a program into the memory that trace-run reads (trace-memory.h).
 //
-//     qemu-x86_64 -plugin out/trace-plugin.so[,map=FILE][,from=HEX][,to=HEX],memory=FD PROGRAM ARGS..
+//     qemu-x86_64 -plugin out/trace-plugin.so[,map=FILE][,from=HEX][,to=HEX][,during=HEX],memory=FD PROGRAM ARGS..
 //
 // trace-run starts QEMU so, FD being the memory's descriptor; trace has the help. FILE gets what was loaded where. HEX is how far a
 // function is behind the start of the program's code. No descriptor is kept: the program may close those that it doesn't know, and open
@@ -10,6 +10,7 @@
 #include <pthread.h>
 #include <stddef.h>
 #include <stdio.h>
+#include <stdlib.h>
 #include <string.h>
 #include <sys/mman.h>
 #include <unistd.h>
@@ -37,6 +38,8 @@ size_t qemu_plugin_tb_n_insns(const struct qemu_plugin_tb *);
 struct qemu_plugin_insn *qemu_plugin_tb_get_insn(const struct qemu_plugin_tb *, size_t);
 uint64_t qemu_plugin_insn_vaddr(const struct qemu_plugin_insn *);
 void *qemu_plugin_insn_haddr(const struct qemu_plugin_insn *);
+__attribute__((weak)) size_t qemu_plugin_insn_size(const struct qemu_plugin_insn *);
+__attribute__((weak)) char *qemu_plugin_insn_disas(const struct qemu_plugin_insn *);
 bool qemu_plugin_mem_is_store(uint32_t access);
 __attribute__((weak)) uint64_t qemu_plugin_start_code(void);  // from QEMU 7.1 on; it knows an answer while code is translated
 
@@ -65,7 +68,47 @@ static void on_to(unsigned cpu, void *own) {
     in_part = false;
 }
 
-static bool has_bounds(void) { return from != NOWHERE || to != NOWHERE; }
+// ---- Or the calls of one function, of each thread from the function's first instruction to where that call returns
+
+static uint64_t during = NOWHERE;
+struct step { uint64_t begin, end; bool calls; };    // instructions that QEMU runs at one go; whether the last of them is a call
+static __thread struct step last;
+static __thread uint64_t back;                       // where the outermost call returns to
+static __thread unsigned depth;                      // how many calls, one within the other, return there
+
+static void on_step(unsigned cpu, void *own) {
+    const struct step *step = own;
+    (void)cpu;
+    if (depth && step->begin == back) depth--;
+    if (step->begin - qemu_plugin_start_code() == during && (last.calls || !depth)) {
+        if (!depth) back = last.end;
+        if (back == last.end) depth++;
+        memory->began = true;
+        if (!last.calls) memory->jumped = true;
+    }
+    last = *step;
+}
+
+// The words of x86, arm and aarch64, and riscv.
+static bool is_call(const struct qemu_plugin_insn *instruction) {
+    static const char *calls[] = {"call", "callq", "calll", "bl", "blr", "blx", "jal", "jalr"};
+    char *text = qemu_plugin_insn_disas(instruction), *rest = text, *word = text ? strsep(&rest, " \t") : "";
+    bool is = false;
+    while (rest && (!strcmp(word, "bnd") || !strcmp(word, "notrack"))) word = strsep(&rest, " \t");
+    for (size_t i = 0; i < sizeof calls / sizeof *calls; i++) is |= !strcmp(word, calls[i]);
+    free(text);
+    return is;
+}
+
+static void watch_for_calls(struct qemu_plugin_tb *block, size_t count) {
+    struct qemu_plugin_insn *first = qemu_plugin_tb_get_insn(block, 0), *final = qemu_plugin_tb_get_insn(block, count - 1);
+    struct step *step = malloc(sizeof *step);  // QEMU doesn't tell when it is no longer of use
+    if (!step) abort();
+    *step = (struct step){qemu_plugin_insn_vaddr(first), qemu_plugin_insn_vaddr(final) + qemu_plugin_insn_size(final), is_call(final)};
+    qemu_plugin_register_vcpu_insn_exec_cb(first, on_step, NO_REGISTERS, step);
+}
+
+static bool has_bounds(void) { return from != NOWHERE || to != NOWHERE || during != NOWHERE; }
 
 // Has the part begin or end before an instruction's fetch, which is registered later: QEMU calls in that order.
 static void watch_for_bounds(struct qemu_plugin_insn *instruction, uint64_t address) {
@@ -104,7 +147,7 @@ static struct block *next_block(void) {
 }
 
 static inline void put(char label, uint64_t address) {
-    if (!atomic_load_explicit(&in_part, memory_order_relaxed)) return;
+    if (!atomic_load_explicit(&in_part, memory_order_relaxed) && !depth) return;
     struct block *block = mine;
     if (!block || atomic_load_explicit(&block->used, memory_order_relaxed) == REFERENCES) block = next_block();
     if (!block) return;
@@ -199,6 +242,7 @@ static void on_translation(plugin_id id, struct qemu_plugin_tb *block) {
     memory->ran = true;
     size_t count = qemu_plugin_tb_n_insns(block);
     if (map_name && count) add_to_map(qemu_plugin_tb_get_insn(block, 0));
+    if (during != NOWHERE && count) watch_for_calls(block, count);
     for (size_t i = 0; i < count; i++) {
         struct qemu_plugin_insn *instruction = qemu_plugin_tb_get_insn(block, i);
         void *address = (void *)(uintptr_t)qemu_plugin_insn_vaddr(instruction);
@@ -240,7 +284,8 @@ static int refuse(const char *why) {
 
 static bool take(const char *word, int *descriptor) {
     if (!strncmp(word, "map=", 4)) return (map_name = strdup(word + 4)) != NULL;
-    return sscanf(word, "from=%lx", &from) == 1 || sscanf(word, "to=%lx", &to) == 1 || sscanf(word, "memory=%d", descriptor) == 1;
+    return sscanf(word, "from=%lx", &from) == 1 || sscanf(word, "to=%lx", &to) == 1 || sscanf(word, "during=%lx", &during) == 1 ||
+           sscanf(word, "memory=%d", descriptor) == 1;
 }
 
 EXPORTED int qemu_plugin_install(plugin_id id, const struct qemu_info *info, int count, char **words) {
@@ -248,7 +293,7 @@ EXPORTED int qemu_plugin_install(plugin_id id, const struct qemu_info *info, int
     int descriptor = -1, taken = 0;
     while (taken < count && take(words[taken], &descriptor)) taken++;
     if (taken < count || descriptor < 0) return refuse("memory=FD is wanted; tools/trace uses it");
-    if (has_bounds() && !qemu_plugin_start_code) return refuse("--from and --to want QEMU 7.1 or later");
+    if (has_bounds() && !qemu_plugin_start_code) return refuse("--from, --to and --during want QEMU 7.1 or later");
     memory = mmap(NULL, sizeof *memory, PROT_READ | PROT_WRITE, MAP_SHARED, descriptor, 0);
     if (memory == MAP_FAILED) return refuse("no shared memory");
     close(descriptor);
@@ -256,7 +301,7 @@ EXPORTED int qemu_plugin_install(plugin_id id, const struct qemu_info *info, int
     bool as_known = qemu_plugin_mem_is_store(WRITE << 16) && !qemu_plugin_mem_is_store(~(WRITE << 16));
     if (!as_known) return refuse("this QEMU tells reads and writes in another way");
     if (map_name) follow_mappings(NULL, 0, 0);  // QEMU's own
-    in_part = memory->began = from == NOWHERE;
+    in_part = memory->began = from == NOWHERE && during == NOWHERE;
     pthread_atfork(before_fork, in_forking_parent, in_forked_child);
     qemu_plugin_register_vcpu_tb_trans_cb(id, on_translation);
     qemu_plugin_register_vcpu_syscall_cb(id, on_system_call);

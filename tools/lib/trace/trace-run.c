@@ -4,7 +4,7 @@
 //     trace-run FD NAME KIND SKIP COUNT lines IN OUT CONVERTER TRACER WORD..    takes them as din lines from the descriptor IN
 //
 // The trace goes to the descriptor FD; NAME is for messages. SKIP references of the KIND are omitted, and the program is ended after
-// COUNT more; a COUNT of 0 means no limit. FROM is the function with which the trace begins, for a message. OUT is a descriptor that
+// COUNT more; a COUNT of 0 means no limit. FROM is the function with which the trace begins, for messages. OUT is a descriptor that
 // only the tracer is to keep, for the child CONVERTER of this process, which writes the lines. trace-run ends with the program's status,
 // 128 and the number of the signal that ended it, or 125 or 126 for a fault.
 #define _GNU_SOURCE
@@ -317,8 +317,9 @@ static int judged(void) {
 // words: qemu FROM PLUGIN QEMU WORD..
 static void trace_by_qemu(char **words) {
     int descriptor = share_memory();
-    char *plugin, *never, *no_map;
+    char *plugin, *never, *jumped, *no_map;
     if (asprintf(&plugin, "%s,memory=%d", words[2], descriptor) < 0 ||
+        asprintf(&jumped, "a jump led to %s, not a call: -fno-optimize-sibling-calls makes them calls", words[1]) < 0 ||
         asprintf(&never, "%s was never called, or only inlined", words[1]) < 0) fail(OWN_FAULT, "no memory");
     char *first[] = {words[3], "-plugin", plugin};
     memcpy(words + 1, first, sizeof first);
@@ -329,6 +330,7 @@ static void trace_by_qemu(char **words) {
     if (!memory->loaded) fail(OWN_FAULT, "QEMU didn't take the plugin: see its message");
     ran = memory->ran;
     if (ran && !memory->began) fail(OWN_FAULT, never);
+    if (memory->jumped) fail(OWN_FAULT, jumped);
     if (!memory->map_fault) return;
     if (asprintf(&no_map, "the map can't be written: %s", strerror(memory->map_fault)) < 0) fail(OWN_FAULT, "no memory");
     fail(OWN_FAULT, no_map);

@@ -1,11 +1,11 @@
-//! The configurations of a space, one after another: the search for the one that comes next, and
-//! for the greatest associativity of a pair.
-ghost use Rattle.std.specs.Prelude.{◌≡◌, ◌<◌, ◌≤◌, ◌-◌, ◌^◌, ℕ, not, true, nat_lt, MatchOption};
+//! The configurations of a space in order: the pairs of block size and set count one after another,
+//! and of each the associativities that the ranges and the limit on lines leave.
+ghost use Rattle.std.specs.Prelude.{◌≡◌, ◌<◌, ◌≤◌, ◌^◌, ℕ, nat_le, true, false, MatchOption};
 ghost use Rattle.std.specs.Iterator.{YieldsFirst, item_count};
-ghost use Rattle.sweep_core.specs.Table.{is_less, is_after};
-ghost use Rattle.sweep_core.specs.declared.space.Config.{Config};
-ghost use Rattle.sweep_core.specs.Space.{is_power, config};
-ghost use Rattle.sweep_core.specs.SweepText.{log2};
+ghost use Rattle.sweep_core.specs.Table.{is_after};
+ghost use Rattle.sweep_core.specs.Space.{config};
+ghost use Rattle.cache_core.specs.Powers.{log2};
+ghost use Rattle.sweep_core.specs.Walk.{NoWays, AreWays};
 
 use super::{Config, Space, is_in_range};
 use cache_core::geometry::{MAX_BITS, MAX_CACHE_LINES};
@@ -14,21 +14,32 @@ use std::marker::Model;
 /// How many powers of two there are up to the greatest block size and set count.
 const POWERS: u32 = MAX_BITS as u32 + 1;
 
+/// How many pairs of block size and set count there are.
+const PAIRS: u32 = POWERS * POWERS;
+
 /// An iterator over the configurations of a space that are greater than a triple, rising.
 #[derive(Debug, Drop)]
 pub struct Configs {
     space: Space,
     after: Option<Config>,
+    /// How many configurations of a pair are left, from `next` on.
+    left: u64,
+    next: Config,
+    /// Which pair follows.
+    pair: u32,
 }
 
 impl Model for Configs {
-    ghost use Rattle.std.specs.Prelude.{List};
+    ghost use Rattle.std.specs.Prelude.{◌++◌, ◌≤◌, ◌^◌, List};
     ghost use Rattle.sweep_core.specs.declared.space.Config.{Config};
-    ghost use Rattle.sweep_core.specs.Table.{table};
+    ghost use Rattle.sweep_core.specs.Runs.{run_of, ways_after};
+    ghost use Rattle.sweep_core.specs.Walk.{rows_from};
 
     ghost Value = { List Config };
 
-    ghost view = { λ c. table c.space c.after };
+    ghost view = { λ c. run_of c.space.powers c.next c.left ++ rows_from c.space c.after c.pair };
+
+    ghost invariant = { λ c. ways_after c.space.powers c.next.assoc c.left ≤ 2 ^ 63 };
 }
 
 impl Iterator for Configs {
@@ -39,117 +50,126 @@ impl Iterator for Configs {
     ghost remaining = { item_count (λ c. c) };
 
     fn next(&mut self) -> Option<Config> {
-        let found = self.space.next_after(self.after)?;
-        self.after = Some(found);
+        if self.left == 0 {
+            let rows = self.space.next_pair(self.after, &mut self.pair)?;
+            self.left = rows.count;
+            self.next = rows.first;
+        }
+        let found = self.next;
+        self.left -= 1;
+        self.next.assoc = self.space.next_ways(found.assoc);
         Some(found)
     }
 }
 
+/// The configurations of a pair of block size and set count, rising.
+#[derive(Clone, Copy, Debug)]
+pub(crate) struct PairRows {
+    /// The one with the fewest lines per set.
+    pub(crate) first: Config,
+    /// How many there are; each has the next associativity.
+    pub(crate) count: u64,
+    /// The greatest associativity of the pair.
+    pub(crate) depth: u64,
+}
+
 impl Space {
-    ghost use Rattle.std.specs.Prelude.{◌≡◌, ◌-◌, ◌^◌, ◌<◌, ◌≤◌, ◌∷◌, [], ℕ};
-    ghost use Rattle.std.specs.Prelude.{true, MatchOption, None, Some};
-    ghost use Rattle.sweep_core.specs.Space.{is_valid, is_in_range, config};
+    ghost use Rattle.std.specs.Prelude.{◌≡◌, ◌<◌, ◌≤◌, ◌^◌, ◌&&◌, ◌||◌, [], ℕ, not, true};
+    ghost use Rattle.std.specs.Prelude.{MatchOption, IfSome, None};
+    ghost use Rattle.sweep_core.specs.Space.{is_valid, is_in_range, config, space_fault};
+    ghost use Rattle.cache_core.specs.Powers.{is_power};
     ghost use Rattle.sweep_core.specs.Table.{table};
-    ghost use Rattle.sweep_core.specs.Runs.{next_ways, ways_after};
-    ghost use Rattle.sweep_core.specs.Least.{IsLeast, IsLeastFrom};
-    ghost use Rattle.sweep_core.specs.Least.{is_from, is_from_of_bsize, is_from_pair};
+    ghost use Rattle.sweep_core.specs.Runs.{next_ways, ways_after, BeginsWith};
+    ghost use Rattle.sweep_core.specs.Walk.{rows_from, rows_of_pair, HasDepth, HasRows};
 
     /// Its configurations that are greater than `after`, which may be any triple, rising; without
-    /// it, all. What stands before `after` is not walked.
+    /// it, all.
     pub fn configs(&self, after: Option<Config>) -> Configs
         ensures { result ≡ table self.now after }
     {
         Configs {
             space: *self,
             after,
+            left: 0,
+            next: Config {
+                bsize: 1,
+                sets: 1,
+                assoc: 1,
+            },
+            pair: 0,
         }
     }
 
-    /// The least associativity from `least` on with which it has a configuration of a pair.
-    fn first_assoc(&self, bsize: u64, sets: u64, least: u64) -> Option<u64>
+    /// Takes the next pair that has a configuration greater than `after`, from the pair with the
+    /// index `pair` on: returns those of its configurations.
+    pub(crate) fn next_pair(&self, after: Option<Config>, pair: &mut u32) -> Option<PairRows>
+        ensures rows { MatchOption result
+            ((rows_from self.now after pair.old ≡ []) × (rows_from self.now after pair.new ≡ []))
+            (λ rows. BeginsWith self.now.powers (rows_from self.now after pair.old)
+            (rows.first, rows.count) (rows_from self.now after pair.new)) }
+        ensures depth { IfSome result (λ rows. HasDepth self.now rows.first rows.depth) }
+        ensures fits { IfSome result (λ rows.
+            ways_after self.now.powers rows.first.assoc rows.count ≤ 2 ^ 63) }
+        ensures limits { space_fault self.now ≡ None }
+    {
+        let block_sizes = self.bsize;
+        while *pair < PAIRS {
+            let bsize = power(*pair / POWERS);
+            let set_bits = *pair % POWERS;
+            if !is_in_range(block_sizes, bsize) {
+                *pair += POWERS - set_bits;
+                continue;
+            }
+            *pair += 1;
+            if let Some(rows) = self.rows_of_pair(bsize, power(set_bits), after) {
+                return Some(rows);
+            }
+        }
+        None
+    }
+
+    /// Its configurations of a pair that are greater than `after`, if there are any. The block size
+    /// is in its range.
+    fn rows_of_pair(&self, bsize: u64, sets: u64, after: Option<Config>) -> Option<PairRows>
+        requires block { is_in_range self.now.bsize bsize ≡ true }
+        requires powers { (is_power bsize ≡ true) × (is_power sets ≡ true) }
+        ensures { MatchOption result (rows_of_pair self.now after (bsize, sets) ≡ [])
+            (HasRows self.now after (bsize, sets)) }
+    {
+        if !is_in_range(self.sets, sets) {
+            return None;
+        }
+        let least = least_after(bsize, sets, after)?;
+        let (lowest, most) = self.ways_of(bsize, sets);
+        let ways = ways_between(lowest.max(least), most, self.powers)?;
+        Some(PairRows {
+            first: Config {
+                bsize,
+                sets,
+                assoc: ways.first,
+            },
+            count: ways.count,
+            depth: ways.last,
+        })
+    }
+
+    /// The least and the greatest associativity that the ranges and the limit on lines leave a pair
+    /// in its ranges.
+    fn ways_of(&self, bsize: u64, sets: u64) -> (u64, u64)
         requires block { is_in_range self.now.bsize bsize ≡ true }
         requires set { is_in_range self.now.sets sets ≡ true }
-        ensures { IsLeastFrom least (λ assoc. is_valid self.now (config bsize sets assoc)) result }
+        requires powers { (is_power bsize ≡ true) × (is_power sets ≡ true) }
+        ensures valid { (e : ℕ) → is_valid self.now (config bsize sets e)
+            ≡ (is_in_range result e && (not self.now.powers || is_power e)) }
+        ensures some { 1 ≤ result.0 }
+        ensures few { result.1 < 2 ^ 17 }
     {
-        let lowest = least
-            .max(self.assoc.0)
-            .max(self.size.0.div_ceil(bsize * sets));
-        if lowest > self.assoc.1 {
-            return None;
-        }
-        let assoc = least_assoc(lowest, self.powers);
-        let config = Config { bsize, sets, assoc };
-        if self.has(&config) { Some(assoc) } else { None }
-    }
-
-    /// The least configuration of a pair that it has, from another on.
-    fn first_of_pair(&self, bsize: u64, sets: u64, from: &Config) -> Option<Config>
-        ensures { IsLeast (is_from_pair self.now from.now bsize sets) result }
-    {
-        if !is_in_range(self.bsize, bsize) || !is_in_range(self.sets, sets) {
-            return None;
-        }
-        let least = least_of_pair(bsize, sets, from)?;
-        let assoc = self.first_assoc(bsize, sets, least)?;
-        Some(Config { bsize, sets, assoc })
-    }
-
-    /// The least configuration of a block size that it has, from another on.
-    fn first_of_bsize(&self, bsize: u64, from: &Config) -> Option<Config>
-        ensures { IsLeast (is_from_of_bsize self.now from.now bsize) result }
-    {
-        self.limits();
-        if !is_in_range(self.bsize, bsize) || bsize < from.bsize {
-            return None;
-        }
-        for bits in 0..POWERS {
-            if let Some(found) = self.first_of_pair(bsize, power(bits), from) {
-                return Some(found);
-            }
-        }
-        None
-    }
-
-    /// The least configuration that it has, from another on.
-    fn first_from(&self, from: &Config) -> Option<Config>
-        ensures { IsLeast (is_from self.now from.now) result }
-    {
-        self.limits();
-        for bits in 0..POWERS {
-            if let Some(found) = self.first_of_bsize(power(bits), from) {
-                return Some(found);
-            }
-        }
-        None
-    }
-
-    /// The least configuration that it has and that is greater than another.
-    pub(crate) fn next_after(&self, after: Option<Config>) -> Option<Config>
-        ensures { MatchOption result (table self.now after ≡ [])
-            (λ c. table self.now after ≡ c ∷ table self.now (Some c)) }
-    {
-        self.limits();
-        self.first_from(&from_after(after))
-    }
-
-    /// The greatest associativity with which it has a configuration of the pair of another.
-    pub(crate) fn depth_of(&self, config: &Config) -> u64
-        requires { is_valid self.now config.now ≡ true }
-        ensures valid { is_valid self.now (record config.now { assoc = result }) ≡ true }
-        ensures greatest { (e : ℕ) →
-            is_valid self.now (record config.now { assoc = e }) ≡ true → e ≤ result }
-    {
-        let Config { bsize, sets, .. } = *config;
-        let most = self
-            .assoc
-            .1
-            .min(MAX_CACHE_LINES / sets)
-            .min(self.size.1 / (bsize * sets));
-        if self.powers {
-            power(most.ilog2())
-        } else {
-            most
-        }
+        let most = self.assoc.1.min(MAX_CACHE_LINES / sets);
+        let pair = bsize * sets;
+        (
+            self.assoc.0.max(self.size.0.div_ceil(pair)),
+            most.min(self.size.1 / pair),
+        )
     }
 
     /// The associativity after another: the next number, or the next power of two.
@@ -159,69 +179,62 @@ impl Space {
     {
         if self.powers { ways * 2 } else { ways + 1 }
     }
-
-    /// How many configurations it has of the pair of one, from that one to the one with `depth`
-    /// lines per set.
-    pub(crate) fn rows_to(&self, first: &Config, depth: u64) -> u64
-        requires first { is_valid self.now first.now ≡ true }
-        requires last { is_valid self.now (record first.now { assoc = depth }) ≡ true }
-        requires rising { first.now.assoc ≤ depth }
-        ensures some { 1 ≤ result }
-        ensures last { ways_after self.now.powers first.now.assoc (result - 1) ≡ depth }
-    {
-        if self.powers {
-            bits_of(depth) - bits_of(first.assoc) + 1
-        } else {
-            depth - first.assoc + 1
-        }
-    }
 }
 
-/// The least associativity from `lowest` on; with `powers`, the least that is a power of two.
-fn least_assoc(lowest: u64, powers: bool) -> u64
-    requires { lowest ≤ 2 ^ 63 }
-    ensures from { lowest ≤ result }
-    ensures power { powers ≡ true → is_power result ≡ true }
-    ensures least { (e : ℕ) → lowest ≤ e → (powers ≡ true → is_power e ≡ true) → result ≤ e }
+/// The least associativity with which a configuration of a pair is greater than `after`, if it is
+/// so with any.
+fn least_after(bsize: u64, sets: u64, after: Option<Config>) -> Option<u64>
+    ensures { MatchOption result
+        ((e : ℕ) → e < 2 ^ 64 → is_after after (config bsize sets e) ≡ false)
+        (λ least. (e : ℕ) → is_after after (config bsize sets e) ≡ nat_le least e) }
 {
-    if powers {
-        lowest.next_power_of_two()
-    } else {
-        lowest
-    }
-}
-
-/// The least triple greater than `after`; without it, the least of all. At `u64::MAX` ways it
-/// stays, which loses nothing: no configuration has so many.
-fn from_after(after: Option<Config>) -> Config
-    ensures { (c : Config) → c.assoc < 2 ^ 64 - 1 → is_less c result ≡ not (is_after after c) }
-{
-    match after {
-        None => Config {
-            bsize: 0,
-            sets: 0,
-            assoc: 0,
-        },
-        Some(config) => Config {
-            assoc: config.assoc.saturating_add(1),
-            ..config
-        },
-    }
-}
-
-/// The least associativity with which a configuration of a pair isn't less than another, if there
-/// is one.
-fn least_of_pair(bsize: u64, sets: u64, from: &Config) -> Option<u64>
-    ensures { MatchOption result ((e : ℕ) → is_less (config bsize sets e) from.now ≡ true)
-        (λ least. (e : ℕ) → is_less (config bsize sets e) from.now ≡ nat_lt e least) }
-{
-    if bsize < from.bsize || bsize == from.bsize && sets < from.sets {
+    let Some(after) = after else {
+        return Some(0);
+    };
+    if bsize < after.bsize || bsize == after.bsize && sets < after.sets {
         None
-    } else if bsize == from.bsize && sets == from.sets {
-        Some(from.assoc)
+    } else if bsize == after.bsize && sets == after.sets {
+        after.assoc.checked_add(1)
     } else {
         Some(0)
     }
+}
+
+/// Associativities that follow one another.
+#[derive(Clone, Copy, Debug)]
+struct Ways {
+    first: u64,
+    last: u64,
+    count: u64,
+}
+
+/// The associativities from `lowest` to `most`, if there are any; with `powers`, those that are
+/// powers of two.
+fn ways_between(lowest: u64, most: u64, powers: bool) -> Option<Ways>
+    requires some { 1 ≤ lowest }
+    requires few { most < 2 ^ 17 }
+    ensures { MatchOption result (NoWays lowest most powers) (AreWays lowest most powers) }
+{
+    if most < lowest {
+        return None;
+    }
+    if !powers {
+        return Some(Ways {
+            first: lowest,
+            last: most,
+            count: most - lowest + 1,
+        });
+    }
+    let first = lowest.next_power_of_two();
+    let last = power(most.ilog2());
+    if last < first {
+        return None;
+    }
+    Some(Ways {
+        first,
+        last,
+        count: bits_of(last) - bits_of(first) + 1,
+    })
 }
 
 /// 2 to a power.

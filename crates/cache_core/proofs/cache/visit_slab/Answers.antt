@@ -12,13 +12,13 @@ use Rattle.cache_core.proofs.cache.visit_slab.Given.{Over}
 pub visit-count-requires-clause-addresses : goal.visit-count-requires-clause-addresses
 visit-count-requires-clause-addresses g c =
     let e = c.args.design.geometry.e in
-    rw (c.e-ways.ensures, slab_read e c.args.filled.now c.set_of-number.result c.args.slots.now (omega arith) c.requires.slab.within)
+    rw (c.e-ways.ensures.value, slab_read e c.args.filled.now c.set_of-number.result c.args.slots.now (omega arith) c.requires.slab.within)
     (All-get_or (Addressable c.args.design.geometry.b) (sets_of e c.args.slots.now c.args.filled.now) c.set_of-number.result []
     (omega (arith, length-sets_of e c.args.filled.now c.args.slots.now)) c.requires.slab.addresses)
 
 written : (g : Over) (c : goal.After-add_grown g) →
     IsWritten c.args.design c.set_of-number.result c.visit-count.result.1 c.e-ways.result c.visit-count.new.set
-written g c = record { ways_are = c.e-ways.ensures; within = c.set_of-number.ensures.within; long = omega arith; few = c.visit-count.ensures.within }
+written g c = record { ways_are = c.e-ways.ensures.value; within = c.set_of-number.ensures.within; long = omega arith; few = c.visit-count.ensures.within }
 
 pub returns-clause-slab : goal.returns-clause-slab
 returns-clause-slab g c = slab_kept c.args.design _ _ _ _ _ _ c.requires.slab (written g c) c.visit-count.ensures.addresses

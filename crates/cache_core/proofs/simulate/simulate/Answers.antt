@@ -38,5 +38,4 @@ returns-clause-windows c =
 
 pub returns-clause-machine : goal.returns-clause-machine
 returns-clause-machine c =
-    returns-clause-windows c
-    ∙ sym (count_law c.args.geometry.now Back (map (λ x. event.Reference x) c.args.refs.now) c.loop-reference.invariant.simulates.some)
+    cc (returns-clause-windows c, count_law c.args.geometry.now Back (map (λ x. event.Reference x) c.args.refs.now) c.loop-reference.invariant.simulates.some)

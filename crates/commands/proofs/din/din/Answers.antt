@@ -1,5 +1,5 @@
 -- What `din` performs at a fault of the trace, at a failure of the sink, and at its end.
-use Rattle.std.proofs.Common.{refl}
+use Rattle.std.proofs.Common.{refl, ◌∙◌}
 use Rattle.trace_core.proofs.Performing.{err_is, Performs-ok, Performs-trace, Performs-write}
 use Rattle.commands.proofs.DinLemmas.{din-finished, din-stopped, din-unfinished}
 use Rattle.commands.proofs.din.din.Goals as goal
@@ -16,12 +16,14 @@ pub returns-in_err-write_last : goal.returns-in_err-write_last
 returns-in_err-write_last g c =
     Performs-write (err_is c.from_residual-in_err-write_last.ensures.1)
     (din-unfinished c.args.plan c.args.seed c.args.format c.args.max_lines c.in_ok-lines.ensures c.in_ok-stats.ensures.stepped.1
-    c.limits.ensures c.in_ok-system.ensures c.in_ok-stats.ensures.reports c.in_ok-stats.ensures.stepped.2 c.set_report.ensures
+    c.in_ok-system.ensures.limits c.in_ok-system.ensures.new c.in_ok-stats.ensures.reports c.in_ok-stats.ensures.stepped.2
+    (c.as_slice.ensures ∙ c.set_report.ensures)
     c.in_err-write_last.ensures)
 
 pub returns : goal.returns
 returns g c =
     Performs-ok tt refl
     (din-finished c.args.plan c.args.seed c.args.format c.args.max_lines c.in_ok-lines.ensures c.in_ok-stats.ensures.stepped.1
-    c.limits.ensures c.in_ok-system.ensures c.in_ok-stats.ensures.reports c.in_ok-stats.ensures.stepped.2 c.set_report.ensures
+    c.in_ok-system.ensures.limits c.in_ok-system.ensures.new c.in_ok-stats.ensures.reports c.in_ok-stats.ensures.stepped.2
+    (c.as_slice.ensures ∙ c.set_report.ensures)
     c.in_ok-write_last.ensures)

@@ -11,7 +11,7 @@ use Rattle.commands.proofs.log.log.Goals as goal
 use Rattle.commands.proofs.log.log.Goals.{in-Item+in-Some-second, in-Item+in_default-second, in-Flush}
 
 pub loop-system-init : goal.loop-system-init
-loop-system-init g c = logged_start c.in_ok-lines.ensures c.limits.ensures c.in_ok-system.ensures
+loop-system-init g c = logged_start c.in_ok-lines.ensures c.in_ok-system.ensures.limits c.in_ok-system.ensures.new
 
 pub loop-system-preserved : goal.loop-system-preserved
 loop-system-preserved g c =
@@ -65,11 +65,11 @@ returns-in_err-write_all g c =
 pub returns-in_err-write_last : goal.returns-in_err-write_last
 returns-in_err-write_last g c =
     Performs-write (err_is c.from_residual-in_err-write_last.ensures.1)
-    (log-unfinished c.loop-system.invariant c.next.ensures.reached c.next.ensures.reports c.in_ok-entry.was c.in_default.is c.new-3.ensures
+    (log-unfinished c.loop-system.invariant c.next.ensures.reached c.next.ensures.reports c.in_ok-entry.was c.in_default.is refl
     c.in_err-write_last.ensures)
 
 pub returns : goal.returns
 returns g c =
     Performs-ok tt refl
-    (log-finished c.loop-system.invariant c.next.ensures.reached c.next.ensures.reports c.in_ok-entry.was c.in_default.is c.new-3.ensures
+    (log-finished c.loop-system.invariant c.next.ensures.reached c.next.ensures.reports c.in_ok-entry.was c.in_default.is refl
     c.in_ok-write_last.ensures)

@@ -1,5 +1,5 @@
 -- The logarithm of a power of two.
-use Rattle.sweep_core.proofs.Depths.{log2-is}
+use Rattle.cache_core.proofs.PowersOfTwo.{log2-is}
 use Rattle.sweep_core.proofs.laws.log2_is.Goals as goal
 
 pub returns : goal.returns

@@ -6,6 +6,5 @@ use Rattle.trace_core.proofs.fast_line.read_din_item.Goals as goal
 pub returns : goal.returns
 returns c = λ text begun.
     let parts = c.in_ok-addr.ensures in
-    let op = c.in_ok-op.ensures in
     din-front text c.args.rest.now parts.0 c.in_ok-addr.rest.now c.args.label c.in_ok-addr.addr c.in_ok-op.op
-    op.label.0 op.label.1 (op.entry c.in_ok-addr.addr) begun (sym c.without_0x.ensures ∙ parts.1) parts.2
+    (sym c.in_ok-op.ensures) begun (sym c.without_0x.ensures ∙ parts.1) parts.2

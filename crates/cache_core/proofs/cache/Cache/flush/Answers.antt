@@ -25,7 +25,7 @@ returns g c =
     rw (none_left g c, ← c.self.view_is) record {
       empty = sets_of-empty n _ i.slots.items ∙ ap (λ m. replicate m []) (sym (length-sets_of n i.filled.items i.slots.items ∙ c.self.invariant.0.sets));
       random_numbers = refl;
-      counted = c.empty_slab.ensures.counted ∙ rw (c.e-ways.ensures, c.deref.ensures.value, c.deref_mut.ensures.value) refl;
+      counted = c.empty_slab.ensures.counted ∙ rw (c.e-ways.ensures.value, c.deref.ensures.value, c.deref_mut.ensures.value) refl;
       design = refl;
       policy = refl;
     }

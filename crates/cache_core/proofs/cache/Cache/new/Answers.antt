@@ -11,7 +11,7 @@ none_filled g c = c.in_ok-filled.ensures ∙ ap (λ n. replicate n 0) c.sets.ens
 pub invariant_of-result : goal.invariant_of-result
 invariant_of-result g c =
     let l = c.in_ok-slots.ensures in (
-      slab_made _ _ _ c.limits.ensures (omega (arith, l.len)) (none_filled g c),
+      slab_made _ _ _ c.lines.ensures.limits (omega (arith, l.len)) (none_filled g c),
       covers_none c.in_ok-touched.touched _ _ _ c.in_ok-touched.ensures (none_filled g c),
     )
 

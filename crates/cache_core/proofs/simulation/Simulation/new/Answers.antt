@@ -9,7 +9,7 @@ use Rattle.cache_core.proofs.simulation.Simulation.new.Goals as goal
 pub returns : goal.returns
 unfolding counts occurrences_after
 returns c = record {
-  some = c.limits.ensures.some;
+  some = c.in_ok-cache.ensures.limits.some;
   cache = start_law (lru_machine c.args.geometry Back) _ c.in_ok-cache.ensures.design refl refl c.in_ok-cache.ensures.empty;
   counts = refl;
 }

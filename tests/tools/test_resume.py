@@ -1,0 +1,104 @@
+"""Sweeps by several processes that were stopped, and go on."""
+
+import gzip
+import itertools
+import os
+import signal
+import subprocess
+
+from base import TOOLS, TOP, comes, ended
+from test_sweep_parallel import DIN, HEADER, SMALL, SPACE, ParallelTest
+
+
+class Resumed(ParallelTest):
+    """A table in a file, which the same command continues."""
+
+    NINE = TOP / "tests/cases/inputs/nine-references.din"
+    FOUR = "--bsize 16 --sets 1-2 --assoc 1-2 --size 16-64".split()
+    TABLE = HEADER + "16,1,1,16,3,6,5\n16,1,2,32,4,5,3\n16,2,1,32,4,5,3\n16,2,2,64,4,5,2\n"
+
+    def resume(self, *options, trace=NINE, name="t.csv", **given):
+        return self.run_tool("sweep-parallel", "--resume", name, 2, trace, *(options or self.FOUR), **given)
+
+    def table(self):
+        return (self.folder / "t.csv").read_text()
+
+    def test_from_any_byte(self):
+        """Whatever the first run has left, from no file on."""
+        self.good(self.run_tool("sweep-parallel", "--resume=t.csv", "auto", self.NINE, *self.FOUR))
+        self.assertEqual(self.table(), self.TABLE)
+        for left in (*range(0, len(self.TABLE), 7), len(HEADER) - 1, len(HEADER), len(self.TABLE) - 1, len(self.TABLE)):
+            self.write("t.csv", self.TABLE[:left])
+            self.assertEqual((self.good(self.resume()), self.table()), ("", self.TABLE), left)
+
+    def test_pages(self):
+        """Of more pages than rounds, with any trace, and as a part of a table."""
+        packed, parts = self.write("t.gz", gzip.compress(DIN.read_bytes())), ("--after=16,32,4", "--rows 9 --after 16,8,8")
+        for options in (SMALL, *([*SMALL, *part.split()] for part in parts)):
+            wanted = self.sweep(*options, "-t", DIN)
+            for trace, left in itertools.product((DIN, packed, "-", "/dev/stdin"), (0, 100, len(wanted))):
+                self.write("t.csv", wanted[:left])
+                self.good(self.resume(*options, trace=trace, stdin=DIN.read_bytes()))
+                self.assertEqual(self.table(), wanted)
+
+    def test_what_is_no_beginning_of_the_table(self):
+        """It is left as it is."""
+        other_sets, other_trace = self.TABLE.replace("16,2,1,32", "16,4,1,64"), self.TABLE.replace("3,6,5", "3,7,6")
+        behind = (self.TABLE + more for more in ("16,2,2,64,4,5,2\n", "16", "\n", "\0"))
+        for text, line in (("hello", 1), ("hello\n", 1), (HEADER + "16,1,2", 2), (HEADER + "16,1,1,16,x", 2), (HEADER[1:], 1),
+                           (self.TABLE[len(HEADER):], 1), (other_sets, 4), (other_trace, 3), (self.TABLE.replace(",5\n", "\n"), 2),
+                           *((text, 6) for text in behind)):
+            self.write("t.csv", text)
+            told = f"sweep-parallel: t.csv is not the beginning of this table: see line {line}\n"
+            self.assertEqual((self.resume().stderr.decode(), self.table()), (told, text))
+
+    def test_another_trace(self):
+        """Its rows tell of another number of references."""
+        begun = self.TABLE[:len(HEADER) + 20]
+        for trace, options in ((DIN, self.FOUR), (self.NINE, [*self.FOUR, "--kind", "i"])):
+            self.write("t.csv", begun)
+            ran = self.resume(*options, trace=trace)
+            self.refused(ran, 1, "sweep-parallel: t.csv is of another trace or of other options: see line 3\n")
+            self.assertEqual(self.table(), begun[:len(HEADER) + 16])
+
+    def test_faults(self):
+        (self.folder / "folder").mkdir()
+        for name, fault in (("folder", "Is a directory"), ("none/x", "No such file or directory"), ("", "No such file or directory")):
+            self.refused(self.resume(name=name), 1, f"sweep-parallel: {name}: {fault}\n")
+        for name in ("/dev/full", "/dev/zero"):
+            self.refused(self.resume(name=name), 1, f"sweep-parallel: {name} is not a regular file\n")
+        self.refused(self.resume("--bsize", "24", *self.FOUR[2:]), 2, "cachesim: bsize: not a power of two\n")
+        self.refused(self.run_tool("sweep-parallel", "--resume", "t.csv"), 2, "are missing")
+        self.assertFalse((self.folder / "t.csv").exists())
+        self.refused(self.resume(trace="none"), 1, "cachesim: cannot open none\n")
+        self.assertEqual(self.table(), "")
+
+    def test_no_room(self):
+        """What was written stays, and is continued when there is room."""
+        run = f'ulimit -f 8; exec "{TOOLS}/sweep-parallel" --resume t.csv 1 "$@"'
+        ran = self.run_command("bash", "-c", run, "-", DIN, *SPACE)
+        self.refused(ran, 1, "sweep-parallel: write failed\n")
+        wanted = self.sweep(*SPACE, "-t", DIN)
+        self.assertTrue(wanted.startswith(self.table()))
+        self.assertGreaterEqual(len(self.table()), 8192)
+        self.good(self.resume(*SPACE, trace=DIN))
+        self.assertEqual(self.table(), wanted)
+
+    def test_stopped(self):
+        """By each signal, while a second run can't begin; the parts that were done are not made again."""
+        wanted, left = self.sweep(*SPACE, "-t", DIN), ""
+        for sent in (signal.SIGINT, signal.SIGTERM, signal.SIGKILL):
+            # the first two pages are let pass, and then all wait
+            env = {**os.environ, **self.program('echo "$after" >> begun\n[[ $(wc -l < begun) -lt 3 ]] || exec sleep 60')}
+            (self.folder / "begun").unlink(missing_ok=True)
+            arguments = [TOOLS / "sweep-parallel", "--resume", "t.csv", "2", DIN, *SPACE]
+            ran = subprocess.Popen(arguments, cwd=self.folder, env=env, start_new_session=True)
+            with ended(ran):
+                self.assertTrue(comes(lambda: (self.folder / "begun").exists() and (self.folder / "begun").read_text().count("\n") >= 4))
+                self.refused(self.resume(*SPACE, trace=DIN), 1, "sweep-parallel: t.csv: another run adds to it\n")
+                os.killpg(ran.pid, sent)
+                self.assertIn(ran.wait(), (-sent, 128 + sent))
+            self.assertTrue(wanted.startswith(self.table()) and len(self.table()) > len(left), self.table())
+            left = self.table()
+        self.good(self.resume(*SPACE, trace=DIN))
+        self.assertEqual(self.table(), wanted)
