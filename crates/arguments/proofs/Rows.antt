@@ -6,9 +6,9 @@ use Rattle.clap.specs.Words.{Text, takes}
 use Rattle.clap.specs.Faults.{fault_of}
 use Rattle.clap.specs.declared.error.kind.ErrorKind.TheVariants as kind
 use Rattle.cache_core.specs.Plans.{exponent_of}
-use Rattle.cache_core.specs.declared.outcome.AllocMode.TheVariants.{Always, Never}
-use Rattle.cache_core.specs.declared.outcome.Repl.TheVariants.{Lru, Fifo, Random}
-use Rattle.cache_core.specs.declared.outcome.WriteMode.TheVariants.{Back, Through}
+use Rattle.cache_core.specs.declared.design.AllocMode.TheVariants.{Always, Never}
+use Rattle.cache_core.specs.declared.design.Repl.TheVariants.{Lru, Fifo, Random}
+use Rattle.cache_core.specs.declared.design.WriteMode.TheVariants.{Back, Through}
 use Rattle.cache_core.specs.declared.plan.CacheName.TheVariants.{L1U}
 use Rattle.cache_core.specs.declared.plan.PlanFault.TheVariants.{NoFirst, MixedFirst, BadGeometry, SmallBlock}
 use Rattle.cache_core.specs.Powers.{is_power}

@@ -10,7 +10,7 @@ use Rattle.arguments.specs.DinJob.{din_of, log_of}
 use Rattle.arguments.specs.Faults.{JobFault, job_fault_of}
 use Rattle.options.specs.Options.{cachesim_app, file_option}
 use Rattle.arguments.specs.Readings.{and_then}
-use Rattle.options.specs.Respell.{respelled}
+use Rattle.options.specs.Respell.{respelling_of}
 use Rattle.arguments.specs.SweepJob.{sweep_of}
 use Rattle.arguments.specs.declared.faults.WordsFault.{WordsFault}
 use Rattle.arguments.specs.declared.faults.WordsFault.TheVariants as fault
@@ -43,7 +43,7 @@ chosen_command s = option_map (with_trace s.1) (job_named s.0 s.1)
 
 -- the subcommand and the entries that clap gives for the respelled arguments, read
 abbrev pub command_of : List Text → Option (Result CommandValue JobFault)
-command_of arguments = option_and_then chosen_command (subcommand_of cachesim_app (respelled arguments))
+command_of arguments = option_and_then chosen_command (subcommand_of cachesim_app (respelling_of arguments))
 
 -- what `parse` returned, but for lack of memory and what clap refuses
 abbrev pub command_result : Result Command WordsFault → Option (Result CommandValue JobFault)

@@ -8,15 +8,15 @@ use Rattle.clap.specs.Words.{Row, Text}
 use Rattle.cache_core.specs.Plans.{PlannedCaches, plan_of}
 use Rattle.trace_core.specs.declared.line.Format.{Format}
 use Rattle.trace_core.specs.declared.line.Format.TheVariants.{Din as DinFormat}
-use Rattle.cache_core.specs.declared.outcome.AllocMode.{AllocMode}
-use Rattle.cache_core.specs.declared.outcome.AllocMode.TheVariants.{Always, Never}
+use Rattle.cache_core.specs.declared.design.AllocMode.{AllocMode}
+use Rattle.cache_core.specs.declared.design.AllocMode.TheVariants.{Always, Never}
 use Rattle.cache_core.specs.declared.plan.CacheName.{CacheName}
 use Rattle.cache_core.specs.declared.plan.CacheName.TheVariants.{L1I, L1D, L1U, L2U}
 use Rattle.cache_core.specs.declared.plan.CacheSpec.{CacheSpec}
-use Rattle.cache_core.specs.declared.outcome.Repl.{Repl}
-use Rattle.cache_core.specs.declared.outcome.Repl.TheVariants.{Lru, Fifo, Random}
-use Rattle.cache_core.specs.declared.outcome.WriteMode.{WriteMode}
-use Rattle.cache_core.specs.declared.outcome.WriteMode.TheVariants.{Back, Through}
+use Rattle.cache_core.specs.declared.design.Repl.{Repl}
+use Rattle.cache_core.specs.declared.design.Repl.TheVariants.{Lru, Fifo, Random}
+use Rattle.cache_core.specs.declared.design.WriteMode.{WriteMode}
+use Rattle.cache_core.specs.declared.design.WriteMode.TheVariants.{Back, Through}
 use Rattle.arguments.specs.Faults.{JobFault, incomplete, plan}
 use Rattle.arguments.specs.Job.{longest_trace}
 use Rattle.arguments.specs.Numbers.{number_of, scaled_of}

@@ -11,7 +11,7 @@ use crate::faults::WordsFault;
 use crate::job::Job;
 use crate::numbers::read_scaled;
 use crate::readings::{format_at, optional_number_at, text_at};
-use cache_core::outcome::{AllocMode, Repl, WriteMode};
+use cache_core::design::{AllocMode, Repl, WriteMode};
 use cache_core::plan::{CacheName, CacheSpec, FirstLevel, Plan};
 use cache_core::powers::is_power;
 use clap::ArgMatches;

@@ -9,7 +9,7 @@ ghost use Rattle.arguments.specs.Faults.{job_fault_of, job_result};
 ghost use Rattle.arguments.specs.Job.{max_lines_of};
 ghost use Rattle.options.specs.Options.{cachesim_app};
 ghost use Rattle.arguments.specs.Readings.{rows_given};
-ghost use Rattle.options.specs.Respell.{respelled};
+ghost use Rattle.options.specs.Respell.{respelling_of};
 
 use crate::csim_job::csim_job;
 use crate::din_job::{din_job, log_job};
@@ -43,18 +43,18 @@ pub fn parse(alloc: Global, arguments: &[String]) -> Result<Command, WordsFault>
     ensures means { IfSome (command_result result) (λ returned.
         command_of (map string_bytes arguments.now) ≡ Some returned) }
     ensures accepted { IfSome (command_result result) (λ _.
-        fault_of cachesim_app (respelled (map string_bytes arguments.now)) ≡ []) }
+        fault_of cachesim_app (respelling_of (map string_bytes arguments.now)) ≡ []) }
     ensures limit { IfOk result (λ c. max_lines_of c.job ≡ MAX_LINES) }
 
     // What clap takes is not refused, a refusal is one of clap's, and it says whether help was
     // asked for.
-    ensures taken { takes cachesim_app (respelled (map string_bytes arguments.now)) ≡ true
+    ensures taken { takes cachesim_app (respelling_of (map string_bytes arguments.now)) ≡ true
         → refusal_of result ≡ None }
     ensures refused { IfSome (refusal_of result) (λ _.
-        fault_of cachesim_app (respelled (map string_bytes arguments.now)) ≢ []) }
+        fault_of cachesim_app (respelling_of (map string_bytes arguments.now)) ≢ []) }
     ensures help { IfSome (refusal_of result) (λ help.
         help ≡ list_any is_help
-        (fault_of cachesim_app (respelled (map string_bytes arguments.now)))) }
+        (fault_of cachesim_app (respelling_of (map string_bytes arguments.now)))) }
 {
     let respelled = respell(alloc, arguments)?;
     let command = cachesim_command(alloc)?;

@@ -4,8 +4,8 @@ use Rattle.std.specs.Prelude.{IfSome}
 use Rattle.std.proofs.lemmas.List.Elements.{All-cons, All-head, All-tail, All-get_or, All-set}
 use Rattle.std.proofs.lemmas.List.Sorted.{All-permutation}
 use Rattle.cache_core.specs.declared.outcome.Slot.{Slot}
-use Rattle.cache_core.specs.declared.outcome.Repl.{Repl}
-use Rattle.cache_core.specs.Order.{Touches, TakesIn, marked}
+use Rattle.cache_core.specs.declared.design.Repl.{Repl}
+use Rattle.cache_core.specs.Order.{Touches, TakesIn, with_dirty_at}
 use Rattle.cache_core.specs.Slab.{Addressable}
 use Rattle.cache_core.proofs.Lawful.{lawful_touch, lawful_place}
 
@@ -14,7 +14,7 @@ abbrev Fits : ℕ → Slot → Type 0
 Fits b slot = slot.block * 2 ^ b < 2 ^ 64
 
 pub marked_fits : (b : ℕ) (dirty : Bool) (slots : List Slot) (at : ℕ) → at < length slots → Addressable b slots →
-    Addressable b (marked dirty slots at)
+    Addressable b (with_dirty_at dirty slots at)
 marked_fits b false slots at h fit = fit
 marked_fits b true slots at h fit =
     let none : Slot = record { block = 0; dirty = false } in

@@ -14,12 +14,12 @@ use Rattle.std.proofs.lemmas.List.Sorted.{IsPermutation-refl, length_permutation
 use Rattle.trace_core.specs.declared.events.Ref.{Ref}
 use Rattle.cache_core.specs.declared.outcome.Slot.{Slot}
 use Rattle.cache_core.specs.declared.outcome.Outcome.{Outcome}
-use Rattle.cache_core.specs.declared.outcome.Repl.{Repl}
+use Rattle.cache_core.specs.declared.design.Repl.{Repl}
 use Rattle.cache_core.specs.Geometry.{GeometryValue, block_of, set_of_block}
 use Rattle.cache_core.specs.Outcomes.{outcome_of, on_placing, dirties, allocates}
 use Rattle.cache_core.specs.Machine.{Machine, MachineState, Line, slot_of, is_block, lines_of_set, is_full, with_line_at, key_at, placing}
 use Rattle.cache_core.specs.Machine.{Step, passing, start, step_at}
-use Rattle.cache_core.specs.Order.{Contents, dirty_in, VisitsAt, Fills, PassesOn, Hits, TakesIn, slots_of, position_of, marked}
+use Rattle.cache_core.specs.Order.{Contents, dirty_in, VisitsAt, Fills, PassesOn, Hits, TakesIn, slots_of, position_of, with_dirty_at}
 use Rattle.cache_core.specs.Rules.{Place, rules}
 use Rattle.cache_core.specs.Stands.{Absent, Distinct}
 use Rattle.cache_core.specs.AnyPolicy.{HoldsSame, MayLeave, AnyStartLaw, AnyAccessLaw, AnyFlushLaw}
@@ -58,7 +58,7 @@ empty_slot = record { block = 0; dirty = false }
 
 -- the slot at an index that is marked
 marked_sum : (d : Bool) (slots : List Slot) (at : ℕ) (line : Line) (f : Slot → ℕ) → at < length slots →
-    slot_of line ≡ get_or slots at empty_slot → sum_by f (marked d slots at) + f (slot_of line) ≡ sum_by f slots + f (slot_of (with_mark d line))
+    slot_of line ≡ get_or slots at empty_slot → sum_by f (with_dirty_at d slots at) + f (slot_of line) ≡ sum_by f slots + f (slot_of (with_mark d line))
 marked_sum false slots at line f h e = refl
 marked_sum true slots at line f h e =
     let moved = sum_by-set f slots at (record (get_or slots at empty_slot) { dirty = true }) empty_slot h in
@@ -160,12 +160,12 @@ module _ (m : Machine) (st : MachineState) (ref : Ref) (policy : Option Repl) (n
       let front : Absent line.block r.front = distinct_front r.front line r.back dr in
       let back : Absent line.block r.back = distinct_back r.front line r.back dr in
       let within : at < length slots = (position-Some (λ (s : Slot). s.block == b) slots at empty_slot q).0 in
-      let moved : IsPermutation (marked mark slots at) new =
-      lawful_touch policy (marked mark slots at) at new (omega (arith, within, marked_length mark slots at)) hits.order in
+      let moved : IsPermutation (with_dirty_at mark slots at) new =
+      lawful_touch policy (with_dirty_at mark slots at) at new (omega (arith, within, marked_length mark slots at)) hits.order in
       let sums : (f : Slot → ℕ) → sum_by f new ≡ line_sum f (r.front ++ r.back) + f (slot_of z) = λ f.
       omega (
         arith,
-        sum_by-IsPermutation f (marked mark slots at) new moved,
+        sum_by-IsPermutation f (with_dirty_at mark slots at) new moved,
         marked_sum mark slots at line f within there,
         sums_around slots here r.front line r.back perm r.split f,
       ) in

@@ -8,9 +8,9 @@ use Rattle.trace_core.specs.declared.events.Access.{Access}
 use Rattle.trace_core.specs.declared.events.Access.TheVariants.{Fetch, Read, Write}
 use Rattle.trace_core.specs.Events.{is_fetch, is_read, is_write, one_if}
 use Rattle.cache_core.specs.declared.outcome.Outcome.{Outcome}
-use Rattle.cache_core.specs.declared.outcome.Design.{Design}
+use Rattle.cache_core.specs.declared.design.Design.{Design}
 use Rattle.cache_core.specs.declared.outcome.Slot.{Slot}
-use Rattle.cache_core.specs.declared.outcome.Repl.{Repl}
+use Rattle.cache_core.specs.declared.design.Repl.{Repl}
 use Rattle.cache_core.specs.declared.stats.CacheStats.{CacheStats}
 use Rattle.cache_core.specs.declared.system_cache.SystemCache.{SystemCache}
 use Rattle.cache_core.specs.declared.system.Memory.{Memory}
@@ -19,7 +19,8 @@ use Rattle.cache_core.specs.Order.{Visits, VisitsAt, Fills, PassesOn, position_o
 use Rattle.cache_core.specs.Outcomes.{allocates, on_hit, on_placing, on_passing, two_options}
 use Rattle.cache_core.specs.CacheSteps.{Enters, system_cache_contents}
 use Rattle.cache_core.specs.CacheStats.{count_access, accesses}
-use Rattle.cache_core.specs.SystemSteps.{AccessesFirst, Descends, AllDescend, AccessesUnified, AccessesSplit, AccessesFirstLevel, copied, counted, reached}
+use Rattle.cache_core.specs.SystemSteps.{AccessesFirst, Descends, AllDescend, AccessesUnified, AccessesSplit, AccessesFirstLevel}
+use Rattle.cache_core.specs.SystemSteps.{copybacks_of, accesses_of, memory_accesses}
 use Rattle.cache_core.specs.SystemSteps.{present_refs, reaches, all_reach}
 
 -- at most one
@@ -38,8 +39,8 @@ one_access access hit evicted s = omega (arith, one_kind access)
 
 -- one reference at a cache, if it is there
 pub record Grows (more : ℕ) (old new : Option SystemCache) : Type 0 where
-  pub counts : counted new ≤ counted old + more
-  pub copies : copied old ≤ copied new
+  pub counts : accesses_of new ≤ accesses_of old + more
+  pub copies : copybacks_of old ≤ copybacks_of new
 
 entered : (old : SystemCache) (ref : Ref) (outcome : Outcome) (new : SystemCache) → Enters old ref outcome new → Grows 1 (Some old) (Some new)
 entered old ref outcome new e =
@@ -97,8 +98,8 @@ first_sends old ref (Some down) new (a, b, o, p, q, r, e) = rw r (sends_two a re
 
 -- one reference at the first level
 pub record FirstGrows (down : Option (List (Option Ref))) (i d u i' d' u' : Option SystemCache) : Type 0 where
-  pub counts : counted i' + counted d' + counted u' + one_if (is_none down) ≤ counted i + counted d + counted u + 1
-  pub copies : copied i + copied d + copied u ≤ copied i' + copied d' + copied u'
+  pub counts : accesses_of i' + accesses_of d' + accesses_of u' + one_if (is_none down) ≤ accesses_of i + accesses_of d + accesses_of u + 1
+  pub copies : copybacks_of i + copybacks_of d + copybacks_of u ≤ copybacks_of i' + copybacks_of d' + copybacks_of u'
   pub sends : sent_down down ≤ 2
 
 one_way : (down : Option (List (Option Ref))) → one_if (is_some down) + one_if (is_none down) ≡ 1
@@ -126,18 +127,18 @@ first_level_grows i d u ref down i' d' u' f = by_unified (is_some u) f
 
 -- what reaches memory
 reach_one : (memory : Memory) (written : Bool) →
-    reached (cond written (record memory { writes = memory.writes + 1 }) (record memory { reads = memory.reads + 1 })) ≡ reached memory + 1
+    memory_accesses (cond written (record memory { writes = memory.writes + 1 }) (record memory { reads = memory.reads + 1 })) ≡ memory_accesses memory + 1
 reach_one memory true = omega arith
 reach_one memory false = omega arith
 
-reach_all : (memory : Memory) (refs : List Ref) → reached (all_reach memory refs) ≡ reached memory + length refs
+reach_all : (memory : Memory) (refs : List Ref) → memory_accesses (all_reach memory refs) ≡ memory_accesses memory + length refs
 reach_all memory [] = omega arith
 reach_all memory (ref ∷ refs) = omega (arith, reach_one memory (is_write ref.access), reach_all (reaches memory ref) refs)
 
 -- so many references arrive below
 pub record LowerGrows (n : ℕ) (second : Option SystemCache) (memory : Memory) (next : Option SystemCache) (after : Memory) : Type 0 where
   pub cache : Grows n second next
-  pub memory_counts : reached after ≤ reached memory + 2 * n
+  pub memory_counts : memory_accesses after ≤ memory_accesses memory + 2 * n
 
 descends_grow : (ref : Ref) (second : Option SystemCache) (memory : Memory) (next : Option SystemCache) (after : Memory) →
     Descends ref second memory next after → LowerGrows 1 second memory next after

@@ -10,13 +10,13 @@ use Rattle.trace_core.specs.declared.events.Access.{Access}
 use Rattle.trace_core.specs.Events.{is_write, one_if}
 use Rattle.cache_core.specs.declared.outcome.Slot.{Slot}
 use Rattle.cache_core.specs.declared.outcome.Outcome.{Outcome}
-use Rattle.cache_core.specs.declared.outcome.Design.{Design}
-use Rattle.cache_core.specs.declared.outcome.WriteMode.{WriteMode}
-use Rattle.cache_core.specs.declared.outcome.WriteMode.TheVariants.{Back, Through}
-use Rattle.cache_core.specs.declared.outcome.Repl.{Repl}
+use Rattle.cache_core.specs.declared.design.Design.{Design}
+use Rattle.cache_core.specs.declared.design.WriteMode.{WriteMode}
+use Rattle.cache_core.specs.declared.design.WriteMode.TheVariants.{Back, Through}
+use Rattle.cache_core.specs.declared.design.Repl.{Repl}
 use Rattle.cache_core.specs.Geometry.{block_of}
 use Rattle.cache_core.specs.Outcomes.{dirties, allocates}
-use Rattle.cache_core.specs.Order.{Visits, VisitsAt, Hits, Fills, PassesOn, TakesIn, marked, position_of, dirty_in, is_dirty, dirty_slots}
+use Rattle.cache_core.specs.Order.{Visits, VisitsAt, Hits, Fills, PassesOn, TakesIn, with_dirty_at, position_of, dirty_in, is_dirty, dirty_slots}
 use Rattle.cache_core.specs.Order.{DirtiesByWrites}
 use Rattle.cache_core.specs.Slab.{IsCacheSlab, sets_of}
 use Rattle.cache_core.proofs.Slabs.{segment_slots, with_segment, IsWritten, set_read, sets_written, length-sets_of}
@@ -29,7 +29,7 @@ by_write Through a = omega arith
 dirty_cons : (x : Slot) (xs : List Slot) → dirty_in (x ∷ xs) ≡ one_if x.dirty + dirty_in xs
 dirty_cons x xs = sum_by-cons (λ (slot : Slot). cond slot.dirty 1 0) x xs
 
-dirty_marked : (d : Bool) (slots : List Slot) (at : ℕ) → at < length slots → dirty_in (marked d slots at) ≤ dirty_in slots + one_if d
+dirty_marked : (d : Bool) (slots : List Slot) (at : ℕ) → at < length slots → dirty_in (with_dirty_at d slots at) ≤ dirty_in slots + one_if d
 dirty_marked false slots at h = omega arith
 dirty_marked true slots at h =
     let none : Slot = record { block = 0; dirty = false } in
@@ -63,8 +63,9 @@ hit_dirty : (d : Design) (policy : Option Repl) (numbers rest : ℕ → ℕ) (re
 hit_dirty d policy numbers rest ref old outcome new at h v =
     let none : outcome.evicted ≡ None = ap (λ (o : Outcome). o.evicted) v.effect in
     let m = dirty_marked (dirties d.write ref.access) old at h in
-    let l : at < length (marked (dirties d.write ref.access) old at) = omega (arith, h, marked_length (dirties d.write ref.access) old at) in
-    let q = sum_by-IsPermutation (λ (s : Slot). cond s.dirty 1 0) (marked (dirties d.write ref.access) old at) new (lawful_touch policy _ at new l v.order) in
+    let l : at < length (with_dirty_at (dirties d.write ref.access) old at) = omega (arith, h, marked_length (dirties d.write ref.access) old at) in
+    let q = sum_by-IsPermutation (λ (s : Slot). cond s.dirty 1 0) (with_dirty_at (dirties d.write ref.access) old at) new
+    (lawful_touch policy _ at new l v.order) in
     rw none (omega (arith, m, q, by_write d.write ref.access))
 
 pub visit_dirty : (d : Design) (policy : Option Repl) (numbers rest : ℕ → ℕ) (ref : Ref) (old : List Slot) (outcome : Outcome) (new : List Slot) →

@@ -11,8 +11,8 @@ use Rattle.trace_core.specs.declared.events.Event.{Event}
 use Rattle.trace_core.specs.declared.events.Event.TheVariants as event
 use Rattle.trace_core.specs.Events.{is_write, one_if}
 use Rattle.cache_core.specs.declared.outcome.Slot.{Slot}
-use Rattle.cache_core.specs.declared.outcome.WriteMode.{WriteMode}
-use Rattle.cache_core.specs.declared.outcome.WriteMode.TheVariants.{Back, Through}
+use Rattle.cache_core.specs.declared.design.WriteMode.{WriteMode}
+use Rattle.cache_core.specs.declared.design.WriteMode.TheVariants.{Back, Through}
 use Rattle.cache_core.specs.Geometry.{GeometryValue, block_of, set_of, address_of}
 use Rattle.cache_core.specs.Outcomes.{dirties, allocates, writes_through, writes_back, block_load_access, on_placing}
 use Rattle.cache_core.specs.Machine.{Machine, MachineState, Line, option_slot, is_block, lines_of_set, exchange, least, lesser, victim, with_line_at}

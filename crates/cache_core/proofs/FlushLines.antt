@@ -13,7 +13,7 @@ use Rattle.cache_core.specs.declared.plan.CacheName.{CacheName}
 use Rattle.cache_core.specs.declared.plan.CacheName.TheVariants.{L1I, L1D, L1U, L2U}
 use Rattle.cache_core.specs.Machine.{run, dirty_count}
 use Rattle.cache_core.specs.Plans.{PlannedCaches}
-use Rattle.cache_core.specs.Systems.{machine_of, events_for, sent, below, flush_counts, flush_counts_if_planned}
+use Rattle.cache_core.specs.Systems.{machine_of, events_for, first_level_sends, below, flush_counts, flush_counts_if_planned}
 use Rattle.cache_core.specs.Arrivals.{flushes, arrivals_of}
 use Rattle.cache_core.specs.LogLaws.{planned_of, events_at, names_in, name_if_there, names_of, dirty_at}
 use Rattle.cache_core.specs.LogLaws.{FlushNamesLaw, FlushCountsLaw}
@@ -74,7 +74,7 @@ module _ (plan : PlannedCaches) (seed : ℕ) where
   counts_reference L1U earlier ref = flush_counts_taken seed L1U plan.u earlier ref
   counts_reference L2U earlier ref =
       ap (flush_counts_if_planned seed plan.second) (below_push plan seed earlier ref)
-      ∙ flush_counts_refs seed plan.second (below plan seed earlier) (sent plan seed earlier ref)
+      ∙ flush_counts_refs seed plan.second (below plan seed earlier) (first_level_sends plan seed earlier ref)
 
   counts_flush : (name : CacheName) (earlier : List Event) →
       counts name (earlier ++ event.Flush ∷ [])

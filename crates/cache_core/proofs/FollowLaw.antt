@@ -11,10 +11,10 @@ use Rattle.trace_core.specs.declared.events.Access.TheVariants.{Fetch, Read, Wri
 use Rattle.trace_core.specs.declared.events.Event.{Event}
 use Rattle.trace_core.specs.declared.events.Event.TheVariants as event
 use Rattle.cache_core.specs.declared.outcome.Slot.{Slot}
-use Rattle.cache_core.specs.declared.outcome.WriteMode.{WriteMode}
-use Rattle.cache_core.specs.declared.outcome.WriteMode.TheVariants.{Back, Through}
-use Rattle.cache_core.specs.declared.outcome.AllocMode.{AllocMode}
-use Rattle.cache_core.specs.declared.outcome.AllocMode.TheVariants.{Always, Never}
+use Rattle.cache_core.specs.declared.design.WriteMode.{WriteMode}
+use Rattle.cache_core.specs.declared.design.WriteMode.TheVariants.{Back, Through}
+use Rattle.cache_core.specs.declared.design.AllocMode.{AllocMode}
+use Rattle.cache_core.specs.declared.design.AllocMode.TheVariants.{Always, Never}
 use Rattle.cache_core.specs.declared.arrival.Arrival.{Arrival}
 use Rattle.cache_core.specs.declared.plan.PlannedCache.{PlannedCache}
 use Rattle.cache_core.specs.declared.plan.CacheName.{CacheName}
@@ -23,8 +23,8 @@ use Rattle.cache_core.specs.Geometry.{GeometryValue, block_of, address_of, set_o
 use Rattle.cache_core.specs.Outcomes.{allocates, writes_through, writes_back, block_load_access}
 use Rattle.cache_core.specs.Machine.{Machine, MachineState, Line, Step, option_slot, is_block, run, step, step_at, placing, passing, leaves}
 use Rattle.cache_core.specs.Plans.{PlannedCaches}
-use Rattle.cache_core.specs.Systems.{machine_of, events_for, sent, below}
-use Rattle.cache_core.specs.Arrivals.{victim_of, arrive_below, at_memory, passes, flushes, arrivals_of, arrivals_from}
+use Rattle.cache_core.specs.Systems.{machine_of, events_for, first_level_sends, below}
+use Rattle.cache_core.specs.Arrivals.{victim_of, all_arrivals_below, at_memory, passes, flushes, arrivals_of, arrivals_from}
 use Rattle.cache_core.specs.LogLaws.{victim_write, load, goes_on, goes_alone, must_send, sends_by_line, direct, indirect, Follow, FollowLaw}
 
 -- a line says what its reference sends
@@ -111,7 +111,7 @@ plan_with i d u second = record { i = i; d = d; u = u; second = second }
 
 lower_follows : (i d u second : Option PlannedCache) (seed : ℕ) (before : List Event) (refs : List Ref) (rest : List Arrival) →
     Follow (plan_with i d u second) [] [] rest →
-    Follow (plan_with i d u second) (direct second refs) (indirect second refs) (arrive_below seed second before refs ++ rest)
+    Follow (plan_with i d u second) (direct second refs) (indirect second refs) (all_arrivals_below seed second before refs ++ rest)
 lower_follows i d u None seed before [] rest f = f
 lower_follows i d u None seed before (ref ∷ refs) rest f = (refl, lower_follows i d u None seed (before ++ event.Reference ref ∷ []) refs rest f)
 lower_follows i d u (Some second) seed before [] rest f = f
@@ -119,7 +119,7 @@ lower_follows i d u (Some second) seed before (ref ∷ refs) rest f =
     let plan = plan_with i d u (Some second) in
     let down = passes seed (Some second) before ref in
     let more = before ++ event.Reference ref ∷ [] in
-    let later = arrive_below seed (Some second) more refs in
+    let later = all_arrivals_below seed (Some second) more refs in
     let next : Follow plan down refs (at_memory down ++ (later ++ rest)) =
     memory_follows plan down refs (later ++ rest) (lower_follows i d u (Some second) seed more refs rest f) in (
       refl,
@@ -144,13 +144,15 @@ module _ (seed : ℕ) (second : Option PlannedCache) (earlier : List Event) (add
       let here = events_for name earlier in
       let effect = (step (machine_of seed planned) (run (machine_of seed planned) here) ref).effect in
       let sends = sends_by_line (Some planned) ref effect.hit (option_map (victim_of planned.design.geometry) effect.evicted) in
-      sent plan seed earlier ref ≡ passes seed (Some planned) here ref →
-      Follow plan (direct second sends) (indirect second sends) (arrive_below seed second (below plan seed earlier) (sent plan seed earlier ref) ++ rest)
+      first_level_sends plan seed earlier ref ≡ passes seed (Some planned) here ref →
+      Follow plan (direct second sends) (indirect second sends)
+      (all_arrivals_below seed second (below plan seed earlier) (first_level_sends plan seed earlier ref) ++ rest)
   sent_follow i d u name planned access f e =
       let plan = plan_with i d u second in
       let ref : Ref = record { access = access; addr = addr } in
-      let down = sent plan seed earlier ref in
-      subst (λ (sends : List Ref). Follow plan (direct second sends) (indirect second sends) (arrive_below seed second (below plan seed earlier) down ++ rest))
+      let down = first_level_sends plan seed earlier ref in
+      subst (λ (sends : List Ref).
+      Follow plan (direct second sends) (indirect second sends) (all_arrivals_below seed second (below plan seed earlier) down ++ rest))
       (e ∙ sym (says_of seed planned (events_for name earlier) ref)) (lower_follows i d u second seed (below plan seed earlier) down rest f)
 
   reference_follows : (i d u : Option PlannedCache) → (is_some u && (is_some i || is_some d)) ≡ false → (access : Access) → Before i d u →

@@ -7,9 +7,9 @@ use Rattle.trace_core.specs.Events.{at}
 use Rattle.cache_core.specs.declared.arrival.Victim.{Victim}
 use Rattle.cache_core.specs.declared.arrival.Arrival.{Arrival}
 use Rattle.cache_core.specs.declared.arrival.Arrival.TheVariants.{Cache, Memory, Bypassed, Flush}
-use Rattle.cache_core.specs.declared.outcome.Repl.TheVariants.{Lru}
-use Rattle.cache_core.specs.declared.outcome.WriteMode.TheVariants.{Back}
-use Rattle.cache_core.specs.declared.outcome.AllocMode.TheVariants.{Always}
+use Rattle.cache_core.specs.declared.design.Repl.TheVariants.{Lru}
+use Rattle.cache_core.specs.declared.design.WriteMode.TheVariants.{Back}
+use Rattle.cache_core.specs.declared.design.AllocMode.TheVariants.{Always}
 use Rattle.cache_core.specs.declared.plan.PlannedCache.{PlannedCache}
 use Rattle.cache_core.specs.declared.plan.CacheName.TheVariants.{L1D, L1U, L2U}
 use Rattle.cache_core.specs.Plans.{PlannedCaches}

@@ -12,9 +12,9 @@ use Rattle.std.proofs.lemmas.Bool.Decides.{eqb_tells}
 use Rattle.std.proofs.lemmas.List.Edits.{length-remove}
 use Rattle.std.proofs.lemmas.Option.{get_or_from_slice_get, slice_get-get_or}
 use Rattle.cache_core.specs.declared.outcome.Slot.{Slot}
-use Rattle.cache_core.specs.declared.outcome.Repl.{Repl}
-use Rattle.cache_core.specs.declared.outcome.Repl.TheVariants.{Lru, Random}
-use Rattle.cache_core.specs.Order.{Moves, Touches, TakesIn, Inserts, Exchanges, with_slot_at, victim_at, marked}
+use Rattle.cache_core.specs.declared.design.Repl.{Repl}
+use Rattle.cache_core.specs.declared.design.Repl.TheVariants.{Lru, Random}
+use Rattle.cache_core.specs.Order.{Moves, Touches, TakesIn, Inserts, Exchanges, with_slot_at, victim_at, with_dirty_at}
 use Rattle.cache_core.specs.Rules.{Place, InFront, InPlace, Victim, Last, Drawn, rules}
 
 -- a prefix that ends at an index, turned right by one, brings the slot there to the front
@@ -67,7 +67,7 @@ new_in_front s n last new d r h some l e = rw whole (⊎_elim (λ t. full t.0 t.
         rw (f, at) (omega (arith, free, long), rw add-one (ap (λ z. new ∷ z) (take_at (take n s) (drop (suc n) s) n long)))
 
 -- a mark leaves as many slots
-pub marked_length : (b : Bool) (slots : List Slot) (at : ℕ) → length (marked b slots at) ≡ length slots
+pub marked_length : (b : Bool) (slots : List Slot) (at : ℕ) → length (with_dirty_at b slots at) ≡ length slots
 marked_length true slots at = length-set slots at _
 marked_length false slots at = refl
 

@@ -6,8 +6,8 @@ use Rattle.std.proofs.lemmas.Bool.{eq-eqb, eqb-true}
 use Rattle.std.proofs.lemmas.Bool.Decides.{eqb_tells}
 use Rattle.cache_core.specs.Geometry.{GeometryValue, set_of_block}
 use Rattle.cache_core.proofs.Lists.{cases, filter_comm, find-filter}
-use Rattle.cache_core.specs.declared.outcome.Repl.{Repl}
-use Rattle.cache_core.specs.declared.outcome.Repl.TheVariants.{Lru, Fifo, Random}
+use Rattle.cache_core.specs.declared.design.Repl.{Repl}
+use Rattle.cache_core.specs.declared.design.Repl.TheVariants.{Lru, Fifo, Random}
 use Rattle.cache_core.specs.Machine.{Line, is_block, lines_of_set, without, exchange, least, with_line_at, key_at}
 use Rattle.cache_core.specs.Rules.{Place, InFront, InPlace, rules}
 use Rattle.cache_core.specs.Stands.{Falls, CountsUp, InOrder, Absent, Distinct}

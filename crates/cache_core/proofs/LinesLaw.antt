@@ -14,8 +14,8 @@ use Rattle.cache_core.specs.declared.plan.CacheName.{CacheName}
 use Rattle.cache_core.specs.declared.plan.CacheName.TheVariants.{L1I, L1D, L1U, L2U}
 use Rattle.cache_core.specs.Machine.{run, step, with_effects}
 use Rattle.cache_core.specs.Plans.{PlannedCaches}
-use Rattle.cache_core.specs.Systems.{machine_of, takes, events_for, sent, below, is_taken}
-use Rattle.cache_core.specs.Arrivals.{arrives, arrives_first, arrive_below, at_memory, passes, lower_arrivals, arrivals_of, arrivals_from}
+use Rattle.cache_core.specs.Systems.{machine_of, takes, events_for, first_level_sends, below, is_taken}
+use Rattle.cache_core.specs.Arrivals.{arrives, arrives_first, all_arrivals_below, at_memory, passes, lower_arrivals, arrivals_of, arrivals_from}
 use Rattle.cache_core.specs.LogLaws.{is_same, planned_of, events_at, lines_at, access_line, access_lines, LinesLaw, GrowthLaw}
 use Rattle.cache_core.proofs.Pushes.{with_effects_push, with_effects_flush}
 use Rattle.cache_core.proofs.SystemPushes.{events_taken, events_left, events_flush, below_push, below_flush, with_refs, with_refs-cons, untaken_sent}
@@ -77,13 +77,13 @@ module _ (seed : ℕ) (name : CacheName) where
 -- the second level
 below_shown : (seed : ℕ) (second : Option PlannedCache) (before : List Event) (refs : List Ref) →
     access_lines seed L2U second (with_refs before refs)
-    ≡ access_lines seed L2U second before ++ flat_map (lines_at L2U) (arrive_below seed second before refs)
+    ≡ access_lines seed L2U second before ++ flat_map (lines_at L2U) (all_arrivals_below seed second before refs)
 below_shown seed second before [] = ap (access_lines seed L2U second) (append-nil before) ∙ sym (append-nil (access_lines seed L2U second before))
 below_shown seed second before (ref ∷ refs) =
     let more = before ++ event.Reference ref ∷ [] in
     let one = arrives seed L2U second before ref in
     let memory = at_memory (passes seed second before ref) in
-    let later = arrive_below seed second more refs in
+    let later = all_arrivals_below seed second more refs in
     let seen : flat_map (lines_at L2U) (one ++ memory) ≡ one =
     flat_map-append (lines_at L2U) one memory ∙ ap (λ lines. flat_map (lines_at L2U) one ++ lines)
     (quiet_memory (lines_at L2U) (λ r. refl) (passes seed second before ref))
@@ -101,7 +101,7 @@ module _ (plan : PlannedCaches) (seed : ℕ) where
   lower_shown earlier ref = ap (access_lines seed L2U plan.second) (below_push plan seed earlier ref) ∙ by_test (is_taken plan ref) refl
     where
       down : List Ref
-      down = sent plan seed earlier ref
+      down = first_level_sends plan seed earlier ref
 
       before : List Event
       before = below plan seed earlier
@@ -109,7 +109,7 @@ module _ (plan : PlannedCaches) (seed : ℕ) where
       by_test : (b : Bool) → is_taken plan ref ≡ b →
           access_lines seed L2U plan.second (with_refs before down)
           ≡ access_lines seed L2U plan.second before
-          ++ flat_map (lines_at L2U) (cond b (arrive_below seed plan.second before down) (Bypassed ref ∷ []))
+          ++ flat_map (lines_at L2U) (cond b (all_arrivals_below seed plan.second before down) (Bypassed ref ∷ []))
       by_test true t = below_shown seed plan.second before down
       by_test false t = cc (untaken_sent plan seed earlier ref t, append-nil before, append-nil (access_lines seed L2U plan.second before))
 

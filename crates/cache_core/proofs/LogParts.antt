@@ -15,8 +15,8 @@ use Rattle.cache_core.specs.declared.plan.CacheName.{CacheName}
 use Rattle.cache_core.specs.declared.plan.CacheName.TheVariants.{L1I, L1D, L1U, L2U}
 use Rattle.cache_core.specs.LogLaws.{is_same, planned_of, events_at}
 use Rattle.cache_core.specs.Plans.{PlannedCaches}
-use Rattle.cache_core.specs.Systems.{takes, events_for, sent, below, is_taken}
-use Rattle.cache_core.specs.Arrivals.{arrives, arrives_first, arrives_below, arrive_below, at_memory, passes, flushes}
+use Rattle.cache_core.specs.Systems.{takes, events_for, first_level_sends, below, is_taken}
+use Rattle.cache_core.specs.Arrivals.{arrives, arrives_first, arrivals_below, all_arrivals_below, at_memory, passes, flushes}
 use Rattle.cache_core.specs.Arrivals.{lower_arrivals, arrivals_of, arrivals_from, arrivals}
 
 -- of four lists all but one are empty
@@ -65,10 +65,10 @@ module _ {X : Type 0} (p : Arrival → List X) where
   quiet_memory q (ref ∷ refs) = ap (λ xs. xs ++ flat_map p (at_memory refs)) (q ref) ∙ quiet_memory q refs
 
   pub quiet_below : (seed : ℕ) (second : Option PlannedCache) → QuietAt L2U → QuietAtMemory → (before : List Event) (refs : List Ref) →
-      flat_map p (arrive_below seed second before refs) ≡ []
+      flat_map p (all_arrivals_below seed second before refs) ≡ []
   quiet_below seed second q m before [] = refl
   quiet_below seed second q m before (ref ∷ refs) =
-      none_then (arrives_below seed second before ref) (arrive_below seed second (before ++ event.Reference ref ∷ []) refs)
+      none_then (arrivals_below seed second before ref) (all_arrivals_below seed second (before ++ event.Reference ref ∷ []) refs)
       (none_then (arrives seed L2U second before ref) (at_memory (passes seed second before ref)) (quiet_arrives seed L2U second before ref q)
       ∙ quiet_memory m (passes seed second before ref))
       ∙ quiet_below seed second q m (before ++ event.Reference ref ∷ []) refs
@@ -117,8 +117,8 @@ module _ {X : Type 0} (p : Arrival → List X) where
   quiet_lower plan seed earlier ref q m n = by_test (is_taken plan ref)
     where
       by_test : (b : Bool) →
-          flat_map p (cond b (arrive_below seed plan.second (below plan seed earlier) (sent plan seed earlier ref)) (Bypassed ref ∷ [])) ≡ []
-      by_test true = quiet_below seed plan.second q m (below plan seed earlier) (sent plan seed earlier ref)
+          flat_map p (cond b (all_arrivals_below seed plan.second (below plan seed earlier) (first_level_sends plan seed earlier ref)) (Bypassed ref ∷ [])) ≡ []
+      by_test true = quiet_below seed plan.second q m (below plan seed earlier) (first_level_sends plan seed earlier ref)
       by_test false = ap (λ xs. xs ++ []) n
 
   -- what is picked from the lines of no cache but one, nor of memory, nor of what is bypassed

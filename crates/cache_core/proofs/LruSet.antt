@@ -12,13 +12,13 @@ use Rattle.std.proofs.lemmas.List.Sums.{prefix_len-le-length}
 use Rattle.trace_core.specs.declared.events.Ref.{Ref}
 use Rattle.cache_core.specs.declared.outcome.Slot.{Slot}
 use Rattle.cache_core.specs.declared.outcome.Outcome.{Outcome}
-use Rattle.cache_core.specs.declared.outcome.WriteMode.{WriteMode}
-use Rattle.cache_core.specs.declared.outcome.AllocMode.TheVariants.{Always}
-use Rattle.cache_core.specs.declared.outcome.Repl.TheVariants.{Lru}
+use Rattle.cache_core.specs.declared.design.WriteMode.{WriteMode}
+use Rattle.cache_core.specs.declared.design.AllocMode.TheVariants.{Always}
+use Rattle.cache_core.specs.declared.design.Repl.TheVariants.{Lru}
 use Rattle.cache_core.specs.Geometry.{GeometryValue, block_of, set_of_block}
 use Rattle.cache_core.specs.Outcomes.{dirties}
-use Rattle.cache_core.specs.Order.{Visits, VisitsAt, Touches, TakesIn, marked, position_of}
-use Rattle.cache_core.specs.Windows.{Occurrence, distinct_of_set, distance, seen, is_hit, is_evict}
+use Rattle.cache_core.specs.Order.{Visits, VisitsAt, Touches, TakesIn, with_dirty_at, position_of}
+use Rattle.cache_core.specs.Windows.{Occurrence, distinct_of_set, distance, blocks_seen, is_hit, is_evict}
 use Rattle.cache_core.proofs.Lists.{is, other, IsOnce-take, remove_is, filter_all, list_any_is, position_or_len-take}
 use Rattle.cache_core.proofs.Distances.{IsOnce-distinct_of_set, distance_is, has_last_is, take-distinct_of_set-same}
 
@@ -65,7 +65,7 @@ blocks_set [] (suc n) none = refl
 blocks_set (l ∷ ls) zero none = refl
 blocks_set (l ∷ ls) (suc n) none = ap (λ xs. l.block ∷ xs) (blocks_set ls n none)
 
-blocks_marked : (d : Bool) (slots : List Slot) (at : ℕ) → blocks_of (marked d slots at) ≡ blocks_of slots
+blocks_marked : (d : Bool) (slots : List Slot) (at : ℕ) → blocks_of (with_dirty_at d slots at) ≡ blocks_of slots
 blocks_marked false slots at = refl
 blocks_marked true slots at = blocks_set slots at (record { block = 0; dirty = false })
 
@@ -99,8 +99,8 @@ is_hit_is g p =
     ∙ sym (list_any_is (is p.block) (front g p))
 
 -- an eviction, by the number of different blocks
-evict_is : (g : GeometryValue) (p : Occurrence) (hit : Bool) → is_hit g p ≡ hit → is_evict g p ≡ (not hit && leb g.e (seen g p))
-evict_is g p hit e = ap (λ t. not t && leb g.e (seen g p)) e
+evict_is : (g : GeometryValue) (p : Occurrence) (hit : Bool) → is_hit g p ≡ hit → is_evict g p ≡ (not hit && leb g.e (blocks_seen g p))
+evict_is g p hit e = ap (λ t. not t && leb g.e (blocks_seen g p)) e
 
 -- what a visit by a reference leads to
 pub record Moves (g : GeometryValue) (p : Occurrence) (outcome : Outcome) (new : List Slot) : Type 0 where
@@ -141,16 +141,16 @@ module _ (g : GeometryValue) (p : Occurrence) (some : 1 ≤ g.e) where
 
   -- a block that is held comes to the front
   hit_moves : (d : Bool) (old new : List Slot) (at : ℕ) → blocks_of old ≡ front g p → FoundAt p.block old at →
-      Touches (Some Lru) (marked d old at) at new →
+      Touches (Some Lru) (with_dirty_at d old at) at new →
       blocks_of new ≡ front_after g p
   hit_moves d old new at h f t =
-      let kept : blocks_of (marked d old at) ≡ front g p = blocks_marked d old at ∙ h in
+      let kept : blocks_of (with_dirty_at d old at) ≡ front g p = blocks_marked d old at ∙ h in
       let there : list_any (is p.block) (front g p) ≡ true = ap (list_any (is p.block)) (sym h) ∙ f.there in
       let at_is : at ≡ index = f.index ∙ ap (position_or_len (is p.block)) h in
-      let first = touched_block (marked d old at) t.0 kept there (ap (slice_get (marked d old at)) (sym at_is) ∙ t.1) in
-      let rest : blocks_of (remove (marked d old at) at) ≡ remove (front g p) index =
-      blocks_remove (marked d old at) at ∙ ap (λ xs. remove xs at) kept ∙ ap (remove (front g p)) at_is in
-      ap blocks_of t.2 ∙ ap (λ x. x ∷ blocks_of (remove (marked d old at) at)) first ∙ ap (λ xs. p.block ∷ xs) rest ∙ front_moved there
+      let first = touched_block (with_dirty_at d old at) t.0 kept there (ap (slice_get (with_dirty_at d old at)) (sym at_is) ∙ t.1) in
+      let rest : blocks_of (remove (with_dirty_at d old at) at) ≡ remove (front g p) index =
+      blocks_remove (with_dirty_at d old at) at ∙ ap (λ xs. remove xs at) kept ∙ ap (remove (front g p)) at_is in
+      ap blocks_of t.2 ∙ ap (λ x. x ∷ blocks_of (remove (with_dirty_at d old at) at)) first ∙ ap (λ xs. p.block ∷ xs) rest ∙ front_moved there
 
   -- the front after a block that it doesn't hold
   miss_front : list_any (is p.block) (front g p) ≡ false → take g.e (p.block ∷ front g p) ≡ front_after g p

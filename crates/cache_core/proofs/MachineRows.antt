@@ -7,16 +7,16 @@ use Rattle.trace_core.specs.declared.events.Event.{Event}
 use Rattle.trace_core.specs.declared.events.Event.TheVariants as event
 use Rattle.trace_core.specs.Events.{at}
 use Rattle.cache_core.specs.declared.outcome.Slot.{Slot}
-use Rattle.cache_core.specs.declared.outcome.Repl.{Repl}
-use Rattle.cache_core.specs.declared.outcome.Repl.TheVariants.{Lru, Fifo, Random}
-use Rattle.cache_core.specs.declared.outcome.WriteMode.{WriteMode}
-use Rattle.cache_core.specs.declared.outcome.WriteMode.TheVariants.{Back, Through}
-use Rattle.cache_core.specs.declared.outcome.AllocMode.{AllocMode}
-use Rattle.cache_core.specs.declared.outcome.AllocMode.TheVariants.{Always, Never}
+use Rattle.cache_core.specs.declared.design.Repl.{Repl}
+use Rattle.cache_core.specs.declared.design.Repl.TheVariants.{Lru, Fifo, Random}
+use Rattle.cache_core.specs.declared.design.WriteMode.{WriteMode}
+use Rattle.cache_core.specs.declared.design.WriteMode.TheVariants.{Back, Through}
+use Rattle.cache_core.specs.declared.design.AllocMode.{AllocMode}
+use Rattle.cache_core.specs.declared.design.AllocMode.TheVariants.{Always, Never}
 use Rattle.cache_core.specs.Outcomes.{Effect}
 use Rattle.cache_core.specs.Machine.{Machine, step, effects, run, dirty_count}
 use Rattle.rand_pcg.specs.Lcg.{state_after}
-use Rattle.cache_core.specs.RandomNumbers.{random_number, seeded}
+use Rattle.cache_core.specs.RandomNumbers.{random_number, generator_of}
 use Rattle.cache_core.proofs.WindowRows.{twelve}
 
 -- one set of so many lines of 16 bytes, with the random numbers of seed 42
@@ -24,7 +24,7 @@ abbrev machine : Repl → ℕ → WriteMode → AllocMode → Machine
 machine policy ways write alloc = record {
   design = record { geometry = record { s = 0; e = ways; b = 4 }; write = write; allocate = alloc };
   policy = policy;
-  random_numbers = random_number (seeded 42);
+  random_numbers = random_number (generator_of 42);
 }
 
 abbrev pub read : ℕ → Event
@@ -66,7 +66,7 @@ unfolding state_after
 six_by_random = refl
 
 -- the first random numbers of the generator (the PCG32 demonstration of O'Neill 2014)
-first_numbers : map (random_number (seeded 42)) (0 ∷ 1 ∷ 2 ∷ 3 ∷ []) ≡ 0xa15c02b7 ∷ 0x7b47f409 ∷ 0xba1d3330 ∷ 0x83d2f293 ∷ []
+first_numbers : map (random_number (generator_of 42)) (0 ∷ 1 ∷ 2 ∷ 3 ∷ []) ≡ 0xa15c02b7 ∷ 0x7b47f409 ∷ 0xba1d3330 ∷ 0x83d2f293 ∷ []
 unfolding state_after
 first_numbers = refl
 

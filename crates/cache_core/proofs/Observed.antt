@@ -16,12 +16,12 @@ use Rattle.cache_core.specs.declared.plan.CacheName.{CacheName}
 use Rattle.cache_core.specs.declared.plan.CacheName.TheVariants.{L1I, L1D, L1U, L2U}
 use Rattle.cache_core.specs.declared.system_cache.SystemCache.{SystemCache}
 use Rattle.cache_core.specs.declared.system.Memory.{Memory as SystemMemory}
-use Rattle.cache_core.specs.Arrivals.{arrival_at, arrives, arrives_first, arrive_below, at_memory, first_arrivals, lower_arrivals, passes, flushes, Saw}
+use Rattle.cache_core.specs.Arrivals.{arrival_at, arrives, arrives_first, all_arrivals_below, at_memory, first_arrivals, lower_arrivals, passes, flushes, Saw}
 use Rattle.cache_core.specs.CacheSteps.{Enters, Empties, system_cache_contents}
 use Rattle.cache_core.specs.Machine.{run, step}
 use Rattle.cache_core.specs.Plans.{IsPlan, IsPlannedCache, PlannedCaches}
 use Rattle.cache_core.specs.Stands.{CacheStandsFor}
-use Rattle.cache_core.specs.Systems.{machine_of, events_for, takes, is_taken, below, sent}
+use Rattle.cache_core.specs.Systems.{machine_of, events_for, takes, is_taken, below, first_level_sends}
 use Rattle.cache_core.specs.SystemStands.{PlannedCacheStandsFor}
 use Rattle.cache_core.specs.SystemSteps.{present_refs, Descends}
 use Rattle.cache_core.proofs.DownLaw.{down_law}
@@ -165,10 +165,10 @@ module _ (plan : PlannedCaches) (seed : ℕ) (events : List Event) (ref : Ref) (
 -- what is seen below the first level, where a cache of it takes the reference and where none does
 module _ (plan : PlannedCaches) (seed : ℕ) (events : List Event) (ref : Ref) where
   abbrev lower : Bool → List Arrival
-  lower taken = cond taken (arrive_below seed plan.second (below plan seed events) (sent plan seed events ref)) (Bypassed ref ∷ [])
+  lower taken = cond taken (all_arrivals_below seed plan.second (below plan seed events) (first_level_sends plan seed events ref)) (Bypassed ref ∷ [])
 
-  pub seen_below : (refs : List Ref) → refs ≡ sent plan seed events ref → false ≡ not (is_taken plan ref) →
-      arrive_below seed plan.second (below plan seed events) refs ≡ lower_arrivals plan seed events ref
+  pub seen_below : (refs : List Ref) → refs ≡ first_level_sends plan seed events ref → false ≡ not (is_taken plan ref) →
+      all_arrivals_below seed plan.second (below plan seed events) refs ≡ lower_arrivals plan seed events ref
   seen_below refs e t = cc (e, by_test (is_taken plan ref) t)
     where
       by_test : (b : Bool) → false ≡ not b → lower true ≡ lower b

@@ -1,9 +1,9 @@
 -- Worked plans, computed.
 use Rattle.std.proofs.Common.{ℕ, ◌≡◌, ◌^◌, refl, Some, None}
 use Rattle.std.specs.Prelude.{Err, Ok}
-use Rattle.cache_core.specs.declared.outcome.WriteMode.TheVariants.{Back}
-use Rattle.cache_core.specs.declared.outcome.AllocMode.TheVariants.{Always}
-use Rattle.cache_core.specs.declared.outcome.Repl.TheVariants.{Lru}
+use Rattle.cache_core.specs.declared.design.WriteMode.TheVariants.{Back}
+use Rattle.cache_core.specs.declared.design.AllocMode.TheVariants.{Always}
+use Rattle.cache_core.specs.declared.design.Repl.TheVariants.{Lru}
 use Rattle.cache_core.specs.declared.plan.CacheSpec.{CacheSpec}
 use Rattle.cache_core.specs.declared.plan.PlannedCache.{PlannedCache}
 use Rattle.cache_core.specs.declared.plan.FirstLevel.{FirstLevel}

@@ -6,10 +6,10 @@ use Rattle.std.specs.List.{position_or_len}
 use Rattle.std.proofs.lemmas.List.{append-nil, length-append, map-append, length-map, set_at, get_or_at}
 use Rattle.std.proofs.lemmas.Bool.{eq-eqb, le-ltb, lt-ltb}
 use Rattle.cache_core.specs.declared.outcome.Slot.{Slot}
-use Rattle.cache_core.specs.declared.outcome.Repl.{Repl}
-use Rattle.cache_core.specs.declared.outcome.Repl.TheVariants.{Lru, Fifo, Random}
+use Rattle.cache_core.specs.declared.design.Repl.{Repl}
+use Rattle.cache_core.specs.declared.design.Repl.TheVariants.{Lru, Fifo, Random}
 use Rattle.cache_core.specs.Machine.{Line, slot_of, is_block, least, victim, with_line_at, with_touch, with_block, key_at}
-use Rattle.cache_core.specs.Order.{Moves, Touches, Inserts, Exchanges, with_slot_at, victim_at, marked, position_of}
+use Rattle.cache_core.specs.Order.{Moves, Touches, Inserts, Exchanges, with_slot_at, victim_at, with_dirty_at, position_of}
 use Rattle.cache_core.specs.Rules.{Place, InFront, InPlace, Last, rules}
 use Rattle.cache_core.specs.Stands.{Falls, InOrder, Absent, IsGood}
 use Rattle.cache_core.proofs.Lawful.{remove_split}
@@ -69,7 +69,7 @@ abbrev pub with_mark : Bool → Line → Line
 with_mark d line = record line { dirty = d || line.dirty }
 
 marked_split : (d : Bool) (xs : List Line) (x : Line) (ys : List Line) →
-    marked d (map slot_of (xs ++ x ∷ ys)) (length xs) ≡ map slot_of (xs ++ with_mark d x ∷ ys)
+    with_dirty_at d (map slot_of (xs ++ x ∷ ys)) (length xs) ≡ map slot_of (xs ++ with_mark d x ∷ ys)
 marked_split false xs x ys = refl
 marked_split true xs x ys =
     let none : Slot = record { block = 0; dirty = false } in
@@ -95,7 +95,7 @@ moved InPlace y z xs ys new e t = cc (t, map_around InPlace y xs ys, e, map_arou
 pub record Touched (policy : Repl) (clock : ℕ) (b : ℕ) (line : Line) (d : Bool) (ls : List Line) : Type 0 where
   pub at : ℕ
   pub index : position_of b (map slot_of ls) ≡ Some at
-  pub slots : (new : List Slot) → Touches (Some policy) (marked d (map slot_of ls) at) at new →
+  pub slots : (new : List Slot) → Touches (Some policy) (with_dirty_at d (map slot_of ls) at) at new →
       new ≡ map slot_of (with_touch policy (clock + 1) (with_mark d line) ls)
   pub good : IsGood (rules policy).placed (clock + 1) (with_touch policy (clock + 1) (with_mark d line) ls)
 

@@ -7,7 +7,7 @@ use Rattle.trace_core.specs.declared.events.Event.{Event}
 use Rattle.trace_core.specs.declared.events.Event.TheVariants as event
 use Rattle.cache_core.specs.declared.outcome.Counts.{Counts}
 use Rattle.cache_core.specs.declared.outcome.Outcome.{Outcome}
-use Rattle.cache_core.specs.declared.outcome.WriteMode.TheVariants.{Back}
+use Rattle.cache_core.specs.declared.design.WriteMode.TheVariants.{Back}
 use Rattle.cache_core.specs.declared.simulation.Lookup.{Lookup}
 use Rattle.cache_core.specs.declared.simulation.Lookup.TheVariants.{Hit, Miss, MissEviction}
 use Rattle.cache_core.specs.declared.simulation.Simulation.{Simulation}
@@ -17,7 +17,7 @@ use Rattle.cache_core.specs.Order.{Accesses, FlushesCache}
 use Rattle.cache_core.specs.declared.replacement.Lru.{Lru as LruPolicy}
 use Rattle.cache_core.specs.Slab.{CacheValue}
 use Rattle.cache_core.specs.Simulation.{lookup_at, lookup_of, counts_with, SimulationCountsWithin, SimulationStandsFor}
-use Rattle.cache_core.specs.Windows.{Occurrence, is_hit, is_evict, seen, counts, occurrences_after}
+use Rattle.cache_core.specs.Windows.{Occurrence, is_hit, is_evict, blocks_seen, counts, occurrences_after}
 use Rattle.cache_core.proofs.Occurrences.{sum_by-reference, occurrences-flush}
 use Rattle.cache_core.proofs.Counters.{one_most}
 use Rattle.cache_core.proofs.RunLaw.{access_run, flush_run}
@@ -45,7 +45,7 @@ counts-reference g events r =
     let hits = sum_by-reference (λ q. cond (is_hit g q) 1 0) g events r in
     let misses = sum_by-reference (λ q. cond (not (is_hit g q)) 1 0) g events r in
     let evictions = sum_by-reference (λ q. cond (is_evict g q) 1 0) g events r in
-    cc (hits, misses, evictions, with_lookup (counts g events) (is_hit g p) (nat_le g.e (seen g p)))
+    cc (hits, misses, evictions, with_lookup (counts g events) (is_hit g p) (nat_le g.e (blocks_seen g p)))
 
 -- one more reference
 pub simulates_more : (g : GeometryValue) (events : List Event) (old new : Simulation) (r : Ref) (o : Outcome)

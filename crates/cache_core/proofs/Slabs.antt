@@ -9,9 +9,9 @@ use Rattle.std.proofs.Math.Nat.{suc-mul, zero-mul, mul-le-mul_left}
 use borrow.Rule.Slice.PartMut.{put_mid}
 use Rattle.cache_core.specs.declared.outcome.Slot.{Slot}
 use Rattle.trace_core.specs.declared.events.Ref.{Ref}
-use Rattle.cache_core.specs.declared.outcome.Design.{Design}
+use Rattle.cache_core.specs.declared.design.Design.{Design}
 use Rattle.cache_core.specs.declared.outcome.Outcome.{Outcome}
-use Rattle.cache_core.specs.declared.outcome.Repl.{Repl}
+use Rattle.cache_core.specs.declared.design.Repl.{Repl}
 use Rattle.cache_core.specs.Geometry.{set_of, IsGeometry}
 use Rattle.cache_core.specs.Order.{Visits, Accesses, slots_of}
 use Rattle.cache_core.specs.Slab.{sets_of, IsCacheSlab, Addressable, slab_contents}

@@ -21,7 +21,7 @@ use Rattle.cache_core.specs.Outcomes.{Effect}
 use Rattle.cache_core.specs.Machine.{Machine, MachineState, start, run, next, step, with_effects, dirty_count}
 use Rattle.cache_core.specs.Plans.{PlannedCaches}
 use Rattle.cache_core.specs.CacheStats.{stats_from, count_access, count_flush}
-use Rattle.cache_core.specs.Systems.{machine_of, takes, takes_event, events_for, sends, sent, below_from, below, to_memory, is_taken}
+use Rattle.cache_core.specs.Systems.{machine_of, takes, takes_event, events_for, sends, first_level_sends, below_from, below, to_memory, is_taken}
 use Rattle.cache_core.specs.Systems.{flush_counts_from, flush_counts, flush_counts_if_planned, cache_stats}
 use Rattle.cache_core.specs.Arrivals.{passes}
 use Rattle.cache_core.proofs.Pushes.{with_effects_push, with_effects_flush}
@@ -149,20 +149,22 @@ references_flush (event.Flush ∷ events) = references_flush events
 -- what is sent down from the first level
 below_push_from : (plan : PlannedCaches) (seed : ℕ) (earlier events : List Event) (ref : Ref) →
     below_from plan seed earlier (events ++ event.Reference ref ∷ [])
-    ≡ below_from plan seed earlier events ++ map (λ x. event.Reference x) (sent plan seed (earlier ++ events) ref)
-below_push_from plan seed earlier [] ref = cc (append-nil (map (λ x. event.Reference x) (sent plan seed earlier ref)), append-nil earlier)
+    ≡ below_from plan seed earlier events ++ map (λ x. event.Reference x) (first_level_sends plan seed (earlier ++ events) ref)
+below_push_from plan seed earlier [] ref = cc (append-nil (map (λ x. event.Reference x) (first_level_sends plan seed earlier ref)), append-nil earlier)
 below_push_from plan seed earlier (event.Reference r ∷ events) ref =
-    ap (λ es. map (λ x. event.Reference x) (sent plan seed earlier r) ++ es) (below_push_from plan seed (earlier ++ event.Reference r ∷ []) events ref)
-    ∙ sym (append_assoc (map (λ x. event.Reference x) (sent plan seed earlier r)) (below_from plan seed (earlier ++ event.Reference r ∷ []) events) _)
+    ap (λ es. map (λ x. event.Reference x) (first_level_sends plan seed earlier r) ++ es)
+    (below_push_from plan seed (earlier ++ event.Reference r ∷ []) events ref)
+    ∙ sym (append_assoc (map (λ x. event.Reference x) (first_level_sends plan seed earlier r))
+    (below_from plan seed (earlier ++ event.Reference r ∷ []) events) _)
     ∙ ap
-    (λ es. map (λ x. event.Reference x) (sent plan seed earlier r) ++ below_from plan seed (earlier ++ event.Reference r ∷ []) events
-    ++ map (λ x. event.Reference x) (sent plan seed es ref))
+    (λ es. map (λ x. event.Reference x) (first_level_sends plan seed earlier r) ++ below_from plan seed (earlier ++ event.Reference r ∷ []) events
+    ++ map (λ x. event.Reference x) (first_level_sends plan seed es ref))
     (append_assoc earlier (event.Reference r ∷ []) events)
 below_push_from plan seed earlier (event.Flush ∷ events) ref =
     cc (below_push_from plan seed (earlier ++ event.Flush ∷ []) events ref, append_assoc earlier (event.Flush ∷ []) events)
 
 pub below_push : (plan : PlannedCaches) (seed : ℕ) (events : List Event) (ref : Ref) →
-    below plan seed (events ++ event.Reference ref ∷ []) ≡ below plan seed events ++ map (λ x. event.Reference x) (sent plan seed events ref)
+    below plan seed (events ++ event.Reference ref ∷ []) ≡ below plan seed events ++ map (λ x. event.Reference x) (first_level_sends plan seed events ref)
 below_push plan seed events ref = below_push_from plan seed [] events ref
 
 below_flush_from : (plan : PlannedCaches) (seed : ℕ) (earlier events : List Event) →
@@ -171,7 +173,7 @@ below_flush_from plan seed earlier [] = refl
 below_flush_from plan seed earlier (event.Reference r ∷ events) =
     cc (
       below_flush_from plan seed (earlier ++ event.Reference r ∷ []) events,
-      append_assoc (map (λ x. event.Reference x) (sent plan seed earlier r)) (below_from plan seed (earlier ++ event.Reference r ∷ []) events)
+      append_assoc (map (λ x. event.Reference x) (first_level_sends plan seed earlier r)) (below_from plan seed (earlier ++ event.Reference r ∷ []) events)
           (event.Flush ∷ []),
     )
 below_flush_from plan seed earlier (event.Flush ∷ events) = ap (λ es. event.Flush ∷ es) (below_flush_from plan seed (earlier ++ event.Flush ∷ []) events)
@@ -206,7 +208,7 @@ none_sent seed name None events ref u = refl
 none_sent seed name (Some planned) events ref u =
     ap (λ b. cond b (step (machine_of seed planned) (run (machine_of seed planned) (events_for name events)) ref).effect.down []) u
 
-pub untaken_sent : (plan : PlannedCaches) (seed : ℕ) (events : List Event) (ref : Ref) → is_taken plan ref ≡ false → sent plan seed events ref ≡ []
+pub untaken_sent : (plan : PlannedCaches) (seed : ℕ) (events : List Event) (ref : Ref) → is_taken plan ref ≡ false → first_level_sends plan seed events ref ≡ []
 untaken_sent plan seed events ref e =
     let (ui, d) = or_parts (is_some plan.u || (is_some plan.i && takes L1I ref)) (is_some plan.d && takes L1D ref) e in
     let (u, i) = or_parts (is_some plan.u) (is_some plan.i && takes L1I ref) ui in

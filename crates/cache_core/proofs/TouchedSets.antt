@@ -7,7 +7,7 @@ use Rattle.std.specs.List.{list_any}
 use Rattle.std.proofs.lemmas.Bool.{cases_eq, ne_eqb}
 use Rattle.std.proofs.lemmas.List.Elements.{All-nil, All-cons, All-tail, All-append}
 use Rattle.std.proofs.lemmas.List.Folds.{list_any-append}
-use Rattle.cache_core.specs.Touched.{TouchedValue, Covers, ListsFilled, after_count, joined}
+use Rattle.cache_core.specs.Touched.{TouchedValue, Covers, ListsFilled, after_count, with_set}
 use Rattle.cache_core.proofs.Lists.{cases}
 
 all_zero : (counts : List ℕ) → ((k : ℕ) → get_or counts k 0 ≡ 0) → counts ≡ replicate (length counts) 0
@@ -72,7 +72,7 @@ last_listed : (sets : List ℕ) (k n : ℕ) → list_any (λ other. eqb other k)
 last_listed sets k n unlisted = grind (arith, list_any-append (λ other. eqb other k) sets (k ∷ []), unlisted)
 
 covers_joined : (capacity k n : ℕ) (listed : Option (List ℕ)) (counts : List ℕ) → k < length counts →
-    IfSome listed (λ sets. ListsFilled sets counts) → IfSome (joined capacity k listed) (λ sets. ListsFilled sets (set counts k n))
+    IfSome listed (λ sets. ListsFilled sets counts) → IfSome (with_set capacity k listed) (λ sets. ListsFilled sets (set counts k n))
 covers_joined capacity k n None counts lt l = tt
 covers_joined capacity k n (Some sets) counts lt l =
     cases (λ b. IfSome (cond b (Some (sets ++ k ∷ [])) None) (λ xs. ListsFilled xs (set counts k n))) (ltb (length sets) capacity)
@@ -92,7 +92,7 @@ not_grown before after h e = grind (arith, h, e)
 pub covers_change : (touched : TouchedValue) (counts : List ℕ) (k before after : ℕ) → k < length counts → before ≡ get_or counts k 0 →
     Covers touched counts → Covers (after_count k before after touched) (set counts k after)
 covers_change touched counts k before after lt is l =
-    cases (λ b. Covers (cond b (record touched { listed = joined touched.capacity k touched.listed }) touched) (set counts k after))
+    cases (λ b. Covers (cond b (record touched { listed = with_set touched.capacity k touched.listed }) touched) (set counts k after))
     (eqb before 0 && not (eqb after 0))
     (λ _. covers_joined touched.capacity k after touched.listed counts lt l)
     (λ h. covers_kept k after touched.listed counts lt (λ e. not_grown before after h (is ∙ e)) l)

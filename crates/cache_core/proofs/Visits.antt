@@ -3,7 +3,7 @@ use Rattle.std.proofs.Common.{◌≡◌, ◌≢◌, ℕ, ◌∙◌, ap, sym, sub
 use Rattle.std.proofs.lemmas.Bool.Decides.{eqb_tells}
 use Rattle.trace_core.specs.declared.events.Ref.{Ref}
 use Rattle.cache_core.specs.declared.outcome.Outcome.{Outcome}
-use Rattle.cache_core.specs.declared.outcome.Design.{Design}
+use Rattle.cache_core.specs.declared.design.Design.{Design}
 use Rattle.cache_core.specs.Geometry.{set_of}
 use Rattle.cache_core.specs.Machine.{Machine}
 use Rattle.cache_core.specs.Order.{Contents, Accesses, Visits, slots_of}

@@ -4,9 +4,9 @@ use Rattle.trace_core.specs.declared.events.Access.TheVariants.{Read}
 use Rattle.trace_core.specs.declared.events.Event.{Event}
 use Rattle.trace_core.specs.declared.events.Event.TheVariants as event
 use Rattle.cache_core.specs.declared.outcome.Counts.{Counts}
-use Rattle.cache_core.specs.declared.outcome.WriteMode.TheVariants.{Back}
+use Rattle.cache_core.specs.declared.design.WriteMode.TheVariants.{Back}
 use Rattle.cache_core.specs.Geometry.{GeometryValue, geometry_value}
-use Rattle.cache_core.specs.Windows.{window, occurrences, occurrences_after, distinct, distinct_of_set, has_last, distance, seen, counts, probes, held}
+use Rattle.cache_core.specs.Windows.{window, occurrences, occurrences_after, distinct, distinct_of_set, has_last, distance, blocks_seen, counts, probes, held}
 use Rattle.cache_core.specs.Machine.{effects, counts_in}
 use Rattle.cache_core.specs.LruLaws.{lru_machine}
 
@@ -33,7 +33,7 @@ nine_distances : map (λ p. cond (has_last p) (Some (distance (sets_of_lines 0 1
 unfolding window occurrences_after distinct distinct_of_set
 nine_distances = refl
 
-nine_seen : map (seen (sets_of_lines 0 1)) (occurrences (sets_of_lines 0 1) nine) ≡ 0 ∷ 1 ∷ 2 ∷ 2 ∷ 2 ∷ 2 ∷ 3 ∷ 4 ∷ 4 ∷ []
+nine_seen : map (blocks_seen (sets_of_lines 0 1)) (occurrences (sets_of_lines 0 1) nine) ≡ 0 ∷ 1 ∷ 2 ∷ 2 ∷ 2 ∷ 2 ∷ 3 ∷ 4 ∷ 4 ∷ []
 unfolding window occurrences_after distinct distinct_of_set
 nine_seen = refl
 

@@ -4,9 +4,9 @@ use Rattle.std.specs.Prelude.{replicate, Contains, IsPermutation}
 use Rattle.trace_core.specs.declared.events.Ref.{Ref}
 use Rattle.trace_core.specs.declared.events.Event.TheVariants as event
 use Rattle.cache_core.specs.declared.outcome.Slot.{Slot}
-use Rattle.cache_core.specs.declared.outcome.Repl.{Repl}
+use Rattle.cache_core.specs.declared.design.Repl.{Repl}
 use Rattle.cache_core.specs.declared.outcome.Outcome.{Outcome}
-use Rattle.cache_core.specs.declared.outcome.WriteMode.TheVariants.{Through}
+use Rattle.cache_core.specs.declared.design.WriteMode.TheVariants.{Through}
 use Rattle.cache_core.specs.Geometry.{block_of, set_of}
 use Rattle.cache_core.specs.Machine.{Machine, MachineState, Line, start, slot_of, is_block, lines_of_set, is_full, step_with, next, dirty_count}
 use Rattle.cache_core.specs.Order.{Touches, TakesIn, Contents, Accesses, FlushesCache, slots_of}

@@ -15,7 +15,7 @@ use Rattle.cache_core.specs.declared.arrival.Arrival.TheVariants.{Cache, Memory,
 use Rattle.cache_core.specs.Geometry.{GeometryValue, address_of}
 use Rattle.cache_core.specs.Machine.{run, step, dirty_count}
 use Rattle.cache_core.specs.Plans.{PlannedCaches}
-use Rattle.cache_core.specs.Systems.{machine_of, takes, events_for, sent, below, is_taken}
+use Rattle.cache_core.specs.Systems.{machine_of, takes, events_for, first_level_sends, below, is_taken}
 
 -- the address of an evicted block, and whether it was dirty
 abbrev pub victim_of : GeometryValue → Slot → Victim
@@ -48,13 +48,14 @@ abbrev pub at_memory : List Ref → List Arrival
 at_memory refs = map (λ ref. Memory ref) refs
 
 -- a reference that is sent down to the second level, and what that sends to memory
-abbrev pub arrives_below : ℕ → Option PlannedCache → List Event → Ref → List Arrival
-arrives_below seed second before ref = arrives seed L2U second before ref ++ at_memory (passes seed second before ref)
+abbrev pub arrivals_below : ℕ → Option PlannedCache → List Event → Ref → List Arrival
+arrivals_below seed second before ref = arrives seed L2U second before ref ++ at_memory (passes seed second before ref)
 
 -- references that are sent down, one after another
-abbrev pub arrive_below : ℕ → Option PlannedCache → List Event → List Ref → List Arrival
-arrive_below seed second before [] = []
-arrive_below seed second before (ref ∷ refs) = arrives_below seed second before ref ++ arrive_below seed second (before ++ event.Reference ref ∷ []) refs
+abbrev pub all_arrivals_below : ℕ → Option PlannedCache → List Event → List Ref → List Arrival
+all_arrivals_below seed second before [] = []
+all_arrivals_below seed second before (ref ∷ refs) =
+    arrivals_below seed second before ref ++ all_arrivals_below seed second (before ++ event.Reference ref ∷ []) refs
 
 -- a cache is flushed after these events, if the plan has it
 abbrev pub flushes : ℕ → CacheName → Option PlannedCache → List Event → List Arrival
@@ -69,7 +70,7 @@ first_arrivals plan seed earlier ref =
 -- and below it, or past it
 abbrev pub lower_arrivals : PlannedCaches → ℕ → List Event → Ref → List Arrival
 lower_arrivals plan seed earlier ref =
-    if is_taken plan ref then arrive_below seed plan.second (below plan seed earlier) (sent plan seed earlier ref) else Bypassed ref ∷ []
+    if is_taken plan ref then all_arrivals_below seed plan.second (below plan seed earlier) (first_level_sends plan seed earlier ref) else Bypassed ref ∷ []
 
 -- the arrivals of an event that comes after earlier ones
 abbrev pub arrivals_of : PlannedCaches → ℕ → List Event → Event → List Arrival

@@ -3,9 +3,9 @@ use Rattle.std.specs.Prelude.{ℕ, ◌≡◌, ◌≤◌, ◌+◌, Bool, List, ma
 use Rattle.std.specs.List.{list_any}
 use Rattle.trace_core.specs.declared.events.Ref.{Ref}
 use Rattle.trace_core.specs.declared.events.Event.{Event}
-use Rattle.cache_core.specs.declared.outcome.WriteMode.{WriteMode}
-use Rattle.cache_core.specs.declared.outcome.AllocMode.TheVariants.{Always}
-use Rattle.cache_core.specs.declared.outcome.Repl.TheVariants.{Lru}
+use Rattle.cache_core.specs.declared.design.WriteMode.{WriteMode}
+use Rattle.cache_core.specs.declared.design.AllocMode.TheVariants.{Always}
+use Rattle.cache_core.specs.declared.design.Repl.TheVariants.{Lru}
 use Rattle.cache_core.specs.declared.replacement.Lru.{Lru as LruPolicy}
 use Rattle.cache_core.specs.Geometry.{GeometryValue, block_of}
 use Rattle.cache_core.specs.Machine.{Machine, MachineState, run, step, effects, counts_in, is_block}

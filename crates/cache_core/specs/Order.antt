@@ -7,8 +7,8 @@ use Rattle.trace_core.specs.declared.events.Ref.{Ref}
 use Rattle.trace_core.specs.Events.{is_write, one_if}
 use Rattle.cache_core.specs.declared.outcome.Slot.{Slot}
 use Rattle.cache_core.specs.declared.outcome.Outcome.{Outcome}
-use Rattle.cache_core.specs.declared.outcome.Design.{Design}
-use Rattle.cache_core.specs.declared.outcome.Repl.{Repl}
+use Rattle.cache_core.specs.declared.design.Design.{Design}
+use Rattle.cache_core.specs.declared.design.Repl.{Repl}
 use Rattle.cache_core.specs.Geometry.{block_of, set_of}
 use Rattle.cache_core.specs.Outcomes.{outcome_of, on_hit, on_placing, on_passing, dirties, allocates}
 use Rattle.cache_core.specs.Rules.{Place, InFront, InPlace, Victim, Last, Drawn, rules, draws}
@@ -62,9 +62,9 @@ random_numbers_after (Some policy) None numbers n = numbers n
 random_numbers_after None _ numbers n = numbers n
 
 -- the slots with that at an index marked dirty, if it is to be
-abbrev pub marked : Bool → List Slot → ℕ → List Slot
-marked false slots at = slots
-marked true slots at =
+abbrev pub with_dirty_at : Bool → List Slot → ℕ → List Slot
+with_dirty_at false slots at = slots
+with_dirty_at true slots at =
     slice_set slots at (record (slice_index_or slots at (record { block = 0; dirty = false })) { dirty = true })
 
 -- the index of a block among slots
@@ -74,7 +74,7 @@ position_of block slots = position (λ x. x.block == block) slots
 -- a reference whose block is at an index of its set
 pub record Hits (d : Design) (policy : Option Repl) (numbers : ℕ → ℕ) (ref : Ref) (at : ℕ) (old : List Slot) (outcome : Outcome) (new : List Slot)
     (rest : ℕ → ℕ) : Type 0 where
-  pub order : Touches policy (marked (dirties d.write ref.access) old at) at new
+  pub order : Touches policy (with_dirty_at (dirties d.write ref.access) old at) at new
   pub undrawn : rest ≡ numbers
   pub effect : outcome ≡ outcome_of (on_hit d.write ref)
 

@@ -7,10 +7,10 @@ use Rattle.trace_core.specs.declared.events.Access.TheVariants.{Fetch, Read, Wri
 use Rattle.trace_core.specs.Events.{is_write}
 use Rattle.cache_core.specs.declared.outcome.Slot.{Slot}
 use Rattle.cache_core.specs.declared.outcome.Outcome.{Outcome}
-use Rattle.cache_core.specs.declared.outcome.WriteMode.{WriteMode}
-use Rattle.cache_core.specs.declared.outcome.WriteMode.TheVariants.{Back, Through}
-use Rattle.cache_core.specs.declared.outcome.AllocMode.{AllocMode}
-use Rattle.cache_core.specs.declared.outcome.AllocMode.TheVariants.{Always, Never}
+use Rattle.cache_core.specs.declared.design.WriteMode.{WriteMode}
+use Rattle.cache_core.specs.declared.design.WriteMode.TheVariants.{Back, Through}
+use Rattle.cache_core.specs.declared.design.AllocMode.{AllocMode}
+use Rattle.cache_core.specs.declared.design.AllocMode.TheVariants.{Always, Never}
 use Rattle.cache_core.specs.Geometry.{GeometryValue, address_of}
 
 -- whether a reference marks its line dirty: a write, in a write-back cache

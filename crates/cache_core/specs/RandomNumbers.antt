@@ -8,5 +8,5 @@ abbrev pub random_number : Lcg → ℕ → ℕ
 random_number g n = (pcg32 (advance 64 multiplier_64 n g)).0
 
 -- the generator of a seed
-abbrev pub seeded : ℕ → Lcg
-seeded seed = started 64 multiplier_64 seed (increment_of 64 54)
+abbrev pub generator_of : ℕ → Lcg
+generator_of seed = started 64 multiplier_64 seed (increment_of 64 54)

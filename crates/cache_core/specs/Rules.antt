@@ -1,7 +1,7 @@
 -- The policies, each by its rules: where a touched block and a new one go in the order of their set, and which block leaves a full set.
 use Rattle.std.specs.Prelude.{Bool, true, false}
-use Rattle.cache_core.specs.declared.outcome.Repl.{Repl}
-use Rattle.cache_core.specs.declared.outcome.Repl.TheVariants.{Lru, Fifo, Random}
+use Rattle.cache_core.specs.declared.design.Repl.{Repl}
+use Rattle.cache_core.specs.declared.design.Repl.TheVariants.{Lru, Fifo, Random}
 
 -- where a block goes: in front of the others, or in the place of the one that is there, behind the others if there is none
 pub data Place : Type 0 where

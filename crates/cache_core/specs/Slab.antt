@@ -3,8 +3,8 @@
 use Rattle.std.specs.Prelude.{◌≡◌, ◌<◌, ◌≤◌, ℕ, ◌*◌, ◌^◌, List, [], ◌∷◌, Option, length, take, drop, All, replicate}
 use Rattle.cache_core.specs.Geometry.{GeometryValue, IsGeometry}
 use Rattle.cache_core.specs.declared.outcome.Slot.{Slot}
-use Rattle.cache_core.specs.declared.outcome.Design.{Design}
-use Rattle.cache_core.specs.declared.outcome.Repl.{Repl}
+use Rattle.cache_core.specs.declared.design.Design.{Design}
+use Rattle.cache_core.specs.declared.design.Repl.{Repl}
 use Rattle.cache_core.specs.Order.{Contents}
 
 -- the filled slots of each segment

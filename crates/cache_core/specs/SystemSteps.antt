@@ -78,9 +78,9 @@ AccessesFirstLevel i d u ref down i' d' u' =
     MatchBool (is_some u) (AccessesUnified i d u ref down i' d' u') (AccessesSplit (is_fetch ref.access) i d u ref down i' d' u')
 
 -- the copybacks of a cache
-abbrev pub copied : Option SystemCache → ℕ
-copied None = 0
-copied (Some cache) = cache.stats.copybacks
+abbrev pub copybacks_of : Option SystemCache → ℕ
+copybacks_of None = 0
+copybacks_of (Some cache) = cache.stats.copybacks
 
 -- one reference at a system
 pub record StepsSystem (old : SystemValue) (ref : Ref) (new : SystemValue) : Type 0 where
@@ -92,21 +92,21 @@ pub record StepsSystem (old : SystemValue) (ref : Ref) (new : SystemValue) : Typ
   pub steps : new.steps ≡ old.steps + 1
 
 -- how many references a cache counted, none if it isn't there
-abbrev pub counted : Option SystemCache → ℕ
-counted None = 0
-counted (Some cache) = accesses cache.stats
+abbrev pub accesses_of : Option SystemCache → ℕ
+accesses_of None = 0
+accesses_of (Some cache) = accesses cache.stats
 
 -- how many references reached memory
-abbrev pub reached : Memory → ℕ
-reached memory = memory.reads + memory.writes
+abbrev pub memory_accesses : Memory → ℕ
+memory_accesses memory = memory.reads + memory.writes
 
 -- What a system keeps: it made at most 2^41 steps, two for each line of the longest trace; a step is counted at one first-level cache, or
 -- as bypassed; it sends at most two references to the second level, and four to memory, to which each copyback comes, too.
 pub record IsSystem (v : SystemValue) : Type 0 where
   pub steps : v.steps ≤ 2 ^ 41
-  pub first : counted v.i + counted v.d + counted v.u + v.bypassed ≤ v.steps
-  pub second : counted v.second ≤ 2 * v.steps
-  pub memory : reached v.memory ≤ 4 * v.steps + copied v.i + copied v.d + copied v.u + copied v.second
+  pub first : accesses_of v.i + accesses_of v.d + accesses_of v.u + v.bypassed ≤ v.steps
+  pub second : accesses_of v.second ≤ 2 * v.steps
+  pub memory : memory_accesses v.memory ≤ 4 * v.steps + copybacks_of v.i + copybacks_of v.d + copybacks_of v.u + copybacks_of v.second
 
 -- a cache of a system is emptied; none has no dirty line
 abbrev pub EmptiesCache : Option SystemCache → ℕ → Option SystemCache → Type 0

@@ -6,7 +6,7 @@ use Rattle.trace_core.specs.declared.events.Ref.{Ref}
 use Rattle.trace_core.specs.declared.events.Event.{Event}
 use Rattle.trace_core.specs.declared.events.Event.TheVariants as event
 use Rattle.trace_core.specs.Events.{is_fetch, is_write, references_in}
-use Rattle.cache_core.specs.declared.outcome.Repl.{Repl}
+use Rattle.cache_core.specs.declared.design.Repl.{Repl}
 use Rattle.cache_core.specs.declared.plan.PlannedCache.{PlannedCache}
 use Rattle.cache_core.specs.declared.plan.CacheName.{CacheName}
 use Rattle.cache_core.specs.declared.plan.CacheName.TheVariants.{L1I, L1D, L1U, L2U}
@@ -15,12 +15,12 @@ use Rattle.cache_core.specs.declared.stats.Stats.{Stats}
 use Rattle.cache_core.specs.Machine.{Machine, MachineState, start, step, next, run, dirty_count, with_effects}
 use Rattle.cache_core.specs.CacheStats.{stats_from, count_flush}
 use Rattle.cache_core.specs.Plans.{PlannedCaches}
-use Rattle.cache_core.specs.RandomNumbers.{random_number, seeded}
+use Rattle.cache_core.specs.RandomNumbers.{random_number, generator_of}
 use Rattle.cache_core.specs.Rules.{rules, draws}
 
 -- the random numbers of a policy: only random has a generator
 abbrev pub random_numbers_for : Repl → ℕ → ℕ → ℕ
-random_numbers_for policy seed = if draws (rules policy).victim then random_number (seeded seed) else (λ n. 0)
+random_numbers_for policy seed = if draws (rules policy).victim then random_number (generator_of seed) else (λ n. 0)
 
 -- each cache with random replacement has a generator of its own, of the same seed
 abbrev pub machine_of : ℕ → PlannedCache → Machine
@@ -49,15 +49,15 @@ sends seed name (Some planned) earlier ref =
     if takes name ref then (step (machine_of seed planned) (run (machine_of seed planned) (events_for name earlier)) ref).effect.down else []
 
 -- what the first level sends on for a reference
-abbrev pub sent : PlannedCaches → ℕ → List Event → Ref → List Ref
-sent plan seed earlier ref =
+abbrev pub first_level_sends : PlannedCaches → ℕ → List Event → Ref → List Ref
+first_level_sends plan seed earlier ref =
     sends seed L1I plan.i earlier ref ++ sends seed L1D plan.d earlier ref ++ sends seed L1U plan.u earlier ref
 
 -- what the first level sends on for events that come after earlier ones, in order, with each flush where it comes
 abbrev pub below_from : PlannedCaches → ℕ → List Event → List Event → List Event
 below_from plan seed earlier [] = []
 below_from plan seed earlier (event.Reference ref ∷ events) =
-    map event.Reference (sent plan seed earlier ref) ++ below_from plan seed (earlier ++ event.Reference ref ∷ []) events
+    map event.Reference (first_level_sends plan seed earlier ref) ++ below_from plan seed (earlier ++ event.Reference ref ∷ []) events
 below_from plan seed earlier (event.Flush ∷ events) = event.Flush ∷ below_from plan seed (earlier ++ event.Flush ∷ []) events
 
 -- the events of the second level: what the first sends on for a whole list

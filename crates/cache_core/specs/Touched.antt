@@ -9,14 +9,14 @@ pub record TouchedValue : Type 0 where
   pub listed : Option (List ℕ)
 
 -- a list with one set more, where it is not full yet
-abbrev pub joined : ℕ → ℕ → Option (List ℕ) → Option (List ℕ)
-joined capacity set None = None
-joined capacity set (Some sets) = if nat_lt (length sets) capacity then Some (sets ++ set ∷ []) else None
+abbrev pub with_set : ℕ → ℕ → Option (List ℕ) → Option (List ℕ)
+with_set capacity set None = None
+with_set capacity set (Some sets) = if nat_lt (length sets) capacity then Some (sets ++ set ∷ []) else None
 
 -- a set whose count was 0 and is not any more joins the list
 abbrev pub after_count : ℕ → ℕ → ℕ → TouchedValue → TouchedValue
 after_count set before after touched =
-    if (before == 0) && not (after == 0) then record touched { listed = joined touched.capacity set touched.listed } else touched
+    if (before == 0) && not (after == 0) then record touched { listed = with_set touched.capacity set touched.listed } else touched
 
 -- each listed set has a count, and a set that is not listed has the count 0
 pub record ListsFilled (sets counts : List ℕ) : Type 0 where

@@ -55,8 +55,8 @@ abbrev pub distance : GeometryValue → Occurrence → ℕ
 distance g p = length (distinct_of_set g (set_of_block g p.block) (before_first (λ block. block == p.block) p.window))
 
 -- how many different blocks of its set were referenced before, since the last flush
-abbrev pub seen : GeometryValue → Occurrence → ℕ
-seen g p = length (distinct_of_set g (set_of_block g p.block) p.window)
+abbrev pub blocks_seen : GeometryValue → Occurrence → ℕ
+blocks_seen g p = length (distinct_of_set g (set_of_block g p.block) p.window)
 
 -- an LRU cache of this geometry hits there
 abbrev pub is_hit : GeometryValue → Occurrence → Bool
@@ -64,7 +64,7 @@ is_hit g p = has_last p && nat_lt (distance g p) g.e
 
 -- a block leaves it there
 abbrev pub is_evict : GeometryValue → Occurrence → Bool
-is_evict g p = not (is_hit g p) && nat_le g.e (seen g p)
+is_evict g p = not (is_hit g p) && nat_le g.e (blocks_seen g p)
 
 -- the counts of an LRU cache of this geometry
 unfoldable pub counts : GeometryValue → List Event → Counts
@@ -76,7 +76,7 @@ counts g es = record {
 
 -- the comparisons that look for each block among the g.e most recent blocks of its set, from the most recent on
 unfoldable pub probes : GeometryValue → List Event → ℕ
-probes g es = sum_by (λ p. if is_hit g p then distance g p + 1 else min (seen g p) g.e) (occurrences g es)
+probes g es = sum_by (λ p. if is_hit g p then distance g p + 1 else min (blocks_seen g p) g.e) (occurrences g es)
 
 -- how many blocks are in all sets, at most g.e in each
 unfoldable pub held : GeometryValue → List Event → ℕ

@@ -6,12 +6,13 @@ ghost use Rattle.cache_core.specs.Geometry.{IsGeometry, address_of};
 ghost use Rattle.cache_core.specs.Outcomes.{outcome_of, on_hit, on_placing, on_passing, dirties};
 ghost use Rattle.cache_core.specs.Outcomes.{allocates, writes_through, block_load_access};
 ghost use Rattle.cache_core.specs.Order.{Touches, Visits, position_of, Accesses, FlushesCache};
-ghost use Rattle.cache_core.specs.Order.{marked, dirty_slots, DirtiesByWrites};
+ghost use Rattle.cache_core.specs.Order.{with_dirty_at, dirty_slots, DirtiesByWrites};
 ghost use Rattle.cache_core.specs.Slab.{Addressable, IsCacheSlab, slab_contents, sets_of};
 ghost use Rattle.cache_core.specs.Touched.{Covers, ListsFilled, no_sets};
 
+use crate::design::{AllocMode, Design, WriteMode};
 use crate::geometry::Geometry;
-use crate::outcome::{AllocMode, Design, Outcome, Slot, WriteMode};
+use crate::outcome::{Outcome, Slot};
 use crate::replacement::Replacement;
 use crate::touched::TouchedSets;
 use std::alloc::{AllocError, Global};
@@ -207,7 +208,7 @@ fn find_block(slots: &[Slot], block: u64) -> Option<usize>
 #[inline(always)]
 fn use_slot<P: Replacement>(policy: &mut P, slots: &mut [Slot], at: usize, dirty: bool)
     requires { at < length slots.old }
-    ensures order { Touches (P.policy policy.old) (marked dirty slots.old at) at slots.new }
+    ensures order { Touches (P.policy policy.old) (with_dirty_at dirty slots.old at) at slots.new }
     ensures words { P.words policy.new ≡ P.words policy.old }
     ensures policy { P.policy policy.new ≡ P.policy policy.old }
     ensures addresses { (b : ℕ) → Addressable b slots.old → Addressable b slots.new }

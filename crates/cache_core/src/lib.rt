@@ -4,6 +4,7 @@
 
 pub mod arrival;
 pub mod cache;
+pub mod design;
 pub mod geometry;
 pub mod laws;
 pub mod outcome;
@@ -19,8 +20,9 @@ pub mod touched;
 
 pub use arrival::{Arrival, MAX_ARRIVALS, Observer, Victim};
 pub use cache::Cache;
+pub use design::{AllocMode, Repl, WriteMode};
 pub use geometry::{Geometry, MAX_BITS, MAX_CACHE_LINES, MAX_WAYS};
-pub use outcome::{AllocMode, Counts, Outcome, Repl, Slot, WriteMode};
+pub use outcome::{Counts, Outcome, Slot};
 pub use plan::{CacheName, CacheSpec, FirstLevel, Plan, PlanFault};
 pub use replacement::{Fifo, Lru, Random, Replacement};
 pub use simulation::{Lookup, Simulation};

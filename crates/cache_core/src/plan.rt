@@ -5,8 +5,8 @@ ghost use Rattle.cache_core.specs.Plans.{exponent_of, geometry_for, planned_cach
 ghost use Rattle.cache_core.specs.Plans.{has_none, is_mixed, has_smaller_blocks_than};
 ghost use Rattle.cache_core.specs.Plans.{has_larger_blocks_than};
 
+use crate::design::{AllocMode, Design, Repl, WriteMode};
 use crate::geometry::{Geometry, MAX_BITS};
-use crate::outcome::{AllocMode, Design, Repl, WriteMode};
 use std::fmt::{self, Display, Formatter, Write};
 use std::marker::Model;
 use thiserror::Error;

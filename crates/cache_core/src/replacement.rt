@@ -3,7 +3,8 @@ ghost use Rattle.std.specs.Prelude.{◌≡◌, ◌≤◌, ◌<◌, ◌+◌, ℕ,
 ghost use Rattle.std.specs.Prelude.{Option, Some, None};
 ghost use Rattle.cache_core.specs.Order.{Touches, TakesIn, random_numbers_after};
 
-use crate::outcome::{Repl, Slot};
+use crate::design::Repl;
+use crate::outcome::Slot;
 use rand_core::utils::NextWord;
 use rand_pcg::Pcg32;
 use std::marker::Model;
@@ -17,7 +18,7 @@ const STREAM: u64 = 54;
 /// `slots_are_kept`). The indices that `touch` and `place` return are part of the interface as it
 /// was first specified; a cache doesn't read them.
 pub trait Replacement: Drop {
-    ghost use Rattle.cache_core.specs.declared.outcome.Repl.{Repl};
+    ghost use Rattle.cache_core.specs.declared.design.Repl.{Repl};
 
     /// Which of the three named policies it is, if any.
     ghost policy: { Self → Option Repl } = { λ _. None };
@@ -60,7 +61,7 @@ impl Lru {
 }
 
 impl Replacement for Lru {
-    ghost use Rattle.cache_core.specs.declared.outcome.Repl.TheVariants.{Lru as LruRepl};
+    ghost use Rattle.cache_core.specs.declared.design.Repl.TheVariants.{Lru as LruRepl};
 
     ghost policy = { λ _. Some LruRepl };
 
@@ -104,7 +105,7 @@ impl Fifo {
 }
 
 impl Replacement for Fifo {
-    ghost use Rattle.cache_core.specs.declared.outcome.Repl.TheVariants.{Fifo as FifoRepl};
+    ghost use Rattle.cache_core.specs.declared.design.Repl.TheVariants.{Fifo as FifoRepl};
 
     ghost policy = { λ _. Some FifoRepl };
 
@@ -133,14 +134,14 @@ impl Model for Random {
 }
 
 impl Random {
-    ghost use Rattle.cache_core.specs.RandomNumbers.{seeded, random_number};
+    ghost use Rattle.cache_core.specs.RandomNumbers.{generator_of, random_number};
 
     /// The policy with the generator of a seed. It draws a number only where a full set has to
     /// give up a slot.
     pub fn new(seed: u64) -> Self
-        ensures value { result ≡ seeded seed }
+        ensures value { result ≡ generator_of seed }
         ensures policy { ⟦<Random as Replacement>⟧.policy result ≡ Some Repl.Random }
-        ensures words { ⟦<Random as Replacement>⟧.words result ≡ random_number (seeded seed) }
+        ensures words { ⟦<Random as Replacement>⟧.words result ≡ random_number (generator_of seed) }
     {
         Random {
             generator: Pcg32::new(seed, STREAM),
@@ -149,7 +150,7 @@ impl Random {
 }
 
 impl Replacement for Random {
-    ghost use Rattle.cache_core.specs.declared.outcome.Repl.TheVariants.{Random as RandomRepl};
+    ghost use Rattle.cache_core.specs.declared.design.Repl.TheVariants.{Random as RandomRepl};
     ghost use Rattle.cache_core.specs.RandomNumbers.{random_number};
 
     ghost policy = { λ _. Some RandomRepl };

@@ -5,8 +5,9 @@ ghost use Rattle.cache_core.specs.Windows.{counts};
 ghost use Rattle.cache_core.specs.Machine.{effects, counts_in};
 ghost use Rattle.cache_core.specs.LruLaws.{lru_machine};
 
+use crate::design::WriteMode;
 use crate::geometry::Geometry;
-use crate::outcome::{Counts, WriteMode};
+use crate::outcome::Counts;
 use crate::simulation::Simulation;
 use std::alloc::{AllocError, Global};
 use trace_core::events::Ref;

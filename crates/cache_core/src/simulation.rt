@@ -1,7 +1,8 @@
 //! An LRU cache with its counts.
 use crate::cache::Cache;
+use crate::design::{AllocMode, WriteMode};
 use crate::geometry::Geometry;
-use crate::outcome::{AllocMode, Counts, Outcome, WriteMode};
+use crate::outcome::{Counts, Outcome};
 use crate::replacement::Lru;
 use std::alloc::{AllocError, Global};
 use trace_core::events::Ref;

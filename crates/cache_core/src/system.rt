@@ -3,10 +3,11 @@ ghost use Rattle.std.specs.Prelude.{◌≡◌, ◌≤◌, ◌<◌, ◌+◌, ◌^
 ghost use Rattle.std.specs.Prelude.{Option};
 ghost use Rattle.cache_core.specs.SystemSteps.{present_refs, all_reach, Descends, AllDescend};
 ghost use Rattle.cache_core.specs.SystemSteps.{AccessesFirst, AccessesFirstLevel, EmptiesCache};
-ghost use Rattle.cache_core.specs.SystemSteps.{counted, reached, stats_held, IsNewCache};
+ghost use Rattle.cache_core.specs.SystemSteps.{accesses_of, memory_accesses, stats_held};
+ghost use Rattle.cache_core.specs.SystemSteps.{IsNewCache};
 ghost use Rattle.cache_core.specs.SystemStands.{PlannedCacheStandsFor};
-ghost use Rattle.cache_core.specs.Arrivals.{Saw, arrives, arrives_below, arrive_below, flushes};
-ghost use Rattle.cache_core.specs.Arrivals.{at_memory, first_arrivals};
+ghost use Rattle.cache_core.specs.Arrivals.{Saw, arrives, arrivals_below, all_arrivals_below};
+ghost use Rattle.cache_core.specs.Arrivals.{at_memory, first_arrivals, flushes};
 ghost use Rattle.cache_core.specs.Plans.{PlannedCaches, IsPlan, IsPlannedCache};
 ghost use Rattle.cache_core.specs.Systems.{events_for};
 ghost use Rattle.cache_core.specs.declared.plan.CacheName.TheVariants.{L1I, L1D, L1U, L2U};
@@ -184,7 +185,7 @@ pub(crate) struct Memory {
 impl Memory {
     /// Counts a reference, if there is one, and has it seen.
     fn count<O: Observer>(&mut self, reference: Option<Ref>, observer: &mut O)
-        requires counts { reached self.old < 2 ^ 63 }
+        requires counts { memory_accesses self.old < 2 ^ 63 }
         requires room { 1 ≤ O.room observer.old }
         ensures value { self.new ≡ all_reach self.old (present_refs (reference ∷ [])) }
         ensures seen { Saw O.has_seen observer.old (at_memory (present_refs (reference ∷ [])))
@@ -210,7 +211,7 @@ fn access_first<O: Observer>(
     reference: Ref,
     observer: &mut O,
 ) -> Option<[Option<Ref>; 2]>
-    requires counts { counted cache.old < 2 ^ 62 }
+    requires counts { accesses_of cache.old < 2 ^ 62 }
     requires room { 1 ≤ O.room observer.old }
     ensures value { AccessesFirst cache.old reference result cache.new }
     ensures seen { (seed : ℕ) (planned : Option PlannedCache) (events : List Event) →
@@ -232,7 +233,7 @@ fn first_level<O: Observer>(
     reference: Ref,
     observer: &mut O,
 ) -> Option<[Option<Ref>; 2]>
-    requires counts { counted i.old + counted d.old + counted u.old < 2 ^ 62 }
+    requires counts { accesses_of i.old + accesses_of d.old + accesses_of u.old < 2 ^ 62 }
     requires room { 1 ≤ O.room observer.old }
     ensures value { AccessesFirstLevel i.old d.old u.old reference result i.new d.new u.new }
     ensures seen { (plan : PlannedCaches) (seed : ℕ) (events : List Event) → IsPlan plan →
@@ -259,12 +260,12 @@ fn descend<O: Observer>(
     reference: Ref,
     observer: &mut O,
 )
-    requires counts { counted second.old + reached memory.old < 2 ^ 62 }
+    requires counts { accesses_of second.old + memory_accesses memory.old < 2 ^ 62 }
     requires room { 3 ≤ O.room observer.old }
     ensures value { Descends reference second.old memory.old second.new memory.new }
     ensures seen { (seed : ℕ) (planned : Option PlannedCache) (events : List Event) →
         IsPlannedCache planned → PlannedCacheStandsFor seed planned events second.old →
-        Saw O.has_seen observer.old (arrives_below seed planned events reference) observer.new }
+        Saw O.has_seen observer.old (arrivals_below seed planned events reference) observer.new }
     ensures room { O.room observer.old ≤ O.room observer.new + 3 }
 {
     match second {
@@ -284,12 +285,12 @@ fn descend_all<O: Observer>(
     down: [Option<Ref>; 2],
     observer: &mut O,
 )
-    requires counts { counted second.old + reached memory.old < 2 ^ 61 }
+    requires counts { accesses_of second.old + memory_accesses memory.old < 2 ^ 61 }
     requires room { 6 ≤ O.room observer.old }
     ensures value { AllDescend (present_refs down) second.old memory.old second.new memory.new }
     ensures seen { (seed : ℕ) (planned : Option PlannedCache) (events : List Event) →
         IsPlannedCache planned → PlannedCacheStandsFor seed planned events second.old →
-        Saw O.has_seen observer.old (arrive_below seed planned events (present_refs down))
+        Saw O.has_seen observer.old (all_arrivals_below seed planned events (present_refs down))
         observer.new }
     ensures room { O.room observer.old ≤ O.room observer.new + 6 }
 {

@@ -8,7 +8,8 @@ ghost use Rattle.cache_core.specs.Systems.{random_numbers_for};
 
 use crate::arrival::{Observer, arrival_at};
 use crate::cache::Cache;
-use crate::outcome::{Outcome, Repl, Slot};
+use crate::design::Repl;
+use crate::outcome::{Outcome, Slot};
 use crate::plan::{CacheName, PlannedCache};
 use crate::replacement::{Fifo, Lru, Random, Replacement};
 use crate::stats::CacheStats;

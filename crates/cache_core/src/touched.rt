@@ -2,7 +2,7 @@
 //! alone.
 ghost use Rattle.std.specs.Prelude.{◌≡◌, ◌<◌, ◌/◌, ◌^◌, [], length, Some, IfOk, option_map};
 ghost use Rattle.std.specs.Prelude.{replicate};
-ghost use Rattle.cache_core.specs.Touched.{after_count, joined, no_sets, Covers, ListsFilled};
+ghost use Rattle.cache_core.specs.Touched.{after_count, with_set, no_sets, Covers, ListsFilled};
 
 use std::alloc::{AllocError, Global};
 use std::marker::Model;
@@ -77,7 +77,7 @@ impl TouchedSets {
     #[inline(never)]
     fn add(&mut self, set: u32)
         ensures { self.new
-            ≡ record self.old { listed = joined self.old.capacity set self.old.listed } }
+            ≡ record self.old { listed = with_set self.old.capacity set self.old.listed } }
     {
         self.used = match self.used {
             Some(used) if used < self.entries.len() => {

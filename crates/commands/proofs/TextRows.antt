@@ -8,10 +8,10 @@ use Rattle.trace_core.specs.declared.line.Format.{Format}
 use Rattle.trace_core.specs.declared.line.Format.TheVariants.{Din, Lackey}
 use Rattle.trace_core.specs.Reading.{reading}
 use Rattle.trace_core.specs.Task.{entries_in}
-use Rattle.cache_core.specs.declared.outcome.Repl.{Repl}
-use Rattle.cache_core.specs.declared.outcome.Repl.TheVariants.{Lru, Fifo}
-use Rattle.cache_core.specs.declared.outcome.WriteMode.TheVariants.{Back}
-use Rattle.cache_core.specs.declared.outcome.AllocMode.TheVariants.{Always}
+use Rattle.cache_core.specs.declared.design.Repl.{Repl}
+use Rattle.cache_core.specs.declared.design.Repl.TheVariants.{Lru, Fifo}
+use Rattle.cache_core.specs.declared.design.WriteMode.TheVariants.{Back}
+use Rattle.cache_core.specs.declared.design.AllocMode.TheVariants.{Always}
 use Rattle.cache_core.specs.declared.plan.PlannedCache.{PlannedCache}
 use Rattle.cache_core.specs.Plans.{PlannedCaches}
 use Rattle.cache_core.specs.Geometry.{geometry_value}

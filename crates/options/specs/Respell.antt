@@ -23,9 +23,9 @@ abbrev pub takes_dinero : List Text → Bool
 takes_dinero arguments = option_map_or has_dinero_options (slice_get arguments 1) false
 
 -- an argument after the command's name, as clap gets it
-abbrev pub spelled : Bool → Text → Text
-spelled takes_dinero argument = if takes_dinero then with_two_dashes argument else argument
+abbrev pub spelling_of : Bool → Text → Text
+spelling_of takes_dinero argument = if takes_dinero then with_two_dashes argument else argument
 
 -- the arguments as clap gets them
-abbrev pub respelled : List Text → List Text
-respelled arguments = take 2 arguments ++ map (spelled (takes_dinero arguments)) (drop 2 arguments)
+abbrev pub respelling_of : List Text → List Text
+respelling_of arguments = take 2 arguments ++ map (spelling_of (takes_dinero arguments)) (drop 2 arguments)

@@ -1,6 +1,7 @@
 //! Dinero's spelling of the options of `din` and `log`.
 ghost use Rattle.std.specs.Prelude.{◌≡◌, ◌++◌, IfOk, OnOk, string_bytes, map};
-ghost use Rattle.options.specs.Respell.{has_dinero_options, is_dinero_option, respelled, spelled};
+ghost use Rattle.options.specs.Respell.{has_dinero_options, is_dinero_option};
+ghost use Rattle.options.specs.Respell.{respelling_of, spelling_of};
 ghost use Rattle.options.specs.Respell.{takes_dinero};
 
 use std::alloc::{AllocError, Global};
@@ -9,7 +10,7 @@ use std::alloc::{AllocError, Global};
 /// command, stay as they are.
 pub fn respell(alloc: Global, arguments: &[String]) -> Result<Vec<String>, AllocError>
     ensures { IfOk result (λ v. map string_bytes v.items
-        ≡ respelled (map string_bytes arguments.now)) }
+        ≡ respelling_of (map string_bytes arguments.now)) }
 {
     let (head, options) = arguments.split_at(arguments.len().min(2));
     let mut respelled = Vec::with_capacity(alloc, arguments.len())?;
@@ -43,7 +44,7 @@ fn push_arguments(
     takes_dinero: bool,
 ) -> Result<(), AllocError>
     ensures { OnOk result (map string_bytes list.new.items ≡ map string_bytes list.old.items
-        ++ map (spelled takes_dinero) (map string_bytes arguments.now)) }
+        ++ map (spelling_of takes_dinero) (map string_bytes arguments.now)) }
 {
     for argument in arguments {
         list.push(respell_argument(alloc, argument.as_str(), takes_dinero)?)?;
@@ -53,7 +54,7 @@ fn push_arguments(
 
 /// An argument, as an option of Dinero's or as it is.
 fn respell_argument(alloc: Global, argument: &str, takes_dinero: bool) -> Result<String, AllocError>
-    ensures { IfOk result (λ s. string_bytes s ≡ spelled takes_dinero argument.now) }
+    ensures { IfOk result (λ s. string_bytes s ≡ spelling_of takes_dinero argument.now) }
 {
     if takes_dinero && is_dinero_option(argument) {
         format!(in alloc; "-{argument}")

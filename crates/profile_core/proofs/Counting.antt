@@ -9,7 +9,7 @@ use Rattle.std.proofs.lemmas.List.FromFn.{fill_by_all, take-map-range_with_len}
 use Rattle.trace_core.specs.declared.events.Event.{Event}
 use Rattle.trace_core.specs.declared.events.Event.TheVariants as event
 use Rattle.cache_core.specs.Geometry.{GeometryValue, block_of}
-use Rattle.cache_core.specs.Windows.{Occurrence, distinct_of_set, has_last, distance, seen, is_hit, window, occurrences, probes, held, counts}
+use Rattle.cache_core.specs.Windows.{Occurrence, distinct_of_set, has_last, distance, blocks_seen, is_hit, window, occurrences, probes, held, counts}
 use Rattle.cache_core.proofs.Occurrences.{occurrences_from, occurrences-from}
 use Rattle.cache_core.specs.declared.outcome.Counts.{Counts}
 use Rattle.profile_core.specs.State.{ProfileState, fed_of, held_of, counts_at}
@@ -43,7 +43,7 @@ abbrev pub hit_at : GeometryValue → ℕ → Occurrence → Bool
 hit_at g e p = has_last p && ltb (distance g p) e
 
 abbrev pub evict_at : GeometryValue → ℕ → Occurrence → Bool
-evict_at g e p = not (hit_at g e p) && leb e (seen g p)
+evict_at g e p = not (hit_at g e p) && leb e (blocks_seen g p)
 
 yes_or_no : (b : Bool) → cond b 1 0 + cond (not b) 1 0 ≡ 1
 yes_or_no true = refl
@@ -68,13 +68,14 @@ distances_sum es v e h le =
     ∙ sum-counts has_last (distance g) (occurrences g es) e
 
 pub misses_sum : (es : List Event) (v : ProfileState) (e : ℕ) → ProfileStandsFor es v → e ≤ v.geometry.e + 1 →
-    sum (take e v.misses_by_occupancy) ≡ count_by (λ p. not (is_hit v.geometry p) && ltb (min (seen v.geometry p) v.geometry.e) e) (occurrences v.geometry es)
+    sum (take e v.misses_by_occupancy)
+    ≡ count_by (λ p. not (is_hit v.geometry p) && ltb (min (blocks_seen v.geometry p) v.geometry.e) e) (occurrences v.geometry es)
 misses_sum es v e h le =
     let g = v.geometry in
-    let f : ℕ → ℕ = λ n. count_by (λ p. not (is_hit g p) && eqb (min (seen g p) g.e) n) (occurrences g es) in
+    let f : ℕ → ℕ = λ n. count_by (λ p. not (is_hit g p) && eqb (min (blocks_seen g p) g.e) n) (occurrences g es) in
     ap (λ ns. sum (take e ns)) (fill_by_all f v.misses_by_occupancy (g.e + 1) 0 h.occupancy_count (λ k lt. h.misses_by_occupancy k (omega arith)))
     ∙ ap sum (take-map-range_with_len f 0 (g.e + 1) e le)
-    ∙ sum-counts (λ p. not (is_hit g p)) (λ p. min (seen g p) g.e) (occurrences g es) e
+    ∙ sum-counts (λ p. not (is_hit g p)) (λ p. min (blocks_seen g p) g.e) (occurrences g es) e
 
 all_of : (g : GeometryValue) (e : ℕ) (ps : List Occurrence) → count_by (hit_at g e) ps + count_by (λ p. not (hit_at g e p)) ps ≡ length ps
 all_of g e ps = sum_by_parts (λ p. cond (hit_at g e p) 1 0) (λ p. cond (not (hit_at g e p)) 1 0) (λ _. 1) ps (λ p. yes_or_no (hit_at g e p)) ∙ sum_by_one ps
@@ -87,18 +88,18 @@ fed_is es v h =
     ap sum (sym (take_all g.e v.distances (omega (arith, h.distance_count)))) ∙ distances_sum es v g.e h (omega arith) in
     let not_found : sum v.misses_by_occupancy ≡ count_by (λ p. not (is_hit g p)) ps =
     ap sum (sym (take_all (g.e + 1) v.misses_by_occupancy (omega (arith, h.occupancy_count)))) ∙ misses_sum es v (g.e + 1) h (omega arith)
-    ∙ sum_by_same (λ p. cond (not (is_hit g p) && ltb (min (seen g p) g.e) (g.e + 1)) 1 0) (λ p. cond (not (is_hit g p)) 1 0) ps
-    (λ p. always (is_hit g p) (seen g p) g.e) in
+    ∙ sum_by_same (λ p. cond (not (is_hit g p) && ltb (min (blocks_seen g p) g.e) (g.e + 1)) 1 0) (λ p. cond (not (is_hit g p)) 1 0) ps
+    (λ p. always (is_hit g p) (blocks_seen g p) g.e) in
     omega (arith, found, not_found, all_of g g.e ps)
 
 evicted : (g : GeometryValue) (m e : ℕ) (p : Occurrence) → e ≤ m →
-    cond (evict_at g e p) 1 0 + cond (not (hit_at g m p) && ltb (min (seen g p) m) e) 1 0 ≡ cond (not (hit_at g e p)) 1 0
+    cond (evict_at g e p) 1 0 + cond (not (hit_at g m p) && ltb (min (blocks_seen g p) m) e) 1 0 ≡ cond (not (hit_at g e p)) 1 0
 evicted g m e p le =
     let f = looks_back g p in
     subst
-    (λ (b : Bool). cond (not (b && ltb (distance g p) e) && leb e (seen g p)) 1 0
-    + cond (not (b && ltb (distance g p) m) && ltb (min (seen g p) m) e) 1 0 ≡ cond (not (b && ltb (distance g p) e)) 1 0)
-    (sym f.last) (in_or_out (distance g p) (seen g p) m e f.within le)
+    (λ (b : Bool). cond (not (b && ltb (distance g p) e) && leb e (blocks_seen g p)) 1 0
+    + cond (not (b && ltb (distance g p) m) && ltb (min (blocks_seen g p) m) e) 1 0 ≡ cond (not (b && ltb (distance g p) e)) 1 0)
+    (sym f.last) (in_or_out (distance g p) (blocks_seen g p) m e f.within le)
 
 -- the occurrences do not depend on the number of lines
 occurrences_from_same : (g : GeometryValue) (e : ℕ) (w : List ℕ) (es : List Event) → occurrences_from (record g { e = e }) w es ≡ occurrences_from g w es
@@ -136,8 +137,9 @@ counts_are es v e h le =
     let both = all_of g e ps in
     let misses : sum (drop e v.distances) + sum v.misses_by_occupancy ≡ count_by (λ p. not (hit_at g e p)) ps = omega (arith, hits, fed, split, both) in
     let young = misses_sum es v e h (omega arith) in
-    let old : count_by (evict_at g e) ps + count_by (λ p. not (is_hit g p) && ltb (min (seen g p) g.e) e) ps ≡ count_by (λ p. not (hit_at g e p)) ps =
-    sum_by_parts (λ p. cond (evict_at g e p) 1 0) (λ p. cond (not (is_hit g p) && ltb (min (seen g p) g.e) e) 1 0) (λ p. cond (not (hit_at g e p)) 1 0) ps
+    let old : count_by (evict_at g e) ps + count_by (λ p. not (is_hit g p) && ltb (min (blocks_seen g p) g.e) e) ps ≡ count_by (λ p. not (hit_at g e p)) ps =
+    sum_by_parts (λ p. cond (evict_at g e p) 1 0) (λ p. cond (not (is_hit g p) && ltb (min (blocks_seen g p) g.e) e) 1 0)
+    (λ p. cond (not (hit_at g e p)) 1 0) ps
     (λ p. evicted g g.e e p le) in
     let evictions : sum (drop e v.distances) + sum (drop e v.misses_by_occupancy) ≡ count_by (evict_at g e) ps =
     omega (arith, misses, young, old, misses_split) in
@@ -157,11 +159,12 @@ held_is es v h =
 few : (last near : Bool) (d n m : ℕ) → (near ≡ ltb d m) → cond (last && near) (d + 1) (min n m) ≤ m
 few last near d n m e = grind (arith, nat_tests)
 
-at_most : (g : GeometryValue) (p : Occurrence) → cond (is_hit g p) (distance g p + 1) (min (seen g p) g.e) ≤ g.e
-at_most g p = few (has_last p) (ltb (distance g p) g.e) (distance g p) (seen g p) g.e refl
+at_most : (g : GeometryValue) (p : Occurrence) → cond (is_hit g p) (distance g p + 1) (min (blocks_seen g p) g.e) ≤ g.e
+at_most g p = few (has_last p) (ltb (distance g p) g.e) (distance g p) (blocks_seen g p) g.e refl
 
 -- at most g.e comparisons a reference
 pub probes_at_most : (g : GeometryValue) (es : List Event) → probes g es ≤ length (occurrences g es) * g.e
 unfolding probes
 probes_at_most g es =
-    sum_by-le (λ p. cond (is_hit g p) (distance g p + 1) (min (seen g p) g.e)) g.e (occurrences g es) (λ k p _. at_most g (get_or (occurrences g es) k p))
+    sum_by-le (λ p. cond (is_hit g p) (distance g p + 1) (min (blocks_seen g p) g.e)) g.e (occurrences g es)
+    (λ k p _. at_most g (get_or (occurrences g es) k p))

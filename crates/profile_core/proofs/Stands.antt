@@ -13,7 +13,7 @@ use Rattle.trace_core.specs.declared.events.Event.{Event}
 use Rattle.trace_core.specs.declared.events.Event.TheVariants as event
 use Rattle.cache_core.specs.Geometry.{GeometryValue, IsGeometry, block_of, set_of_block}
 use Rattle.cache_core.specs.LruLaws.{occurrence_after}
-use Rattle.cache_core.specs.Windows.{Occurrence, distinct_of_set, has_last, distance, seen, is_hit, window, occurrences, occurrences_after, probes}
+use Rattle.cache_core.specs.Windows.{Occurrence, distinct_of_set, has_last, distance, blocks_seen, is_hit, window, occurrences, occurrences_after, probes}
 use Rattle.profile_core.specs.Moves.{index_of, is_in, move_to_front}
 use Rattle.profile_core.specs.State.{ProfileState, empty, list_of, raise, referenced_in, after_reference, after_flush}
 use Rattle.profile_core.specs.ProfileStandsFor.{ProfileStandsFor}
@@ -69,10 +69,10 @@ referenced_in_stands es v r xs h e =
           length-either (is_in x xs) (raise v.distances (index_of x xs)) v.distances (length-raise v.distances (index_of x xs)) refl ∙ h.distance_count;
       distances = λ d lt.
           let step : (is_in x xs && eqb (index_of x xs) d) ≡ (has_last p && eqb (distance g p) d) =
-          cc (distance_within (distance g p) (seen g p) v.geometry.e d lt, f.last, f.found, f.index) in
+          cc (distance_within (distance g p) (blocks_seen g p) v.geometry.e d lt, f.last, f.found, f.index) in
           raise_if (is_in x xs) v.distances (index_of x xs) d
           (λ found.
-          let nearer : min (distance g p) v.geometry.e < min v.geometry.e (seen g p) = ltb-true _ _ (sym f.found ∙ found) in
+          let nearer : min (distance g p) v.geometry.e < min v.geometry.e (blocks_seen g p) = ltb-true _ _ (sym f.found ∙ found) in
           omega (arith, f.index, h.distance_count, nearer))
           ∙ ap (λ n. n + cond (is_in x xs && eqb (index_of x xs) d) 1 0) (h.distances d lt)
           ∙ ap (λ b. count_by (λ q. has_last q && eqb (distance g q) d) (occurrences v.geometry es) + cond b 1 0) step
@@ -81,20 +81,20 @@ referenced_in_stands es v r xs h e =
           length-either (is_in x xs) v.misses_by_occupancy (raise v.misses_by_occupancy (length xs)) refl (length-raise v.misses_by_occupancy (length xs))
           ∙ h.occupancy_count;
       misses_by_occupancy = λ n le.
-          let same : min v.geometry.e (seen g p) ≡ min (seen g p) v.geometry.e = omega arith in
-          let step : (not (is_in x xs) && eqb (length xs) n) ≡ (not (is_hit g p) && eqb (min (seen g p) v.geometry.e) n) = cc (f.hit, f.len, same) in
+          let same : min v.geometry.e (blocks_seen g p) ≡ min (blocks_seen g p) v.geometry.e = omega arith in
+          let step : (not (is_in x xs) && eqb (length xs) n) ≡ (not (is_hit g p) && eqb (min (blocks_seen g p) v.geometry.e) n) = cc (f.hit, f.len, same) in
           raise_unless (is_in x xs) v.misses_by_occupancy (length xs) n (λ _. omega (arith, f.len, h.occupancy_count))
           ∙ ap (λ m. m + cond (not (is_in x xs) && eqb (length xs) n) 1 0) (h.misses_by_occupancy n le)
-          ∙ ap (λ b. count_by (λ q. not (is_hit g q) && eqb (min (seen g q) v.geometry.e) n) (occurrences v.geometry es) + cond b 1 0) step
-          ∙ sym (sum_by-reference (λ q. cond (not (is_hit g q) && eqb (min (seen g q) v.geometry.e) n) 1 0) g es r);
+          ∙ ap (λ b. count_by (λ q. not (is_hit g q) && eqb (min (blocks_seen g q) v.geometry.e) n) (occurrences v.geometry es) + cond b 1 0) step
+          ∙ sym (sum_by-reference (λ q. cond (not (is_hit g q) && eqb (min (blocks_seen g q) v.geometry.e) n) 1 0) g es r);
       comparisons =
-          let more : min (index_of x xs + 1) (length xs) ≡ cond (is_hit g p) (distance g p + 1) (min (seen g p) v.geometry.e) =
+          let more : min (index_of x xs + 1) (length xs) ≡ cond (is_hit g p) (distance g p + 1) (min (blocks_seen g p) v.geometry.e) =
           ap (λ i. min (i + 1) (length xs)) f.index ∙ ap (λ n. min (min (distance g p) v.geometry.e + 1) n) f.len
-          ∙ sym (ap (λ b. cond (b && ltb (distance g p) v.geometry.e) (distance g p + 1) (min (seen g p) v.geometry.e)) f.last
-          ∙ probes_within (distance g p) (seen g p) v.geometry.e f.within) in
+          ∙ sym (ap (λ b. cond (b && ltb (distance g p) v.geometry.e) (distance g p + 1) (min (blocks_seen g p) v.geometry.e)) f.last
+          ∙ probes_within (distance g p) (blocks_seen g p) v.geometry.e f.within) in
           ap (λ n. n + min (index_of x xs + 1) (length xs)) h.comparisons
           ∙ ap (λ n. probes g es + n) more
-          ∙ sym (sum_by-reference (λ q. cond (is_hit g q) (distance g q + 1) (min (seen g q) v.geometry.e)) g es r);
+          ∙ sym (sum_by-reference (λ q. cond (is_hit g q) (distance g q + 1) (min (blocks_seen g q) v.geometry.e)) g es r);
     }
 
 pub reference_stands : (es : List Event) (v : ProfileState) (r : Ref) → ProfileStandsFor es v
@@ -119,8 +119,9 @@ flush_stands es v h =
       distances = λ d lt. h.distances d lt ∙ ap (count_by (λ p. has_last p && eqb (distance v.geometry p) d)) same;
       occupancy_count = h.occupancy_count;
       misses_by_occupancy = λ n le.
-          h.misses_by_occupancy n le ∙ ap (count_by (λ p. not (is_hit v.geometry p) && eqb (min (seen v.geometry p) v.geometry.e) n)) same;
-      comparisons = h.comparisons ∙ ap (sum_by (λ p. cond (is_hit v.geometry p) (distance v.geometry p + 1) (min (seen v.geometry p) v.geometry.e))) same;
+          h.misses_by_occupancy n le ∙ ap (count_by (λ p. not (is_hit v.geometry p) && eqb (min (blocks_seen v.geometry p) v.geometry.e) n)) same;
+      comparisons = h.comparisons
+          ∙ ap (sum_by (λ p. cond (is_hit v.geometry p) (distance v.geometry p + 1) (min (blocks_seen v.geometry p) v.geometry.e))) same;
     }
 
 pub new_stands : (g : GeometryValue) → IsGeometry g → ProfileStandsFor [] (empty g)

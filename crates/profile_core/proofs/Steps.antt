@@ -6,7 +6,7 @@ use Rattle.std.proofs.lemmas.List.Sums.{prefix_len-le-length}
 use Rattle.cache_core.proofs.Lists.{is, list_any_is, position_or_len-take}
 use Rattle.cache_core.proofs.Distances.{has_last_is, distance_is}
 use Rattle.cache_core.specs.Geometry.{GeometryValue, set_of_block}
-use Rattle.cache_core.specs.Windows.{Occurrence, distinct_of_set, has_last, distance, seen}
+use Rattle.cache_core.specs.Windows.{Occurrence, distinct_of_set, has_last, distance, blocks_seen}
 use Rattle.profile_core.specs.State.{raise}
 use Rattle.profile_core.specs.Moves.{index_of, is_in}
 
@@ -34,22 +34,22 @@ raise_unless false ns i d h = raise_at ns i d (h refl)
 
 -- what a reference finds, by the first n different blocks of its set
 pub record Finds (g : GeometryValue) (n : ℕ) (p : Occurrence) (xs : List ℕ) : Type 0 where
-  pub last : has_last p ≡ ltb (distance g p) (seen g p)
-  pub within : distance g p ≤ seen g p
+  pub last : has_last p ≡ ltb (distance g p) (blocks_seen g p)
+  pub within : distance g p ≤ blocks_seen g p
   pub index : index_of p.block xs ≡ min (distance g p) n
-  pub len : length xs ≡ min n (seen g p)
-  pub found : is_in p.block xs ≡ ltb (min (distance g p) n) (min n (seen g p))
+  pub len : length xs ≡ min n (blocks_seen g p)
+  pub found : is_in p.block xs ≡ ltb (min (distance g p) n) (min n (blocks_seen g p))
   pub hit : (has_last p && ltb (distance g p) n) ≡ is_in p.block xs
 
 pub finds : (g : GeometryValue) (n : ℕ) (p : Occurrence) (xs : List ℕ) → xs ≡ take n (distinct_of_set g (set_of_block g p.block) p.window) → Finds g n p xs
 finds g n p xs e =
     let st : List ℕ = distinct_of_set g (set_of_block g p.block) p.window in
     let d = distance_is g p in
-    let last : has_last p ≡ ltb (distance g p) (seen g p) = has_last_is g p ∙ list_any_is (is p.block) st ∙ ap (λ k. ltb k (length st)) (sym d) in
-    let within : distance g p ≤ seen g p = subst (λ (k : ℕ). k ≤ length st) (sym d) (prefix_len-le-length (λ y. not (eqb y p.block)) st) in
+    let last : has_last p ≡ ltb (distance g p) (blocks_seen g p) = has_last_is g p ∙ list_any_is (is p.block) st ∙ ap (λ k. ltb k (length st)) (sym d) in
+    let within : distance g p ≤ blocks_seen g p = subst (λ (k : ℕ). k ≤ length st) (sym d) (prefix_len-le-length (λ y. not (eqb y p.block)) st) in
     let index : index_of p.block xs ≡ min (distance g p) n = ap (index_of p.block) e ∙ position_or_len-take (is p.block) n st ∙ ap (λ k. min k n) (sym d) in
-    let len : length xs ≡ min n (seen g p) = ap length e ∙ length-take n st in
-    let found : is_in p.block xs ≡ ltb (min (distance g p) n) (min n (seen g p)) =
+    let len : length xs ≡ min n (blocks_seen g p) = ap length e ∙ length-take n st in
+    let found : is_in p.block xs ≡ ltb (min (distance g p) n) (min n (blocks_seen g p)) =
     list_any_is (is p.block) xs ∙ ap (λ k. ltb k (length xs)) index ∙ ap (λ k. ltb (min (distance g p) n) k) len in
     record {
       last = last;
@@ -57,5 +57,5 @@ finds g n p xs e =
       index = index;
       len = len;
       found = found;
-      hit = ap (λ b. b && ltb (distance g p) n) last ∙ hit_within (distance g p) (seen g p) n within ∙ sym found;
+      hit = ap (λ b. b && ltb (distance g p) n) last ∙ hit_within (distance g p) (blocks_seen g p) n within ∙ sym found;
     }

@@ -6,7 +6,7 @@ use Rattle.std.proofs.Math.Seq.{take-nil}
 use Rattle.std.proofs.lemmas.Bool.{cases_eq, ne_eqb}
 use Rattle.std.proofs.lemmas.List.{take-append-drop, length-take-le, set-get_or, set-append_left, set-append_right}
 use borrow.Rule.Slice.PartMut.{put_mid}
-use Rattle.cache_core.specs.Touched.{TouchedValue, Covers, after_count, joined}
+use Rattle.cache_core.specs.Touched.{TouchedValue, Covers, after_count, with_set}
 use Rattle.cache_core.proofs.TouchedSets.{covers_change}
 use Rattle.profile_core.specs.Moves.{is_front, is_second, move_to_front}
 use Rattle.profile_core.specs.Slab.{lists_in, IsSlab, IsListed, IsBroughtInRow}
@@ -193,6 +193,6 @@ pub covers_kept : (touched : TouchedValue) (lens : List ℕ) (k held len : ℕ) 
     → Covers touched (set lens k len)
 covers_kept touched lens k held len lt is some covers =
     let filled : eqb held 0 ≡ false = ne_eqb held 0 (λ e. absurd (omega (arith, e, some))) in
-    let grown : TouchedValue = record touched { listed = joined touched.capacity k touched.listed } in
+    let grown : TouchedValue = record touched { listed = with_set touched.capacity k touched.listed } in
     let same : after_count k held len touched ≡ touched = ap (λ b. cond (b && not (eqb len 0)) grown touched) filled in
     subst (λ listed. Covers listed (set lens k len)) same (covers_change touched lens k held len lt is covers)

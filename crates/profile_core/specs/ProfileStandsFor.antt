@@ -2,7 +2,7 @@
 use Rattle.std.specs.Prelude.{ℕ, ◌≡◌, ◌≤◌, ◌<◌, ◌^◌, ◌+◌, ◌==◌, ◌&&◌, not, min, List, length, take, count_by, slice_index}
 use Rattle.trace_core.specs.declared.events.Event.{Event}
 use Rattle.cache_core.specs.Geometry.{GeometryValue, IsGeometry}
-use Rattle.cache_core.specs.Windows.{window, occurrences, distinct_of_set, has_last, distance, seen, is_hit, probes}
+use Rattle.cache_core.specs.Windows.{window, occurrences, distinct_of_set, has_last, distance, blocks_seen, is_hit, probes}
 use Rattle.profile_core.specs.State.{ProfileState, list_of}
 
 -- how many references found their block at stack distance d
@@ -11,7 +11,7 @@ found_at g es d = count_by (λ p. has_last p && (distance g p == d)) (occurrence
 
 -- how many did not find it in a list of n blocks: those seen, at most g.e
 abbrev pub not_found_at : GeometryValue → List Event → ℕ → ℕ
-not_found_at g es n = count_by (λ p. not (is_hit g p) && (min (seen g p) g.e == n)) (occurrences g es)
+not_found_at g es n = count_by (λ p. not (is_hit g p) && (min (blocks_seen g p) g.e == n)) (occurrences g es)
 
 -- each list is the first geometry.e of its set's different blocks since the last flush, the most recent first
 -- (an LRU stack of Mattson 1970), and the numbers count the references of the events

@@ -8,8 +8,8 @@ use Rattle.std.proofs.lemmas.Bool.{and_parts, false≢true, eqb-true}
 use Rattle.trace_core.proofs.Steps.{line-split, line-before}
 use Rattle.std.proofs.lemmas.List.{length-take-le, length-append, get_or_append_left}
 use Rattle.std.proofs.Math.Seq.{get_or-append_seam, take-append_seam, drop-append-add}
-use Rattle.trace_core.specs.Fields.{is_blank, is_trailing, trimmed, fields, ends_field, number_written, without_0x}
-use Rattle.trace_core.specs.Line.{meaning, din_op, labelled, lackey_op, is_comma, is_message}
+use Rattle.trace_core.specs.Fields.{is_blank, is_trailing, without_trailing, fields, ends_field, number_written, without_0x}
+use Rattle.trace_core.specs.Line.{meaning, din_op, entry_of_label, lackey_op, is_comma, is_message}
 use Rattle.memchr.specs.Find.{IsFirstByte, is_byte}
 use Rattle.trace_core.specs.Lines.{is_line_feed, HoldsNoFeed}
 use Rattle.trace_core.specs.FastLine.{BeginsLine, BeginsLabel}
@@ -126,10 +126,10 @@ begins-field : (text rest end field : List ℕ) (label : ℕ) → (begun : Begin
     → rest ≡ field ++ end
     → 1 ≤ length field → Plain field → (text ≡ (begun.front ++ field) ++ end)
     × ((more : List ℕ) → ends_field more ≡ true →
-    fields (trimmed ((begun.front ++ field) ++ more)) ≡ (label ∷ []) ∷ field ∷ fields (trimmed more))
+    fields (without_trailing ((begun.front ++ field) ++ more)) ≡ (label ∷ []) ∷ field ∷ fields (without_trailing more))
 begins-field text rest end field label begun plain_label splits some plain = (
   begun.splits ∙ ap (λ r. begun.front ++ r) splits ∙ sym (append_assoc begun.front field end),
-  λ more ends. ap (λ l. fields (trimmed l)) (append_assoc begun.front field more) ∙ begun.first (field ++ more) plain_label
+  λ more ends. ap (λ l. fields (without_trailing l)) (append_assoc begun.front field more) ∙ begun.first (field ++ more) plain_label
       ∙ ap (λ fs. (label ∷ []) ∷ fs) (fields-field field more some plain ends),
 )
 
@@ -161,7 +161,7 @@ din-front text rest digits end label addr op means begun is number =
       front = begun.front ++ of.field;
       splits = begins.0;
       no_line_feed = unfed-append begun.front of.field (begun.no_line_feed byte) of.unfed;
-      means = λ more ends. rw (begins.1 more ends, low_test, high_test, of.bare, number) (ap (λ o. Ok (labelled label addr o)) means);
+      means = λ more ends. rw (begins.1 more ends, low_test, high_test, of.bare, number) (ap (λ o. Ok (entry_of_label label addr o)) means);
     }
 
 -- no operation is written by the first byte of a message
@@ -177,19 +177,19 @@ message-byte c cs is = by_case (c == 61) (c == 45) (c == 42) refl refl refl is
 
 -- a line begins with its first byte, where that isn't dropped
 begins-with : (c : ℕ) (cs : List ℕ) → is_trailing c ≡ false
-    → (bytes : List ℕ) × (later : List (List ℕ)) × (fields (trimmed (c ∷ cs)) ≡ (c ∷ bytes) ∷ later)
+    → (bytes : List ℕ) × (later : List (List ℕ)) × (fields (without_trailing (c ∷ cs)) ≡ (c ∷ bytes) ∷ later)
 begins-with c cs plain =
-    let stays : trimmed (c ∷ cs) ≡ c ∷ trimmed cs = trimmed-plain (c ∷ []) cs (plain, tt) in
+    let stays : without_trailing (c ∷ cs) ≡ c ∷ without_trailing cs = trimmed-plain (c ∷ []) cs (plain, tt) in
     let field-byte : is_blank c ≡ false = plain-unblank c plain in
-    let len = position_or_len is_blank (trimmed cs) in
-    let at : position_or_len is_blank (c ∷ trimmed cs) ≡ suc len = rw field-byte (omega arith) in (
-      take len (trimmed cs),
-      fields (drop len (trimmed cs)),
-      ap fields stays ∙ fields-first (c ∷ trimmed cs) (omega arith) field-byte
-          ∙ ap (λ k. take k (c ∷ trimmed cs) ∷ fields (drop k (c ∷ trimmed cs))) at,
+    let len = position_or_len is_blank (without_trailing cs) in
+    let at : position_or_len is_blank (c ∷ without_trailing cs) ≡ suc len = rw field-byte (omega arith) in (
+      take len (without_trailing cs),
+      fields (drop len (without_trailing cs)),
+      ap fields stays ∙ fields-first (c ∷ without_trailing cs) (omega arith) field-byte
+          ∙ ap (λ k. take k (c ∷ without_trailing cs) ∷ fields (drop k (c ∷ without_trailing cs))) at,
     )
 
-no-message : (line : List ℕ) (label : ℕ) (op : Op) (more : List (List ℕ)) → fields (trimmed line) ≡ (label ∷ []) ∷ more
+no-message : (line : List ℕ) (label : ℕ) (op : Op) (more : List (List ℕ)) → fields (without_trailing line) ≡ (label ∷ []) ∷ more
     → lackey_op label ≡ Some op → is_message line ≡ false
 no-message [] label op more first is = refl
 no-message (c ∷ cs) label op more first is = by_case (is_message (c ∷ cs)) refl
@@ -198,7 +198,7 @@ no-message (c ∷ cs) label op more first is = by_case (is_message (c ∷ cs)) r
     by_case false test = test
     by_case true test =
         let byte = message-byte c cs test in
-        let begins : (bytes : List ℕ) × (later : List (List ℕ)) × (fields (trimmed (c ∷ cs)) ≡ (c ∷ bytes) ∷ later) = begins-with c cs byte.1 in
+        let begins : (bytes : List ℕ) × (later : List (List ℕ)) × (fields (without_trailing (c ∷ cs)) ≡ (c ∷ bytes) ∷ later) = begins-with c cs byte.1 in
         let both : (label ∷ []) ∷ more ≡ (c ∷ begins.0) ∷ begins.1 = sym first ∙ begins.2 in
         let same : label ≡ c = cc in
         let conflict : Some op ≡ None = sym is ∙ ap lackey_op same ∙ byte.0 in
@@ -240,7 +240,7 @@ lackey-front text rest more digits decimals end label addr size op begun is comm
       means = λ later ends.
           let line-fields = begins.1 later ends in
           let plain_line : is_message ((begun.front ++ f) ++ later) ≡ false =
-          no-message ((begun.front ++ f) ++ later) label op (f ∷ fields (trimmed later)) line-fields is in
+          no-message ((begun.front ++ f) ++ later) label op (f ∷ fields (without_trailing later)) line-fields is in
           rw (plain_line, line-fields, is, before, number, after, number-2) refl;
     }
 

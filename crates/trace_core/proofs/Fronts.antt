@@ -10,7 +10,7 @@ use Rattle.std.proofs.lemmas.List.Sums.{suffix_len-le-length}
 use Rattle.std.proofs.Math.Seq.{take-append_seam, drop-append_seam}
 use Rattle.trace_core.specs.Lines.{is_line_feed, HoldsNoFeed}
 use Rattle.trace_core.specs.FastLine.{BeginsLabel}
-use Rattle.trace_core.specs.Fields.{is_blank, is_trailing, trimmed, fields, ends_field}
+use Rattle.trace_core.specs.Fields.{is_blank, is_trailing, without_trailing, fields, ends_field}
 use Rattle.trace_core.proofs.Splits.{fields-blank, fields-first}
 
 module _ (p : ℕ → Bool) where
@@ -21,11 +21,11 @@ module _ (p : ℕ → Bool) where
 
 -- a byte in front stays, unless all bytes are dropped
 pub trimmed-cons : (c : ℕ) (cs : List ℕ)
-    → (trimmed (c ∷ cs) ≡ c ∷ trimmed cs) ⊎ ((is_trailing c ≡ true) × (trimmed cs ≡ []) × (trimmed (c ∷ cs) ≡ []))
+    → (without_trailing (c ∷ cs) ≡ c ∷ without_trailing cs) ⊎ ((is_trailing c ≡ true) × (without_trailing cs ≡ []) × (without_trailing (c ∷ cs) ≡ []))
 trimmed-cons c cs = by_case (eqb (suffix_len is_trailing cs) (length cs)) (is_trailing c) refl refl
   where
     by_case : (all last : Bool) → eqb (suffix_len is_trailing cs) (length cs) ≡ all → is_trailing c ≡ last
-        → (trimmed (c ∷ cs) ≡ c ∷ trimmed cs) ⊎ ((is_trailing c ≡ true) × (trimmed cs ≡ []) × (trimmed (c ∷ cs) ≡ []))
+        → (without_trailing (c ∷ cs) ≡ c ∷ without_trailing cs) ⊎ ((is_trailing c ≡ true) × (without_trailing cs ≡ []) × (without_trailing (c ∷ cs) ≡ []))
     by_case true true is last =
         let same : suffix_len is_trailing cs ≡ length cs = eqb-true _ _ is in
         let count : suffix_len is_trailing (c ∷ cs) ≡ length cs + 1 = suffix_len-cons is_trailing c cs ∙ rw (is, last) refl in
@@ -45,10 +45,10 @@ trimmed-cons c cs = by_case (eqb (suffix_len is_trailing cs) (length cs)) (is_tr
         inl (ap (λ k. take k (c ∷ cs)) some)
 
 -- the fields of a line are those after a blank in front
-pub fields-skip : (c : ℕ) (cs : List ℕ) → is_blank c ≡ true → fields (trimmed (c ∷ cs)) ≡ fields (trimmed cs)
+pub fields-skip : (c : ℕ) (cs : List ℕ) → is_blank c ≡ true → fields (without_trailing (c ∷ cs)) ≡ fields (without_trailing cs)
 fields-skip c cs blank =
     elim (trimmed-cons c cs) [
-      | inl stays ↦ ap fields stays ∙ fields-blank c (trimmed cs) blank
+      | inl stays ↦ ap fields stays ∙ fields-blank c (without_trailing cs) blank
       | inr gone ↦ ap fields (gone.2 ∙ sym gone.1)
     ]
 
@@ -57,7 +57,7 @@ abbrev pub Plain : List ℕ → Type 0
 Plain [] = ⊤
 Plain (c ∷ cs) = (is_trailing c ≡ false) × Plain cs
 
-pub trimmed-plain : (f rest : List ℕ) → Plain f → trimmed (f ++ rest) ≡ f ++ trimmed rest
+pub trimmed-plain : (f rest : List ℕ) → Plain f → without_trailing (f ++ rest) ≡ f ++ without_trailing rest
 trimmed-plain [] rest plain = refl
 trimmed-plain (c ∷ cs) rest plain =
     elim (trimmed-cons c (cs ++ rest)) [
@@ -98,7 +98,7 @@ fields-first_is (c ∷ cs) rest some plain at =
     ∙ ap (λ xs. xs ∷ fields (drop (length (c ∷ cs)) ((c ∷ cs) ++ rest))) front
     ∙ ap (λ xs. (c ∷ cs) ∷ fields xs) back
 
-ends-trimmed : (rest : List ℕ) → ends_field rest ≡ true → position_or_len is_blank (trimmed rest) ≡ 0
+ends-trimmed : (rest : List ℕ) → ends_field rest ≡ true → position_or_len is_blank (without_trailing rest) ≡ 0
 ends-trimmed [] ends = refl
 ends-trimmed (c ∷ []) ends = rw ends refl
 ends-trimmed (c ∷ d ∷ more) ends =
@@ -109,16 +109,16 @@ ends-trimmed (c ∷ d ∷ more) ends =
 
 -- the first field of a line that begins with it
 pub fields-field : (f rest : List ℕ) → 0 < length f → Plain f → ends_field rest ≡ true
-    → fields (trimmed (f ++ rest)) ≡ f ∷ fields (trimmed rest)
+    → fields (without_trailing (f ++ rest)) ≡ f ∷ fields (without_trailing rest)
 fields-field f rest some plain ends =
-    ap fields (trimmed-plain f rest plain) ∙ fields-first_is f (trimmed rest) some plain (ends-trimmed rest ends)
+    ap fields (trimmed-plain f rest plain) ∙ fields-first_is f (without_trailing rest) some plain (ends-trimmed rest ends)
 
 ends-blank : (c : ℕ) (cs : List ℕ) → is_blank c ≡ true → ends_field (c ∷ cs) ≡ true
 ends-blank c [] blank = rw blank refl
 ends-blank c (d ∷ more) blank = blank
 
 -- the fields of a line are those after some blanks in front
-fields-blanks : (bs rest : List ℕ) → list_all is_blank bs ≡ true → fields (trimmed (bs ++ rest)) ≡ fields (trimmed rest)
+fields-blanks : (bs rest : List ℕ) → list_all is_blank bs ≡ true → fields (without_trailing (bs ++ rest)) ≡ fields (without_trailing rest)
 fields-blanks [] rest all = refl
 fields-blanks (c ∷ cs) rest all =
     let both = and_parts (is_blank c) (list_all is_blank cs) all in
@@ -127,7 +127,7 @@ fields-blanks (c ∷ cs) rest all =
 -- a label of one byte between blanks
 fields-label : (bs cs rest : List ℕ) (label b : ℕ) → list_all is_blank bs ≡ true → list_all is_blank cs ≡ true → is_blank b ≡ true
     → is_trailing label ≡ false
-    → fields (trimmed (bs ++ label ∷ b ∷ (cs ++ rest))) ≡ (label ∷ []) ∷ fields (trimmed rest)
+    → fields (without_trailing (bs ++ label ∷ b ∷ (cs ++ rest))) ≡ (label ∷ []) ∷ fields (without_trailing rest)
 fields-label bs cs rest label b before after blank plain =
     fields-blanks bs (label ∷ b ∷ (cs ++ rest)) before
     ∙ fields-field (label ∷ []) (b ∷ (cs ++ rest)) (omega arith) (plain, tt) (ends-blank b (cs ++ rest) blank)
@@ -190,7 +190,7 @@ label-front text cut tail rest before some blank tail_is after =
       splits = before.1 ∙ ap (λ r. before.0 ++ r) (two-front cut some ∙ ap (λ r. label ∷ b ∷ r) (sym tail_is ∙ after.1)) ∙ split rest;
       no_line_feed = λ byte.
           unfed-append before.0 (label ∷ b ∷ after.0) (unfed-blanks before.0 before.2) (byte, (unfed-blank b blank, unfed-blanks after.0 after.2));
-      first = λ more plain. ap (λ l. fields (trimmed l)) (sym (split more)) ∙ fields-label before.0 after.0 more label b before.2 after.2 blank plain;
+      first = λ more plain. ap (λ l. fields (without_trailing l)) (sym (split more)) ∙ fields-label before.0 after.0 more label b before.2 after.2 blank plain;
     }
 
 -- a label and one blank

@@ -1,6 +1,6 @@
 -- The front of a line, which decides what it means.
 use Rattle.std.specs.Prelude.{◌≡◌, true, false, ℕ, List, [], ◌∷◌, ◌++◌, Some, Ok}
-use Rattle.trace_core.specs.Fields.{is_trailing, trimmed, fields, ends_field}
+use Rattle.trace_core.specs.Fields.{is_trailing, without_trailing, fields, ends_field}
 use Rattle.trace_core.specs.Lines.{is_line_feed, HoldsNoFeed}
 use Rattle.trace_core.specs.Line.{meaning}
 use Rattle.trace_core.specs.declared.events.Entry.TheVariants as entry
@@ -20,4 +20,4 @@ pub record BeginsLabel (text rest : List ℕ) (label : ℕ) : Type 0 where
   pub front : List ℕ
   pub splits : text ≡ front ++ rest
   pub no_line_feed : is_line_feed label ≡ false → HoldsNoFeed front
-  pub first : (more : List ℕ) → is_trailing label ≡ false → fields (trimmed (front ++ more)) ≡ (label ∷ []) ∷ fields (trimmed more)
+  pub first : (more : List ℕ) → is_trailing label ≡ false → fields (without_trailing (front ++ more)) ≡ (label ∷ []) ∷ fields (without_trailing more)

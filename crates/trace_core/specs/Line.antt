@@ -1,7 +1,7 @@
 -- What one line means, or its fault.
 use Rattle.std.specs.Prelude.{ℕ, ◌==◌, nat_lt, ◌||◌, Bool, false, List, [], ◌∷◌, Option, None, Some, Result, Ok, Err, if◌then◌else◌}
 use Rattle.std.specs.List.{before_first, after_first}
-use Rattle.trace_core.specs.Fields.{trimmed, fields, number_written, without_0x}
+use Rattle.trace_core.specs.Fields.{without_trailing, fields, number_written, without_0x}
 use Rattle.trace_core.specs.declared.events.Op.{Op}
 use Rattle.trace_core.specs.declared.events.Op.TheVariants.{Fetch, Load, Store, Modify}
 use Rattle.trace_core.specs.declared.events.Access.{Access}
@@ -44,13 +44,13 @@ op_of access.Fetch = Fetch
 
 -- what a line with this label, this operation of it if any, and this address means; `3` is nothing, and `4` a flush (these two are
 -- this project's)
-abbrev pub labelled : ℕ → ℕ → Option Op → Option Entry
-labelled label addr (Some op) = item op addr 0
-labelled label addr None = if label == 51 then None else Some entry.Flush
+abbrev pub entry_of_label : ℕ → ℕ → Option Op → Option Entry
+entry_of_label label addr (Some op) = item op addr 0
+entry_of_label label addr None = if label == 51 then None else Some entry.Flush
 
 -- what a line with this label, `0` to `4`, and this address means
 abbrev pub din_entry : ℕ → ℕ → Option Entry
-din_entry label addr = labelled label addr (din_op label)
+din_entry label addr = entry_of_label label addr (din_op label)
 
 -- the address in the second field, after an optional `0x`
 abbrev pub din_address : List (List ℕ) → Option ℕ
@@ -99,5 +99,5 @@ is_message (c ∷ cs) = c == 61 || c == 45 || c == 42
 
 -- What a line means: an entry, or nothing where it is skipped; or the fault of its leftmost bad field.
 abbrev pub meaning : Format → List ℕ → Result (Option Entry) LineFault
-meaning Din line = din_meaning (fields (trimmed line))
-meaning Lackey line = if is_message line then Ok None else lackey_meaning (fields (trimmed line))
+meaning Din line = din_meaning (fields (without_trailing line))
+meaning Lackey line = if is_message line then Ok None else lackey_meaning (fields (without_trailing line))

@@ -1,7 +1,8 @@
 //! Judging one line.
 ghost use Rattle.std.specs.Prelude.{◌≡◌, ◌≤◌, [], ◌∷◌, length, MatchOption, Some};
 ghost use Rattle.std.specs.List.{position_or_len, before_first, after_first};
-ghost use Rattle.trace_core.specs.Fields.{is_blank, is_field_byte, is_trailing, trimmed, fields};
+ghost use Rattle.trace_core.specs.Fields.{is_blank, is_field_byte, is_trailing};
+ghost use Rattle.trace_core.specs.Fields.{without_trailing, fields};
 ghost use Rattle.trace_core.specs.Fields.{without_0x};
 ghost use Rattle.trace_core.specs.Line.{meaning, din_meaning, din_address, din_entry, din_op};
 ghost use Rattle.trace_core.specs.Line.{lackey_meaning, lackey_access, lackey_op, is_comma};
@@ -183,7 +184,7 @@ fn split_comma(field: &[u8]) -> (&[u8], &[u8])
 
 /// The line without the blanks and CRs at its end.
 fn trim_end(line: &[u8]) -> &[u8]
-    ensures { result.now ≡ trimmed line.now }
+    ensures { result.now ≡ without_trailing line.now }
 {
     let mut end = line.len();
     while end > 0 && is_trailing(line[end - 1]) {

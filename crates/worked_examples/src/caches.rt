@@ -2,8 +2,9 @@
 //! configuration.
 use crate::samples::{fetch, nine_references, read, write};
 use cache_core::cache::Cache;
+use cache_core::design::{AllocMode, WriteMode};
 use cache_core::geometry::Geometry;
-use cache_core::outcome::{AllocMode, Counts, Outcome, Slot, WriteMode};
+use cache_core::outcome::{Counts, Outcome, Slot};
 use cache_core::replacement::Lru;
 use cache_core::simulate::simulate;
 use std::alloc::Global;

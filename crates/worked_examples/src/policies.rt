@@ -2,8 +2,9 @@
 ghost use Rattle.std.specs.Prelude.{◌≤◌};
 
 use cache_core::cache::Cache;
+use cache_core::design::{AllocMode, WriteMode};
 use cache_core::geometry::Geometry;
-use cache_core::outcome::{AllocMode, Slot, WriteMode};
+use cache_core::outcome::Slot;
 use cache_core::replacement::{Fifo, Lru, Random, Replacement};
 use rand_core::utils::NextWord;
 use rand_pcg::Pcg32;

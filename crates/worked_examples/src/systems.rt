@@ -1,5 +1,5 @@
 //! Systems of caches: what each level counts, and what goes past the last one.
-use cache_core::outcome::{AllocMode, Repl, WriteMode};
+use cache_core::design::{AllocMode, Repl, WriteMode};
 use cache_core::plan::{CacheName, CacheSpec, FirstLevel, Plan, PlanFault};
 use cache_core::stats::{CacheStats, Stats};
 use cache_core::system::{MAX_STEPS, System};

@@ -1,5 +1,5 @@
 //! A worked log of two levels, whose victims lie at other addresses than their numbers.
-use cache_core::outcome::{AllocMode, Repl, WriteMode};
+use cache_core::design::{AllocMode, Repl, WriteMode};
 use cache_core::plan::{CacheSpec, FirstLevel, Plan};
 use commands::log::log;
 use std::test::Fail;

@@ -5,8 +5,8 @@ ghost use Rattle.arguments.specs.Job.{max_lines_of};
 
 use crate::samples::{HANDOUT, HANDOUT_TEXT, NINE, TABLE};
 use arguments::job::Job;
+use cache_core::design::{AllocMode, Repl, WriteMode};
 use cache_core::geometry::Geometry;
-use cache_core::outcome::{AllocMode, Repl, WriteMode};
 use cache_core::plan::{CacheSpec, FirstLevel, Plan};
 use commands::csim::csim;
 use commands::din::din;

@@ -4,7 +4,7 @@ use Rattle.clap.specs.Words.{Row, Text}
 use Rattle.arguments.proofs.HelpLemmas.{help_told, refusal_told}
 use Rattle.arguments.proofs.Parsing.{accepted, refused, rows_are, rows_ordered, taken}
 use Rattle.arguments.specs.CommandLine.{command_result, chosen_command}
-use Rattle.options.specs.Respell.{respelled}
+use Rattle.options.specs.Respell.{respelling_of}
 use Rattle.arguments.proofs.parse.parse.Goals as goal
 
 pub read_command-requires : goal.read_command-requires
@@ -36,5 +36,5 @@ returns-clause-refused c =
 
 pub returns-clause-help : goal.returns-clause-help
 returns-clause-help c =
-    help_told c.usage_fault.result _ (respelled (map string_bytes c.args.arguments.now)) c.usage_fault.ensures.memory c.usage_fault.ensures.help
+    help_told c.usage_fault.result _ (respelling_of (map string_bytes c.args.arguments.now)) c.usage_fault.ensures.memory c.usage_fault.ensures.help
     (refused string_bytes _ _ c.in_ok-command.ensures.app c.as_slice.ensures.value c.in_ok-respelled.ensures c.in-Err.error c.in-Err.ensures.kinds)

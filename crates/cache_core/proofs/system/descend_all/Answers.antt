@@ -3,7 +3,7 @@ use Rattle.std.proofs.Common.{arith, sym, subst, List, append-nil, ◌∙◌, ap
 use Rattle.trace_core.specs.declared.events.Event.TheVariants as event
 use Rattle.cache_core.specs.declared.arrival.Arrival.{Arrival}
 use Rattle.cache_core.specs.SystemStands.{PlannedCacheStandsFor}
-use Rattle.cache_core.specs.Arrivals.{Saw, arrives_below, arrive_below}
+use Rattle.cache_core.specs.Arrivals.{Saw, arrivals_below, all_arrivals_below}
 use Rattle.cache_core.proofs.Observed.{descended, first_sent, second_sent, saw_both}
 use Rattle.cache_core.proofs.system.descend_all.Goals as goal
 use Rattle.cache_core.proofs.system.descend_all.Goals.{in-Some, in_default}
@@ -19,17 +19,17 @@ returns-in-Some-next-clause-seen g c = λ seed planned events good stands.
           w.descend.ensures.value in
           let two = c.descend-in-Some-next.ensures.seen seed planned more good (subst (PlannedCacheStandsFor seed planned more) (sym w.second-is) s) in
           let both = saw_both g.O.Observer.has_seen (w.descend.ensures.seen seed planned events good stands)
-          (subst (λ o. Saw g.O.Observer.has_seen o (arrives_below seed planned more c.in-Some-next.reference) c.descend-in-Some-next.new.observer)
+          (subst (λ o. Saw g.O.Observer.has_seen o (arrivals_below seed planned more c.in-Some-next.reference) c.descend-in-Some-next.new.observer)
           w.observer-is two) in
-          subst Seen (ap (λ (xs : List Arrival). arrives_below seed planned events w.in-Some.reference ++ xs) (sym (append-nil _))
-          ∙ ap (arrive_below seed planned events)
+          subst Seen (ap (λ (xs : List Arrival). arrivals_below seed planned events w.in-Some.reference ++ xs) (sym (append-nil _))
+          ∙ ap (all_arrivals_below seed planned events)
           (sym (first_sent c.args.down w.in-Some.reference c.in-Some-next.reference (omega arith) w.in-Some.is c.in-Some-next.is))) both
       | in_default w ↦
           let one = c.descend-in-Some-next.ensures.seen seed planned events good (subst (PlannedCacheStandsFor seed planned events) (sym w.second-is) stands) in
           let saw =
-          subst (λ o. Saw g.O.Observer.has_seen o (arrives_below seed planned events c.in-Some-next.reference) c.descend-in-Some-next.new.observer)
+          subst (λ o. Saw g.O.Observer.has_seen o (arrivals_below seed planned events c.in-Some-next.reference) c.descend-in-Some-next.new.observer)
           w.observer-is one in
           subst Seen (sym (append-nil _)
-          ∙ ap (arrive_below seed planned events)
+          ∙ ap (all_arrivals_below seed planned events)
           (sym (second_sent c.args.down c.in-Some-next.reference (omega arith) w.in_default.is c.in-Some-next.is))) saw
     ]

@@ -1,6 +1,6 @@
 -- A new simulation has the counts of no event.
 use Rattle.std.proofs.Common.{refl}
-use Rattle.cache_core.specs.declared.outcome.WriteMode.TheVariants.{Back}
+use Rattle.cache_core.specs.declared.design.WriteMode.TheVariants.{Back}
 use Rattle.cache_core.specs.LruLaws.{lru_machine}
 use Rattle.cache_core.specs.Windows.{counts, occurrences_after}
 use Rattle.cache_core.proofs.RunLaw.{start_law}

@@ -1,6 +1,6 @@
 use Rattle.std.proofs.Common.{◌+◌, Some, arith, length-take}
 use Rattle.std.proofs.lemmas.List.{take_more_set}
-use Rattle.cache_core.specs.declared.outcome.Repl.TheVariants.{Random}
+use Rattle.cache_core.specs.declared.design.Repl.TheVariants.{Random}
 use Rattle.cache_core.proofs.Lawful.{lawful_insert, written}
 use Rattle.callers.proofs.Lasts.{last_exchanged}
 use Rattle.callers.proofs.policies.LruInsertionReplacement.place.Goals as goal

@@ -1,6 +1,6 @@
 -- A touch that keeps LRU's order keeps the slots.
 use Rattle.std.proofs.Common.{Some}
-use Rattle.cache_core.specs.declared.outcome.Repl.TheVariants.{Lru}
+use Rattle.cache_core.specs.declared.design.Repl.TheVariants.{Lru}
 use Rattle.cache_core.proofs.Lawful.{lawful_touch}
 use Rattle.callers.proofs.policies.LruInsertionReplacement.touch.Goals as goal
 
