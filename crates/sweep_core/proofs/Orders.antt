@@ -1,5 +1,5 @@
 -- The order of configurations.
-use Rattle.std.proofs.Common.{◌≡◌, ◌<◌, true, false, arith, refl, Option, None, Some}
+use Rattle.std.proofs.Common.{◌≡◌, ◌<◌, ◌≤◌, true, false, arith, refl, Option, None, Some}
 use Rattle.std.proofs.lemmas.Bool.{ltb-true, or_cases, and_parts, eqb-true, lt-ltb, eq-eqb, or_left, or_right, and_from, false_from_ne_true}
 use Rattle.std.specs.Prelude.{◌⊎◌}
 use Rattle.std.proofs.Common.{inl, inr}
@@ -27,6 +27,10 @@ pub is_less-from : (c d : Config) → Less c d → is_less c d ≡ true
 is_less-from c d (inl b) = or_left _ _ (lt-ltb _ _ b)
 is_less-from c d (inr (b, inl s)) = or_right _ _ (and_from _ _ (eq-eqb _ _ b) (or_left _ _ (lt-ltb _ _ s)))
 is_less-from c d (inr (b, inr (s, e))) = or_right _ _ (and_from _ _ (eq-eqb _ _ b) (or_right _ _ (and_from _ _ (eq-eqb _ _ s) (lt-ltb _ _ e))))
+
+-- a greater one has no smaller blocks
+pub less-block : (c d : Config) → is_less c d ≡ true → c.bsize ≤ d.bsize
+less-block c d h = elim (less_of c d h) [ inl more ↦ omega arith | inr same ↦ omega (arith, same.0) ]
 
 Less-asym : (c d : Config) → Less c d → Less d c → ⊥
 Less-asym c d p q = grind arith

@@ -34,7 +34,7 @@ pub(crate) fn make_profiles(
     ensures linked { IfOk result (λ made. IsLinked made.items) }
 {
     let mut made = Vec::new(alloc);
-    let mut pair = 0;
+    let mut pair = request.space.first_pair(request.after);
     let mut most = request.rows;
     while let Some(rows) = take_pair(request, &mut pair, &mut most) {
         let PairRows {

@@ -5,7 +5,7 @@ ghost use Rattle.std.specs.Iterator.{YieldsFirst, item_count};
 ghost use Rattle.sweep_core.specs.Table.{is_after};
 ghost use Rattle.sweep_core.specs.Space.{config};
 ghost use Rattle.cache_core.specs.Powers.{log2};
-ghost use Rattle.sweep_core.specs.Walk.{NoWays, AreWays};
+ghost use Rattle.sweep_core.specs.Walk.{pair_at, NoWays, AreWays};
 
 use super::{Config, Space, is_in_range};
 use cache_core::geometry::{MAX_BITS, MAX_CACHE_LINES};
@@ -13,9 +13,6 @@ use std::marker::Model;
 
 /// How many powers of two there are up to the greatest block size and set count.
 const POWERS: u32 = MAX_BITS as u32 + 1;
-
-/// How many pairs of block size and set count there are.
-const PAIRS: u32 = POWERS * POWERS;
 
 /// An iterator over the configurations of a space that are greater than a triple, rising.
 #[derive(Debug, Drop)]
@@ -75,7 +72,7 @@ pub(crate) struct PairRows {
 
 impl Space {
     ghost use Rattle.std.specs.Prelude.{◌≡◌, ◌<◌, ◌≤◌, ◌^◌, ◌&&◌, ◌||◌, [], ℕ, not, true};
-    ghost use Rattle.std.specs.Prelude.{MatchOption, IfSome, None};
+    ghost use Rattle.std.specs.Prelude.{Option, MatchOption, IfSome, None};
     ghost use Rattle.sweep_core.specs.Space.{is_valid, is_in_range, config, space_fault};
     ghost use Rattle.cache_core.specs.Powers.{is_power};
     ghost use Rattle.sweep_core.specs.Table.{table};
@@ -96,8 +93,29 @@ impl Space {
                 sets: 1,
                 assoc: 1,
             },
-            pair: 0,
+            pair: self.first_pair(after),
         }
+    }
+
+    /// The index of the first pair in its ranges, or with blocks as large as those of `after`. No
+    /// pair before it has a configuration greater than `after`.
+    pub(crate) fn first_pair(&self, after: Option<Config>) -> u32
+        ensures { rows_from self.now after result ≡ table self.now after }
+    {
+        let least = match after {
+            None => self.bsize.0,
+            Some(config) => config.bsize.max(self.bsize.0),
+        };
+        pair_index(least, self.sets.0)
+    }
+
+    /// The index of the last pair in its ranges.
+    fn last_pair(&self) -> u32
+        ensures few { result < 441 }
+        ensures last { (after : Option Config) (k : ℕ) → result < k →
+            rows_from self.now after k ≡ [] }
+    {
+        pair_index(self.bsize.1, self.sets.1)
     }
 
     /// Takes the next pair that has a configuration greater than `after`, from the pair with the
@@ -112,31 +130,31 @@ impl Space {
             ways_after self.now.powers rows.first.assoc rows.count ≤ 2 ^ 63) }
         ensures limits { space_fault self.now ≡ None }
     {
-        let block_sizes = self.bsize;
-        while *pair < PAIRS {
+        let (_, most_sets) = self.sets;
+        let last = self.last_pair();
+        while *pair <= last {
             let bsize = power(*pair / POWERS);
             let set_bits = *pair % POWERS;
-            if !is_in_range(block_sizes, bsize) {
+            let sets = power(set_bits);
+            if sets > most_sets {
                 *pair += POWERS - set_bits;
                 continue;
             }
             *pair += 1;
-            if let Some(rows) = self.rows_of_pair(bsize, power(set_bits), after) {
+            if let Some(rows) = self.rows_of_pair(bsize, sets, after) {
                 return Some(rows);
             }
         }
         None
     }
 
-    /// Its configurations of a pair that are greater than `after`, if there are any. The block size
-    /// is in its range.
+    /// Its configurations of a pair that are greater than `after`, if there are any.
     fn rows_of_pair(&self, bsize: u64, sets: u64, after: Option<Config>) -> Option<PairRows>
-        requires block { is_in_range self.now.bsize bsize ≡ true }
-        requires powers { (is_power bsize ≡ true) × (is_power sets ≡ true) }
+        requires { (is_power bsize ≡ true) × (is_power sets ≡ true) }
         ensures { MatchOption result (rows_of_pair self.now after (bsize, sets) ≡ [])
             (HasRows self.now after (bsize, sets)) }
     {
-        if !is_in_range(self.sets, sets) {
+        if !is_in_range(self.bsize, bsize) || !is_in_range(self.sets, sets) {
             return None;
         }
         let least = least_after(bsize, sets, after)?;
@@ -179,6 +197,15 @@ impl Space {
     {
         if self.powers { ways * 2 } else { ways + 1 }
     }
+}
+
+/// The index of the greatest pair whose numbers are not greater than these.
+fn pair_index(bsize: u64, sets: u64) -> u32
+    requires { (1 ≤ bsize) × (1 ≤ sets) }
+    ensures least { (k : ℕ) → bsize ≤ (pair_at k).0 → sets ≤ (pair_at k).1 → result ≤ k }
+    ensures greatest { (k : ℕ) → (pair_at k).0 ≤ bsize → (pair_at k).1 ≤ sets → k ≤ result }
+{
+    bsize.ilog2() * POWERS + sets.ilog2()
 }
 
 /// The least associativity with which a configuration of a pair is greater than `after`, if it is

@@ -2,7 +2,6 @@
 use Rattle.std.proofs.Common.{◌≡◌, ◌++◌, ◌∙◌, [], refl, sym, ap, subst, arith, take, drop, length}
 use Rattle.sweep_core.proofs.Validity.{space-limited}
 use Rattle.sweep_core.proofs.Depths.{geometry-of}
-use Rattle.sweep_core.proofs.Walk.{table-walked}
 use Rattle.sweep_core.proofs.Runs.{begins-shorter}
 use Rattle.sweep_core.proofs.Making.{Making, new-fed, making-start, making-first, making-more, making-end}
 use Rattle.sweep_core.specs.Table.{first_rows}
@@ -14,7 +13,7 @@ use Rattle.sweep_core.proofs.profiles.make_profiles.Goals.{After-link}
 pub loop-rows-init : goal.loop-rows-init
 loop-rows-init c =
     rw c.new-made.ensures.items (subst (λ rows. Making c.args.request.now [] (first_rows c.args.request.now.rows rows))
-    (table-walked c.args.request.now.space c.args.request.now.after) (making-start c.args.request.now))
+    (sym c.first_pair-pair.ensures) (making-start c.args.request.now))
 
 pub loop-rows-smaller : goal.loop-rows-smaller
 loop-rows-smaller c = begins-shorter c.in-Some.ensures.rows

@@ -6,12 +6,21 @@ use Rattle.sweep_core.specs.Walk.{NoWays, AreWays}
 use Rattle.sweep_core.proofs.Validity.{valid_of, is_in_range-from, space-limited}
 use Rattle.sweep_core.proofs.Ways.{pair-none, rows-none, rows-some}
 use Rattle.sweep_core.proofs.space.Space.rows_of_pair.Goals as goal
+use Rattle.sweep_core.proofs.space.Space.rows_of_pair.Goals.{then-not-is_in_range-via-then-not-is_in_range}
+use Rattle.sweep_core.proofs.space.Space.rows_of_pair.Goals.{then-not-is_in_range-via-else-not-is_in_range+then-not-is_in_range-2}
 
 pub returns-then-not-is_in_range : goal.returns-then-not-is_in_range
 returns-then-not-is_in_range c =
     pair-none c.args.self.now c.args.after c.args.bsize c.args.sets (λ e valid _.
-    false≢true (sym (subst (λ (r : Ranges). is_in_range r.sets c.args.sets ≡ false) c.self.view_is (sym c.is_in_range.ensures ∙ c.if-not-is_in_range.true))
-    ∙ is_in_range-from _ _ (valid_of c.args.self.now (config c.args.bsize c.args.sets e) valid).sets))
+    let v = valid_of c.args.self.now (config c.args.bsize c.args.sets e) valid in
+    elim c.then-not-is_in_range.branch [
+      | then-not-is_in_range-via-then-not-is_in_range w ↦
+          false≢true (sym (subst (λ (r : Ranges). is_in_range r.bsize c.args.bsize ≡ false) c.self.view_is
+          (sym c.is_in_range.ensures ∙ w.if-not-is_in_range.true)) ∙ is_in_range-from _ _ v.bsize)
+      | then-not-is_in_range-via-else-not-is_in_range+then-not-is_in_range-2 w ↦
+          false≢true (sym (subst (λ (r : Ranges). is_in_range r.sets c.args.sets ≡ false) c.self.view_is
+          (sym w.is_in_range-else-not-is_in_range.ensures ∙ w.if-not-is_in_range-2.true)) ∙ is_in_range-from _ _ v.sets)
+    ])
 
 pub returns-in_err-least : goal.returns-in_err-least
 returns-in_err-least c =
