@@ -67,6 +67,7 @@ fn push_cache(text: &mut Text<REPORT>, name: CacheName, stats: Option<CacheStats
 }
 
 /// Adds a name, and a number after it.
+#[inline(always)]
 fn push_field(text: &mut Text<REPORT>, name: &[u8], number: u64)
     requires { length text.old + length name.now + DECIMAL ≤ REPORT }
     ensures value { text.new ≡ text.old ++ field name.now number }
