@@ -5,12 +5,12 @@ use Rattle.std.proofs.Common.{List, [], ◌∷◌, ◌++◌, length, get_or, Opt
 use Rattle.std.proofs.Common.{find}
 use Rattle.std.specs.Prelude.{MatchBool, IfSome, sum_by, is_none, IsPermutation, Contains}
 use Rattle.std.specs.List.{list_any}
-use Rattle.std.proofs.lemmas.Bool.{eqb-true, or_parts, le-ltb, lt-ltb}
+use Rattle.std.proofs.lemmas.Bool.{or_parts, le-ltb, lt-ltb}
 use Rattle.std.proofs.lemmas.List.{append-nil, length-map, length-replicate}
 use Rattle.std.proofs.lemmas.List.Elements.{Contains-append_right}
 use Rattle.std.proofs.lemmas.List.Quantifiers.{position-Some}
 use Rattle.std.proofs.lemmas.List.Sums.{sum_by-cons, sum_by-set, get_or-le-sum_by}
-use Rattle.std.proofs.lemmas.List.Sorted.{IsPermutation-refl, length_permutation, sum_by-IsPermutation}
+use Rattle.std.proofs.lemmas.List.Sorted.{length_permutation, sum_by-IsPermutation}
 use Rattle.trace_core.specs.declared.events.Ref.{Ref}
 use Rattle.cache_core.specs.declared.outcome.Slot.{Slot}
 use Rattle.cache_core.specs.declared.outcome.Outcome.{Outcome}
@@ -19,7 +19,7 @@ use Rattle.cache_core.specs.Geometry.{GeometryValue, block_of, set_of_block}
 use Rattle.cache_core.specs.Outcomes.{outcome_of, on_placing, dirties, allocates}
 use Rattle.cache_core.specs.Machine.{Machine, MachineState, Line, slot_of, is_block, lines_of_set, is_full, with_line_at, key_at, placing}
 use Rattle.cache_core.specs.Machine.{Step, passing, start, step_at}
-use Rattle.cache_core.specs.Order.{Contents, dirty_in, VisitsAt, Fills, PassesOn, Hits, TakesIn, slots_of, position_of, with_dirty_at}
+use Rattle.cache_core.specs.Order.{Contents, VisitsAt, Fills, PassesOn, Hits, TakesIn, slots_of, position_of, with_dirty_at}
 use Rattle.cache_core.specs.Rules.{Place, rules}
 use Rattle.cache_core.specs.Stands.{Absent, Distinct}
 use Rattle.cache_core.specs.AnyPolicy.{HoldsSame, MayLeave, AnyStartLaw, AnyAccessLaw, AnyFlushLaw}
@@ -28,7 +28,7 @@ use Rattle.cache_core.proofs.Lines.{Found, found, not_found, find_in_set, absent
 use Rattle.cache_core.proofs.Lines.{around, distinct_around, with_line_at-none, with_line_at-some}
 use Rattle.cache_core.proofs.SetLaw.{with_mark}
 use Rattle.cache_core.proofs.StateLaw.{line_here, line_other, member_set}
-use Rattle.cache_core.proofs.Visits.{at_each, set_for, visit_for, others_for}
+use Rattle.cache_core.proofs.Visits.{set_for, visit_for}
 use Rattle.cache_core.proofs.FlushLaw.{none_anywhere, dirty_all}
 use Rattle.cache_core.proofs.LruSet.{blocks_of, position_none}
 use Rattle.cache_core.proofs.DownLaw.{any_clean, any_few}
@@ -59,19 +59,13 @@ empty_slot = record { block = 0; dirty = false }
 -- the slot at an index that is marked
 marked_sum : (d : Bool) (slots : List Slot) (at : ℕ) (line : Line) (f : Slot → ℕ) → at < length slots →
     slot_of line ≡ get_or slots at empty_slot → sum_by f (with_dirty_at d slots at) + f (slot_of line) ≡ sum_by f slots + f (slot_of (with_mark d line))
-marked_sum false slots at line f h e = refl
-marked_sum true slots at line f h e =
-    let moved = sum_by-set f slots at (record (get_or slots at empty_slot) { dirty = true }) empty_slot h in
-    let old : f (slot_of line) ≡ f (get_or slots at empty_slot) = ap f e in
-    let new : f (slot_of (with_mark true line)) ≡ f (record (get_or slots at empty_slot) { dirty = true }) =
-    ap (λ (s : Slot). f (record s { dirty = true })) e in
-    omega (arith, moved, old, new)
+marked_sum d slots at line f h e = grind (arith, sum_by-set)
 
 -- the sums over a set's slots, where one of its lines is seen apart
 sums_around : (slots : List Slot) (here front : List Line) (line : Line) (back : List Line) → IsPermutation slots (map slot_of here) →
     here ≡ front ++ line ∷ back → (f : Slot → ℕ) → line_sum f (front ++ back) + f (slot_of line) ≡ sum_by f slots
 sums_around slots here front line back perm split f =
-    omega (arith, sum_by-IsPermutation f slots (map slot_of here) perm, ap (line_sum f) split, sum_split f front line back)
+    grind (arith, sum_by-IsPermutation f slots (map slot_of here) perm, sum_split f front line back)
 
 -- a block that has a line has an index among the slots
 held_placed : (b : ℕ) (here : List Line) (line : Line) (slots : List Slot) → IsPermutation slots (map slot_of here) →
@@ -95,14 +89,8 @@ placed_held b here slots at d perm q =
     let p = position-Some (λ (s : Slot). s.block == b) slots at empty_slot q in
     let counted = get_or-le-sum_by (one_for x) slots at empty_slot p.0 in
     let r = line_for x here (omega (arith, counted, one_self x, sum_by-IsPermutation (one_for x) slots (map slot_of here) perm)) in
-    let is_b : r.line.block ≡ b = ap (λ (s : Slot). s.block) r.slot ∙ eqb-true x.block b p.1 in
     let front = distinct_front r.front r.line r.back (subst Distinct r.split d) in
-    record {
-      line = r.line;
-      held = ap (find (is_block b)) r.split ∙ find_split b r.front r.line r.back is_b
-          (subst (λ n. Absent n r.front) is_b front);
-      slot = r.slot;
-    }
+    grind (arith, find_split)
 
 -- a reference at a machine, whose set holds the slots of the machine's lines in some order
 module _ (m : Machine) (st : MachineState) (ref : Ref) (policy : Option Repl) (numbers : ℕ → ℕ) (outcome : Outcome) (slots new : List Slot)
@@ -281,44 +269,18 @@ any_access m st old ref outcome new some i a =
     let r =
     step_agrees m st ref old.policy old.random_numbers outcome (slots_of old.sets k) (slots_of new.sets k) new.random_numbers some (i.distinct k) (i.sets k) o
     (position_of b (slots_of old.sets k)) (find_in_set g b st.lines) refl (visit_for m old ref outcome new i.design a) in
-    let next : MachineState = (step_at m ref b r.gone st o).after in
-    let stay = others_for m old ref outcome new i.design a in
-    record {
-      gone = r.gone;
-      may = r.may;
-      effect = r.effect;
-      few = any_few m st ref r.gone i.clean r.may;
-      holds = record {
-        design = a.design ∙ i.design;
-        count = a.count ∙ i.count;
-        sets = at_each (λ n. IsPermutation (slots_of new.sets n) (map slot_of (lines_of_set g n next.lines))) k r.held
-            (λ j ne. rw (r.others j ne, stay j ne) (i.sets j));
-        distinct = at_each (λ n. Distinct (lines_of_set g n next.lines)) k r.distinct (λ j ne. subst Distinct (sym (r.others j ne)) (i.distinct j));
-        clean = any_clean m st ref r.gone i.clean;
-      };
-    }
+    grind (arith, any_few, any_clean)
 
 -- a cache with no slots holds what the machine holds where it has no line
 holds_nothing : (m : Machine) (st : MachineState) (c : Contents) (n : ℕ) → c.design ≡ m.design → c.sets ≡ replicate n [] →
     n ≡ 2 ^ m.design.geometry.s →
     HoldsSame m (record st { lines = [] }) c
-holds_nothing m st c n d e all = record {
-  design = d;
-  count = ap length e ∙ length-replicate n [] ∙ all;
-  sets = λ k. subst (λ s. IsPermutation s []) (sym (ap (λ s. slots_of s k) e ∙ none_anywhere n k)) (IsPermutation-refl []);
-  distinct = λ k. tt;
-  clean = λ w. refl;
-}
+holds_nothing m st c n d e all = grind (arith, length-replicate, none_anywhere)
 
 pub any_start : AnyStartLaw
 any_start m c d e = holds_nothing m start c (2 ^ m.design.geometry.s) d e refl
 
 pub any_flush : AnyFlushLaw
 any_flush m st old dirty new i f =
-    let same : (k : ℕ) → dirty_in (slots_of old.sets k) ≡ dirty_in (map slot_of (lines_of_set m.design.geometry k st.lines)) = λ k.
-    sym
-    (sum_by-IsPermutation (λ (slot : Slot). cond slot.dirty 1 0) (slots_of old.sets k) (map slot_of (lines_of_set m.design.geometry k st.lines)) (i.sets k))
-    in (
-      holds_nothing m st new (length old.sets) (f.design ∙ i.design) f.empty i.count,
-      f.counted ∙ dirty_all m.design.geometry st.lines old.sets i.count same,
-    )
+    let same = λ (k : ℕ). sym (sum_by-IsPermutation (λ (slot : Slot). cond slot.dirty 1 0) (slots_of old.sets k) _ (i.sets k)) in
+    (holds_nothing m st new (length old.sets) (f.design ∙ i.design) f.empty i.count, f.counted ∙ dirty_all m.design.geometry st.lines old.sets i.count same)

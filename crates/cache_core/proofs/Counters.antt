@@ -1,60 +1,30 @@
 -- What one reference adds to the counts of a system.
-use Rattle.std.proofs.Common.{◌≡◌, ℕ, ◌+◌, ◌*◌, ◌≤◌, Bool, true, false, cond, get_or, List, [], ◌∷◌, ◌++◌, length}
-use Rattle.std.proofs.Common.{Option, Some, None, arith, ap, refl}
+use Rattle.std.proofs.Common.{◌≡◌, ℕ, ◌+◌, ◌*◌, ◌≤◌, Bool, true, false, get_or, List, [], ◌∷◌, ◌++◌, length}
+use Rattle.std.proofs.Common.{Option, Some, None, arith, ap}
 use Rattle.std.specs.Prelude.{MatchBool, is_some, is_none}
-use Rattle.std.specs.Option.{option_map}
 use Rattle.trace_core.specs.declared.events.Ref.{Ref}
-use Rattle.trace_core.specs.declared.events.Access.{Access}
-use Rattle.trace_core.specs.declared.events.Access.TheVariants.{Fetch, Read, Write}
-use Rattle.trace_core.specs.Events.{is_fetch, is_read, is_write, one_if}
+use Rattle.trace_core.specs.Events.{is_fetch, one_if}
 use Rattle.cache_core.specs.declared.outcome.Outcome.{Outcome}
 use Rattle.cache_core.specs.declared.design.Design.{Design}
 use Rattle.cache_core.specs.declared.outcome.Slot.{Slot}
 use Rattle.cache_core.specs.declared.design.Repl.{Repl}
-use Rattle.cache_core.specs.declared.stats.CacheStats.{CacheStats}
 use Rattle.cache_core.specs.declared.system_cache.SystemCache.{SystemCache}
 use Rattle.cache_core.specs.declared.system.Memory.{Memory}
-use Rattle.cache_core.specs.Geometry.{block_of, set_of}
-use Rattle.cache_core.specs.Order.{Visits, VisitsAt, Fills, PassesOn, position_of, slots_of}
+use Rattle.cache_core.specs.Geometry.{block_of}
+use Rattle.cache_core.specs.Order.{Visits, VisitsAt, Fills, PassesOn, position_of}
 use Rattle.cache_core.specs.Outcomes.{allocates, on_hit, on_placing, on_passing, two_options}
-use Rattle.cache_core.specs.CacheSteps.{Enters, system_cache_contents}
-use Rattle.cache_core.specs.CacheStats.{count_access, accesses}
-use Rattle.cache_core.specs.SystemSteps.{AccessesFirst, Descends, AllDescend, AccessesUnified, AccessesSplit, AccessesFirstLevel}
+use Rattle.cache_core.specs.CacheSteps.{Enters}
+use Rattle.cache_core.specs.SystemSteps.{AccessesFirst, AllDescend, AccessesUnified, AccessesSplit, AccessesFirstLevel, present_refs, all_reach}
 use Rattle.cache_core.specs.SystemSteps.{copybacks_of, accesses_of, memory_accesses}
-use Rattle.cache_core.specs.SystemSteps.{present_refs, reaches, all_reach}
-
--- at most one
-pub one_most : (b : Bool) → one_if b ≤ 1
-one_most true = omega arith
-one_most false = omega arith
-
-one_kind : (a : Access) → one_if (is_fetch a) + one_if (is_read a) + one_if (is_write a) ≡ 1
-one_kind Fetch = refl
-one_kind Read = refl
-one_kind Write = refl
-
--- a count of one more access
-pub one_access : (access : Access) (hit : Bool) (evicted : Option Bool) (s : CacheStats) → accesses (count_access access hit evicted s) ≡ accesses s + 1
-one_access access hit evicted s = omega (arith, one_kind access)
 
 -- one reference at a cache, if it is there
 pub record Grows (more : ℕ) (old new : Option SystemCache) : Type 0 where
   pub counts : accesses_of new ≤ accesses_of old + more
   pub copies : copybacks_of old ≤ copybacks_of new
 
-entered : (old : SystemCache) (ref : Ref) (outcome : Outcome) (new : SystemCache) → Enters old ref outcome new → Grows 1 (Some old) (Some new)
-entered old ref outcome new e =
-    let counts = ap accesses e.counts in
-    let copies = ap (λ (s : CacheStats). s.copybacks) e.counts in
-    record {
-      counts = omega (arith, counts, one_access ref.access outcome.hit (option_map (λ slot. slot.dirty) outcome.evicted) old.stats);
-      copies = omega (arith, copies);
-    }
-
 first_grows : (old : Option SystemCache) (ref : Ref) (down : Option (List (Option Ref))) (new : Option SystemCache) → AccessesFirst old ref down new →
     Grows (one_if (is_some down)) old new
-first_grows old ref None new a = rw (a.0, a.1) record { counts = omega arith; copies = omega arith }
-first_grows old ref (Some down) new (a, b, o, p, q, r, e) = rw (p, q) (entered a ref o b e)
+first_grows old ref down new a = grind arith
 
 -- what is sent down for a visit stands in two places
 visit_sends : (d : Design) (policy : Option Repl) (numbers rest : ℕ → ℕ) (ref : Ref) (old : List Slot) (o : Outcome) (new : List Slot) →
@@ -71,20 +41,7 @@ visit_sends d policy numbers rest ref old o new v = by_place (position_of (block
     by_place (Some at) h = ((on_hit d.write ref).down, ap (λ (x : Outcome). x.down) h.effect)
 
 sends : (old : SystemCache) (ref : Ref) (o : Outcome) (new : SystemCache) → Enters old ref o new → (xs : List Ref) × (o.down ≡ two_options xs)
-sends old ref o new e =
-    let c = system_cache_contents old in
-    let set = set_of c.design.geometry ref.addr in
-    let after = system_cache_contents new in
-    visit_sends c.design c.policy c.random_numbers after.random_numbers ref (slots_of c.sets set) o (slots_of after.sets set)
-    e.access.visit
-
-two_most : (xs : List Ref) → length (present_refs (two_options xs)) ≤ 2
-two_most [] = omega arith
-two_most (x ∷ []) = omega arith
-two_most (x ∷ y ∷ xs) = omega arith
-
-sends_two : (old : SystemCache) (ref : Ref) (o : Outcome) (new : SystemCache) → Enters old ref o new → length (present_refs o.down) ≤ 2
-sends_two old ref o new e = let (xs, is) = sends old ref o new e in rw is (two_most xs)
+sends old ref o new e = grind (arith, visit_sends)
 
 -- how many references are sent down from the first level, none where no cache took the reference
 abbrev pub sent_down : Option (List (Option Ref)) → ℕ
@@ -93,8 +50,7 @@ sent_down (Some down) = length (present_refs down)
 
 first_sends : (old : Option SystemCache) (ref : Ref) (down : Option (List (Option Ref))) (new : Option SystemCache) → AccessesFirst old ref down new →
     sent_down down ≤ 2
-first_sends old ref None new a = omega arith
-first_sends old ref (Some down) new (a, b, o, p, q, r, e) = rw r (sends_two a ref o b e)
+first_sends old ref down new a = grind arith
 
 -- one reference at the first level
 pub record FirstGrows (down : Option (List (Option Ref))) (i d u i' d' u' : Option SystemCache) : Type 0 where
@@ -103,8 +59,7 @@ pub record FirstGrows (down : Option (List (Option Ref))) (i d u i' d' u' : Opti
   pub sends : sent_down down ≤ 2
 
 one_way : (down : Option (List (Option Ref))) → one_if (is_some down) + one_if (is_none down) ≡ 1
-one_way None = refl
-one_way (Some down) = refl
+one_way down = grind arith
 
 pub first_level_grows : (i d u : Option SystemCache) (ref : Ref) (down : Option (List (Option Ref))) (i' d' u' : Option SystemCache) →
     AccessesFirstLevel i d u ref down i' d' u' → FirstGrows down i d u i' d' u'
@@ -125,60 +80,26 @@ first_level_grows i d u ref down i' d' u' f = by_unified (is_some u) f
         rw (g.1, g.2) record { counts = omega (arith, x.counts, one_way down); copies = omega (arith, x.copies); sends = first_sends u ref down u' g.0 }
     by_unified false g = by_fetch (is_fetch ref.access) g
 
--- what reaches memory
-reach_one : (memory : Memory) (written : Bool) →
-    memory_accesses (cond written (record memory { writes = memory.writes + 1 }) (record memory { reads = memory.reads + 1 })) ≡ memory_accesses memory + 1
-reach_one memory true = omega arith
-reach_one memory false = omega arith
-
-reach_all : (memory : Memory) (refs : List Ref) → memory_accesses (all_reach memory refs) ≡ memory_accesses memory + length refs
-reach_all memory [] = omega arith
-reach_all memory (ref ∷ refs) = omega (arith, reach_one memory (is_write ref.access), reach_all (reaches memory ref) refs)
-
 -- so many references arrive below
 pub record LowerGrows (n : ℕ) (second : Option SystemCache) (memory : Memory) (next : Option SystemCache) (after : Memory) : Type 0 where
   pub cache : Grows n second next
   pub memory_counts : memory_accesses after ≤ memory_accesses memory + 2 * n
 
-descends_grow : (ref : Ref) (second : Option SystemCache) (memory : Memory) (next : Option SystemCache) (after : Memory) →
-    Descends ref second memory next after → LowerGrows 1 second memory next after
-descends_grow ref None memory next after d = rw (d.0, d.1) record {
-  cache = record { counts = omega arith; copies = omega arith };
-  memory_counts = omega (arith, reach_one memory (is_write ref.access));
-}
-descends_grow ref (Some cache) memory next after (o, n, e, s, m) = rw (s, m) record {
-  cache = entered cache ref o n e;
-  memory_counts = omega (arith, reach_all memory (present_refs o.down), sends_two cache ref o n e);
-}
-
 pub all_grow : (refs : List Ref) (second : Option SystemCache) (memory : Memory) (next : Option SystemCache) (after : Memory) →
     AllDescend refs second memory next after → LowerGrows (length refs) second memory next after
 all_grow [] second memory next after d = rw (d.0, d.1) record { cache = record { counts = omega arith; copies = omega arith }; memory_counts = omega arith }
-all_grow (ref ∷ refs) second memory next after (mid, half, d, r) =
-    let one = descends_grow ref second memory mid half d in
-    let more = all_grow refs mid half next after r in
-    record {
-      cache = record {
-        counts = omega (arith, one.cache.counts, more.cache.counts);
-        copies = omega (arith, one.cache.copies, more.cache.copies);
-      };
-      memory_counts = omega (arith, one.memory_counts, more.memory_counts);
-    }
+all_grow (ref ∷ refs) second memory next after (mid, half, d, r) = grind (arith, all_grow refs mid half next after r)
 
 -- what a cache sends down reaches memory one place after the other
 two_reach : (memory : Memory) (xs : List Ref) →
     all_reach (all_reach memory (present_refs (get_or (two_options xs) 0 None ∷ []))) (present_refs (get_or (two_options xs) 1 None ∷ []))
     ≡ all_reach memory (present_refs (two_options xs))
-two_reach memory [] = refl
-two_reach memory (x ∷ []) = refl
-two_reach memory (x ∷ y ∷ xs) = refl
+two_reach memory xs = grind arith
 
 -- and stands there in order
 two_sent : (xs : List Ref) →
     present_refs (get_or (two_options xs) 0 None ∷ []) ++ present_refs (get_or (two_options xs) 1 None ∷ []) ≡ present_refs (two_options xs)
-two_sent [] = refl
-two_sent (x ∷ []) = refl
-two_sent (x ∷ y ∷ xs) = refl
+two_sent xs = grind arith
 
 pub sent_two : (old : SystemCache) (ref : Ref) (o : Outcome) (new : SystemCache) → Enters old ref o new →
     present_refs (get_or o.down 0 None ∷ []) ++ present_refs (get_or o.down 1 None ∷ []) ≡ present_refs o.down

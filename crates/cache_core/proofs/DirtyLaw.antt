@@ -1,40 +1,29 @@
 -- Each dirty slot comes of a write.
-use Rattle.std.proofs.Common.{◌≡◌, ℕ, ◌+◌, ◌<◌, ◌≤◌, Bool, true, false, cond, List, [], ◌∷◌, length, get_or}
-use Rattle.std.proofs.Common.{set, Option, Some, None, sym, ap, refl, subst, arith, take}
+use Rattle.std.proofs.Common.{◌≡◌, ℕ, ◌+◌, ◌<◌, ◌≤◌, Bool, false, cond, List, [], ◌∷◌, length, get_or}
+use Rattle.std.proofs.Common.{set, Option, Some, None, sym, refl, subst, arith, take}
 use Rattle.std.specs.Prelude.{MatchBool}
 use Rattle.std.proofs.lemmas.List.Quantifiers.{position-Some}
 use Rattle.std.proofs.lemmas.List.Sums.{sum_by-set, sum_by-cons}
 use Rattle.std.proofs.lemmas.List.Sorted.{sum_by-IsPermutation}
 use Rattle.trace_core.specs.declared.events.Ref.{Ref}
-use Rattle.trace_core.specs.declared.events.Access.{Access}
 use Rattle.trace_core.specs.Events.{is_write, one_if}
 use Rattle.cache_core.specs.declared.outcome.Slot.{Slot}
 use Rattle.cache_core.specs.declared.outcome.Outcome.{Outcome}
 use Rattle.cache_core.specs.declared.design.Design.{Design}
-use Rattle.cache_core.specs.declared.design.WriteMode.{WriteMode}
-use Rattle.cache_core.specs.declared.design.WriteMode.TheVariants.{Back, Through}
 use Rattle.cache_core.specs.declared.design.Repl.{Repl}
 use Rattle.cache_core.specs.Geometry.{block_of}
-use Rattle.cache_core.specs.Outcomes.{dirties, allocates}
+use Rattle.cache_core.specs.Outcomes.{allocates}
 use Rattle.cache_core.specs.Order.{Visits, VisitsAt, Hits, Fills, PassesOn, TakesIn, with_dirty_at, position_of, dirty_in, is_dirty, dirty_slots}
 use Rattle.cache_core.specs.Order.{DirtiesByWrites}
 use Rattle.cache_core.specs.Slab.{IsCacheSlab, sets_of}
 use Rattle.cache_core.proofs.Slabs.{segment_slots, with_segment, IsWritten, set_read, sets_written, length-sets_of}
 use Rattle.cache_core.proofs.Lawful.{marked_length, lawful_touch, lawful_insert, lawful_exchange}
 
-by_write : (w : WriteMode) (a : Access) → one_if (dirties w a) ≤ one_if (is_write a)
-by_write Back a = omega arith
-by_write Through a = omega arith
-
 dirty_cons : (x : Slot) (xs : List Slot) → dirty_in (x ∷ xs) ≡ one_if x.dirty + dirty_in xs
 dirty_cons x xs = sum_by-cons (λ (slot : Slot). cond slot.dirty 1 0) x xs
 
 dirty_marked : (d : Bool) (slots : List Slot) (at : ℕ) → at < length slots → dirty_in (with_dirty_at d slots at) ≤ dirty_in slots + one_if d
-dirty_marked false slots at h = omega arith
-dirty_marked true slots at h =
-    let none : Slot = record { block = 0; dirty = false } in
-    let m = sum_by-set (λ (slot : Slot). cond slot.dirty 1 0) slots at (record (get_or slots at none) { dirty = true }) none h in
-    omega (arith, m)
+dirty_marked d slots at h = grind (arith, sum_by-set)
 
 fills_dirty : (policy : Option Repl) (number capacity : ℕ) (old : List Slot) (slot : Slot) (evicted : Option Slot) (new : List Slot) → 0 < capacity →
     TakesIn policy number capacity old slot evicted new → dirty_in new + one_if (is_dirty evicted) ≡ dirty_in old + one_if slot.dirty
@@ -51,22 +40,12 @@ miss_dirty : (d : Design) (policy : Option Repl) (numbers rest : ℕ → ℕ) (r
     →
     0 < d.geometry.e → MatchBool fills (Fills d policy numbers ref old outcome new rest) (PassesOn numbers ref old outcome new rest) →
     dirty_in new + one_if (is_dirty outcome.evicted) ≤ dirty_in old + one_if (is_write ref.access)
-miss_dirty d policy numbers rest ref old outcome new true e v =
-    omega (arith, fills_dirty policy (numbers 0) d.geometry.e old _ outcome.evicted new e v.order, by_write d.write ref.access)
-miss_dirty d policy numbers rest ref old outcome new false e v =
-    let none : outcome.evicted ≡ None = ap (λ (o : Outcome). o.evicted) v.effect in
-    rw (none, v.order) (omega arith)
+miss_dirty d policy numbers rest ref old outcome new fills e v = grind (arith, fills_dirty)
 
 hit_dirty : (d : Design) (policy : Option Repl) (numbers rest : ℕ → ℕ) (ref : Ref) (old : List Slot) (outcome : Outcome) (new : List Slot) (at : ℕ) →
     at < length old → Hits d policy numbers ref at old outcome new rest →
     dirty_in new + one_if (is_dirty outcome.evicted) ≤ dirty_in old + one_if (is_write ref.access)
-hit_dirty d policy numbers rest ref old outcome new at h v =
-    let none : outcome.evicted ≡ None = ap (λ (o : Outcome). o.evicted) v.effect in
-    let m = dirty_marked (dirties d.write ref.access) old at h in
-    let l : at < length (with_dirty_at (dirties d.write ref.access) old at) = omega (arith, h, marked_length (dirties d.write ref.access) old at) in
-    let q = sum_by-IsPermutation (λ (s : Slot). cond s.dirty 1 0) (with_dirty_at (dirties d.write ref.access) old at) new
-    (lawful_touch policy _ at new l v.order) in
-    rw none (omega (arith, m, q, by_write d.write ref.access))
+hit_dirty d policy numbers rest ref old outcome new at h v = grind (arith, dirty_marked, marked_length, sum_by-IsPermutation, lawful_touch)
 
 pub visit_dirty : (d : Design) (policy : Option Repl) (numbers rest : ℕ → ℕ) (ref : Ref) (old : List Slot) (outcome : Outcome) (new : List Slot) →
     0 < d.geometry.e → Visits d policy numbers ref old outcome new rest →
@@ -82,8 +61,7 @@ visit_dirty d policy numbers rest ref old outcome new e v = by_index (position_o
 -- over all sets, where one is written
 pub sets_dirty : (sets : List (List Slot)) (k : ℕ) (new : List Slot) (more less : ℕ) → k < length sets →
     dirty_in new + less ≤ dirty_in (get_or sets k []) + more → dirty_slots (set sets k new) + less ≤ dirty_slots sets + more
-sets_dirty sets k new more less h v =
-    omega (arith, v, sum_by-set dirty_in sets k new [] h)
+sets_dirty sets k new more less h v = grind (arith, sum_by-set)
 
 -- one access to a slab
 pub slab_dirty : (d : Design) (filled : List ℕ) (k n ways : ℕ) (slots segment : List Slot) → IsCacheSlab d slots filled → IsWritten d k n ways segment →

@@ -1,10 +1,10 @@
 -- The different blocks of a set in a window: how a reference moves them, and where a block stands among them.
-use Rattle.std.proofs.Common.{arith, ◌≡◌, ℕ, zero, suc, ◌<◌, false, not, cond, eqb, List, [], ◌∷◌, take, refl, sym, ◌∙◌, ap}
+use Rattle.std.proofs.Common.{arith, ◌≡◌, ℕ, ◌<◌, false, not, cond, eqb, List, [], ◌∷◌, take, refl, sym, ◌∙◌, ap}
 use Rattle.std.specs.List.{remove, filter, list_any, before_first, position_or_len}
-use Rattle.std.proofs.lemmas.Bool.{eqb-true, eq-eqb}
+use Rattle.std.proofs.lemmas.Bool.{eqb-true}
 use Rattle.cache_core.specs.Windows.{distinct, distinct_of_set, Occurrence, has_last, distance}
 use Rattle.cache_core.specs.Geometry.{GeometryValue, set_of_block}
-use Rattle.cache_core.proofs.Lists.{cases, other, is, IsOnce, IsOnce-filter, filter-cons_yes, filter-cons_no, filter_comm, filter_other_no, filter_passes}
+use Rattle.cache_core.proofs.Lists.{cases, other, is, IsOnce, IsOnce-filter, filter-cons_no, filter_comm, filter_other_no, filter_passes}
 use Rattle.cache_core.proofs.Lists.{filter-before_first, before_first-cons, eqb_flip, IsOnce-take, remove_is, take_without, list_any-filter}
 use Rattle.cache_core.proofs.Lists.{length-before_first}
 
@@ -25,9 +25,7 @@ distinct_of_set-nil g k = refl
 pub distinct_of_set-same : (g : GeometryValue) (k x : ℕ) (w : List ℕ) → set_of_block g x ≡ k →
     distinct_of_set g k (x ∷ w) ≡ x ∷ filter (other x) (distinct_of_set g k w)
 unfolding distinct_of_set distinct
-distinct_of_set-same g k x w e =
-    filter-cons_yes (λ y. eqb (set_of_block g y) k) x (filter (other x) (distinct w)) (eq-eqb (set_of_block g x) k e)
-    ∙ ap (λ r. x ∷ r) (filter_comm (λ y. eqb (set_of_block g y) k) (other x) (distinct w))
+distinct_of_set-same g k x w e = grind (arith, filter_comm)
 
 -- and leaves the other sets
 pub distinct_of_set-other : (g : GeometryValue) (k x : ℕ) (w : List ℕ) → eqb (set_of_block g x) k ≡ false →
@@ -53,8 +51,7 @@ distinct-before_first x (y ∷ ys) =
 distinct_of_set-before_first : (g : GeometryValue) (x : ℕ) (w : List ℕ) →
     distinct_of_set g (set_of_block g x) (before_first (is x) w) ≡ before_first (is x) (distinct_of_set g (set_of_block g x) w)
 unfolding distinct_of_set
-distinct_of_set-before_first g x w =
-    cc (distinct-before_first x w, filter-before_first (λ y. eqb (set_of_block g y) (set_of_block g x)) x (distinct w) (eq-eqb _ _ refl))
+distinct_of_set-before_first g x w = grind (arith, distinct-before_first, filter-before_first)
 
 -- the distance is the block's index among them
 pub distance_is : (g : GeometryValue) (p : Occurrence) → distance g p ≡ position_or_len (is p.block) (distinct_of_set g (set_of_block g p.block) p.window)
@@ -66,22 +63,14 @@ list_any-distinct x [] = refl
 list_any-distinct x (y ∷ ys) =
     let rest = λ (k : eqb y x ≡ false).
     list_any-filter (other y) (is x) (distinct ys) (λ z f. ap (λ v. not (eqb v y)) (eqb-true z x f) ∙ ap not (eqb_flip x y k)) in
-    grind (arith, rest, list_any-distinct x ys)
+    grind (arith, list_any-distinct x ys)
 
 pub has_last_is : (g : GeometryValue) (p : Occurrence) → has_last p ≡ list_any (is p.block) (distinct_of_set g (set_of_block g p.block) p.window)
 unfolding distinct_of_set
-has_last_is g p =
-    sym (list_any-filter (λ y. eqb (set_of_block g y) (set_of_block g p.block)) (is p.block) (distinct p.window)
-    (λ z f. eq-eqb _ _ (ap (set_of_block g) (eqb-true z p.block f)))
-    ∙ list_any-distinct p.block p.window)
+has_last_is g p = grind (arith, list_any-filter, list_any-distinct)
 
 -- a reference moves the first n blocks of its set on by themselves
 pub take-distinct_of_set-same : (g : GeometryValue) (n x : ℕ) (w : List ℕ) → 0 < n
     → take n (x ∷ remove (take n (distinct_of_set g (set_of_block g x) w)) (position_or_len (is x) (take n (distinct_of_set g (set_of_block g x) w))))
     ≡ take n (distinct_of_set g (set_of_block g x) (x ∷ w))
-take-distinct_of_set-same g zero x w h = refl
-take-distinct_of_set-same g (suc m) x w h =
-    ap (λ r. x ∷ take m r) (remove_is x (take (suc m) (distinct_of_set g (set_of_block g x) w))
-    (IsOnce-take (suc m) (distinct_of_set g (set_of_block g x) w) (IsOnce-distinct_of_set g (set_of_block g x) w)))
-    ∙ ap (λ r. x ∷ r) (take_without x m (distinct_of_set g (set_of_block g x) w) (IsOnce-distinct_of_set g (set_of_block g x) w))
-    ∙ sym (ap (λ r. take (suc m) r) (distinct_of_set-same g (set_of_block g x) x w refl))
+take-distinct_of_set-same g n x w h = grind (arith, remove_is, IsOnce-take, IsOnce-distinct_of_set, take_without, distinct_of_set-same)

@@ -1,9 +1,8 @@
 -- The power of two that a unit is multiplied by.
-use Rattle.std.proofs.Common.{◌≡◌, ◌≢◌, ℕ, zero, suc, ◌+◌, ◌*◌, ◌^◌, ◌%◌, ◌<◌, ◌≤◌, Bool, true, false, eqb, Some}
+use Rattle.std.proofs.Common.{◌≡◌, ◌≢◌, ℕ, zero, suc, ◌+◌, ◌*◌, ◌^◌, ◌%◌, ◌<◌, Bool, true, false, eqb, Some}
 use Rattle.std.proofs.Common.{None, ◌∙◌, ap, refl, arith, find}
 use Rattle.std.specs.List.{range_with_len}
 use Rattle.std.proofs.Math.Pow.{pow_mono}
-use Rattle.std.proofs.Math.Nat.{mul-le-mul}
 use Rattle.std.proofs.lemmas.Bool.{eq-eqb, ne_eqb}
 use Rattle.cache_core.specs.Plans.{exponent_of}
 
@@ -17,14 +16,10 @@ find_none p a (suc n) h =
 find_some : (p : ℕ → Bool) (a n i : ℕ) → i < n → ((k : ℕ) → k < i → p (a + k) ≡ false) → p (a + i) ≡ true →
     find p (range_with_len a n) ≡ Some (a + i)
 find_some p a zero i l h t = absurd (omega arith)
-find_some p a (suc n) zero l h t =
-    let same : a ≡ a + 0 = omega arith in
-    let first : p a ≡ true = ap p same ∙ t in
-    rw first (ap Some same)
+find_some p a (suc n) zero l h t = grind arith
 find_some p a (suc n) (suc i) l h t =
     let first : p a ≡ false = ap p (omega arith) ∙ h 0 (omega arith) in
-    rw first
-    (find_some p (a + 1) n i (omega arith) (λ k l. ap p (omega arith) ∙ h (k + 1) (omega arith)) (ap p (omega arith) ∙ t) ∙ ap Some (omega arith))
+    grind (arith, find_some p (a + 1) n i (omega arith) (λ k l. ap p (omega arith) ∙ h (k + 1) (omega arith)) (ap p (omega arith) ∙ t))
 
 pub exponent_some : (unit number k : ℕ) → k < 21 → ((j : ℕ) → j < k → unit * 2 ^ j ≢ number) → unit * 2 ^ k ≡ number →
     exponent_of unit number ≡ Some k
@@ -42,10 +37,4 @@ exponent_none unit number none =
 
 -- the product of a unit and such a power is not cut
 pub no_overflow : (unit k : ℕ) → unit < 2 ^ 100 → k < 21 → unit * 2 ^ k % 2 ^ 128 ≡ unit * 2 ^ k
-no_overflow unit k u l =
-    let small : k ≤ 20 = omega arith in
-    let power : 2 ^ k ≤ 2 ^ 20 = pow_mono small in
-    let most : unit ≤ 2 ^ 100 = omega arith in
-    let product : unit * 2 ^ k ≤ 2 ^ 100 * 2 ^ 20 = mul-le-mul most power in
-    let below : unit * 2 ^ k < 2 ^ 128 = omega arith in
-    omega arith
+no_overflow unit k u l = grind (arith, pow_mono)

@@ -1,8 +1,7 @@
 -- One reference at the first level of a system, as its caches see it and as their machines see it.
 use Rattle.std.proofs.Common.{◌≡◌, ℕ, ◌≤◌, ◌&&◌, ◌||◌, not, Bool, true, false, cond, List, [], ◌∷◌, ◌++◌, length, Option}
-use Rattle.std.proofs.Common.{Some, None, refl, sym, ◌∙◌, ap, ap₂, subst, arith, append-nil}
+use Rattle.std.proofs.Common.{Some, None, refl, sym, ◌∙◌, ap, subst, arith, append-nil}
 use Rattle.std.specs.Prelude.{is_some, is_none}
-use Rattle.std.specs.Option.{option_map}
 use Rattle.std.proofs.lemmas.Bool.{MatchBool-at_true, MatchBool-at_false, true≢false}
 use Rattle.trace_core.specs.declared.events.Ref.{Ref}
 use Rattle.trace_core.specs.declared.events.Event.{Event}
@@ -12,14 +11,12 @@ use Rattle.cache_core.specs.declared.outcome.Outcome.{Outcome}
 use Rattle.cache_core.specs.declared.plan.PlannedCache.{PlannedCache}
 use Rattle.cache_core.specs.declared.plan.CacheName.{CacheName}
 use Rattle.cache_core.specs.declared.plan.CacheName.TheVariants.{L1I, L1D, L1U}
-use Rattle.cache_core.specs.declared.stats.CacheStats.{CacheStats}
 use Rattle.cache_core.specs.declared.system_cache.SystemCache.{SystemCache}
 use Rattle.cache_core.specs.Outcomes.{two_options}
 use Rattle.cache_core.specs.Machine.{Machine, run, step}
 use Rattle.cache_core.specs.Plans.{IsPlannedCache}
 use Rattle.cache_core.specs.Stands.{CacheStandsFor}
 use Rattle.cache_core.specs.CacheSteps.{system_cache_contents, Enters}
-use Rattle.cache_core.specs.CacheStats.{count_access}
 use Rattle.cache_core.specs.Systems.{machine_of, takes, events_for, sends, cache_stats, counts_if_planned}
 use Rattle.cache_core.specs.SystemSteps.{present_refs, AccessesFirst, AccessesUnified, AccessesSplit, AccessesFirstLevel, stats_held}
 use Rattle.cache_core.specs.SystemStands.{PlannedCacheStandsFor}
@@ -45,17 +42,12 @@ pub record Entered (m : Machine) (events : List Event) (ref : Ref) (outcome : Ou
 pub enters : (m : Machine) (events : List Event) (old : SystemCache) (ref : Ref) (outcome : Outcome) (new : SystemCache) → 1 ≤ m.design.geometry.e →
     Kept m events old → Enters old ref outcome new → Entered m events ref outcome new
 enters m events old ref outcome new some k e =
-    let r = access_run m events (system_cache_contents old) ref outcome (system_cache_contents new) some k.stands e.access in
-    record {
-      kept = record {
-        stands = r.0;
-        counts =
-            e.counts
-            ∙ ap₂ (λ (o : Outcome) (s : CacheStats). count_access ref.access o.hit (option_map (λ slot. slot.dirty) o.evicted) s) r.1 k.counts
-            ∙ sym (counts_push m events ref);
-      };
-      sends = ap (λ (o : Outcome). present_refs o.down) r.1 ∙ present_refs_two (step m (run m events) ref).effect.down (down_law m events ref);
-    }
+    grind (
+      arith,
+      access_run m events (system_cache_contents old) ref outcome (system_cache_contents new) some k.stands e.access,
+      counts_push m events ref,
+      present_refs_two (step m (run m events) ref).effect.down (down_law m events ref),
+    )
 
 -- a cache, if it is there
 abbrev pub KeptIfPlanned : ℕ → Option PlannedCache → List Event → Option SystemCache → Type 0
@@ -75,11 +67,6 @@ pub stands_of : (seed : ℕ) (planned : Option PlannedCache) (events : List Even
     PlannedCacheStandsFor seed planned events cache
 stands_of seed None events cache k = k
 stands_of seed (Some planned) events cache k = (k.0, k.1, k.2.stands)
-
-pub counts_is : (seed : ℕ) (planned : Option PlannedCache) (events : List Event) (cache : Option SystemCache) → KeptIfPlanned seed planned events cache →
-    stats_held cache ≡ counts_if_planned seed planned events
-counts_is seed None events cache k = ap stats_held k
-counts_is seed (Some planned) events cache k = ap stats_held k.1 ∙ ap Some k.2.counts
 
 -- the references that were sent down, none where no cache took the reference
 abbrev pub down_list : Option (List (Option Ref)) → List Ref
@@ -150,15 +137,10 @@ pub record FirstKept (seed : ℕ) (pi pd pu : Option PlannedCache) (events : Lis
   pub untaken : is_none down ≡ not (is_some pu || (is_some pi && takes L1I ref) || (is_some pd && takes L1D ref))
 
 none_first : (o p : Option PlannedCache) (a b : Bool) → a ≡ true → b ≡ false → is_none o ≡ not ((is_some o && a) || (is_some p && b))
-none_first None None a b s t = refl
-none_first None (Some p) a b s t = ap not (sym t)
-none_first (Some o) p a b s t = rw s refl
+none_first o p a b s t = grind arith
 
 none_second : (o p : Option PlannedCache) (a b : Bool) → a ≡ false → b ≡ true → is_none p ≡ not ((is_some o && a) || (is_some p && b))
-none_second None None a b s t = refl
-none_second None (Some p) a b s t = ap not (sym t)
-none_second (Some o) None a b s t = rw s refl
-none_second (Some o) (Some p) a b s t = rw (s, t) refl
+none_second o p a b s t = grind arith
 
 module _ (seed : ℕ) (events : List Event) (ref : Ref) (down : Option (List (Option Ref))) (i d u i' d' u' : Option SystemCache) where
   unified : (planned : PlannedCache) → IsPlannedCache (Some planned) → i ≡ None → d ≡ None →
@@ -168,13 +150,7 @@ module _ (seed : ℕ) (events : List Event) (ref : Ref) (down : Option (List (Op
       let there : is_some u ≡ true = ap is_some ku.1 in
       let g = MatchBool-at_true (AccessesUnified i d u ref down i' d' u') (AccessesSplit (is_fetch ref.access) i d u ref down i' d' u') there f in
       let a = first_access_keeps seed (Some planned) (events_for L1U events) u ref down u' l ku g.0 in
-      record {
-        i_kept = g.1 ∙ ki;
-        d_kept = g.2 ∙ kd;
-        u_kept = kept_taken seed L1U (Some planned) events ref u' refl a.kept;
-        all_sent = a.sends;
-        untaken = a.none;
-      }
+      grind (arith, kept_taken seed L1U (Some planned) events ref u' refl a.kept)
 
   split : (pi pd : Option PlannedCache) (fetch : Bool) → is_fetch ref.access ≡ fetch → IsPlannedCache pi → IsPlannedCache pd →
       KeptIfPlanned seed pi (events_for L1I events) i → KeptIfPlanned seed pd (events_for L1D events) d → u ≡ None →

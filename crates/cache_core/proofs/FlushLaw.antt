@@ -1,6 +1,6 @@
 -- A new cache and a flush, as the cache sees them and as the machine sees them.
 use Rattle.std.proofs.Common.{◌≡◌, ℕ, zero, suc, ◌+◌, ◌^◌, ◌<◌, cond, List, [], ◌∷◌, length, set, replicate, Some, sym, ◌∙◌}
-use Rattle.std.proofs.Common.{ap, refl, arith, ⊎_elim, map, zero-add, length-set, get_or-set_same, get_or-set_other}
+use Rattle.std.proofs.Common.{ap, refl, arith, ⊎_elim, map, length-set, get_or-set_same, get_or-set_other}
 use Rattle.std.specs.Prelude.{count_by}
 use Rattle.std.proofs.lemmas.List.{length-replicate}
 use Rattle.std.proofs.lemmas.List.Sums.{sum_by-set, sum_by-cons}
@@ -12,7 +12,7 @@ use Rattle.cache_core.specs.declared.outcome.Slot.{Slot}
 use Rattle.cache_core.specs.Geometry.{GeometryValue, set_of_block}
 use Rattle.cache_core.specs.Machine.{Machine, MachineState, Line, slot_of, lines_of_set, start, dirty_count}
 use Rattle.cache_core.specs.Order.{Contents, FlushesCache, slots_of, dirty_in, dirty_slots}
-use Rattle.cache_core.specs.Rules.{Place, InFront, InPlace, rules}
+use Rattle.cache_core.specs.Rules.{Place, rules}
 use Rattle.cache_core.specs.Stands.{IsState, IsGood, IsSoundState}
 use Rattle.cache_core.proofs.Lines.{ne-eqb}
 
@@ -53,21 +53,14 @@ dirty_all g (x ∷ lines) sets l h =
     omega (arith, i, moved, counted, sum_by-cons (λ (line : Line). cond line.dirty 1 0) x lines)
 
 pub empty_good : (p : Place) (c : ℕ) → IsGood p c []
-empty_good InFront c = record { distinct = tt; order = tt }
-empty_good InPlace c = record { distinct = tt; order = tt }
+empty_good p c = grind arith
 
 pub start_sound : (m : Machine) → IsSoundState m start
 start_sound m k = empty_good (rules m.policy).placed 0
 
 pub start_state : (m : Machine) (c : Contents) → c.design ≡ m.design → c.policy ≡ Some m.policy → c.random_numbers ≡ m.random_numbers →
     c.sets ≡ replicate (2 ^ m.design.geometry.s) [] → IsState m start c
-start_state m c d r w e = record {
-  design = d;
-  policy = r;
-  random_numbers = w ∙ (λ i n. m.random_numbers ((sym (zero-add n)) i));
-  count = ap length e ∙ length-replicate (2 ^ m.design.geometry.s) [];
-  sets = λ k. ap (λ s. slots_of s k) e ∙ none_anywhere (2 ^ m.design.geometry.s) k;
-}
+start_state m c d r w e = grind (arith, length-replicate, none_anywhere)
 
 -- what a flush leads to
 pub record FlushFollows (m : Machine) (st : MachineState) (dirty : ℕ) (new : Contents) : Type 0 where

@@ -11,9 +11,8 @@ use Rattle.cache_core.specs.declared.arrival.Arrival.TheVariants.{Bypassed}
 use Rattle.cache_core.specs.declared.plan.PlannedCache.{PlannedCache}
 use Rattle.cache_core.specs.declared.plan.CacheName.{CacheName}
 use Rattle.cache_core.specs.declared.plan.CacheName.TheVariants.{L1I, L1D, L1U, L2U}
-use Rattle.cache_core.specs.Machine.{run, dirty_count}
 use Rattle.cache_core.specs.Plans.{PlannedCaches}
-use Rattle.cache_core.specs.Systems.{machine_of, events_for, first_level_sends, below, flush_counts, flush_counts_if_planned}
+use Rattle.cache_core.specs.Systems.{machine_of, events_for, first_level_sends, below, flush_counts_if_planned}
 use Rattle.cache_core.specs.Arrivals.{flushes, arrivals_of}
 use Rattle.cache_core.specs.LogLaws.{planned_of, events_at, names_in, name_if_there, names_of, dirty_at}
 use Rattle.cache_core.specs.LogLaws.{FlushNamesLaw, FlushCountsLaw}
@@ -25,8 +24,7 @@ use Rattle.cache_core.proofs.LinesLaw.{same}
 quiet_reference : {X : Type 0} (p : Arrival → List X) (plan : PlannedCaches) (seed : ℕ) (earlier : List Event) (ref : Ref) →
     ((name : CacheName) → QuietAt p name) → QuietAtMemory p → p (Bypassed ref) ≡ [] →
     flat_map p (arrivals_of plan seed earlier (event.Reference ref)) ≡ []
-quiet_reference p plan seed earlier ref q m n =
-    at_lower p plan seed earlier ref (q L1I) (q L1D) (q L1U) ∙ quiet_lower p plan seed earlier ref (q L2U) m n
+quiet_reference p plan seed earlier ref q m n = cc (at_lower p plan seed earlier ref (q L1I) (q L1D) (q L1U), quiet_lower p plan seed earlier ref (q L2U) m n)
 
 -- the names
 one_name : (seed : ℕ) (name : CacheName) (planned : Option PlannedCache) (before : List Event) →
@@ -60,9 +58,7 @@ flush_shown : (seed : ℕ) (name : CacheName) (planned : Option PlannedCache) (e
     flush_counts_if_planned seed planned (events ++ event.Flush ∷ [])
     ≡ flush_counts_if_planned seed planned events ++ flat_map (dirty_at name) (flushes seed name planned events)
 flush_shown seed name None events = refl
-flush_shown seed name (Some planned) events =
-    let m = machine_of seed planned in
-    flush_counts_flush m events ∙ ap (λ b. flush_counts m events ++ (cond b (dirty_count (run m events) ∷ []) [] ++ [])) (sym (same name))
+flush_shown seed name (Some planned) events = cc (flush_counts_flush (machine_of seed planned) events, same name)
 
 module _ (plan : PlannedCaches) (seed : ℕ) where
   abbrev counts : CacheName → List Event → List ℕ
@@ -73,8 +69,10 @@ module _ (plan : PlannedCaches) (seed : ℕ) where
   counts_reference L1D earlier ref = flush_counts_taken seed L1D plan.d earlier ref
   counts_reference L1U earlier ref = flush_counts_taken seed L1U plan.u earlier ref
   counts_reference L2U earlier ref =
-      ap (flush_counts_if_planned seed plan.second) (below_push plan seed earlier ref)
-      ∙ flush_counts_refs seed plan.second (below plan seed earlier) (first_level_sends plan seed earlier ref)
+      cc (
+        below_push plan seed earlier ref,
+        flush_counts_refs seed plan.second (below plan seed earlier) (first_level_sends plan seed earlier ref),
+      )
 
   counts_flush : (name : CacheName) (earlier : List Event) →
       counts name (earlier ++ event.Flush ∷ [])
@@ -82,8 +80,7 @@ module _ (plan : PlannedCaches) (seed : ℕ) where
   counts_flush L1I earlier = ap (flush_counts_if_planned seed plan.i) (events_flush L1I earlier) ∙ flush_shown seed L1I plan.i (events_for L1I earlier)
   counts_flush L1D earlier = ap (flush_counts_if_planned seed plan.d) (events_flush L1D earlier) ∙ flush_shown seed L1D plan.d (events_for L1D earlier)
   counts_flush L1U earlier = ap (flush_counts_if_planned seed plan.u) (events_flush L1U earlier) ∙ flush_shown seed L1U plan.u (events_for L1U earlier)
-  counts_flush L2U earlier = ap (flush_counts_if_planned seed plan.second) (below_flush plan seed earlier)
-      ∙ flush_shown seed L2U plan.second (below plan seed earlier)
+  counts_flush L2U earlier = cc (below_flush plan seed earlier, flush_shown seed L2U plan.second (below plan seed earlier))
 
   counts_shown : (name : CacheName) (earlier : List Event) (e : Event) →
       counts name (earlier ++ e ∷ []) ≡ counts name earlier ++ flat_map (dirty_at name) (arrivals_of plan seed earlier e)

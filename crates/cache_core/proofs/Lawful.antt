@@ -6,7 +6,7 @@ use Rattle.std.specs.Bool.{then_some}
 use Rattle.std.specs.Prelude.{IsPermutation, slice_get, slice_set}
 use Rattle.std.specs.List.{remove}
 use Rattle.std.proofs.lemmas.List.{get_or-take, take_more, take_all, drop_at, take_at, set_split}
-use Rattle.std.proofs.lemmas.List.Sorted.{IsPermutation-refl, IsPermutation-sym, IsPermutation-remove, IsPermutation-to_front, IsPermutation-middle}
+use Rattle.std.proofs.lemmas.List.Sorted.{IsPermutation-sym, IsPermutation-remove, IsPermutation-to_front, IsPermutation-middle}
 use Rattle.std.proofs.lemmas.Bool.{cases_lt}
 use Rattle.std.proofs.lemmas.Bool.Decides.{eqb_tells}
 use Rattle.std.proofs.lemmas.List.Edits.{length-remove}
@@ -15,7 +15,7 @@ use Rattle.cache_core.specs.declared.outcome.Slot.{Slot}
 use Rattle.cache_core.specs.declared.design.Repl.{Repl}
 use Rattle.cache_core.specs.declared.design.Repl.TheVariants.{Lru, Random}
 use Rattle.cache_core.specs.Order.{Moves, Touches, TakesIn, Inserts, Exchanges, with_slot_at, victim_at, with_dirty_at}
-use Rattle.cache_core.specs.Rules.{Place, InFront, InPlace, Victim, Last, Drawn, rules}
+use Rattle.cache_core.specs.Rules.{Place, Victim, rules}
 
 -- a prefix that ends at an index, turned right by one, brings the slot there to the front
 pub to_front : (s : List Slot) (at : ℕ) (r : List Slot) (d : Slot) → at < length s →
@@ -68,34 +68,27 @@ new_in_front s n last new d r h some l e = rw whole (⊎_elim (λ t. full t.0 t.
 
 -- a mark leaves as many slots
 pub marked_length : (b : Bool) (slots : List Slot) (at : ℕ) → length (with_dirty_at b slots at) ≡ length slots
-marked_length true slots at = length-set slots at _
-marked_length false slots at = refl
+marked_length b slots at = grind (arith, length-set)
 
 lawful_move : (p : Place) (old : List Slot) (at : ℕ) (new : List Slot) → at < length old → Moves p old at new → IsPermutation old new
-lawful_move InFront old at new h t = rw t.2 (IsPermutation-remove old at t.0 h (sym (get_or_from_slice_get old at t.0 t.0 t.1)))
-lawful_move InPlace old at new h t = rw t (IsPermutation-refl old)
+lawful_move p old at new h t = grind (arith, IsPermutation-remove, get_or_from_slice_get)
 
 pub lawful_touch : (policy : Option Repl) (old : List Slot) (at : ℕ) (new : List Slot) → at < length old → Touches policy old at new → IsPermutation old new
-lawful_touch None old at new h t = t
-lawful_touch (Some policy) old at new h t = lawful_move (rules policy).touched old at new h t
+lawful_touch policy old at new h t = grind (arith, lawful_move)
 
 inserted : (p : Place) (old : List Slot) (slot : Slot) → IsPermutation (slot ∷ old) (with_slot_at p slot None old)
-inserted InFront old slot = IsPermutation-refl (slot ∷ old)
-inserted InPlace old slot = IsPermutation-sym _ _ (IsPermutation-to_front old slot)
+inserted p old slot = grind (arith, IsPermutation-sym, IsPermutation-to_front)
 
 pub lawful_insert : (policy : Option Repl) (old : List Slot) (slot : Slot) (new : List Slot) → Inserts policy old slot new → Inserts None old slot new
-lawful_insert None old slot new t = t
-lawful_insert (Some policy) old slot new t = rw t (inserted (rules policy).placed old slot)
+lawful_insert policy old slot new t = grind (arith, inserted)
 
 -- one slot for another
 exchanged : (p : Place) (old : List Slot) (at : ℕ) (slot : Slot) → at < length old → IsPermutation (slot ∷ remove old at) (with_slot_at p slot (Some at) old)
-exchanged InFront old at slot h = IsPermutation-refl (slot ∷ remove old at)
-exchanged InPlace old at slot h = rw (set_split old at slot h) (IsPermutation-sym _ _ (IsPermutation-middle (take at old) slot (drop (suc at) old)))
+exchanged p old at slot h = grind (arith, set_split, IsPermutation-sym, IsPermutation-middle)
 
 -- the victim is one of the slots
 pub victim_within : (v : Victim) (number : ℕ) (old : List Slot) → 0 < length old → victim_at v number old < length old
-victim_within Last number old h = omega arith
-victim_within Drawn number old h = omega arith
+victim_within v number old h = grind arith
 
 pub lawful_exchange : (policy : Option Repl) (number v : ℕ) (old : List Slot) (slot gone : Slot) (new : List Slot) → 0 < length old →
     Exchanges policy number old slot gone new → Exchanges None v old slot gone new
@@ -112,18 +105,12 @@ lawful_exchange (Some policy) number v old slot gone new h t =
 pub lawful_place : (policy : Option Repl) (number v capacity : ℕ) (old : List Slot) (slot : Slot) (gone : Option Slot) (new : List Slot) → 0 < capacity →
     TakesIn policy number capacity old slot gone new → TakesIn None v capacity old slot gone new
 lawful_place policy number v capacity old slot None new h t = (t.0, lawful_insert policy old slot new t.1)
-lawful_place policy number v capacity old slot (Some gone) new h t =
-    (t.0, lawful_exchange policy number v old slot gone new (omega (arith, t.0)) t.1)
+lawful_place policy number v capacity old slot (Some gone) new h t = grind (arith, lawful_exchange policy number v old slot gone new (omega (arith, t.0)) t.1)
 
 -- a slot written over one of a full set
 pub exchange_full : (s : List Slot) (n number w : ℕ) (slot d : Slot) → n ≡ length s → 0 < length s → number ≡ w →
     TakesIn (Some Random) w (length s) (take n s) slot (Some (get_or s (number % length s) d)) (take (n + 1) (slice_set s (number % length s) slot))
-exchange_full s n number w slot d e h i =
-    let way : number % length s < length s = omega arith in
-    let t : take n s ≡ s = take_all n s (omega arith) in
-    let u : take (n + 1) (slice_set s (number % length s) slot) ≡ slice_set s (number % length s) slot =
-    take_all (n + 1) (slice_set s (number % length s) slot) (omega (arith, length-set s (number % length s) slot)) in
-    rw (u, t, ← i) (refl, (slice_get-get_or s (number % length s) d way, refl))
+exchange_full s n number w slot d e h i = grind (arith, take_all, length-set, slice_get-get_or)
 
 -- what was written among the first n stands there
 pub written : (n : ℕ) (xs : List Slot) (i : ℕ) (x : Slot) → i < length xs → i < n → slice_get (take n (slice_set xs i x)) i ≡ Some x

@@ -2,12 +2,11 @@
 use Rattle.std.proofs.Common.{◌≡◌, ◌≢◌, ℕ, ◌+◌, ◌<◌, ◌≤◌, ◌==◌, false, not, cond, eqb, List, [], ◌∷◌, ◌++◌}
 use Rattle.std.proofs.Common.{length, Some, None, sym, ◌∙◌, ap, refl, arith, ⊎_elim, find}
 use Rattle.std.proofs.lemmas.List.{append-nil}
-use Rattle.std.proofs.lemmas.Bool.{eq-eqb, eqb-true}
+use Rattle.std.proofs.lemmas.Bool.{eqb-true}
 use Rattle.std.proofs.lemmas.Bool.Decides.{eqb_tells}
 use Rattle.cache_core.specs.Geometry.{GeometryValue, set_of_block}
 use Rattle.cache_core.proofs.Lists.{cases, filter_comm, find-filter}
 use Rattle.cache_core.specs.declared.design.Repl.{Repl}
-use Rattle.cache_core.specs.declared.design.Repl.TheVariants.{Lru, Fifo, Random}
 use Rattle.cache_core.specs.Machine.{Line, is_block, lines_of_set, without, exchange, least, with_line_at, key_at}
 use Rattle.cache_core.specs.Rules.{Place, InFront, InPlace, rules}
 use Rattle.cache_core.specs.Stands.{Falls, CountsUp, InOrder, Absent, Distinct}
@@ -38,8 +37,7 @@ distinct_back (z ∷ xs) x ys d = distinct_back xs x ys d.1
 
 pub distinct_front : (xs : List Line) (x : Line) (ys : List Line) → Distinct (xs ++ x ∷ ys) → Absent x.block xs
 distinct_front [] x ys d = tt
-distinct_front (z ∷ xs) x ys d =
-    ((λ e. (absent_right z.block xs (x ∷ ys) d.0).0 (sym e)), distinct_front xs x ys d.1)
+distinct_front (z ∷ xs) x ys d = grind (arith, absent_right z.block xs (x ∷ ys) d.0, distinct_front xs x ys d.1)
 
 pub distinct_without : (xs : List Line) (x : Line) (ys : List Line) → Distinct (xs ++ x ∷ ys) → Distinct (xs ++ ys)
 distinct_without [] x ys d = d.1
@@ -52,10 +50,7 @@ distinct_without (z ∷ xs) x ys d = (
 pub distinct_instead : (xs : List Line) (x : Line) (ys : List Line) → Distinct (xs ++ ys) → Absent x.block xs → Absent x.block ys →
     Distinct (xs ++ x ∷ ys)
 distinct_instead [] x ys d f b = (b, d)
-distinct_instead (z ∷ xs) x ys d f b = (
-  absent_append z.block xs (x ∷ ys) (absent_left z.block xs ys d.0) ((λ e. f.0 (sym e)), absent_right z.block xs ys d.0),
-  distinct_instead xs x ys d.1 f.1 b,
-)
+distinct_instead (z ∷ xs) x ys d f b = grind (arith, absent_append, absent_left, absent_right, distinct_instead xs x ys d.1 f.1 b)
 
 -- the line of a block, among others
 pub record Found (b : ℕ) (ls : List Line) (line : Line) : Type 0 where
@@ -76,44 +71,38 @@ found b (l ∷ ls) line h =
 
 pub not_found : (b : ℕ) (ls : List Line) → find (is_block b) ls ≡ None → Absent b ls
 not_found b [] h = tt
-not_found b (l ∷ ls) h =
-    let other : l.block ≢ b = grind arith in
-    let rest : find (is_block b) ls ≡ None = grind arith in
-    (other, not_found b ls rest)
+not_found b (l ∷ ls) h = grind (arith, not_found b ls (grind arith))
 
 pub find_split : (b : ℕ) (xs : List Line) (x : Line) (ys : List Line) → x.block ≡ b → Absent b xs → find (is_block b) (xs ++ x ∷ ys) ≡ Some x
-find_split b [] x ys e h = grind (arith, e)
-find_split b (z ∷ xs) x ys e h = grind (arith, h.0, find_split b xs x ys e h.1)
+find_split b [] x ys e h = grind arith
+find_split b (z ∷ xs) x ys e h = grind (arith, find_split b xs x ys e h.1)
 
 -- edits where the block is absent, and round its line
 pub without_absent : (b : ℕ) (ls : List Line) → Absent b ls → without b ls ≡ ls
 without_absent b [] h = refl
-without_absent b (l ∷ ls) h = grind (arith, h.0, without_absent b ls h.1)
+without_absent b (l ∷ ls) h = grind (arith, without_absent b ls h.1)
 
 pub without_split : (b : ℕ) (xs : List Line) (x : Line) (ys : List Line) → x.block ≡ b → Absent b xs → Absent b ys →
     without b (xs ++ x ∷ ys) ≡ xs ++ ys
-without_split b [] x ys e f h = grind (arith, e, without_absent b ys h)
-without_split b (z ∷ xs) x ys e f h = grind (arith, f.0, without_split b xs x ys e f.1 h)
+without_split b [] x ys e f h = grind (arith, without_absent b ys h)
+without_split b (z ∷ xs) x ys e f h = grind (arith, without_split b xs x ys e f.1 h)
 
 pub exchange_absent : (b : ℕ) (new : Line) (ls : List Line) → Absent b ls → exchange b new ls ≡ ls
 exchange_absent b new [] h = refl
-exchange_absent b new (l ∷ ls) h = grind (arith, h.0, exchange_absent b new ls h.1)
+exchange_absent b new (l ∷ ls) h = grind (arith, exchange_absent b new ls h.1)
 
 pub exchange_split : (b : ℕ) (new : Line) (xs : List Line) (x : Line) (ys : List Line) → x.block ≡ b → Absent b xs → Absent b ys →
     exchange b new (xs ++ x ∷ ys) ≡ xs ++ new ∷ ys
-exchange_split b new [] x ys e f h = grind (arith, e, exchange_absent b new ys h)
-exchange_split b new (z ∷ xs) x ys e f h = grind (arith, f.0, exchange_split b new xs x ys e f.1 h)
+exchange_split b new [] x ys e f h = grind (arith, exchange_absent b new ys h)
+exchange_split b new (z ∷ xs) x ys e f h = grind (arith, exchange_split b new xs x ys e f.1 h)
 
 -- the lines of a set
 pub find_in_set : (g : GeometryValue) (b : ℕ) (ls : List Line) → find (is_block b) (lines_of_set g (set_of_block g b) ls) ≡ find (is_block b) ls
-find_in_set g b ls = find-filter (λ line. set_of_block g line.block == set_of_block g b) (is_block b) ls
-    (λ l e. eq-eqb _ _ (ap (set_of_block g) (eqb-true l.block b e)))
+find_in_set g b ls = grind (arith, find-filter)
 
 pub absent_other : (g : GeometryValue) (k b : ℕ) (ls : List Line) → k ≢ set_of_block g b → Absent b (lines_of_set g k ls)
 absent_other g k b [] ne = tt
-absent_other g k b (l ∷ ls) ne =
-    cases (λ t. (set_of_block g l.block == k) ≡ t → Absent b (cond t (l ∷ lines_of_set g k ls) (lines_of_set g k ls))) (set_of_block g l.block == k)
-    (λ _ t. ((λ e. ne (sym (eqb-true _ _ t) ∙ ap (set_of_block g) e)), absent_other g k b ls ne)) (λ _ _. absent_other g k b ls ne) refl
+absent_other g k b (l ∷ ls) ne = grind (arith, absent_other g k b ls ne)
 
 pub set_without : (g : GeometryValue) (k b : ℕ) (ls : List Line) → lines_of_set g k (without b ls) ≡ without b (lines_of_set g k ls)
 set_without g k b ls = filter_comm (λ line. set_of_block g line.block == k) (λ line. not (is_block b line)) ls
@@ -121,9 +110,7 @@ set_without g k b ls = filter_comm (λ line. set_of_block g line.block == k) (λ
 pub set_exchange : (g : GeometryValue) (k b : ℕ) (new : Line) (ls : List Line) → set_of_block g new.block ≡ set_of_block g b →
     lines_of_set g k (exchange b new ls) ≡ exchange b new (lines_of_set g k ls)
 set_exchange g k b new [] e = refl
-set_exchange g k b new (l ∷ ls) e =
-    let same : l.block ≡ b → set_of_block g l.block ≡ set_of_block g new.block = λ q. ap (set_of_block g) q ∙ sym e in
-    grind (arith, same, set_exchange g k b new ls e)
+set_exchange g k b new (l ∷ ls) e = grind (arith, set_exchange g k b new ls e)
 
 -- keys in order
 pub falls_weaker : (n m : ℕ) (ls : List Line) → n ≤ m → Falls n ls → Falls m ls
@@ -157,8 +144,8 @@ counts_up_push n (z ∷ xs) x f e = (f.0, counts_up_push (n + 1) xs x f.1 (omega
 
 pub find_way : (n w : ℕ) (xs : List Line) (x : Line) (ys : List Line) → CountsUp n (xs ++ x ∷ ys) → w ≡ n + length xs →
     find (λ l. l.key == w) (xs ++ x ∷ ys) ≡ Some x
-find_way n w [] x ys f e = grind (arith, f.0)
-find_way n w (z ∷ xs) x ys f e = grind (arith, f.0, find_way (n + 1) w xs x ys f.1 (omega arith))
+find_way n w [] x ys f e = grind arith
+find_way n w (z ∷ xs) x ys f e = grind (arith, find_way (n + 1) w xs x ys f.1 (omega arith))
 
 -- an element among others: in front of them, or between them
 abbrev pub around : {A : Type 0} → Place → A → List A → List A → List A
@@ -167,23 +154,19 @@ around InPlace y xs ys = xs ++ y ∷ ys
 
 pub distinct_around : (p : Place) (y : Line) (xs ys : List Line) → Absent y.block xs → Absent y.block ys → Distinct (xs ++ ys) →
     Distinct (around p y xs ys)
-distinct_around InFront y xs ys f b d = (absent_append y.block xs ys f b, d)
-distinct_around InPlace y xs ys f b d = distinct_instead xs y ys d f b
+distinct_around p y xs ys f b d = grind (arith, absent_append, distinct_instead)
 
 -- a line that goes among others, where none leaves, and where one does
 pub with_line_at-none : (p : Place) (y : Line) (ls : List Line) → with_line_at p y None ls ≡ around p y ls []
-with_line_at-none InFront y ls = ap (λ s. y ∷ s) (sym (append-nil ls))
-with_line_at-none InPlace y ls = refl
+with_line_at-none p y ls = grind (arith, append-nil)
 
 pub with_line_at-some : (p : Place) (y gone : Line) (xs : List Line) (x : Line) (ys : List Line) → x.block ≡ gone.block → Absent gone.block xs →
     Absent gone.block ys → with_line_at p y (Some gone) (xs ++ x ∷ ys) ≡ around p y xs ys
-with_line_at-some InFront y gone xs x ys e f b = ap (λ s. y ∷ s) (without_split gone.block xs x ys e f b)
-with_line_at-some InPlace y gone xs x ys e f b = exchange_split gone.block y xs x ys e f b
+with_line_at-some p y gone xs x ys e f b = grind (arith, without_split, exchange_split)
 
 -- the order of a set later, and with another line among its own: in front with the clock as its key, or in a place with the key there
 pub order_later : (p : Place) (c : ℕ) (ls : List Line) → InOrder p c ls → InOrder p (c + 1) ls
-order_later InFront c ls o = falls_weaker (c + 1) (c + 1 + 1) ls (omega arith) o
-order_later InPlace c ls o = o
+order_later p c ls o = grind (arith, falls_weaker)
 
 order_front : (c : ℕ) (xs : List Line) (x y : Line) (ys : List Line) → y.key ≡ c + 1 → InOrder InFront c (xs ++ x ∷ ys) →
     InOrder InFront (c + 1) (y ∷ (xs ++ ys))
@@ -191,21 +174,16 @@ order_front c xs x y ys e o = (omega (arith, e), rw e (falls_without (c + 1) xs 
 
 order_instead : (p : Place) (c : ℕ) (xs : List Line) (x y : Line) (ys : List Line) → y.key ≡ x.key → InOrder p c (xs ++ x ∷ ys) →
     InOrder p (c + 1) (xs ++ y ∷ ys)
-order_instead InFront c xs x y ys e o = order_later InFront c (xs ++ y ∷ ys) (falls_instead (c + 1) xs x y ys e o)
-order_instead InPlace c xs x y ys e o = counts_instead 0 xs x y ys e o
+order_instead p c xs x y ys e o = grind (arith, order_later, falls_instead, counts_instead)
 
 pub order_placed : (p : Place) (c : ℕ) (xs : List Line) (x y : Line) (ys : List Line) → y.key ≡ key_at p (c + 1) x.key →
     InOrder p c (xs ++ x ∷ ys) → InOrder p (c + 1) (around p y xs ys)
-order_placed InFront c xs x y ys e o = order_front c xs x y ys e o
-order_placed InPlace c xs x y ys e o = order_instead InPlace c xs x y ys e o
+order_placed p c xs x y ys e o = grind (arith, order_front, order_instead)
 
 pub order_pushed : (p : Place) (c : ℕ) (ls : List Line) (y : Line) → y.key ≡ key_at p (c + 1) (length ls) → InOrder p c ls →
     InOrder p (c + 1) (around p y ls [])
-order_pushed InFront c ls y e o = (omega (arith, e), rw (e, append-nil ls) o)
-order_pushed InPlace c ls y e o = counts_up_push 0 ls y o (omega (arith, e))
+order_pushed p c ls y e o = grind (arith, append-nil, counts_up_push)
 
 pub order_touched : (policy : Repl) (c : ℕ) (xs : List Line) (x y : Line) (ys : List Line) → y.key ≡ key_at (rules policy).touched (c + 1) x.key →
     InOrder (rules policy).placed c (xs ++ x ∷ ys) → InOrder (rules policy).placed (c + 1) (around (rules policy).touched y xs ys)
-order_touched Lru c xs x y ys e o = order_front c xs x y ys e o
-order_touched Fifo c xs x y ys e o = order_instead InFront c xs x y ys e o
-order_touched Random c xs x y ys e o = order_instead InPlace c xs x y ys e o
+order_touched policy c xs x y ys e o = grind (arith, order_front, order_instead)

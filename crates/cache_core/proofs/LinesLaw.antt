@@ -122,8 +122,7 @@ module _ (plan : PlannedCaches) (seed : ℕ) where
   reference_shown L1I earlier ref = cc (first_shown seed L1I plan.i earlier ref, at_first (lines_at L1I) plan seed earlier ref L1I refl (only_lines seed L1I))
   reference_shown L1D earlier ref = cc (first_shown seed L1D plan.d earlier ref, at_first (lines_at L1D) plan seed earlier ref L1D refl (only_lines seed L1D))
   reference_shown L1U earlier ref = cc (first_shown seed L1U plan.u earlier ref, at_first (lines_at L1U) plan seed earlier ref L1U refl (only_lines seed L1U))
-  reference_shown L2U earlier ref =
-      cc (lower_shown earlier ref, at_lower (lines_at L2U) plan seed earlier ref (λ r h v. refl) (λ r h v. refl) (λ r h v. refl))
+  reference_shown L2U earlier ref = cc (lower_shown earlier ref, at_lower (lines_at L2U) plan seed earlier ref (λ r h v. refl) (λ r h v. refl) (λ r h v. refl))
 
   flush_shown : (name : CacheName) (earlier : List Event) → whole name (earlier ++ event.Flush ∷ []) ≡ whole name earlier
   flush_shown L1I earlier = ap (access_lines seed L1I plan.i) (events_flush L1I earlier) ∙ lines_flush seed L1I plan.i (events_for L1I earlier)

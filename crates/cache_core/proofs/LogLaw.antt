@@ -24,7 +24,7 @@ use Rattle.cache_core.specs.Systems.{machine_of, below, counts_if_planned, flush
 use Rattle.cache_core.specs.Arrivals.{victim_of, arrivals}
 use Rattle.cache_core.specs.ArrivalStats.{count_arrival, no_stats, LogLaw}
 use Rattle.cache_core.specs.LogLaws.{planned_of, events_at, lines_at, access_line, access_lines, dirty_at, refs_at_memory, refs_past, is_left_out}
-use Rattle.cache_core.proofs.SystemPushes.{flush_then_access, two_flushes, stats_steps}
+use Rattle.cache_core.proofs.SystemPushes.{two_flushes, stats_steps}
 use Rattle.cache_core.proofs.LowerLaw.{is_read_of, is_write_of}
 use Rattle.cache_core.proofs.LinesLaw.{lines_law}
 use Rattle.cache_core.proofs.FlushLines.{flush_counts_law}
@@ -40,9 +40,7 @@ count_line s (Flush at dirty) = s
 flush_then_lines : (dirty : ℕ) (s : CacheStats) (lines : List Arrival) →
     fold count_line (count_flush dirty s) lines ≡ count_flush dirty (fold count_line s lines)
 flush_then_lines dirty s [] = refl
-flush_then_lines dirty s (Cache at ref hit victim ∷ lines) =
-    ap (λ c. fold count_line c lines) (flush_then_access ref.access hit (option_map (λ v. v.dirty) victim) dirty s)
-    ∙ flush_then_lines dirty (count_line s (Cache at ref hit victim)) lines
+flush_then_lines dirty s (Cache at ref hit victim ∷ lines) = grind (arith, flush_then_lines dirty (count_line s (Cache at ref hit victim)) lines)
 flush_then_lines dirty s (Memory ref ∷ lines) = flush_then_lines dirty s lines
 flush_then_lines dirty s (Bypassed ref ∷ lines) = flush_then_lines dirty s lines
 flush_then_lines dirty s (Flush at n ∷ lines) = flush_then_lines dirty s lines
@@ -50,10 +48,6 @@ flush_then_lines dirty s (Flush at n ∷ lines) = flush_then_lines dirty s lines
 -- the counts of a cache after its lines
 abbrev counts_after : CacheName → List Arrival → CacheStats → CacheStats
 counts_after name log s = count_flush (sum (flat_map (dirty_at name) log)) (fold count_line s (flat_map (lines_at name) log))
-
-option_map_twice : (f g : CacheStats → CacheStats) (s : Option CacheStats) → option_map g (option_map f s) ≡ option_map (λ c. g (f c)) s
-option_map_twice f g None = refl
-option_map_twice f g (Some c) = refl
 
 -- and after one more flush
 one_flush : (dirty : ℕ) (counts : List ℕ) (lines : List Arrival) (s : Option CacheStats) →
@@ -86,15 +80,9 @@ after log s = record {
 }
 
 module _ (log : List Arrival) (s : Stats) where
-  abbrev old : Stats
-  old = after log s
-
   cached : (name : CacheName) (ref : Ref) (hit : Bool) (victim : Option Victim) →
       after log (count_arrival s (Cache name ref hit victim)) ≡ after (Cache name ref hit victim ∷ log) s
-  cached L1I ref hit victim = ap (λ c. record old { l1i = c }) (option_map_twice _ (counts_after L1I log) s.l1i)
-  cached L1D ref hit victim = ap (λ c. record old { l1d = c }) (option_map_twice _ (counts_after L1D log) s.l1d)
-  cached L1U ref hit victim = ap (λ c. record old { l1u = c }) (option_map_twice _ (counts_after L1U log) s.l1u)
-  cached L2U ref hit victim = ap (λ c. record old { l2u = c }) (option_map_twice _ (counts_after L2U log) s.l2u)
+  cached name ref hit victim = grind arith
 
   written : (name : CacheName) (dirty : ℕ) → (after log (count_arrival s (Flush name dirty))).memory_writes ≡ (after (Flush name dirty ∷ log) s).memory_writes
   written L1I dirty = omega (arith, one_more L1I dirty log)
@@ -103,36 +91,24 @@ module _ (log : List Arrival) (s : Stats) where
   written L2U dirty = omega (arith, one_more L2U dirty log)
 
   emptied : (name : CacheName) (dirty : ℕ) → after log (count_arrival s (Flush name dirty)) ≡ after (Flush name dirty ∷ log) s
-  emptied L1I dirty =
-      ap₂ (λ (c : Option CacheStats) n. record old { l1i = c; memory_writes = n })
-      (one_flush dirty (flat_map (dirty_at L1I) log) (flat_map (lines_at L1I) log) s.l1i) (written L1I dirty)
-  emptied L1D dirty =
-      ap₂ (λ (c : Option CacheStats) n. record old { l1d = c; memory_writes = n })
-      (one_flush dirty (flat_map (dirty_at L1D) log) (flat_map (lines_at L1D) log) s.l1d) (written L1D dirty)
-  emptied L1U dirty =
-      ap₂ (λ (c : Option CacheStats) n. record old { l1u = c; memory_writes = n })
-      (one_flush dirty (flat_map (dirty_at L1U) log) (flat_map (lines_at L1U) log) s.l1u) (written L1U dirty)
-  emptied L2U dirty =
-      ap₂ (λ (c : Option CacheStats) n. record old { l2u = c; memory_writes = n })
-      (one_flush dirty (flat_map (dirty_at L2U) log) (flat_map (lines_at L2U) log) s.l2u) (written L2U dirty)
+  emptied L1I dirty = grind (arith, one_flush dirty (flat_map (dirty_at L1I) log) (flat_map (lines_at L1I) log) s.l1i, written L1I dirty)
+  emptied L1D dirty = grind (arith, one_flush dirty (flat_map (dirty_at L1D) log) (flat_map (lines_at L1D) log) s.l1d, written L1D dirty)
+  emptied L1U dirty = grind (arith, one_flush dirty (flat_map (dirty_at L1U) log) (flat_map (lines_at L1U) log) s.l1u, written L1U dirty)
+  emptied L2U dirty = grind (arith, one_flush dirty (flat_map (dirty_at L2U) log) (flat_map (lines_at L2U) log) s.l2u, written L2U dirty)
 
   reached : (ref : Ref) → after log (count_arrival s (Memory ref)) ≡ after (Memory ref ∷ log) s
   reached ref =
-      let refs = flat_map refs_at_memory log in
-      let r : (after log (count_arrival s (Memory ref))).memory_reads ≡ (after (Memory ref ∷ log) s).memory_reads =
-      omega (arith, sum_by-cons (λ (x : Ref). cond (is_read_of x) 1 0) ref refs) in
-      let w : (after log (count_arrival s (Memory ref))).memory_writes ≡ (after (Memory ref ∷ log) s).memory_writes =
-      omega (arith, sum_by-cons (λ (x : Ref). cond (is_write_of x) 1 0) ref refs) in
-      ap₂ (λ m n. record old { memory_reads = m; memory_writes = n }) r w
+      grind (
+        arith,
+        sum_by-cons (λ (x : Ref). cond (is_read_of x) 1 0) ref (flat_map refs_at_memory log),
+        sum_by-cons (λ (x : Ref). cond (is_write_of x) 1 0) ref (flat_map refs_at_memory log),
+      )
 
   bypassed : (ref : Ref) → after log (count_arrival s (Bypassed ref)) ≡ after (Bypassed ref ∷ log) s
-  bypassed ref =
-      let n : s.bypassed + 1 + length (flat_map refs_past log) ≡ s.bypassed + length (ref ∷ flat_map refs_past log) = omega arith in
-      ap (λ n. record old { bypassed = n }) n
+  bypassed ref = grind arith
 
 none_more : (s : Option CacheStats) → option_map (count_flush 0) s ≡ s
-none_more None = refl
-none_more (Some c) = ap (λ n. Some (record c { copybacks = n })) (add-zero c.copybacks)
+none_more s = grind arith
 
 counted : (log : List Arrival) (s : Stats) → fold count_arrival s log ≡ after log s
 counted [] s = sym (simp (none_more, add-zero))
@@ -144,8 +120,7 @@ counted (Flush name dirty ∷ log) s = counted log (count_arrival s (Flush name 
 -- the counts of a cache, by the laws of its lines
 victim_dirty : (g : GeometryValue) (evicted : Option Slot) →
     option_map (λ v. v.dirty) (option_map (victim_of g) evicted) ≡ option_map (λ slot. slot.dirty) evicted
-victim_dirty g None = refl
-victim_dirty g (Some slot) = refl
+victim_dirty g evicted = grind arith
 
 same_counts : (seed : ℕ) (name : CacheName) (planned : Option PlannedCache) (events : List Event) (log : List Arrival) →
     flat_map (lines_at name) log ≡ access_lines seed name planned events →

@@ -1,9 +1,9 @@
 -- The second level and memory: what arrives at them, and what they count.
-use Rattle.std.proofs.Common.{◌≡◌, ℕ, ◌+◌, not, Bool, true, false, cond, List, [], ◌∷◌, ◌++◌, Option, Some, None, refl, sym}
+use Rattle.std.proofs.Common.{◌≡◌, ℕ, ◌+◌, not, Bool, List, [], ◌∷◌, ◌++◌, Option, Some, None}
 use Rattle.std.proofs.Common.{◌∙◌}
 use Rattle.std.proofs.Common.{ap, subst, arith, append-nil}
 use Rattle.std.specs.Prelude.{count_by, MatchOption}
-use Rattle.std.proofs.lemmas.List.Sums.{sum_by-cons, sum_by-append}
+use Rattle.std.proofs.lemmas.List.Sums.{sum_by-append}
 use Rattle.trace_core.specs.declared.events.Ref.{Ref}
 use Rattle.trace_core.specs.declared.events.Event.{Event}
 use Rattle.trace_core.specs.declared.events.Event.TheVariants as event
@@ -13,7 +13,7 @@ use Rattle.cache_core.specs.declared.system_cache.SystemCache.{SystemCache}
 use Rattle.cache_core.specs.declared.system.Memory.{Memory}
 use Rattle.cache_core.specs.Plans.{IsPlannedCache}
 use Rattle.cache_core.specs.Systems.{machine_of, to_memory}
-use Rattle.cache_core.specs.SystemSteps.{present_refs, reaches, all_reach, Descends, AllDescend}
+use Rattle.cache_core.specs.SystemSteps.{present_refs, all_reach, Descends, AllDescend}
 use Rattle.cache_core.specs.Arrivals.{passes}
 use Rattle.cache_core.proofs.SystemPushes.{memory_push, with_refs, with_refs-cons}
 use Rattle.cache_core.proofs.FirstLevelLaw.{enters, KeptIfPlanned, down_list}
@@ -23,27 +23,6 @@ is_read_of ref = not (is_write ref.access)
 
 abbrev pub is_write_of : Ref → Bool
 is_write_of ref = is_write ref.access
-
--- memory counted so many reads and writes more
-record Counted (memory after : Memory) (read written : ℕ) : Type 0 where
-  reads : after.reads ≡ memory.reads + read
-  writes : after.writes ≡ memory.writes + written
-
-count_one : (memory : Memory) (written : Bool) →
-    Counted memory (cond written (record memory { writes = memory.writes + 1 }) (record memory { reads = memory.reads + 1 }))
-    (cond (not written) 1 0) (cond written 1 0)
-count_one memory true = record { reads = omega arith; writes = refl }
-count_one memory false = record { reads = refl; writes = omega arith }
-
-count_all : (memory : Memory) (refs : List Ref) → Counted memory (all_reach memory refs) (count_by is_read_of refs) (count_by is_write_of refs)
-count_all memory [] = record { reads = omega arith; writes = omega arith }
-count_all memory (r ∷ refs) =
-    let one = count_one memory (is_write r.access) in
-    let more = count_all (reaches memory r) refs in
-    record {
-      reads = omega (arith, one.reads, more.reads, sum_by-cons (λ (x : Ref). cond (is_read_of x) 1 0) r refs);
-      writes = omega (arith, one.writes, more.writes, sum_by-cons (λ (x : Ref). cond (is_write_of x) 1 0) r refs);
-    }
 
 -- the second level and memory after the events that came to them, where so many lines were flushed
 pub record Lower (seed : ℕ) (planned : Option PlannedCache) (events : List Event) (flushed : ℕ) (cache : Option SystemCache)
@@ -56,17 +35,7 @@ module _ (seed flushed : ℕ) where
   reached : (planned : Option PlannedCache) (events : List Event) (cache next : Option SystemCache) (memory after : Memory) (ref : Ref) →
       Lower seed planned events flushed cache memory → KeptIfPlanned seed planned (events ++ event.Reference ref ∷ []) next →
       after ≡ all_reach memory (passes seed planned events ref) → Lower seed planned (events ++ event.Reference ref ∷ []) flushed next after
-  reached planned events cache next memory after ref l k e =
-      let down = passes seed planned events ref in
-      let before = to_memory seed planned events in
-      let more : (p : Ref → Bool) → count_by p (to_memory seed planned (events ++ event.Reference ref ∷ [])) ≡ count_by p before + count_by p down =
-      λ p. ap (count_by p) (memory_push seed planned events ref) ∙ sum_by-append (λ x. cond (p x) 1 0) before down in
-      let counted = subst (λ (m : Memory). Counted memory m (count_by is_read_of down) (count_by is_write_of down)) (sym e) (count_all memory down) in
-      record {
-        kept = k;
-        reads = omega (arith, counted.reads, l.reads, more is_read_of);
-        writes = omega (arith, counted.writes, l.writes, more is_write_of);
-      }
+  reached planned events cache next memory after ref l k e = grind (arith, memory_push, sum_by-append)
 
   descends : (planned : Option PlannedCache) (events : List Event) (cache next : Option SystemCache) (memory after : Memory) (ref : Ref) →
       IsPlannedCache planned → Lower seed planned events flushed cache memory → Descends ref cache memory next after →

@@ -1,31 +1,27 @@
 -- The LRU machine with write-allocate holds the fronts of the stacks, after every list of events.
-use Rattle.std.proofs.Common.{◌≡◌, ℕ, zero, suc, ◌+◌, ◌≤◌, Bool, not, cond, ltb, List, [], ◌∷◌, ◌++◌, take, map}
+use Rattle.std.proofs.Common.{◌≡◌, ℕ, ◌+◌, ◌≤◌, Bool, not, cond, List, [], ◌∷◌, ◌++◌, take, map}
 use Rattle.std.proofs.Common.{append_assoc, append-nil, refl, sym, ◌∙◌, ap, subst, arith, find}
 use Rattle.std.specs.Prelude.{is_some, fold}
 use Rattle.std.specs.List.{list_any, count_by}
 use Rattle.std.proofs.lemmas.List.Folds.{list_any_kept}
-use Rattle.std.proofs.lemmas.Bool.{ne_eqb, and_parts, and_from, lt-ltb, ltb-true}
 use Rattle.std.proofs.lemmas.List.{length-map}
 use Rattle.std.proofs.lemmas.List.Sums.{sum_by-cons}
 use Rattle.trace_core.specs.declared.events.Ref.{Ref}
 use Rattle.trace_core.specs.declared.events.Event.{Event}
 use Rattle.trace_core.specs.declared.events.Event.TheVariants as event
-use Rattle.cache_core.specs.declared.outcome.Outcome.{Outcome}
 use Rattle.cache_core.specs.declared.design.WriteMode.{WriteMode}
 use Rattle.cache_core.specs.declared.design.Repl.TheVariants.{Lru}
 use Rattle.cache_core.specs.Geometry.{GeometryValue, block_of, set_of_block}
 use Rattle.cache_core.specs.Outcomes.{Effect}
 use Rattle.cache_core.specs.Machine.{Machine, MachineState, Line, slot_of, is_block, lines_of_set, start, step, next, run, with_effects_from, effects}
 use Rattle.cache_core.specs.Stands.{IsSoundState}
-use Rattle.cache_core.specs.Windows.{Occurrence, window, window_after, distinct_of_set, has_last, distance, is_hit, is_evict, occurrences, counts}
+use Rattle.cache_core.specs.Windows.{Occurrence, window, window_after, distinct_of_set, is_hit, is_evict, occurrences, counts}
 use Rattle.cache_core.specs.LruLaws.{lru_machine, holds, HitLaw, VictimLaw, CountLaw, NextLaw, HitInclusion, HeldInclusion}
 use Rattle.cache_core.proofs.Lists.{is}
 use Rattle.cache_core.proofs.Distances.{distinct_of_set-nil, distinct_of_set-other}
 use Rattle.cache_core.proofs.Occurrences.{occurrences_from, occurrences-from, window-nil, window-push}
 use Rattle.cache_core.proofs.StateLaw.{step_agrees}
-use Rattle.cache_core.proofs.Visits.{at_each}
-use Rattle.cache_core.proofs.FlushLaw.{start_sound}
-use Rattle.cache_core.proofs.SoundLaw.{IsFew, visit_exists, sound_ref, sound_next}
+use Rattle.cache_core.proofs.SoundLaw.{IsFew, visit_exists, sound_ref}
 use Rattle.cache_core.proofs.LruSet.{blocks_of, visit_moves}
 
 -- the effects from a state
@@ -46,15 +42,10 @@ pub record IsStacked (g : GeometryValue) (write : WriteMode) (w : List ℕ) (st 
   pub fronts : (k : ℕ) → blocks_in (lines_of_set g k st.lines) ≡ take g.e (distinct_of_set g k w)
 
 take_nil : (n : ℕ) → take {A = ℕ} n [] ≡ []
-take_nil zero = refl
-take_nil (suc n) = refl
+take_nil n = grind arith
 
 pub stacked_start : (g : GeometryValue) (write : WriteMode) → IsStacked g write [] start
-stacked_start g write = record {
-  sound = start_sound (lru_machine g write);
-  few = λ k. omega arith;
-  fronts = λ k. sym (take_nil g.e) ∙ ap (take g.e) (sym (distinct_of_set-nil g k));
-}
+stacked_start g write = grind (arith, distinct_of_set-nil)
 
 -- one reference
 record FollowsWindow (g : GeometryValue) (write : WriteMode) (w : List ℕ) (st : MachineState) (ref : Ref) : Type 0 where
@@ -74,24 +65,12 @@ follows g write w st ref some h =
     let a = step_agrees m st ref numbers v.outcome v.new v.rest h.sound refl (find (is_block x) st.lines) refl v.visit in
     let moved = visit_moves g write numbers ref w (map slot_of here) v.outcome v.new v.rest some (blocks_slots here ∙ h.fronts k) v.visit in
     let after = sound_ref m st ref some h.sound h.few in
-    record {
-      stacked = record {
-        sound = after.0;
-        few = after.1;
-        fronts = at_each (λ i. blocks_in (lines_of_set g i (step m st ref).after.lines) ≡ take g.e (distinct_of_set g i (x ∷ w))) k
-            (sym (blocks_slots (lines_of_set g k (step m st ref).after.lines)) ∙ ap blocks_of (sym a.held) ∙ moved.front)
-            (λ j ne. ap blocks_in (a.others j ne) ∙ h.fronts j ∙ ap (take g.e) (sym (distinct_of_set-other g j x w (ne_eqb k j (λ q. ne (sym q))))));
-      };
-      hits = ap (λ (o : Outcome). o.hit) (sym a.effect) ∙ moved.hits;
-      evicts = ap (λ (o : Outcome). is_some o.evicted) (sym a.effect) ∙ moved.evicts;
-    }
+    grind (arith, blocks_slots, distinct_of_set-other)
 
 stacked_next : (g : GeometryValue) (write : WriteMode) (w : List ℕ) (st : MachineState) (event : Event) → 1 ≤ g.e → IsStacked g write w st →
     IsStacked g write (window_after g w event) (next (lru_machine g write) st event)
 stacked_next g write w st (event.Reference ref) some h = (follows g write w st ref some h).stacked
-stacked_next g write w st event.Flush some h =
-    let after = sound_next (lru_machine g write) st event.Flush some h.sound h.few in
-    record { sound = after.0; few = after.1; fronts = λ k. sym (take_nil g.e) ∙ ap (take g.e) (sym (distinct_of_set-nil g k)) }
+stacked_next g write w st event.Flush some h = grind (arith, take_nil, distinct_of_set-nil)
 
 pub stacked_run : (g : GeometryValue) (write : WriteMode) (w : List ℕ) (st : MachineState) (events : List Event) → 1 ≤ g.e → IsStacked g write w st →
     IsStacked g write (fold (window_after g) w events) (fold (next (lru_machine g write)) st events)
@@ -116,14 +95,13 @@ lru_from f p g write some agree w st (event.Flush ∷ events) h =
 -- a count over a list is one over the results of its tests
 pub count_by-map : {X : Type 0} (q : Bool → Bool) (p : X → Bool) (xs : List X) → count_by (λ x. q (p x)) xs ≡ count_by q (map p xs)
 count_by-map q p [] = refl
-count_by-map q p (x ∷ xs) =
-    omega (arith, sum_by-cons (λ y. cond (q (p y)) 1 0) x xs, sum_by-cons (λ b. cond (q b) 1 0) (p x) (map p xs), count_by-map q p xs)
+count_by-map q p (x ∷ xs) = cc (sum_by-cons (λ y. cond (q (p y)) 1 0) x xs, sum_by-cons (λ b. cond (q b) 1 0) (p x) (map p xs), count_by-map q p xs)
 
 -- a block is held if it is among the front of its set's stack
 any_set : (g : GeometryValue) (x : ℕ) (lines : List Line) →
     list_any (is_block x) lines ≡ list_any (is x) (blocks_in (lines_of_set g (set_of_block g x) lines))
 any_set g x [] = refl
-any_set g x (l ∷ ls) = let same : l.block ≡ x → set_of_block g l.block ≡ set_of_block g x = ap (set_of_block g) in grind (arith, same, any_set g x ls)
+any_set g x (l ∷ ls) = let same : l.block ≡ x → set_of_block g l.block ≡ set_of_block g x = ap (set_of_block g) in grind (arith, any_set g x ls)
 
 pub holds_is : (g : GeometryValue) (write : WriteMode) (w : List ℕ) (st : MachineState) (x : ℕ) → IsStacked g write w st →
     holds st x ≡ list_any (is x) (take g.e (distinct_of_set g (set_of_block g x) w))
@@ -144,24 +122,21 @@ victim_law g write events some =
 pub count_law : CountLaw
 unfolding counts
 count_law g write events some =
-    let all = effects (lru_machine g write) events in
-    let kept : Bool → Bool = λ b. b in
-    let told = hit_law g write events some in
-    let hits : count_by (λ a. a.hit) all ≡ count_by (is_hit g) (occurrences g events) =
-    count_by-map kept (λ a. a.hit) all ∙ ap (count_by kept) told ∙ sym (count_by-map kept (is_hit g) (occurrences g events)) in
-    let misses : count_by (λ a. not a.hit) all ≡ count_by (λ p. not (is_hit g p)) (occurrences g events) =
-    count_by-map not (λ a. a.hit) all ∙ ap (count_by not) told ∙ sym (count_by-map not (is_hit g) (occurrences g events)) in
-    let evictions : count_by (λ a. is_some a.evicted) all ≡ count_by (is_evict g) (occurrences g events) =
-    count_by-map kept (λ a. is_some a.evicted) all ∙ ap (count_by kept) (victim_law g write events some)
-    ∙ sym (count_by-map kept (is_evict g) (occurrences g events)) in
-    cc (hits, misses, evictions)
+    cc (
+      hit_law g write events some,
+      count_by-map (λ b. b) (λ a. a.hit) (effects (lru_machine g write) events),
+      count_by-map (λ b. b) (is_hit g) (occurrences g events),
+      count_by-map not (λ a. a.hit) (effects (lru_machine g write) events),
+      count_by-map not (is_hit g) (occurrences g events),
+      count_by-map (λ b. b) (λ a. is_some a.evicted) (effects (lru_machine g write) events),
+      victim_law g write events some,
+      count_by-map (λ b. b) (is_evict g) (occurrences g events),
+    )
 
 -- the window of a list, carried along
 window_folds : (g : GeometryValue) (before es : List Event) → fold (window_after g) (window g before) es ≡ window g (before ++ es)
 window_folds g before [] = ap (window g) (sym (append-nil before))
-window_folds g before (e ∷ es) =
-    ap (λ w. fold (window_after g) w es) (sym (window-push g before e)) ∙ window_folds g (before ++ e ∷ []) es
-    ∙ ap (window g) (append_assoc before (e ∷ []) es)
+window_folds g before (e ∷ es) = grind (arith, window-push, append_assoc, window_folds g (before ++ e ∷ []) es)
 
 -- the state after a list holds the fronts of its window's stacks
 pub run_stacked : (g : GeometryValue) (write : WriteMode) (events : List Event) → 1 ≤ g.e →
@@ -188,6 +163,4 @@ held_law g write events x some h =
 -- what a cache hits, one with a line more in each set hits
 pub hit_inclusion : HitInclusion
 unfolding distinct_of_set
-hit_inclusion g p h =
-    let parts = and_parts (has_last p) (ltb (distance g p) g.e) h in
-    and_from (has_last p) (ltb (distance g p) (g.e + 1)) parts.0 (lt-ltb (distance g p) (g.e + 1) (omega (arith, ltb-true (distance g p) g.e parts.1)))
+hit_inclusion g p h = grind arith

@@ -1,11 +1,10 @@
 -- One visit of a set of an LRU cache. The stack of a set is its different blocks, the most recent first; the set holds its front again.
 use Rattle.std.proofs.Common.{◌≡◌, ℕ, zero, suc, ◌+◌, ◌-◌, ◌<◌, ◌≤◌, Bool, true, false, not, ◌&&◌, ◌==◌, cond, eqb, ltb}
 use Rattle.std.proofs.Common.{leb, min, List, [], ◌∷◌, ◌++◌, length, take, map, get_or, set, Option, Some, None, refl, sym, ◌∙◌, ap, arith}
-use Rattle.std.proofs.Common.{length-take, one-add}
+use Rattle.std.proofs.Common.{length-take}
 use Rattle.std.specs.Prelude.{is_some, slice_get, remove}
 use Rattle.std.specs.List.{list_any, list_all, position_or_len}
 use Rattle.std.proofs.lemmas.Bool.{or_parts, ltb-true, false≢true}
-use Rattle.std.proofs.lemmas.Bool.Decides.{nat_tests}
 use Rattle.std.proofs.lemmas.List.{append-nil, drop_all, take_all, length-map}
 use Rattle.std.proofs.lemmas.List.Edits.{length-remove}
 use Rattle.std.proofs.lemmas.List.Sums.{prefix_len-le-length}
@@ -42,11 +41,11 @@ position_some : (x : ℕ) (slots : List Slot) (at : ℕ) → position_of x slots
 position_some x slots at e = record { there = grind (arith, e, test_blocks x slots); index = grind (arith, e, len_blocks x slots) }
 
 pub position_none : (x : ℕ) (slots : List Slot) → position_of x slots ≡ None → list_any (is x) (blocks_of slots) ≡ false
-position_none x slots e = grind (arith, e, test_blocks x slots)
+position_none x slots e = grind (arith, test_blocks x slots)
 
 at_position : (x : ℕ) (xs : List ℕ) → list_any (is x) xs ≡ true → slice_get xs (position_or_len (is x) xs) ≡ Some x
 at_position x [] h = absurd (false≢true h)
-at_position x (y ∷ ys) h = let rest = at_position x ys in grind (arith, one-add, h, rest)
+at_position x (y ∷ ys) h = let rest = at_position x ys in grind arith
 
 block_at : (slots : List Slot) (n : ℕ) (y : Slot) → slice_get slots n ≡ Some y → slice_get (blocks_of slots) n ≡ Some y.block
 block_at [] n y e = absurd cc
@@ -66,15 +65,14 @@ blocks_set (l ∷ ls) zero none = refl
 blocks_set (l ∷ ls) (suc n) none = ap (λ xs. l.block ∷ xs) (blocks_set ls n none)
 
 blocks_marked : (d : Bool) (slots : List Slot) (at : ℕ) → blocks_of (with_dirty_at d slots at) ≡ blocks_of slots
-blocks_marked false slots at = refl
-blocks_marked true slots at = blocks_set slots at (record { block = 0; dirty = false })
+blocks_marked d slots at = grind (arith, blocks_set)
 
 none_is : (x : ℕ) (xs : List ℕ) → list_any (is x) xs ≡ false → list_all (other x) xs ≡ true
 none_is x [] h = refl
-none_is x (y ∷ ys) h = let parts = or_parts (eqb y x) (list_any (is x) ys) h in grind (arith, parts.0, none_is x ys parts.1)
+none_is x (y ∷ ys) h = let parts = or_parts (eqb y x) (list_any (is x) ys) h in grind (arith, none_is x ys parts.1)
 
 hit_within : (d n m : ℕ) → d ≤ n → (ltb d n && ltb d m) ≡ ltb (min d m) (min m n)
-hit_within d n m h = grind (arith, nat_tests)
+hit_within d n m h = grind arith
 
 -- the stack of a reference's set: its different blocks, the most recent first
 abbrev stack : GeometryValue → Occurrence → List ℕ
@@ -108,11 +106,8 @@ pub record Moves (g : GeometryValue) (p : Occurrence) (outcome : Outcome) (new :
   pub hits : outcome.hit ≡ is_hit g p
   pub evicts : is_some outcome.evicted ≡ is_evict g p
 
-not_full : (e n : ℕ) → min e n < e → leb e n ≡ false
-not_full e n h = grind (arith, nat_tests)
-
 full : (e n : ℕ) → min e n ≡ e → leb e n ≡ true
-full e n h = grind (arith, nat_tests)
+full e n h = grind arith
 
 -- a block in front of others, whose last one goes
 last_out : (n x : ℕ) (xs : List ℕ) → length xs ≡ suc n → x ∷ remove xs n ≡ take (suc n) (x ∷ xs)
@@ -126,10 +121,7 @@ module _ (g : GeometryValue) (p : Occurrence) (some : 1 ≤ g.e) where
   -- the slot at that index is the block's
   touched_block : (slots : List Slot) (x : Slot) → blocks_of slots ≡ front g p → list_any (is p.block) (front g p) ≡ true →
       slice_get slots index ≡ Some x → x.block ≡ p.block
-  touched_block slots x held there got =
-      let read : slice_get (front g p) index ≡ Some x.block = ap (λ xs. slice_get xs index) (sym held) ∙ block_at slots index x got in
-      let both : Some p.block ≡ Some x.block = sym (at_position p.block (front g p) there) ∙ read in
-      cc
+  touched_block slots x held there got = cc (block_at slots index x got, at_position p.block (front g p) there)
 
   -- the front with its block brought to the front
   front_moved : list_any (is p.block) (front g p) ≡ true → p.block ∷ remove (front g p) index ≡ front_after g p
@@ -167,24 +159,14 @@ module _ (g : GeometryValue) (p : Occurrence) (some : 1 ≤ g.e) where
     long : length (front g p) ≡ length old
 
   misses : (old : List Slot) → blocks_of old ≡ front g p → list_any (is p.block) (blocks_of old) ≡ false → Misses old
-  misses old h none =
-      let absent : list_any (is p.block) (front g p) ≡ false = ap (list_any (is p.block)) (sym h) ∙ none in
-      record { absent = absent; missed = is_hit_is g p ∙ absent; long = ap length (sym h) ∙ length-map old (λ slot. slot.block) }
+  misses old h none = grind (arith, is_hit_is, length-map)
 
   -- a block that isn't held is put in front, and the last leaves a full set
   fill_moves : (number : ℕ) (d : Bool) (old new : List Slot) (outcome : Outcome) (evicted : Option Slot) →
       blocks_of old ≡ front g p → list_any (is p.block) (blocks_of old) ≡ false →
       TakesIn (Some Lru) number g.e old (record { block = p.block; dirty = d }) evicted new → outcome.hit ≡ false → outcome.evicted ≡ evicted →
       Moves g p outcome new
-  fill_moves number d old new outcome None h none taken hit left =
-      let m = misses old h none in
-      let short : length (p.block ∷ front g p) ≤ g.e = omega (arith, m.long, taken.0) in
-      record {
-        front = ap blocks_of taken.1 ∙ ap (λ xs. p.block ∷ xs) h ∙ sym (take_all g.e (p.block ∷ front g p) short) ∙ miss_front m.absent;
-        hits = hit ∙ sym m.missed;
-        evicts = ap is_some left
-            ∙ sym (evict_is g p false m.missed ∙ not_full g.e (length (stack g p)) (omega (arith, m.long, taken.0, length-take g.e (stack g p))));
-      }
+  fill_moves number d old new outcome None h none taken hit left = grind (arith, misses, take_all, miss_front, length-take)
   fill_moves number d old new outcome (Some gone) h none taken hit left =
       let m = misses old h none in
       let last : ℕ = length old - 1 in

@@ -1,5 +1,5 @@
 -- What an observer sees of one cache, and of one list of arrivals after another.
-use Rattle.std.proofs.Common.{◌≡◌, ℕ, List, [], ◌∷◌, ◌++◌, Option, Some, None, refl, sym, ap, ◌∙◌, subst, append_assoc, append-nil}
+use Rattle.std.proofs.Common.{◌≡◌, ℕ, List, [], ◌∷◌, ◌++◌, Option, Some, None, refl, sym, ap, ◌∙◌, subst, append_assoc}
 use Rattle.std.proofs.Common.{Bool, true, false, ◌&&◌, ◌||◌, not, cond, length, get_or, arith}
 use Rattle.std.specs.Prelude.{is_some}
 use Rattle.std.proofs.lemmas.Bool.{true≢false}
@@ -21,7 +21,7 @@ use Rattle.cache_core.specs.CacheSteps.{Enters, Empties, system_cache_contents}
 use Rattle.cache_core.specs.Machine.{run, step}
 use Rattle.cache_core.specs.Plans.{IsPlan, IsPlannedCache, PlannedCaches}
 use Rattle.cache_core.specs.Stands.{CacheStandsFor}
-use Rattle.cache_core.specs.Systems.{machine_of, events_for, takes, is_taken, below, first_level_sends}
+use Rattle.cache_core.specs.Systems.{machine_of, events_for, is_taken, below, first_level_sends}
 use Rattle.cache_core.specs.SystemStands.{PlannedCacheStandsFor}
 use Rattle.cache_core.specs.SystemSteps.{present_refs, Descends}
 use Rattle.cache_core.proofs.DownLaw.{down_law}
@@ -29,9 +29,6 @@ use Rattle.cache_core.proofs.FirstLevelLaw.{present_refs_two}
 use Rattle.cache_core.proofs.RunLaw.{access_run, flush_run}
 
 module _ {O : Type 0} (has_seen : O → List Arrival → Type 0) where
-  pub saw_none : (o : O) → Saw has_seen o [] o
-  saw_none o before h = subst (has_seen o) (sym (append-nil before)) h
-
   pub saw_both : {old mid new : O} {xs ys : List Arrival} → Saw has_seen old xs mid → Saw has_seen mid ys new → Saw has_seen old (xs ++ ys) new
   saw_both {new = new} {xs} {ys} first second before h = subst (has_seen new) (append_assoc before xs ys) (second (before ++ xs) (first before h))
 
@@ -65,17 +62,6 @@ entered seed name (Some planned) events old ref outcome new l (there, is, s) e =
       sends = ap (λ (o : Outcome). present_refs o.down) r.1 ∙ present_refs_two effect.down (down_law m events ref);
     }
 
--- nothing is seen of a cache that is not there
-pub none_arrives : (seed : ℕ) (name : CacheName) (planned : Option PlannedCache) (events : List Event) (ref : Ref) →
-    PlannedCacheStandsFor seed planned events None → arrives seed name planned events ref ≡ []
-none_arrives seed name None events ref s = refl
-none_arrives seed name (Some planned) events ref (there, is, s) = absurd cc
-
-pub none_passes : (seed : ℕ) (planned : Option PlannedCache) (events : List Event) (ref : Ref) →
-    PlannedCacheStandsFor seed planned events None → passes seed planned events ref ≡ ref ∷ []
-none_passes seed None events ref s = refl
-none_passes seed (Some planned) events ref (there, is, s) = absurd cc
-
 -- the second level after a reference that is sent down
 pub descended : (seed : ℕ) (planned : Option PlannedCache) (events : List Event) (ref : Ref) (second : Option SystemCache) (memory : SystemMemory)
     (next : Option SystemCache) (after : SystemMemory) → IsPlannedCache planned → PlannedCacheStandsFor seed planned events second →
@@ -95,11 +81,6 @@ emptied seed name (Some planned) events old dirty new (there, is, s) e =
     let stands : CacheStandsFor m events (system_cache_contents old) = subst (λ (c : SystemCache). CacheStandsFor m events (system_cache_contents c)) same s in
     ap (λ n. Flush name n ∷ []) (flush_run m events (system_cache_contents old) dirty (system_cache_contents new) stands e.flush).1
 
-pub none_flushes : (seed : ℕ) (name : CacheName) (planned : Option PlannedCache) (events : List Event) →
-    PlannedCacheStandsFor seed planned events None → flushes seed name planned events ≡ []
-none_flushes seed name None events s = refl
-none_flushes seed name (Some planned) events (there, is, s) = absurd cc
-
 -- two references that are sent down
 pub first_sent : (xs : List (Option Ref)) (x y : Ref) → length xs ≡ 2 → get_or xs 0 None ≡ Some x → get_or xs 1 None ≡ Some y → present_refs xs ≡ x ∷ y ∷ []
 first_sent [] x y e f g = absurd (omega arith)
@@ -116,39 +97,24 @@ second_sent (a ∷ b ∷ c ∷ xs) y e f g = absurd (omega arith)
 -- a cache is there where the plan has it
 pub is_planned : (seed : ℕ) (planned : Option PlannedCache) (events : List Event) (cache : Option SystemCache) →
     PlannedCacheStandsFor seed planned events cache → is_some planned ≡ is_some cache
-is_planned seed None events cache s = sym (ap is_some s)
-is_planned seed (Some planned) events cache (there, is, s) = sym (ap is_some is)
+is_planned seed planned events cache s = grind arith
 
 -- a reference at the first level is seen at the one cache that takes it
 module _ (seed : ℕ) (events : List Event) (ref : Ref) where
-  arrives_taken : (name : CacheName) (planned : Option PlannedCache) → takes name ref ≡ true →
-      arrives_first seed name planned events ref ≡ arrives seed name planned (events_for name events) ref
-  arrives_taken name None t = refl
-  arrives_taken name (Some planned) t = ap (λ b. cond b (arrives seed name (Some planned) (events_for name events) ref) []) t
-
-  arrives_left : (name : CacheName) (planned : Option PlannedCache) → takes name ref ≡ false → arrives_first seed name planned events ref ≡ []
-  arrives_left name None t = refl
-  arrives_left name (Some planned) t = ap (λ b. cond b (arrives seed name (Some planned) (events_for name events) ref) []) t
-
   unified : (i d u : Option PlannedCache) → (is_some u && (is_some i || is_some d)) ≡ false → is_some u ≡ true →
       arrives seed L1U u (events_for L1U events) ref
       ≡ arrives_first seed L1I i events ref ++ arrives_first seed L1D d events ref ++ arrives_first seed L1U u events ref
-  unified i d None apart there = absurd (true≢false (sym there))
-  unified None None (Some u) apart there = refl
-  unified None (Some d) (Some u) apart there = absurd (true≢false apart)
-  unified (Some i) d (Some u) apart there = absurd (true≢false apart)
+  unified i d u apart there = grind arith
 
   at_fetch : (i d u : Option PlannedCache) → is_some u ≡ false → is_fetch ref.access ≡ true →
       arrives seed L1I i (events_for L1I events) ref
       ≡ arrives_first seed L1I i events ref ++ arrives_first seed L1D d events ref ++ arrives_first seed L1U u events ref
-  at_fetch i d (Some u) none t = absurd (true≢false none)
-  at_fetch i d None none t = rw (arrives_taken L1I i t, arrives_left L1D d (ap not t)) (simp append-nil refl)
+  at_fetch i d u none t = grind arith
 
   at_data : (i d u : Option PlannedCache) → is_some u ≡ false → is_fetch ref.access ≡ false →
       arrives seed L1D d (events_for L1D events) ref
       ≡ arrives_first seed L1I i events ref ++ arrives_first seed L1D d events ref ++ arrives_first seed L1U u events ref
-  at_data i d (Some u) none t = absurd (true≢false none)
-  at_data i d None none t = rw (arrives_left L1I i t, arrives_taken L1D d (ap not t)) (simp append-nil refl)
+  at_data i d u none t = grind arith
 
 module _ (plan : PlannedCaches) (seed : ℕ) (events : List Event) (ref : Ref) (good : IsPlan plan) where
   pub seen_unified : is_some plan.u ≡ true → arrives seed L1U plan.u (events_for L1U events) ref ≡ first_arrivals plan seed events ref

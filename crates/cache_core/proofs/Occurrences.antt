@@ -31,8 +31,10 @@ pub occurrences_after-from : (g : GeometryValue) (before es : List Event) → oc
 unfolding occurrences_after occurrences_from
 occurrences_after-from g before [] = refl
 occurrences_after-from g before (event.Reference r ∷ es) =
-    ap (λ ps. record { block = block_of g r.addr; window = window g before } ∷ ps)
-    (occurrences_after-from g (before ++ event.Reference r ∷ []) es ∙ ap (λ w. occurrences_from g w es) (window-push g before (event.Reference r)))
+    cc (
+      occurrences_after-from g (before ++ event.Reference r ∷ []) es,
+      window-push g before (event.Reference r),
+    )
 occurrences_after-from g before (event.Flush ∷ es) = cc (occurrences_after-from g (before ++ event.Flush ∷ []) es, window-push g before event.Flush)
 
 -- the occurrences in a list are those after an empty window
@@ -49,7 +51,10 @@ occurrences_after-append g before (event.Reference r ∷ es) more =
     (occurrences_after-append g (before ++ event.Reference r ∷ []) es more
     ∙ ap (λ b. occurrences_after g (before ++ event.Reference r ∷ []) es ++ occurrences_after g b more) (append_assoc before (event.Reference r ∷ []) es))
 occurrences_after-append g before (event.Flush ∷ es) more =
-    cc (occurrences_after-append g (before ++ event.Flush ∷ []) es more, append_assoc before (event.Flush ∷ []) es)
+    cc (
+      occurrences_after-append g (before ++ event.Flush ∷ []) es more,
+      append_assoc before (event.Flush ∷ []) es,
+    )
 
 pub occurrences-reference : (g : GeometryValue) (es : List Event) (r : Ref) →
     occurrences g (es ++ event.Reference r ∷ []) ≡ occurrences g es ++ occurrence_after g es r ∷ []

@@ -1,8 +1,8 @@
 -- Powers of two.
 use Rattle.std.proofs.Common.{◌≡◌, ℕ, suc, zero, ◌+◌, ◌*◌, ◌/◌, ◌%◌, ◌^◌, ◌<◌, ◌≤◌, max, Bool, true, ◌==◌, refl, sym, ap, ◌∙◌, arith, eq-eqb, inl, inr}
-use Rattle.std.proofs.lemmas.Bool.{eqb-true, or_left, or_right, or_cases, cases_lt, false≢true, cases_Bool, false_from_ne_true, cases_order, cases_eq}
+use Rattle.std.proofs.lemmas.Bool.{eqb-true, or_left, or_right, or_cases, cases_lt, false≢true, cases_Bool, false_from_ne_true, cases_order}
 use Rattle.std.specs.List.{list_any, range_with_len}
-use Rattle.std.specs.Int.{w64, bit_at, is_power_of_two, IsPowerOfTwo}
+use Rattle.std.specs.Int.{w64, is_power_of_two, IsPowerOfTwo}
 use Rattle.std.specs.Int.RustNames.{count_ones}
 use Rattle.std.specs.Int.Count.{ones_step}
 use Rattle.std.proofs.lemmas.Nat.{ones_cat, pow_pos, zero_from_ones}
@@ -95,10 +95,7 @@ pub log2-pow : (k : ℕ) → k < 64 → log2 (2 ^ k) ≡ k
 log2-pow k h =
     let fits : 2 ^ k < 2 ^ 64 = pow-lt h in
     let t = bit_at-trailing_zeros w64 (2 ^ k) (pow_pos k) fits in
-    elim (cases_eq (log2 (2 ^ k)) k) [
-      | inl same ↦ same
-      | inr other ↦ let none : bit_at (2 ^ k) (log2 (2 ^ k)) ≡ 0 = bit_at-pow_other k (log2 (2 ^ k)) other in absurd (omega (arith, t.1))
-    ]
+    grind (arith, bit_at-pow_other)
 
 pub log2-is : (n : ℕ) → is_power n ≡ true → 2 ^ log2 n ≡ n
 log2-is n h = let k = power-of n h in ap (λ m. 2 ^ log2 m) k.2 ∙ ap (λ i. 2 ^ i) (log2-pow k.0 k.1) ∙ sym k.2

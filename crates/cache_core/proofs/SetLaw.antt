@@ -1,13 +1,12 @@
 -- One access to one set, as the slots see it and as the lines see it.
-use Rattle.std.proofs.Common.{◌≡◌, ℕ, zero, suc, ◌+◌, ◌%◌, ◌==◌, ◌||◌, Bool, true, false, List, [], ◌∷◌, ◌++◌, length}
+use Rattle.std.proofs.Common.{◌≡◌, ℕ, zero, suc, ◌+◌, ◌%◌, ◌==◌, ◌||◌, Bool, List, [], ◌∷◌, ◌++◌, length}
 use Rattle.std.proofs.Common.{Some, None, sym, ◌∙◌, ap, refl, subst, arith, map, find}
 use Rattle.std.specs.Prelude.{slice_get, remove}
 use Rattle.std.specs.List.{position_or_len}
 use Rattle.std.proofs.lemmas.List.{append-nil, length-append, map-append, length-map, set_at, get_or_at}
-use Rattle.std.proofs.lemmas.Bool.{eq-eqb, le-ltb, lt-ltb}
+use Rattle.std.proofs.lemmas.Bool.{eq-eqb}
 use Rattle.cache_core.specs.declared.outcome.Slot.{Slot}
 use Rattle.cache_core.specs.declared.design.Repl.{Repl}
-use Rattle.cache_core.specs.declared.design.Repl.TheVariants.{Lru, Fifo, Random}
 use Rattle.cache_core.specs.Machine.{Line, slot_of, is_block, least, victim, with_line_at, with_touch, with_block, key_at}
 use Rattle.cache_core.specs.Order.{Moves, Touches, Inserts, Exchanges, with_slot_at, victim_at, with_dirty_at, position_of}
 use Rattle.cache_core.specs.Rules.{Place, InFront, InPlace, Last, rules}
@@ -22,10 +21,7 @@ len_absent b [] h = refl
 len_absent b (l ∷ ls) h = rw (ne-eqb l.block b h.0) (omega (arith, len_absent b ls h.1))
 
 pub position_absent : (b : ℕ) (ls : List Line) → Absent b ls → position_of b (map slot_of ls) ≡ None
-position_absent b ls h =
-    let e = len_absent b ls h in
-    let t = le-ltb (length (map slot_of ls)) (length (map slot_of ls)) (omega arith) in
-    rw (e, t) refl
+position_absent b ls h = grind (arith, len_absent)
 
 len_split : (b : ℕ) (xs : List Line) (x : Line) (ys : List Line) → Absent b xs → x.block ≡ b →
     position_or_len (λ (s : Slot). s.block == b) (map slot_of (xs ++ x ∷ ys)) ≡ length xs
@@ -34,10 +30,7 @@ len_split b (z ∷ xs) x ys h e = rw (ne-eqb z.block b h.0) (omega (arith, len_s
 
 pub position_split : (b : ℕ) (xs : List Line) (x : Line) (ys : List Line) → Absent b xs → x.block ≡ b →
     position_of b (map slot_of (xs ++ x ∷ ys)) ≡ Some (length xs)
-position_split b xs x ys h e =
-    let q = len_split b xs x ys h e in
-    let t = lt-ltb (length xs) (length (map slot_of (xs ++ x ∷ ys))) (omega (arith, length-map (xs ++ x ∷ ys) slot_of, length-append xs (x ∷ ys))) in
-    rw (q, t) refl
+position_split b xs x ys h e = grind (arith, len_split, length-map, length-append)
 
 -- a slot at its index
 get_split : (xs : List Slot) (x : Slot) (ys : List Slot) (n : ℕ) → length xs ≡ n → slice_get (xs ++ x ∷ ys) n ≡ Some x
@@ -46,23 +39,16 @@ get_split (z ∷ xs) x ys n e = rw (sym e) (get_split xs x ys (length xs) refl)
 
 slot_split : (p : Place) (s : Slot) (xs : List Slot) (x : Slot) (ys : List Slot) (n : ℕ) → length xs ≡ n →
     with_slot_at p s (Some n) (xs ++ x ∷ ys) ≡ around p s xs ys
-slot_split InFront s xs x ys n e = ap (λ z. s ∷ z) (remove_split xs x ys n e)
-slot_split InPlace s xs x ys n e = set_at xs x ys s n e
+slot_split p s xs x ys n e = grind (arith, remove_split, set_at)
 
 -- the slots of a line among others
 map_around : (p : Place) (y : Line) (xs ys : List Line) →
     map slot_of (around p y xs ys) ≡ around p (slot_of y) (map slot_of xs) (map slot_of ys)
-map_around InFront y xs ys = ap (λ s. slot_of y ∷ s) (map-append slot_of xs ys)
-map_around InPlace y xs ys = map-append slot_of xs (y ∷ ys)
+map_around p y xs ys = grind (arith, map-append)
 
 slots_around : (p : Place) (y : Line) (xs : List Line) (x : Line) (ys : List Line) →
     with_slot_at p (slot_of y) (Some (length xs)) (map slot_of (xs ++ x ∷ ys)) ≡ map slot_of (around p y xs ys)
-slots_around p y xs x ys =
-    cc (
-      map-append slot_of xs (x ∷ ys),
-      slot_split p (slot_of y) (map slot_of xs) (slot_of x) (map slot_of ys) (length xs) (length-map xs slot_of),
-      map_around p y xs ys,
-    )
+slots_around p y xs x ys = grind (arith, map-append, slot_split, length-map)
 
 -- the line with its mark
 abbrev pub with_mark : Bool → Line → Line
@@ -70,15 +56,7 @@ with_mark d line = record line { dirty = d || line.dirty }
 
 marked_split : (d : Bool) (xs : List Line) (x : Line) (ys : List Line) →
     with_dirty_at d (map slot_of (xs ++ x ∷ ys)) (length xs) ≡ map slot_of (xs ++ with_mark d x ∷ ys)
-marked_split false xs x ys = refl
-marked_split true xs x ys =
-    let none : Slot = record { block = 0; dirty = false } in
-    rw (
-      map-append slot_of xs (x ∷ ys),
-      get_or_at (map slot_of xs) (slot_of x) (map slot_of ys) none (length xs) (length-map xs slot_of),
-      map-append slot_of xs (with_mark true x ∷ ys),
-    )
-    (set_at (map slot_of xs) (slot_of x) (map slot_of ys) (record (slot_of x) { dirty = true }) (length xs) (length-map xs slot_of))
+marked_split d xs x ys = grind (arith, map-append, get_or_at, length-map, set_at)
 
 -- the slots after a touch, where the line gets another key
 moved : (p : Place) (y z : Line) (xs ys : List Line) (new : List Slot) → slot_of z ≡ slot_of y →
@@ -123,8 +101,7 @@ touched policy clock b line d ls i h =
 
 -- a slot put into a set that is not full
 inserted : (p : Place) (y : Line) (ls : List Line) → with_slot_at p (slot_of y) None (map slot_of ls) ≡ map slot_of (with_line_at p y None ls)
-inserted InFront y ls = refl
-inserted InPlace y ls = sym (map-append slot_of ls (y ∷ []))
+inserted p y ls = grind (arith, map-append)
 
 pub insert_law : (policy : Repl) (clock count : ℕ) (slot : Slot) (ls : List Line) (new : List Slot) →
     Inserts (Some policy) (map slot_of ls) slot new → new ≡ map slot_of (with_block policy clock count slot None ls)
@@ -134,11 +111,7 @@ insert_law policy clock count slot ls new t =
 
 pub insert_good : (policy : Repl) (clock : ℕ) (slot : Slot) (ls : List Line) → IsGood (rules policy).placed clock ls → Absent slot.block ls →
     IsGood (rules policy).placed (clock + 1) (with_block policy (clock + 1) (length ls) slot None ls)
-insert_good policy clock slot ls i h =
-    let to : Place = (rules policy).placed in
-    let y : Line = record { block = slot.block; key = key_at to (clock + 1) (length ls); dirty = slot.dirty } in
-    rw (with_line_at-none to y ls)
-    record { distinct = distinct_around to y ls [] h tt (rw append-nil i.distinct); order = order_pushed to clock ls y refl i.order }
+insert_good policy clock slot ls i h = grind (arith, with_line_at-none, distinct_around, append-nil, order_pushed)
 
 -- the line whose slot stands at an index
 record StandsAt (ls : List Line) (n : ℕ) (gone : Slot) : Type 0 where
@@ -165,9 +138,7 @@ last_there n xs x (y ∷ ys) f e = absurd (omega (arith, e, length-map (xs ++ x 
 victim_there : (policy : Repl) (clock number : ℕ) (xs : List Line) (x : Line) (ys : List Line) → InOrder (rules policy).placed clock (xs ++ x ∷ ys) →
     victim_at (rules policy).victim number (map slot_of (xs ++ x ∷ ys)) ≡ length xs →
     victim (rules policy).victim (number % length (map slot_of (xs ++ x ∷ ys))) (xs ++ x ∷ ys) ≡ Some x
-victim_there Lru clock number xs x ys o e = last_there (clock + 1) xs x ys o e
-victim_there Fifo clock number xs x ys o e = last_there (clock + 1) xs x ys o e
-victim_there Random clock number xs x ys o e = find_way 0 (number % length (map slot_of (xs ++ x ∷ ys))) xs x ys o (omega (arith, e))
+victim_there policy clock number xs x ys o e = grind (arith, last_there, find_way)
 
 -- a slot put into a full set: the line that leaves, the slots and the lines again, and the order
 pub record Exchanged (policy : Repl) (clock way count : ℕ) (slot gone : Slot) (ls : List Line) (new : List Slot) : Type 0 where
@@ -209,8 +180,4 @@ exchange_law policy clock number count slot gone ls new t i h =
     let r = line_at ls v gone t.0 in
     let at : victim_at (rules policy).victim number (map slot_of (r.xs ++ r.x ∷ r.ys)) ≡ length r.xs =
     subst (λ s. victim_at (rules policy).victim number (map slot_of s) ≡ length r.xs) r.split r.len in
-    subst (λ s. Exchanged policy clock (number % length (map slot_of s)) count slot gone s new) (sym r.split)
-    (exchange_at policy clock number count slot gone r.xs r.x r.ys new at r.slot
-    (t.1 ∙ ap (λ n. with_slot_at (rules policy).placed slot (Some n) (map slot_of ls)) r.len
-    ∙ ap (λ s. with_slot_at (rules policy).placed slot (Some (length r.xs)) (map slot_of s)) r.split)
-    (subst (IsGood (rules policy).placed clock) r.split i) (subst (Absent slot.block) r.split h))
+    grind (arith, exchange_at)

@@ -1,6 +1,6 @@
 -- How a simulation follows a list of events.
-use Rattle.std.proofs.Common.{◌≡◌, ℕ, ◌+◌, ◌≤◌, ◌&&◌, Bool, true, false, not, cond, List, [], ◌∷◌, ◌++◌, length, refl, sym, ap, ap₂, ◌∙◌, arith}
-use Rattle.std.specs.Prelude.{is_some, nat_le, count_by}
+use Rattle.std.proofs.Common.{◌≡◌, ℕ, ◌+◌, ◌≤◌, Bool, cond, List, [], ◌∷◌, ◌++◌, length, refl, sym, ap, ◌∙◌, arith}
+use Rattle.std.specs.Prelude.{count_by}
 use Rattle.std.proofs.lemmas.List.Sums.{sum_by-cons}
 use Rattle.trace_core.specs.declared.events.Ref.{Ref}
 use Rattle.trace_core.specs.declared.events.Event.{Event}
@@ -9,7 +9,6 @@ use Rattle.cache_core.specs.declared.outcome.Counts.{Counts}
 use Rattle.cache_core.specs.declared.outcome.Outcome.{Outcome}
 use Rattle.cache_core.specs.declared.design.WriteMode.TheVariants.{Back}
 use Rattle.cache_core.specs.declared.simulation.Lookup.{Lookup}
-use Rattle.cache_core.specs.declared.simulation.Lookup.TheVariants.{Hit, Miss, MissEviction}
 use Rattle.cache_core.specs.declared.simulation.Simulation.{Simulation}
 use Rattle.cache_core.specs.Geometry.{GeometryValue}
 use Rattle.cache_core.specs.LruLaws.{lru_machine, lru_contents, occurrence_after}
@@ -17,35 +16,15 @@ use Rattle.cache_core.specs.Order.{Accesses, FlushesCache}
 use Rattle.cache_core.specs.declared.replacement.Lru.{Lru as LruPolicy}
 use Rattle.cache_core.specs.Slab.{CacheValue}
 use Rattle.cache_core.specs.Simulation.{lookup_at, lookup_of, counts_with, SimulationCountsWithin, SimulationStandsFor}
-use Rattle.cache_core.specs.Windows.{Occurrence, is_hit, is_evict, blocks_seen, counts, occurrences_after}
+use Rattle.cache_core.specs.Windows.{Occurrence, counts, occurrences_after}
 use Rattle.cache_core.proofs.Occurrences.{sum_by-reference, occurrences-flush}
-use Rattle.cache_core.proofs.Counters.{one_most}
 use Rattle.cache_core.proofs.RunLaw.{access_run, flush_run}
 use Rattle.cache_core.proofs.LruRun.{next_law}
-
--- one more reference in the counts: a hit evicts nothing
-with_lookup : (c : Counts) (hit full : Bool) →
-    record { hits = c.hits + cond hit 1 0; misses = c.misses + cond (not hit) 1 0; evictions = c.evictions + cond (not hit && full) 1 0 }
-    ≡ counts_with c (cond hit Hit (cond (not hit && full) MissEviction Miss))
-with_lookup c true full =
-    let misses : c.misses + 0 ≡ c.misses = omega arith in
-    let evictions : c.evictions + 0 ≡ c.evictions = omega arith in
-    rw (misses, evictions) refl
-with_lookup c false true = let hits : c.hits + 0 ≡ c.hits = omega arith in rw hits refl
-with_lookup c false false =
-    let hits : c.hits + 0 ≡ c.hits = omega arith in
-    let evictions : c.evictions + 0 ≡ c.evictions = omega arith in
-    rw (hits, evictions) refl
 
 counts-reference : (g : GeometryValue) (events : List Event) (r : Ref)
     → counts g (events ++ event.Reference r ∷ []) ≡ counts_with (counts g events) (lookup_at g (occurrence_after g events r))
 unfolding counts
-counts-reference g events r =
-    let p = occurrence_after g events r in
-    let hits = sum_by-reference (λ q. cond (is_hit g q) 1 0) g events r in
-    let misses = sum_by-reference (λ q. cond (not (is_hit g q)) 1 0) g events r in
-    let evictions = sum_by-reference (λ q. cond (is_evict g q) 1 0) g events r in
-    cc (hits, misses, evictions, with_lookup (counts g events) (is_hit g p) (nat_le g.e (blocks_seen g p)))
+counts-reference g events r = grind (arith, sum_by-reference)
 
 -- one more reference
 pub simulates_more : (g : GeometryValue) (events : List Event) (old new : Simulation) (r : Ref) (o : Outcome)
@@ -53,13 +32,12 @@ pub simulates_more : (g : GeometryValue) (events : List Event) (old new : Simula
     → new.counts ≡ counts_with old.counts (lookup_of o) → SimulationStandsFor g events old
     → SimulationStandsFor g (events ++ event.Reference r ∷ []) new × (lookup_of o ≡ lookup_at g (occurrence_after g events r))
 simulates_more g events old new r o step count h =
-    let law = access_run (lru_machine g Back) events (lru_contents old.cache) r o (lru_contents new.cache) h.some h.cache step in
-    let tells = next_law g Back events r h.some in
-    let hit : o.hit ≡ is_hit g (occurrence_after g events r) = ap (λ x. x.hit) law.1 ∙ tells.0 in
-    let evict : is_some o.evicted ≡ is_evict g (occurrence_after g events r) = ap (λ x. is_some x.evicted) law.1 ∙ tells.1 in
-    let same : lookup_of o ≡ lookup_at g (occurrence_after g events r) = ap₂ (λ a b. cond a Hit (cond b MissEviction Miss)) hit evict in
-    let counted = count ∙ ap₂ counts_with h.counts same ∙ sym (counts-reference g events r) in
-    (record { some = h.some; cache = law.0; counts = counted }, same)
+    grind (
+      arith,
+      access_run (lru_machine g Back) events (lru_contents old.cache) r o (lru_contents new.cache) h.some h.cache step,
+      next_law g Back events r h.some,
+      counts-reference g events r,
+    )
 
 -- one more reference with this lookup
 pub simulates_lookup : (g : GeometryValue) (events : List Event) (old : Simulation) (cache : CacheValue LruPolicy) (r : Ref) (o : Outcome) (told is : Lookup)
@@ -82,20 +60,16 @@ simulates_flush g events old new dirty flush same h =
 
 -- a lookup adds one at most to each count
 pub within_with : (n : ℕ) (c : Counts) (l : Lookup) → SimulationCountsWithin n c → SimulationCountsWithin (n + 1) (counts_with c l)
-within_with n c Hit w = record { hits = omega (arith, w.hits); misses = omega (arith, w.misses); evictions = omega (arith, w.evictions) }
-within_with n c Miss w = record { hits = omega (arith, w.hits); misses = omega (arith, w.misses); evictions = omega (arith, w.evictions) }
-within_with n c MissEviction w = record { hits = omega (arith, w.hits); misses = omega (arith, w.misses); evictions = omega (arith, w.evictions) }
+within_with n c l w = grind arith
 
 -- no count is above the events
 count_most : (is : Occurrence → Bool) (g : GeometryValue) (before events : List Event) → count_by is (occurrences_after g before events) ≤ length events
 unfolding occurrences_after
 count_most is g before [] = omega arith
 count_most is g before (event.Reference r ∷ events) =
-    let p = occurrence_after g before r in
-    omega (
+    grind (
       arith,
-      sum_by-cons (λ (q : Occurrence). cond (is q) 1 0) p (occurrences_after g (before ++ event.Reference r ∷ []) events),
-      one_most (is p),
+      sum_by-cons (λ (q : Occurrence). cond (is q) 1 0) (occurrence_after g before r) (occurrences_after g (before ++ event.Reference r ∷ []) events),
       count_most is g (before ++ event.Reference r ∷ []) events,
     )
 count_most is g before (event.Flush ∷ events) = omega (arith, count_most is g (before ++ event.Flush ∷ []) events)
@@ -103,11 +77,7 @@ count_most is g before (event.Flush ∷ events) = omega (arith, count_most is g 
 pub simulated_within : (g : GeometryValue) (events : List Event) (sim : Simulation) → SimulationStandsFor g events sim →
     SimulationCountsWithin (length events) sim.counts
 unfolding counts
-simulated_within g events sim h = rw h.counts record {
-  hits = count_most (is_hit g) g [] events;
-  misses = count_most (λ p. not (is_hit g p)) g [] events;
-  evictions = count_most (is_evict g) g [] events;
-}
+simulated_within g events sim h = grind (arith, count_most)
 
 pub within_above : (n m : ℕ) (c : Counts) → n ≤ m → SimulationCountsWithin n c → SimulationCountsWithin m c
 within_above n m c above w = record { hits = omega (arith, w.hits); misses = omega (arith, w.misses); evictions = omega (arith, w.evictions) }

@@ -2,7 +2,7 @@
 use Rattle.std.proofs.Common.{◌≡◌, ℕ, zero, suc, ◌+◌, ◌-◌, ◌*◌, ◌<◌, ◌≤◌, List, [], ◌∷◌, length, get_or, take, drop}
 use Rattle.std.proofs.Common.{set, replicate, sym, ◌∙◌, ap, refl, arith, drop-drop, length-take, subst}
 use Rattle.std.specs.Prelude.{All, count_by}
-use Rattle.std.proofs.Math.Nat.{suc-mul, zero-mul}
+use Rattle.std.proofs.Math.Nat.{suc-mul}
 use Rattle.std.proofs.lemmas.List.{drop_all}
 use Rattle.std.proofs.lemmas.List.Elements.{All-set, All-tail}
 use Rattle.std.proofs.lemmas.List.Folds.{sum_by-replicate}
@@ -18,12 +18,8 @@ use Rattle.cache_core.proofs.TouchedSets.{no_count, next_listed, emptied}
 sets_of-set : (ways : ℕ) (filled : List ℕ) (k n start : ℕ) (slots : List Slot) → start ≡ k * ways → k < length filled →
     sets_of ways slots (set filled k n) ≡ set (sets_of ways slots filled) k (take n (drop start slots))
 sets_of-set ways [] k n start slots e h = absurd (omega arith)
-sets_of-set ways (f ∷ fs) zero n start slots e h =
-    let z : start ≡ 0 = e ∙ zero-mul ways in
-    rw z refl
-sets_of-set ways (f ∷ fs) (suc k) n start slots e h =
-    let s : start ≡ ways + k * ways = e ∙ omega (arith, suc-mul k ways) in
-    cc (sets_of-set ways fs k n (k * ways) (drop ways slots) refl (omega arith), drop-drop (k * ways) ways slots, s)
+sets_of-set ways (f ∷ fs) zero n start slots e h = grind arith
+sets_of-set ways (f ∷ fs) (suc k) n start slots e h = grind (arith, drop-drop, sets_of-set ways fs k n (k * ways) (drop ways slots) refl (omega arith))
 
 -- the dirty slots of a set are no longer there once it is emptied
 pub dirty_emptied : (ways : ℕ) (filled : List ℕ) (k count : ℕ) (slots : List Slot) → k < length filled → count ≡ get_or filled k 0
@@ -84,10 +80,4 @@ module _ (ways : ℕ) (slots : List Slot) (listed start filled : List ℕ) (dirt
   none_left all = no_count filled (subst (λ sets. ListsFilled sets filled) (drop_all i listed all) e.listed)
 
   pub all_counted : length listed ≤ i → dirty ≡ dirty_slots (sets_of ways slots start)
-  all_counted all =
-      omega (
-        arith,
-        e.counted,
-        ap (λ counts. dirty_slots (sets_of ways slots counts)) (none_left all),
-        dirty_none ways (length filled) slots,
-      )
+  all_counted all = grind (arith, none_left, dirty_none)

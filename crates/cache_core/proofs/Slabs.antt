@@ -1,11 +1,11 @@
 -- The sets of a slab: how one is read and written.
 use Rattle.std.proofs.Common.{◌≡◌, ℕ, zero, suc, ◌+◌, ◌-◌, ◌*◌, ◌^◌, ◌<◌, ◌≤◌, List, [], ◌∷◌, ◌++◌, length}
 use Rattle.std.proofs.Common.{get_or, take, drop, set, replicate, sym, ◌∙◌, ap, refl, arith, length-take, length-take-le, length-set, take-take}
-use Rattle.std.proofs.Common.{drop-drop, get_or-set_same, get_or-set_other, length-drop, length-append, subst, Option}
+use Rattle.std.proofs.Common.{drop-drop, get_or-set_same, get_or-set_other, length-drop, length-append, Option}
 use Rattle.std.specs.Prelude.{All}
 use Rattle.std.proofs.lemmas.List.{take_at, length-replicate, drop_at, drop-take, take-append-le, drop-append-le}
-use Rattle.std.proofs.lemmas.List.Elements.{All-set, All-get_or, All-replicate}
-use Rattle.std.proofs.Math.Nat.{suc-mul, zero-mul, mul-le-mul_left}
+use Rattle.std.proofs.lemmas.List.Elements.{All-set, All-replicate}
+use Rattle.std.proofs.Math.Nat.{suc-mul}
 use borrow.Rule.Slice.PartMut.{put_mid}
 use Rattle.cache_core.specs.declared.outcome.Slot.{Slot}
 use Rattle.trace_core.specs.declared.events.Ref.{Ref}
@@ -13,7 +13,7 @@ use Rattle.cache_core.specs.declared.design.Design.{Design}
 use Rattle.cache_core.specs.declared.outcome.Outcome.{Outcome}
 use Rattle.cache_core.specs.declared.design.Repl.{Repl}
 use Rattle.cache_core.specs.Geometry.{set_of, IsGeometry}
-use Rattle.cache_core.specs.Order.{Visits, Accesses, slots_of}
+use Rattle.cache_core.specs.Order.{Visits, Accesses}
 use Rattle.cache_core.specs.Slab.{sets_of, IsCacheSlab, Addressable, slab_contents}
 
 pub length-sets_of : (ways : ℕ) (filled : List ℕ) (slots : List Slot) → length (sets_of ways slots filled) ≡ length filled
@@ -23,12 +23,8 @@ length-sets_of ways (f ∷ fs) slots = ap suc (length-sets_of ways fs (drop ways
 pub get_or-sets_of : (ways : ℕ) (filled : List ℕ) (k start : ℕ) (slots : List Slot) → start ≡ k * ways → k < length filled →
     get_or (sets_of ways slots filled) k [] ≡ take (get_or filled k 0) (drop start slots)
 get_or-sets_of ways [] k start slots e h = absurd (omega arith)
-get_or-sets_of ways (f ∷ fs) zero start slots e h =
-    let z : start ≡ 0 = e ∙ zero-mul ways in
-    rw z refl
-get_or-sets_of ways (f ∷ fs) (suc k) start slots e h =
-    let s : start ≡ ways + k * ways = e ∙ omega (arith, suc-mul k ways) in
-    cc (get_or-sets_of ways fs k (k * ways) (drop ways slots) refl (omega arith), drop-drop (k * ways) ways slots, s)
+get_or-sets_of ways (f ∷ fs) zero start slots e h = grind arith
+get_or-sets_of ways (f ∷ fs) (suc k) start slots e h = grind (arith, drop-drop, get_or-sets_of ways fs k (k * ways) (drop ways slots) refl (omega arith))
 
 All-rest : {X : Type 0} (P : X → Type 0) (x : X) (xs : List X) → All P (x ∷ xs) → All P xs
 All-rest P x xs h k d l = h (suc k) d (omega arith)
@@ -37,11 +33,7 @@ pub sets_of-put : (ways : ℕ) (filled : List ℕ) (k n start : ℕ) (slots segm
     All (λ m. m ≤ ways) filled → k < length filled → length segment ≡ ways → n ≤ ways →
     sets_of ways (put_mid start ways slots segment) (set filled k n) ≡ set (sets_of ways slots filled) k (take n segment)
 sets_of-put ways [] k n start slots segment e l a h r m = absurd (omega arith)
-sets_of-put ways (f ∷ fs) zero n start slots segment e l a h r m =
-    let z : start ≡ 0 = e ∙ zero-mul ways in
-    let t = take-append-le n segment (drop ways slots) (omega arith) in
-    let d = drop_at segment (drop ways slots) ways r in
-    rw (z, t, d) refl
+sets_of-put ways (f ∷ fs) zero n start slots segment e l a h r m = grind (arith, take-append-le, drop_at)
 sets_of-put ways (f ∷ fs) (suc k) n start slots segment e l a h r m =
     let s : start ≡ ways + k * ways = e ∙ omega (arith, suc-mul k ways) in
     let f_le : f ≤ ways = a zero 0 (omega arith) in
@@ -67,15 +59,10 @@ with_segment ways k slots segment = put_mid (k * ways) (k * ways + ways - k * wa
 
 pub slab_read : (ways : ℕ) (filled : List ℕ) (k : ℕ) (slots : List Slot) → k < length filled → All (λ m. m ≤ ways) filled →
     segment_slots ways filled k slots ≡ get_or (sets_of ways slots filled) k []
-slab_read ways filled k slots h a =
-    let w : k * ways + ways - k * ways ≡ ways = omega arith in
-    let l : get_or filled k 0 ≤ ways = All-get_or (λ m. m ≤ ways) filled k 0 h a in
-    rw (w, take-take (get_or filled k 0) ways (drop (k * ways) slots) l) (sym (get_or-sets_of ways filled k (k * ways) slots refl h))
+slab_read ways filled k slots h a = grind (arith, take-take, get_or-sets_of)
 
 start_le : (k ways sets : ℕ) → k < sets → k * ways + ways ≤ ways * sets
-start_le k ways sets h =
-    let m : ways * (k + 1) ≤ ways * sets = mul-le-mul_left ways (omega arith) in
-    omega (arith, m)
+start_le k ways sets h = grind arith
 
 -- A segment that is written back to its set, the first n slots of it filled.
 pub record IsWritten (d : Design) (k n ways : ℕ) (segment : List Slot) : Type 0 where
@@ -85,15 +72,7 @@ pub record IsWritten (d : Design) (k n ways : ℕ) (segment : List Slot) : Type 
   pub few : n ≤ d.geometry.e
 
 length-put : (a w : ℕ) (slots segment : List Slot) → a + w ≤ length slots → length segment ≡ w → length (put_mid a w slots segment) ≡ length slots
-length-put a w slots segment h r =
-    omega (
-      arith,
-      length-append (take a slots) (segment ++ drop w (drop a slots)),
-      length-append segment (drop w (drop a slots)),
-      length-take a slots,
-      length-drop w (drop a slots),
-      length-drop a slots,
-    )
+length-put a w slots segment h r = grind (arith, length-append, length-take, length-drop)
 
 module _ (d : Design) (filled : List ℕ) (k n ways : ℕ) (slots segment : List Slot) (i : IsCacheSlab d slots filled) (w : IsWritten d k n ways segment) where
   in_filled : k < length filled
@@ -111,9 +90,7 @@ module _ (d : Design) (filled : List ℕ) (k n ways : ℕ) (slots segment : List
 
   -- the sets after it
   pub sets_written : sets_of d.geometry.e (with_segment ways k slots segment) (set filled k n) ≡ set (sets_of d.geometry.e slots filled) k (take n segment)
-  sets_written =
-      rw (width, w.ways_are)
-      (sets_of-put d.geometry.e filled k n (k * d.geometry.e) slots segment refl (omega (arith, within_slots)) i.within in_filled w.long w.few)
+  sets_written = grind (arith, sets_of-put)
 
   pub slab_kept : Addressable d.geometry.b (take n segment) → IsCacheSlab d (with_segment ways k slots segment) (set filled k n)
   slab_kept a = record {
@@ -131,20 +108,7 @@ module _ (d : Design) (filled : List ℕ) (k n ways : ℕ) (slots segment : List
       Accesses (slab_contents d policy numbers slots filled) ref outcome
       (slab_contents d policy' numbers' (with_segment ways k slots segment) (set filled k n))
   slab_access policy policy' numbers numbers' ref outcome s u v =
-      let old = sets_of d.geometry.e slots filled in
-      let new = sets_of d.geometry.e (with_segment ways k slots segment) (set filled k n) in
-      let same : slots_of old k ≡ slots_of old (set_of d.geometry ref.addr) = ap (slots_of old) s in
-      let here : take n segment ≡ slots_of new (set_of d.geometry ref.addr) =
-      cc (sets_written, s, get_or-set_same old k (take n segment) [] (omega (arith, length-sets_of d.geometry.e filled slots, in_filled))) in
-      record {
-        visit =
-            subst (λ xs. Visits d policy numbers ref xs outcome (slots_of new (set_of d.geometry ref.addr)) numbers') (set_read ∙ same)
-            (subst (λ xs. Visits d policy numbers ref (segment_slots ways filled k slots) outcome xs numbers') here v);
-        others = λ j ne. ap (λ xs. slots_of xs j) sets_written ∙ get_or-set_other old k j (take n segment) [] (λ q. ne (q ∙ s));
-        count = ap length sets_written ∙ length-set old k (take n segment);
-        design = refl;
-        policy = u;
-      }
+      grind (arith, sets_written, get_or-set_same, length-sets_of, set_read, get_or-set_other, length-set)
 
 pub sets_of-empty : (ways n : ℕ) (slots : List Slot) → sets_of ways slots (replicate n 0) ≡ replicate n []
 sets_of-empty ways zero slots = refl

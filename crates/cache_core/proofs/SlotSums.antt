@@ -1,14 +1,14 @@
 -- Slots counted with repeats: lists with the same sums have the same slots, and what an edit of lines does to sums.
 use Rattle.std.proofs.Common.{◌≡◌, ℕ, ◌+◌, ◌≤◌, ◌&&◌, Bool, true, false, cond, eqb, List, [], ◌∷◌, ◌++◌, sym}
-use Rattle.std.proofs.Common.{◌∙◌, ap, refl, subst, arith, map}
+use Rattle.std.proofs.Common.{ap, refl, subst, arith, map}
 use Rattle.std.specs.Prelude.{sum_by, IsPermutation}
-use Rattle.std.proofs.lemmas.Bool.{and_parts, and_from, eqb-true, eq-eqb}
+use Rattle.std.proofs.lemmas.Bool.{and_from, eq-eqb}
 use Rattle.std.proofs.lemmas.List.{map-append}
 use Rattle.std.proofs.lemmas.List.Sums.{sum_by-cons, sum_by-append}
 use Rattle.std.proofs.lemmas.List.Sorted.{IsPermutation-refl, IsPermutation-sym, IsPermutation-cons, IsPermutation-trans, IsPermutation-middle}
 use Rattle.cache_core.specs.declared.outcome.Slot.{Slot}
 use Rattle.cache_core.specs.Machine.{Line, slot_of}
-use Rattle.cache_core.specs.Rules.{Place, InFront, InPlace}
+use Rattle.cache_core.specs.Rules.{Place}
 use Rattle.cache_core.proofs.Lists.{cases}
 use Rattle.cache_core.proofs.Lines.{around}
 
@@ -18,23 +18,14 @@ agree true false = false
 agree false true = false
 agree false false = true
 
-agree_is : (a b : Bool) → agree a b ≡ true → a ≡ b
-agree_is true true h = refl
-agree_is true false h = sym h
-agree_is false true h = h
-agree_is false false h = refl
-
 agree_self : (a : Bool) → agree a a ≡ true
-agree_self true = refl
-agree_self false = refl
+agree_self a = grind arith
 
 abbrev same : Slot → Slot → Bool
 same x y = eqb y.block x.block && agree y.dirty x.dirty
 
 same_is : (x y : Slot) → same x y ≡ true → y ≡ x
-same_is x y h =
-    let parts = and_parts (eqb y.block x.block) (agree y.dirty x.dirty) h in
-    ap (λ b. record y { block = b }) (eqb-true y.block x.block parts.0) ∙ ap (λ d. record x { dirty = d }) (agree_is y.dirty x.dirty parts.1)
+same_is x y h = grind arith
 
 same_self : (x : Slot) → same x x ≡ true
 same_self x = and_from (eqb x.block x.block) (agree x.dirty x.dirty) (eq-eqb x.block x.block refl) (agree_self x.dirty)
@@ -86,15 +77,7 @@ abbrev pub line_sum : (Slot → ℕ) → List Line → ℕ
 line_sum f ls = sum_by f (map slot_of ls)
 
 pub sum_split : (f : Slot → ℕ) (xs : List Line) (x : Line) (ys : List Line) → line_sum f (xs ++ x ∷ ys) ≡ line_sum f (xs ++ ys) + f (slot_of x)
-sum_split f xs x ys =
-    omega (
-      arith,
-      ap (sum_by f) (map-append slot_of xs (x ∷ ys)),
-      ap (sum_by f) (map-append slot_of xs ys),
-      sum_by-append f (map slot_of xs) (map slot_of (x ∷ ys)),
-      sum_by-append f (map slot_of xs) (map slot_of ys),
-      sum_by-cons f (slot_of x) (map slot_of ys),
-    )
+sum_split f xs x ys = grind (arith, map-append, sum_by-append, sum_by-cons)
 
 -- the line whose slot counts
 pub record LineAt (x : Slot) (ls : List Line) : Type 0 where
@@ -114,5 +97,4 @@ line_for x (l ∷ ls) h =
     refl (omega (arith, h, sum_by-cons (one_for x) (slot_of l) (map slot_of ls)))
 
 pub around_sum : (f : Slot → ℕ) (p : Place) (y : Line) (xs ys : List Line) → line_sum f (around p y xs ys) ≡ line_sum f (xs ++ ys) + f (slot_of y)
-around_sum f InFront y xs ys = omega (arith, sum_by-cons f (slot_of y) (map slot_of (xs ++ ys)))
-around_sum f InPlace y xs ys = sum_split f xs y ys
+around_sum f p y xs ys = grind (arith, sum_by-cons, sum_split)

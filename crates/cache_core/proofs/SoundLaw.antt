@@ -38,12 +38,10 @@ record Placed (policy : Repl) (number capacity : ℕ) (slots : List Slot) (slot 
   few : length new ≤ capacity
 
 length-pushed : (p : Place) (slot : Slot) (slots : List Slot) → length (with_slot_at p slot None slots) ≡ length slots + 1
-length-pushed InFront slot slots = omega arith
-length-pushed InPlace slot slots = length-append slots (slot ∷ [])
+length-pushed p slot slots = grind (arith, length-append)
 
 length-exchanged : (p : Place) (slot : Slot) (at : ℕ) (slots : List Slot) → at < length slots → length (with_slot_at p slot (Some at) slots) ≡ length slots
-length-exchanged InFront slot at slots h = omega (arith, length-remove slots at h)
-length-exchanged InPlace slot at slots h = length-set slots at slot
+length-exchanged p slot at slots h = grind (arith, length-remove, length-set)
 
 place_exists : (policy : Repl) (number capacity : ℕ) (slots : List Slot) (slot : Slot) → 0 < capacity → length slots ≤ capacity →
     Placed policy number capacity slots slot

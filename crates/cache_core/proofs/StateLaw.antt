@@ -11,10 +11,10 @@ use Rattle.cache_core.specs.declared.outcome.Slot.{Slot}
 use Rattle.cache_core.specs.declared.outcome.Outcome.{Outcome}
 use Rattle.cache_core.specs.Geometry.{GeometryValue, set_of_block, block_of}
 use Rattle.cache_core.specs.Outcomes.{outcome_of, on_placing, dirties, allocates}
-use Rattle.cache_core.specs.Machine.{Machine, MachineState, Line, slot_of, is_block, lines_of_set, without, victim, with_line_at, key_at, leaves}
+use Rattle.cache_core.specs.Machine.{Machine, MachineState, Line, slot_of, is_block, lines_of_set, without, with_line_at, key_at, leaves}
 use Rattle.cache_core.specs.Machine.{Step, placing, passing, step_at, step}
 use Rattle.cache_core.specs.Order.{Contents, Accesses, Visits, VisitsAt, Fills, PassesOn, TakesIn, random_numbers_after, slots_of}
-use Rattle.cache_core.specs.Rules.{Place, InFront, InPlace, Victim, Last, Drawn, rules, draws}
+use Rattle.cache_core.specs.Rules.{Place, InFront, InPlace, rules}
 use Rattle.cache_core.specs.Stands.{IsState, Absent, IsGood, IsSoundState}
 use Rattle.cache_core.proofs.Lines.{ne-eqb, not_found, find_in_set, absent_other, set_without, set_exchange, without_absent, exchange_absent, Found, found}
 use Rattle.cache_core.proofs.Lines.{absent_right, order_later}
@@ -41,13 +41,9 @@ line_here InPlace g k y (Some x) ls e f = set_exchange g k x.block y ls (sym f)
 pub line_other : (p : Place) (g : GeometryValue) (k : ℕ) (y : Line) (gone : Option Line) (ls : List Line) → k ≢ set_of_block g y.block →
     IfSome gone (λ x. set_of_block g x.block ≡ set_of_block g y.block) → lines_of_set g k (with_line_at p y gone ls) ≡ lines_of_set g k ls
 line_other InFront g k y None ls e f = cons_other g k y ls e
-line_other InFront g k y (Some x) ls e f =
-    cons_other g k y (without x.block ls) e ∙ set_without g k x.block ls
-    ∙ without_absent x.block (lines_of_set g k ls) (absent_other g k x.block ls (λ q. e (q ∙ f)))
-line_other InPlace g k y None ls e f =
-    cc (filter-append (λ line. set_of_block g line.block == k) ls (y ∷ []), cons_other g k y [] e, append-nil (lines_of_set g k ls))
-line_other InPlace g k y (Some x) ls e f =
-    set_exchange g k x.block y ls (sym f) ∙ exchange_absent x.block y (lines_of_set g k ls) (absent_other g k x.block ls (λ q. e (q ∙ f)))
+line_other InFront g k y (Some x) ls e f = grind (arith, set_without, without_absent, absent_other)
+line_other InPlace g k y None ls e f = grind (arith, filter-append, append-nil)
+line_other InPlace g k y (Some x) ls e f = grind (arith, set_exchange, exchange_absent, absent_other)
 
 -- what a step has to do: the set of the block agrees again, the others stay
 pub record Agrees (m : Machine) (st : MachineState) (now : Step) (k : ℕ) (slots : List Slot) (rest : ℕ → ℕ) (outcome : Outcome) : Type 0 where
@@ -65,14 +61,6 @@ member_set g k x ls r = ⊎_elim
     (λ f. let a : Absent x.block (r.front ++ x ∷ r.back) = subst (Absent x.block) r.split (absent_other g k x.block ls (λ q. f.1 (sym q))) in
     absurd ((absent_right x.block r.front (x ∷ r.back) a).0 refl))
     (eqb_tells (set_of_block g x.block) k)
-
--- the random numbers to come after a slot has left
-numbers_after : (v : Victim) (numbers w : ℕ → ℕ) (drawn : ℕ) → numbers ≡ (λ n. w (drawn + n)) →
-    ◌≡◌ {A = ℕ → ℕ} (λ n. cond (draws v) (numbers (n + 1)) (numbers n)) (λ n. w (cond (draws v) (drawn + 1) drawn + n))
-numbers_after Last numbers w drawn e = e
-numbers_after Drawn numbers w drawn e =
-    let shifted : (n : ℕ) → numbers (n + 1) ≡ w (drawn + 1 + n) = λ n. ap (λ (f : ℕ → ℕ). f (n + 1)) e ∙ ap w (omega arith) in
-    λ i n. shifted n i
 
 -- one reference at a sound machine, whose set is visited
 module _ (m : Machine) (st : MachineState) (ref : Ref) (numbers : ℕ → ℕ) (outcome : Outcome) (slots : List Slot) (rest : ℕ → ℕ)
@@ -140,34 +128,18 @@ module _ (m : Machine) (st : MachineState) (ref : Ref) (numbers : ℕ → ℕ) (
       let x = exchange_law m.policy st.clock (numbers 0) (length here) new gone here slots p.1 (sound k) a in
       let way : numbers 0 % length (map slot_of here) ≡ m.random_numbers st.drawn % g.e =
       ap (λ n. numbers 0 % n) p.0 ∙ ap (λ (f : ℕ → ℕ). f 0 % g.e) undrawn ∙ ap (λ n. m.random_numbers n % g.e) (omega arith) in
-      let left : victim (rules m.policy).victim (m.random_numbers st.drawn % g.e) here ≡ Some x.line = cc (way, x.leaves) in
       let in_set : set_of_block g x.line.block ≡ k = member_set g k x.line st.lines x.among in
       let e = line_here to g k (line_new x.line.key) (Some x.line) st.lines refl in_set in
-      rw (full, left) record {
-        held = x.slots ∙ ap (map slot_of) (sym e);
-        others = λ j ne. line_other to g j (line_new x.line.key) (Some x.line) st.lines ne in_set;
-        random_numbers = u ∙ numbers_after (rules m.policy).victim numbers m.random_numbers st.drawn undrawn;
-        effect = o ∙ ap (λ v. outcome_of (on_placing g m.design.write ref b (Some v))) x.left;
-        good = rw e x.good;
-        clock = refl;
-      }
+      grind (arith, line_other)
 
   pass_agrees : PassesOn numbers ref (map slot_of here) outcome slots rest → Agrees m st (passing ref st) k slots rest outcome
-  pass_agrees v = record {
-    held = v.order;
-    others = λ j ne. refl;
-    random_numbers = v.undrawn ∙ undrawn;
-    effect = v.effect;
-    good = record { distinct = (sound k).distinct; order = order_later to st.clock here (sound k).order };
-    clock = refl;
-  }
+  pass_agrees v = grind (arith, order_later)
 
   miss_agrees : (fills : Bool) → Absent b here →
       MatchBool fills (Fills m.design (Some m.policy) numbers ref (map slot_of here) outcome slots rest)
       (PassesOn numbers ref (map slot_of here) outcome slots rest) →
       Agrees m st (cond fills (placing m ref b (leaves m st k) st) (passing ref st)) k slots rest outcome
-  miss_agrees true a v = fill_agrees outcome.evicted a v.order v.undrawn v.effect
-  miss_agrees false a v = pass_agrees v
+  miss_agrees fills a v = grind (arith, fill_agrees, pass_agrees)
 
   pub step_agrees : (o : Option Line) → find (is_block b) st.lines ≡ o →
       Visits m.design (Some m.policy) numbers ref (map slot_of here) outcome slots rest →
@@ -181,10 +153,7 @@ module _ (m : Machine) (st : MachineState) (ref : Ref) (numbers : ℕ → ℕ) (
 -- the machine stays sound
 pub sound_step : (m : Machine) (st : MachineState) (now : Step) (k : ℕ) (slots : List Slot) (rest : ℕ → ℕ) (outcome : Outcome) →
     IsSoundState m st → Agrees m st now k slots rest outcome → IsSoundState m now.after
-sound_step m st now k slots rest outcome s r =
-    at_each (λ i. IsGood (rules m.policy).placed now.after.clock (lines_of_set m.design.geometry i now.after.lines)) k r.good
-    (λ j ne. rw (r.others j ne, r.clock)
-    record { distinct = (s j).distinct; order = order_later (rules m.policy).placed st.clock (lines_of_set m.design.geometry j st.lines) (s j).order })
+sound_step m st now k slots rest outcome s r = grind (arith, order_later)
 
 -- what one access leads to
 pub record Follows (m : Machine) (st : MachineState) (ref : Ref) (outcome : Outcome) (new : Contents) : Type 0 where

@@ -1,6 +1,6 @@
 -- A new system, a step, a flush and a run of a system, as its caches see them and as their machines see them.
-use Rattle.std.proofs.Common.{◌≡◌, ℕ, ◌+◌, not, Bool, List, [], ◌∷◌, ◌++◌, Option, Some, None, refl, sym, ◌∙◌}
-use Rattle.std.proofs.Common.{ap, ap₂, subst, arith}
+use Rattle.std.proofs.Common.{◌≡◌, ℕ, ◌+◌, not, Bool, List, [], ◌∷◌, ◌++◌, Option, Some, None, sym, ◌∙◌}
+use Rattle.std.proofs.Common.{ap, subst, arith}
 use Rattle.std.proofs.Common.{append_assoc, append-nil, length, length-append}
 use Rattle.std.specs.Prelude.{sum, count_by, is_none, MatchOption}
 use Rattle.std.proofs.lemmas.List.Sums.{sum_by_push}
@@ -10,24 +10,20 @@ use Rattle.trace_core.specs.declared.events.Event.TheVariants as event
 use Rattle.trace_core.specs.Events.{one_if, references_in}
 use Rattle.cache_core.specs.declared.plan.PlannedCache.{PlannedCache}
 use Rattle.cache_core.specs.declared.plan.CacheName.TheVariants.{L1I, L1D, L1U}
-use Rattle.cache_core.specs.declared.stats.CacheStats.{CacheStats}
-use Rattle.cache_core.specs.declared.stats.Stats.{Stats}
 use Rattle.cache_core.specs.declared.system_cache.SystemCache.{SystemCache}
-use Rattle.cache_core.specs.declared.system.Memory.{Memory}
 use Rattle.cache_core.specs.Machine.{Machine, run, dirty_count}
 use Rattle.cache_core.specs.Plans.{PlannedCaches, IsPlan}
 use Rattle.cache_core.specs.CacheSteps.{system_cache_contents, Empties}
-use Rattle.cache_core.specs.CacheStats.{count_flush}
-use Rattle.cache_core.specs.Systems.{machine_of, events_for, first_level_sends, below, flush_counts, flush_copybacks, to_memory, is_taken}
+use Rattle.cache_core.specs.Systems.{machine_of, events_for, first_level_sends, below, flush_counts, flush_copybacks, is_taken}
 use Rattle.cache_core.specs.SystemSteps.{SystemValue, present_refs, AccessesFirstLevel, AllDescend, StepsSystem, FlushesSystem, EmptiesCache}
 use Rattle.cache_core.specs.SystemSteps.{IsNewSystemCache, IsNewCache, IsNewSystem}
 use Rattle.cache_core.specs.SystemStands.{SystemStandsFor, SystemRuns, NewSystemLaw, StepLaw, SystemFlushLaw, SystemRunLaw}
 use Rattle.cache_core.proofs.RunLaw.{start_law, flush_run}
 use Rattle.cache_core.proofs.Pushes.{count_by_push}
-use Rattle.cache_core.proofs.SystemPushes.{counts_flush, flush_counts_flush, flush_counts_taken, flush_counts_refs, flush_counts_nil, events_flush}
-use Rattle.cache_core.proofs.SystemPushes.{references_push, references_flush, below_push, below_flush, with_refs, memory_flush, memory_nil}
-use Rattle.cache_core.proofs.FirstLevelLaw.{Kept, KeptIfPlanned, with_counts, stands_of, counts_is, down_list, FirstKept, first_keeps}
-use Rattle.cache_core.proofs.LowerLaw.{is_read_of, is_write_of, Lower, lower_after}
+use Rattle.cache_core.proofs.SystemPushes.{counts_flush, flush_counts_flush, flush_counts_taken, flush_counts_refs, events_flush}
+use Rattle.cache_core.proofs.SystemPushes.{references_push, references_flush, below_push, below_flush, with_refs, memory_flush}
+use Rattle.cache_core.proofs.FirstLevelLaw.{Kept, KeptIfPlanned, with_counts, stands_of, down_list, FirstKept, first_keeps}
+use Rattle.cache_core.proofs.LowerLaw.{Lower, lower_after}
 
 -- how many dirty lines the flushes of a list find in all caches
 abbrev pub flushed_all : PlannedCaches → ℕ → List Event → ℕ
@@ -49,35 +45,10 @@ record SystemKept (plan : PlannedCaches) (seed : ℕ) (events : List Event) (v :
 
 module _ (plan : PlannedCaches) (seed : ℕ) where
   kept_of : (events : List Event) (v : SystemValue) → SystemStandsFor plan seed events v → SystemKept plan seed events v
-  kept_of events v s = record {
-    i = with_counts seed plan.i (events_for L1I events) v.i s.i (ap (λ (x : Stats). x.l1i) s.stats);
-    d = with_counts seed plan.d (events_for L1D events) v.d s.d (ap (λ (x : Stats). x.l1d) s.stats);
-    u = with_counts seed plan.u (events_for L1U events) v.u s.u (ap (λ (x : Stats). x.l1u) s.stats);
-    lower = record {
-      kept = with_counts seed plan.second (below plan seed events) v.second s.second (ap (λ (x : Stats). x.l2u) s.stats);
-      reads = ap (λ (x : Stats). x.memory_reads) s.stats;
-      writes = ap (λ (x : Stats). x.memory_writes) s.stats;
-    };
-    bypassed = ap (λ (x : Stats). x.bypassed) s.stats;
-  }
+  kept_of events v s = grind (arith, with_counts)
 
   stands_kept : (events : List Event) (v : SystemValue) → SystemKept plan seed events v → v.steps ≡ length events → SystemStandsFor plan seed events v
-  stands_kept events v k steps = record {
-    i = stands_of seed plan.i (events_for L1I events) v.i k.i;
-    d = stands_of seed plan.d (events_for L1D events) v.d k.d;
-    u = stands_of seed plan.u (events_for L1U events) v.u k.u;
-    second = stands_of seed plan.second (below plan seed events) v.second k.lower.kept;
-    stats = cc (
-      counts_is seed plan.i (events_for L1I events) v.i k.i,
-      counts_is seed plan.d (events_for L1D events) v.d k.d,
-      counts_is seed plan.u (events_for L1U events) v.u k.u,
-      counts_is seed plan.second (below plan seed events) v.second k.lower.kept,
-      k.lower.reads,
-      k.lower.writes,
-      k.bypassed,
-    );
-    steps = steps;
-  }
+  stands_kept events v k steps = grind (arith, stands_of)
 
 -- a new system
 new_cache : (seed : ℕ) (planned : Option PlannedCache) (cache : Option SystemCache) → IsNewCache seed planned cache → KeptIfPlanned seed planned [] cache
@@ -88,23 +59,7 @@ new_cache seed (Some planned) cache n =
     (n.0, n.1, record { stands = stands; counts = new.counts })
 
 kept_new : (plan : PlannedCaches) (seed : ℕ) (v : SystemValue) → IsNewSystem plan seed v → SystemKept plan seed [] v
-kept_new plan seed v n =
-    let none : to_memory seed plan.second [] ≡ [] = memory_nil seed plan.second in
-    let unread : v.memory.reads ≡ 0 = ap (λ (m : Memory). m.reads) n.memory in
-    let unwritten : v.memory.writes ≡ 0 = ap (λ (m : Memory). m.writes) n.memory in
-    let unflushed : flushed_all plan seed [] ≡ 0 =
-    rw (flush_counts_nil seed plan.i, flush_counts_nil seed plan.d, flush_counts_nil seed plan.u, flush_counts_nil seed plan.second) refl in
-    record {
-      i = new_cache seed plan.i v.i n.i;
-      d = new_cache seed plan.d v.d n.d;
-      u = new_cache seed plan.u v.u n.u;
-      lower = record {
-        kept = new_cache seed plan.second v.second n.second;
-        reads = unread ∙ sym (ap (count_by is_read_of) none);
-        writes = omega (arith, unwritten, unflushed, ap (count_by is_write_of) none);
-      };
-      bypassed = n.bypassed;
-    }
+kept_new plan seed v n = grind (arith, new_cache)
 
 pub new_law : NewSystemLaw
 new_law plan seed v n = stands_kept plan seed [] v (kept_new plan seed v n) n.steps
@@ -128,9 +83,7 @@ module _ (plan : PlannedCaches) (seed : ℕ) (events : List Event) (ref : Ref) w
 
   bypassed_step : (old new : ℕ) (down : Bool) → new ≡ old + one_if down → down ≡ is_untaken plan ref →
       old ≡ count_by (is_untaken plan) (references_in events) → new ≡ count_by (is_untaken plan) (references_in more)
-  bypassed_step old new down moved untaken before =
-      moved ∙ ap (λ n. n + one_if down) before ∙ ap (λ b. count_by (is_untaken plan) (references_in events) + one_if b) untaken
-      ∙ sym (ap (count_by (is_untaken plan)) (references_push events ref) ∙ count_by_push (is_untaken plan) (references_in events) ref)
+  bypassed_step old new down moved untaken before = grind (arith, references_push, count_by_push)
 
   lower_step : (old new : SystemValue) (down : Option (List (Option Ref))) → IsPlan plan → SystemKept plan seed events old →
       down_list down ≡ first_level_sends plan seed events ref →
@@ -143,8 +96,7 @@ module _ (plan : PlannedCaches) (seed : ℕ) (events : List Event) (ref : Ref) w
       k.lower l in
       let to : with_refs (below plan seed events) (down_list down) ≡ below plan seed more =
       ap (with_refs (below plan seed events)) all_sent ∙ sym (below_push plan seed events ref) in
-      subst (λ (n : ℕ). Lower seed plan.second (below plan seed more) n new.second new.memory) flushed_step
-      (subst (λ (es : List Event). Lower seed plan.second es (flushed_all plan seed events) new.second new.memory) to moved)
+      grind (arith, flushed_step)
 
   kept_step : (old new : SystemValue) → IsPlan plan → SystemKept plan seed events old → StepsSystem old ref new → SystemKept plan seed more new
   kept_step old new p k t =
@@ -181,14 +133,11 @@ record Emptied (m : Machine) (events : List Event) (dirty : ℕ) (new : SystemCa
 empties : (m : Machine) (events : List Event) (old : SystemCache) (dirty : ℕ) (new : SystemCache) → Kept m events old → Empties old dirty new →
     Emptied m events dirty new
 empties m events old dirty new k e =
-    let r = flush_run m events (system_cache_contents old) dirty (system_cache_contents new) k.stands e.flush in
-    record {
-      kept = record {
-        stands = r.0;
-        counts = e.counts ∙ ap₂ (λ (n : ℕ) (s : CacheStats). count_flush n s) r.1 k.counts ∙ sym (counts_flush m events);
-      };
-      found = r.1;
-    }
+    grind (
+      arith,
+      flush_run m events (system_cache_contents old) dirty (system_cache_contents new) k.stands e.flush,
+      counts_flush m events,
+    )
 
 -- a cache that was flushed between two lists of the events that come to it
 record FlushedBetween (seed : ℕ) (planned : Option PlannedCache) (before after : List Event) (dirty : ℕ) (new : Option SystemCache) : Type 0 where
@@ -198,9 +147,7 @@ record FlushedBetween (seed : ℕ) (planned : Option PlannedCache) (before after
 emptied_if_planned : (seed : ℕ) (planned : Option PlannedCache) (events after : List Event) (cache : Option SystemCache) (dirty : ℕ)
     (new : Option SystemCache) → after ≡ events ++ event.Flush ∷ [] → KeptIfPlanned seed planned events cache → EmptiesCache cache dirty new →
     FlushedBetween seed planned events after dirty new
-emptied_if_planned seed None events after cache dirty new is k e =
-    let f = subst (λ (s : Option SystemCache). EmptiesCache s dirty new) k e in
-    record { kept = f.0; found = omega (arith, f.1) }
+emptied_if_planned seed None events after cache dirty new is k e = grind arith
 emptied_if_planned seed (Some planned) events after cache dirty new is k e =
     let m = machine_of seed planned in
     let f = subst (λ (s : Option SystemCache). EmptiesCache s dirty new) k.1 e in
@@ -216,25 +163,16 @@ module _ (plan : PlannedCaches) (seed : ℕ) (events : List Event) where
   kept_flush : (old new : SystemValue) → SystemKept plan seed events old → FlushesSystem old new → SystemKept plan seed (events ++ event.Flush ∷ []) new
   kept_flush old new k t =
       let lower = below plan seed events in
-      let i = emptied_if_planned seed plan.i (events_for L1I events) _ old.i t.dirty_i new.i (events_flush L1I events) k.i t.i in
-      let d = emptied_if_planned seed plan.d (events_for L1D events) _ old.d t.dirty_d new.d (events_flush L1D events) k.d t.d in
-      let u = emptied_if_planned seed plan.u (events_for L1U events) _ old.u t.dirty_u new.u (events_flush L1U events) k.u t.u in
-      let second = emptied_if_planned seed plan.second lower _ old.second t.dirty_second new.second (below_flush plan seed events) k.lower.kept t.second in
-      let same : to_memory seed plan.second (below plan seed (events ++ event.Flush ∷ [])) ≡ to_memory seed plan.second lower =
-      ap (to_memory seed plan.second) (below_flush plan seed events) ∙ memory_flush seed plan.second lower in
-      let read : new.memory.reads ≡ old.memory.reads = ap (λ (m : Memory). m.reads) t.memory in
-      let written : new.memory.writes ≡ old.memory.writes + (t.dirty_i + t.dirty_d + t.dirty_u + t.dirty_second) = ap (λ (m : Memory). m.writes) t.memory in
-      record {
-        i = i.kept;
-        d = d.kept;
-        u = u.kept;
-        lower = record {
-          kept = second.kept;
-          reads = read ∙ k.lower.reads ∙ sym (ap (count_by is_read_of) same);
-          writes = omega (arith, written, k.lower.writes, ap (count_by is_write_of) same, i.found, d.found, u.found, second.found);
-        };
-        bypassed = t.bypassed ∙ k.bypassed ∙ sym (ap (count_by (is_untaken plan)) (references_flush events));
-      }
+      grind (
+        arith,
+        emptied_if_planned seed plan.i (events_for L1I events) _ old.i t.dirty_i new.i (events_flush L1I events) k.i t.i,
+        emptied_if_planned seed plan.d (events_for L1D events) _ old.d t.dirty_d new.d (events_flush L1D events) k.d t.d,
+        emptied_if_planned seed plan.u (events_for L1U events) _ old.u t.dirty_u new.u (events_flush L1U events) k.u t.u,
+        emptied_if_planned seed plan.second lower _ old.second t.dirty_second new.second (below_flush plan seed events) k.lower.kept t.second,
+        below_flush,
+        memory_flush,
+        references_flush,
+      )
 
 pub system_flush_law : SystemFlushLaw
 system_flush_law plan seed events old new s t =
@@ -243,8 +181,7 @@ system_flush_law plan seed events old new s t =
 
 -- a run
 pub system_runs_law : SystemRunLaw
-system_runs_law plan seed events [] old new p i r =
-    subst (λ es. SystemStandsFor plan seed es new) (sym (append-nil events)) (subst (SystemStandsFor plan seed events) (sym r) i)
+system_runs_law plan seed events [] old new p i r = grind (arith, append-nil)
 system_runs_law plan seed events (event.Reference ref ∷ more) old new p i (half, a, r) =
     subst (λ es. SystemStandsFor plan seed es new) (append_assoc events (event.Reference ref ∷ []) more)
     (system_runs_law plan seed (events ++ event.Reference ref ∷ []) more half new p (step_law plan seed events old ref half p i a) r)

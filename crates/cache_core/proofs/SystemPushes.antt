@@ -1,9 +1,8 @@
 -- A system's lists of events and counts, with one more event.
-use Rattle.std.proofs.Common.{◌≡◌, ℕ, ◌+◌, Bool, true, false, cond, List, [], ◌∷◌, ◌++◌, map, Option, Some, None, refl}
+use Rattle.std.proofs.Common.{◌≡◌, ℕ, ◌+◌, Bool, true, false, List, [], ◌∷◌, ◌++◌, map, Option, refl}
 use Rattle.std.proofs.Common.{sym, ◌∙◌, ap, ap₂, arith, add_assoc, append_assoc, append-nil}
-use Rattle.std.specs.Prelude.{fold, sum, flat_map, unwrap_or, is_some, ◌&&◌, ◌||◌}
+use Rattle.std.specs.Prelude.{fold, sum, is_some}
 use Rattle.std.specs.Option.{option_map}
-use Rattle.std.proofs.lemmas.Bool.{or_parts}
 use Rattle.std.proofs.lemmas.Grind.{flat_map-append}
 use Rattle.std.proofs.lemmas.List.Elements.{filter-append}
 use Rattle.std.proofs.lemmas.List.Sums.{fold-append, sum_by_push}
@@ -11,17 +10,16 @@ use Rattle.trace_core.specs.declared.events.Access.{Access}
 use Rattle.trace_core.specs.declared.events.Ref.{Ref}
 use Rattle.trace_core.specs.declared.events.Event.{Event}
 use Rattle.trace_core.specs.declared.events.Event.TheVariants as event
-use Rattle.trace_core.specs.Events.{one_if, references_in}
+use Rattle.trace_core.specs.Events.{references_in}
 use Rattle.cache_core.specs.declared.outcome.Slot.{Slot}
 use Rattle.cache_core.specs.declared.plan.PlannedCache.{PlannedCache}
 use Rattle.cache_core.specs.declared.plan.CacheName.{CacheName}
-use Rattle.cache_core.specs.declared.plan.CacheName.TheVariants.{L1I, L1D, L1U}
 use Rattle.cache_core.specs.declared.stats.CacheStats.{CacheStats}
 use Rattle.cache_core.specs.Outcomes.{Effect}
 use Rattle.cache_core.specs.Machine.{Machine, MachineState, start, run, next, step, with_effects, dirty_count}
 use Rattle.cache_core.specs.Plans.{PlannedCaches}
 use Rattle.cache_core.specs.CacheStats.{stats_from, count_access, count_flush}
-use Rattle.cache_core.specs.Systems.{machine_of, takes, takes_event, events_for, sends, first_level_sends, below_from, below, to_memory, is_taken}
+use Rattle.cache_core.specs.Systems.{takes, takes_event, events_for, first_level_sends, below_from, below, to_memory, is_taken}
 use Rattle.cache_core.specs.Systems.{flush_counts_from, flush_counts, flush_counts_if_planned, cache_stats}
 use Rattle.cache_core.specs.Arrivals.{passes}
 use Rattle.cache_core.proofs.Pushes.{with_effects_push, with_effects_flush}
@@ -65,8 +63,7 @@ flush_counts_flush m events = flush_counts_flush_from m start events
 
 pub flush_counts_push : (seed : ℕ) (planned : Option PlannedCache) (events : List Event) (ref : Ref) →
     flush_counts_if_planned seed planned (events ++ event.Reference ref ∷ []) ≡ flush_counts_if_planned seed planned events
-flush_counts_push seed None events ref = refl
-flush_counts_push seed (Some planned) events ref = flush_counts_push_from (machine_of seed planned) start events ref
+flush_counts_push seed planned events ref = grind (arith, flush_counts_push_from)
 
 pub flush_counts_taken : (seed : ℕ) (name : CacheName) (planned : Option PlannedCache) (events : List Event) (ref : Ref) →
     flush_counts_if_planned seed planned (events_for name (events ++ event.Reference ref ∷ []))
@@ -88,16 +85,12 @@ flush_counts_refs seed planned events (ref ∷ refs) =
     ∙ flush_counts_refs seed planned (events ++ event.Reference ref ∷ []) refs ∙ flush_counts_push seed planned events ref
 
 pub flush_counts_nil : (seed : ℕ) (planned : Option PlannedCache) → flush_counts_if_planned seed planned [] ≡ []
-flush_counts_nil seed None = refl
-flush_counts_nil seed (Some planned) = refl
+flush_counts_nil seed planned = grind arith
 
 -- its statistics: an access and a flush may change places
 pub flush_then_access : (access : Access) (hit : Bool) (evicted : Option Bool) (dirty : ℕ) (s : CacheStats) →
     count_access access hit evicted (count_flush dirty s) ≡ count_flush dirty (count_access access hit evicted s)
-flush_then_access access hit evicted dirty s =
-    let more = one_if (unwrap_or evicted false) in
-    let copybacks : s.copybacks + dirty + more ≡ s.copybacks + more + dirty = omega arith in
-    cc
+flush_then_access access hit evicted dirty s = grind arith
 
 pub two_flushes : (m n : ℕ) (s : CacheStats) → count_flush n (count_flush m s) ≡ count_flush (m + n) s
 two_flushes m n s = ap (λ k. record s { copybacks = k }) (add_assoc s.copybacks m n)
@@ -107,8 +100,7 @@ abbrev pub count_effect : CacheStats → Ref × Effect → CacheStats
 count_effect s p = count_access p.0.access p.1.hit (option_map (λ slot. slot.dirty) p.1.evicted) s
 
 some_is : (evicted : Option Slot) → is_some evicted ≡ is_some (option_map (λ slot. slot.dirty) evicted)
-some_is None = refl
-some_is (Some slot) = refl
+some_is evicted = grind arith
 
 stats_push : (all : List (Ref × Effect)) (p : Ref × Effect) → stats_from (all ++ p ∷ []) ≡ count_effect (stats_from all) p
 stats_push all p = simp fold-append (cc (some_is p.1.evicted))
@@ -116,8 +108,7 @@ stats_push all p = simp fold-append (cc (some_is p.1.evicted))
 -- so the steps, one after another, count what is defined
 pub stats_steps : (before all : List (Ref × Effect)) → fold count_effect (stats_from before) all ≡ stats_from (before ++ all)
 stats_steps before [] = ap stats_from (sym (append-nil before))
-stats_steps before (p ∷ all) =
-    ap (λ s. fold count_effect s all) (sym (stats_push before p)) ∙ stats_steps (before ++ p ∷ []) all ∙ ap stats_from (append_assoc before (p ∷ []) all)
+stats_steps before (p ∷ all) = cc (stats_push before p, stats_steps (before ++ p ∷ []) all, append_assoc before (p ∷ []) all)
 
 pub counts_push : (m : Machine) (events : List Event) (ref : Ref) →
     cache_stats m (events ++ event.Reference ref ∷ []) ≡ count_effect (cache_stats m events) (ref, (step m (run m events) ref).effect)
@@ -152,16 +143,12 @@ below_push_from : (plan : PlannedCaches) (seed : ℕ) (earlier events : List Eve
     ≡ below_from plan seed earlier events ++ map (λ x. event.Reference x) (first_level_sends plan seed (earlier ++ events) ref)
 below_push_from plan seed earlier [] ref = cc (append-nil (map (λ x. event.Reference x) (first_level_sends plan seed earlier ref)), append-nil earlier)
 below_push_from plan seed earlier (event.Reference r ∷ events) ref =
-    ap (λ es. map (λ x. event.Reference x) (first_level_sends plan seed earlier r) ++ es)
-    (below_push_from plan seed (earlier ++ event.Reference r ∷ []) events ref)
-    ∙ sym (append_assoc (map (λ x. event.Reference x) (first_level_sends plan seed earlier r))
-    (below_from plan seed (earlier ++ event.Reference r ∷ []) events) _)
-    ∙ ap
-    (λ es. map (λ x. event.Reference x) (first_level_sends plan seed earlier r) ++ below_from plan seed (earlier ++ event.Reference r ∷ []) events
-    ++ map (λ x. event.Reference x) (first_level_sends plan seed es ref))
-    (append_assoc earlier (event.Reference r ∷ []) events)
-below_push_from plan seed earlier (event.Flush ∷ events) ref =
-    cc (below_push_from plan seed (earlier ++ event.Flush ∷ []) events ref, append_assoc earlier (event.Flush ∷ []) events)
+    grind (
+      arith,
+      append_assoc,
+      below_push_from plan seed (earlier ++ event.Reference r ∷ []) events ref,
+    )
+below_push_from plan seed earlier (event.Flush ∷ events) ref = grind (arith, append_assoc, below_push_from plan seed (earlier ++ event.Flush ∷ []) events ref)
 
 pub below_push : (plan : PlannedCaches) (seed : ℕ) (events : List Event) (ref : Ref) →
     below plan seed (events ++ event.Reference ref ∷ []) ≡ below plan seed events ++ map (λ x. event.Reference x) (first_level_sends plan seed events ref)
@@ -171,10 +158,10 @@ below_flush_from : (plan : PlannedCaches) (seed : ℕ) (earlier events : List Ev
     below_from plan seed earlier (events ++ event.Flush ∷ []) ≡ below_from plan seed earlier events ++ event.Flush ∷ []
 below_flush_from plan seed earlier [] = refl
 below_flush_from plan seed earlier (event.Reference r ∷ events) =
-    cc (
+    grind (
+      arith,
+      append_assoc,
       below_flush_from plan seed (earlier ++ event.Reference r ∷ []) events,
-      append_assoc (map (λ x. event.Reference x) (first_level_sends plan seed earlier r)) (below_from plan seed (earlier ++ event.Reference r ∷ []) events)
-          (event.Flush ∷ []),
     )
 below_flush_from plan seed earlier (event.Flush ∷ events) = ap (λ es. event.Flush ∷ es) (below_flush_from plan seed (earlier ++ event.Flush ∷ []) events)
 
@@ -185,31 +172,14 @@ below_flush plan seed events = below_flush_from plan seed [] events
 -- what reaches memory
 pub memory_push : (seed : ℕ) (planned : Option PlannedCache) (events : List Event) (ref : Ref) →
     to_memory seed planned (events ++ event.Reference ref ∷ []) ≡ to_memory seed planned events ++ passes seed planned events ref
-memory_push seed None events ref = references_push events ref
-memory_push seed (Some planned) events ref =
-    let m = machine_of seed planned in
-    let down : Ref × Effect → List Ref = λ p. p.1.down in
-    ap (flat_map down) (with_effects_push m events ref) ∙ flat_map-append down (with_effects m events) ((ref, (step m (run m events) ref).effect) ∷ [])
-    ∙ ap (λ xs. flat_map down (with_effects m events) ++ xs) (append-nil (step m (run m events) ref).effect.down)
+memory_push seed planned events ref = grind (arith, references_push, with_effects_push, flat_map-append)
 
 pub memory_flush : (seed : ℕ) (planned : Option PlannedCache) (events : List Event) →
     to_memory seed planned (events ++ event.Flush ∷ []) ≡ to_memory seed planned events
-memory_flush seed None events = references_flush events
-memory_flush seed (Some planned) events = ap (flat_map (λ p. p.1.down)) (with_effects_flush (machine_of seed planned) events)
+memory_flush seed planned events = grind (arith, references_flush, with_effects_flush)
 
 pub memory_nil : (seed : ℕ) (planned : Option PlannedCache) → to_memory seed planned [] ≡ []
-memory_nil seed None = refl
-memory_nil seed (Some planned) = refl
-
--- a reference that no cache takes sends nothing down
-none_sent : (seed : ℕ) (name : CacheName) (planned : Option PlannedCache) (events : List Event) (ref : Ref) →
-    (is_some planned && takes name ref) ≡ false → sends seed name planned events ref ≡ []
-none_sent seed name None events ref u = refl
-none_sent seed name (Some planned) events ref u =
-    ap (λ b. cond b (step (machine_of seed planned) (run (machine_of seed planned) (events_for name events)) ref).effect.down []) u
+memory_nil seed planned = grind arith
 
 pub untaken_sent : (plan : PlannedCaches) (seed : ℕ) (events : List Event) (ref : Ref) → is_taken plan ref ≡ false → first_level_sends plan seed events ref ≡ []
-untaken_sent plan seed events ref e =
-    let (ui, d) = or_parts (is_some plan.u || (is_some plan.i && takes L1I ref)) (is_some plan.d && takes L1D ref) e in
-    let (u, i) = or_parts (is_some plan.u) (is_some plan.i && takes L1I ref) ui in
-    rw (none_sent seed L1I plan.i events ref i, none_sent seed L1D plan.d events ref d, none_sent seed L1U plan.u events ref (ap (λ b. b && true) u)) refl
+untaken_sent plan seed events ref e = grind arith

@@ -42,9 +42,7 @@ module _ (name : CacheName) where
   refs_shown : (m : Machine) (g : GeometryValue) (st : MachineState) (events : List Event) →
       flat_map (refs_at name) (map (access_line name g) (with_effects_from m st events)) ≡ references_in events
   refs_shown m g st [] = refl
-  refs_shown m g st (event.Reference ref ∷ events) =
-      ap (λ b. cond b (ref ∷ []) [] ++ flat_map (refs_at name) (map (access_line name g) (with_effects_from m (step m st ref).after events))) (same name)
-      ∙ ap (λ refs. ref ∷ refs) (refs_shown m g (step m st ref).after events)
+  refs_shown m g st (event.Reference ref ∷ events) = cc (same name, refs_shown m g (step m st ref).after events)
   refs_shown m g st (event.Flush ∷ events) = refs_shown m g (next m st event.Flush) events
 
   -- all of them, if there is a cache

@@ -1,5 +1,5 @@
 -- What a list of touched sets says of the counts, kept as the counts change.
-use Rattle.std.proofs.Common.{◌≡◌, ◌<◌, ◌+◌, ◌++◌, ◌||◌, ◌&&◌, not, false, cond, eqb, ltb, ℕ, zero, suc, List, []}
+use Rattle.std.proofs.Common.{◌≡◌, ◌<◌, ◌+◌, ◌++◌, ◌||◌, false, cond, eqb, ltb, ℕ, zero, suc, List, []}
 use Rattle.std.proofs.Common.{◌∷◌, Option, Some, None, length, get_or, set, replicate, drop, refl, sym, subst, ap, ◌∙◌, arith, ⊎_elim}
 use Rattle.std.proofs.Common.{length-set, add-one, drop-cons, get_or-set_same, get_or-set_other}
 use Rattle.std.specs.Prelude.{All, IfSome}
@@ -69,7 +69,7 @@ longer sets counts k lt l = record {
 }
 
 last_listed : (sets : List ℕ) (k n : ℕ) → list_any (λ other. eqb other k) (sets ++ k ∷ []) ≡ false → n ≡ 0
-last_listed sets k n unlisted = grind (arith, list_any-append (λ other. eqb other k) sets (k ∷ []), unlisted)
+last_listed sets k n unlisted = grind (arith, list_any-append (λ other. eqb other k) sets (k ∷ []))
 
 covers_joined : (capacity k n : ℕ) (listed : Option (List ℕ)) (counts : List ℕ) → k < length counts →
     IfSome listed (λ sets. ListsFilled sets counts) → IfSome (with_set capacity k listed) (λ sets. ListsFilled sets (set counts k n))
@@ -84,15 +84,7 @@ covers_kept : (k n : ℕ) (listed : Option (List ℕ)) (counts : List ℕ) → k
 covers_kept k n None counts lt h l = tt
 covers_kept k n (Some sets) counts lt h l = changed sets counts k n lt l (λ unlisted. h (l.others k unlisted))
 
--- a count that did not grow from 0
-not_grown : (before after : ℕ) → (eqb before 0 && not (eqb after 0)) ≡ false → before ≡ 0 → after ≡ 0
-not_grown before after h e = grind (arith, h, e)
-
 -- the count of a set changes
 pub covers_change : (touched : TouchedValue) (counts : List ℕ) (k before after : ℕ) → k < length counts → before ≡ get_or counts k 0 →
     Covers touched counts → Covers (after_count k before after touched) (set counts k after)
-covers_change touched counts k before after lt is l =
-    cases (λ b. Covers (cond b (record touched { listed = with_set touched.capacity k touched.listed }) touched) (set counts k after))
-    (eqb before 0 && not (eqb after 0))
-    (λ _. covers_joined touched.capacity k after touched.listed counts lt l)
-    (λ h. covers_kept k after touched.listed counts lt (λ e. not_grown before after h (is ∙ e)) l)
+covers_change touched counts k before after lt is l = grind (arith, covers_joined, covers_kept)

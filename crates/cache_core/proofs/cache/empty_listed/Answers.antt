@@ -10,12 +10,7 @@ loop-number-preserved c =
     c.count_dirty_slots-dirty.ensures.value
 
 pub overflow_add-dirty : goal.overflow_add-dirty
-overflow_add-dirty c =
-    let next =
-    one_emptied c.args.ways c.args.slots.now c.args.listed.now c.args.filled.now c.loop-number.filled c.loop-number.dirty c.loop-number.number-index
-    c.loop-number.invariant c.replace-count.new.dest c.replace-count.result c.count_dirty_slots-dirty.result c.loop-number-test.true
-    c.replace-count.ensures.after c.replace-count.ensures.value c.count_dirty_slots-dirty.ensures.value in
-    omega (arith, next.counted, dirty_few c.args.ways c.args.filled.now c.args.slots.now c.requires.within)
+overflow_add-dirty c = grind (arith, dirty_few)
 
 pub returns-clause-counted : goal.returns-clause-counted
 returns-clause-counted c =

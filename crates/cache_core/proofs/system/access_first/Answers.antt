@@ -1,9 +1,9 @@
 -- A first-level cache, where it is there, is seen as the machine has it.
-use Rattle.std.proofs.Common.{List, sym, subst}
+use Rattle.std.proofs.Common.{List, subst}
 use Rattle.cache_core.specs.declared.arrival.Arrival.{Arrival}
 use Rattle.cache_core.specs.Arrivals.{Saw}
 use Rattle.cache_core.specs.SystemStands.{PlannedCacheStandsFor}
-use Rattle.cache_core.proofs.Observed.{entered, none_arrives, saw_none}
+use Rattle.cache_core.proofs.Observed.{entered}
 use Rattle.cache_core.proofs.system.access_first.Goals as goal
 
 pub returns-in-Some-clause-seen : goal.returns-in-Some-clause-seen
@@ -11,9 +11,3 @@ returns-in-Some-clause-seen g c = λ seed planned events good stands.
     let s = subst (PlannedCacheStandsFor seed planned events) c.in-Some.is stands in
     subst (λ (xs : List Arrival). Saw g.O.Observer.has_seen c.args.observer.now xs c.access.new.observer)
     (entered seed c.args.name planned events _ _ _ _ good s c.access.ensures.value).seen c.access.ensures.seen
-
-pub returns-in-None-clause-seen : goal.returns-in-None-clause-seen
-returns-in-None-clause-seen g c = λ seed planned events good stands.
-    let s = subst (PlannedCacheStandsFor seed planned events) c.in-None.is stands in
-    subst (λ (xs : List Arrival). Saw g.O.Observer.has_seen c.args.observer.now xs c.args.observer.now)
-    (sym (none_arrives seed c.args.name planned events c.args.reference s)) (saw_none g.O.Observer.has_seen c.args.observer.now)

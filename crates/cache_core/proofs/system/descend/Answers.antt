@@ -1,5 +1,5 @@
 -- What the second level sends down reaches memory, and is seen there after the second level.
-use Rattle.std.proofs.Common.{refl, ap, ap₂, sym, subst, ◌∙◌, get_or, List, None, [], ◌∷◌, ◌++◌}
+use Rattle.std.proofs.Common.{refl, ap, ap₂, subst, ◌∙◌, get_or, List, None, [], ◌∷◌, ◌++◌}
 use Rattle.trace_core.specs.declared.events.Ref.{Ref}
 use Rattle.cache_core.specs.declared.arrival.Arrival.{Arrival}
 use Rattle.cache_core.specs.declared.plan.CacheName.TheVariants.{L2U}
@@ -7,7 +7,7 @@ use Rattle.cache_core.specs.Arrivals.{Saw, at_memory}
 use Rattle.cache_core.specs.SystemSteps.{present_refs, all_reach}
 use Rattle.cache_core.specs.SystemStands.{PlannedCacheStandsFor}
 use Rattle.cache_core.proofs.Counters.{sent_reach, sent_two}
-use Rattle.cache_core.proofs.Observed.{entered, none_arrives, none_passes, saw_below}
+use Rattle.cache_core.proofs.Observed.{entered, saw_below}
 use Rattle.cache_core.proofs.system.descend.Goals as goal
 
 pub returns-in-Some-clause-value : goal.returns-in-Some-clause-value
@@ -25,11 +25,3 @@ returns-in-Some-clause-seen g c = λ seed planned events good stands.
     let sent = sent_two c.in-Some.cache c.args.reference c.access.result c.access.new.self c.access.ensures.value ∙ e.sends in
     let seen = ap₂ (λ (here : List Arrival) (refs : List Ref). here ++ at_memory refs) e.seen sent in
     subst (λ (xs : List Arrival). Saw g.O.Observer.has_seen c.args.observer.now xs c.count-in-Some.new.observer) seen saw
-
-pub returns-in-None-clause-seen : goal.returns-in-None-clause-seen
-returns-in-None-clause-seen g c = λ seed planned events good stands.
-    let s = subst (PlannedCacheStandsFor seed planned events) c.in-None.is stands in
-    let seen =
-    ap₂ (λ (here : List Arrival) (refs : List Ref). here ++ at_memory refs) (none_arrives seed L2U planned events c.args.reference s)
-    (none_passes seed planned events c.args.reference s) in
-    subst (λ (xs : List Arrival). Saw g.O.Observer.has_seen c.args.observer.now xs c.count-in-None.new.observer) (sym seen) c.count-in-None.ensures.seen

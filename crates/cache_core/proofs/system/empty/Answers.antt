@@ -1,9 +1,9 @@
 -- A cache that is there is emptied, and seen so.
-use Rattle.std.proofs.Common.{List, refl, sym, subst}
+use Rattle.std.proofs.Common.{List, refl, subst}
 use Rattle.cache_core.specs.declared.arrival.Arrival.{Arrival}
 use Rattle.cache_core.specs.Arrivals.{Saw}
 use Rattle.cache_core.specs.SystemStands.{PlannedCacheStandsFor}
-use Rattle.cache_core.proofs.Observed.{emptied, none_flushes, saw_none}
+use Rattle.cache_core.proofs.Observed.{emptied}
 use Rattle.cache_core.proofs.system.empty.Goals as goal
 
 pub returns-in-Some-clause-value : goal.returns-in-Some-clause-value
@@ -14,9 +14,3 @@ returns-in-Some-clause-seen g c = λ seed planned events stands.
     let s = subst (PlannedCacheStandsFor seed planned events) c.in-Some.is stands in
     subst (λ (xs : List Arrival). Saw g.O.Observer.has_seen c.args.observer.now xs c.see.new.self)
     (emptied seed c.args.name planned events _ _ _ s c.flush-dirty.ensures) c.see.ensures.seen
-
-pub returns-in-None-clause-seen : goal.returns-in-None-clause-seen
-returns-in-None-clause-seen g c = λ seed planned events stands.
-    let s = subst (PlannedCacheStandsFor seed planned events) c.in-None.is stands in
-    subst (λ (xs : List Arrival). Saw g.O.Observer.has_seen c.args.observer.now xs c.args.observer.now)
-    (sym (none_flushes seed c.args.name planned events s)) (saw_none g.O.Observer.has_seen c.args.observer.now)

@@ -8,10 +8,7 @@ use Rattle.cache_core.proofs.cache.Cache.flush.Given.{Over}
 none_left : (g : Over) (c : goal.After-self-1 g) →
     take c.self.inside.filled.len (c.empty_slab.new.filled ++ drop (length c.empty_slab.new.filled) c.self.inside.filled.items)
     ≡ replicate (2 ^ c.self.inside.design.geometry.s) 0
-none_left g c =
-    let i = c.self.inside in
-    none_filled c.empty_slab.new.filled _ i.filled.len _ (2 ^ i.design.geometry.s) (omega arith) c.empty_slab.ensures.empty
-    (omega (arith, c.self.invariant.0.sets))
+none_left g c = grind (arith, none_filled)
 
 pub invariant_of-self : goal.invariant_of-self
 invariant_of-self g c =

@@ -2,18 +2,10 @@
 use Rattle.rand_pcg.specs.Lcg.{Lcg}
 use Rattle.rand_pcg.specs.Pcg.{pcg32}
 use Rattle.cache_core.specs.RandomNumbers.{random_number}
-use Rattle.std.proofs.Common.{ℕ, ◌+◌, ◌<◌, ◌≡◌, ◌%◌, length, arith, ap, ◌∙◌, sym, length-take}
-use Rattle.std.proofs.lemmas.List.{take_more_set}
-use Rattle.cache_core.proofs.Lawful.{exchange_full, written}
+use Rattle.std.proofs.Common.{ℕ, ◌≡◌, arith, ap, ◌∙◌, sym}
+use Rattle.cache_core.proofs.Lawful.{exchange_full}
 use Rattle.cache_core.proofs.RandomNumberLemmas.{random_number-first, random_number-rest}
 use Rattle.cache_core.proofs.replacement.RandomReplacement.place.Goals as goal
-
-pub returns-then-filled-set-clause-order : goal.returns-then-filled-set-clause-order
-returns-then-filled-set-clause-order c =
-    (omega (arith, length-take c.args.filled c.args.set.now), take_more_set c.args.set.now c.args.filled _ c.if-filled-set.true)
-
-pub returns-then-filled-set-clause-index : goal.returns-then-filled-set-clause-index
-returns-then-filled-set-clause-index c = written (c.args.filled + 1) _ _ _ c.if-filled-set.true (omega arith)
 
 drawn : (c : goal.After-gone-1) → c.next_word.result ≡ random_number c.args.self.now 0
 drawn c = ap (λ (p : ℕ × Lcg). p.0) c.next_word.ensures ∙ ap (λ g. (pcg32 g).0) c.self.view_is ∙ sym (random_number-first c.args.self.now)
@@ -21,11 +13,6 @@ drawn c = ap (λ (p : ℕ × Lcg). p.0) c.next_word.ensures ∙ ap (λ g. (pcg32
 pub returns-clause-order : goal.returns-clause-order
 returns-clause-order c =
     exchange_full c.args.set.now c.args.filled c.next_word.result _ c.args.new _ (omega arith) c.requires.some (drawn c)
-
-pub returns-clause-index : goal.returns-clause-index
-returns-clause-index c =
-    let way : c.next_word.result % length c.args.set.now < length c.args.set.now = omega arith in
-    written (c.args.filled + 1) _ _ _ way (omega arith)
 
 pub returns-clause-words : goal.returns-clause-words
 returns-clause-words c =

@@ -1,30 +1,17 @@
 -- A step keeps the bounds on the counts, and is one reference at the first level and what is sent down from it. So it is seen.
-use Rattle.std.proofs.Common.{◌≡◌, List, Some, None, arith, refl, ap, sym, subst}
+use Rattle.std.proofs.Common.{List, Some, None, arith, refl, sym, subst}
 use Rattle.cache_core.specs.declared.arrival.Arrival.{Arrival}
 use Rattle.cache_core.specs.Arrivals.{Saw}
 use Rattle.cache_core.specs.Systems.{below}
 use Rattle.cache_core.specs.SystemStands.{SystemStandsFor}
-use Rattle.cache_core.specs.SystemSteps.{SystemValue, present_refs}
+use Rattle.cache_core.specs.SystemSteps.{present_refs}
 use Rattle.cache_core.proofs.Counters.{first_level_grows, all_grow}
 use Rattle.cache_core.proofs.Observed.{saw_both, seen_below, seen_bypassed}
 use Rattle.cache_core.proofs.SystemLaw.{step_sends}
 use Rattle.cache_core.proofs.system.System.step_observed.Goals as goal
 
 pub invariant_of-self : goal.invariant_of-self
-invariant_of-self g c =
-    let i = c.self.invariant in
-    let old = c.self.inside in
-    let first = first_level_grows old.i old.d old.u c.args.reference (Some c.in-Some.down) c.first_level-down.new.i
-    c.first_level-down.new.d c.first_level-down.new.u c.in-Some.ensures.value in
-    let lower =
-    all_grow (present_refs c.in-Some.down) old.second old.memory c.descend_all.new.second c.descend_all.new.memory c.descend_all.ensures.value in
-    let s : old.steps ≡ c.args.self.now.steps = ap (λ (v : SystemValue). v.steps) c.self.view_is in
-    record {
-      steps = omega (arith, c.requires.steps, s);
-      first = omega (arith, first.counts, i.first);
-      second = omega (arith, lower.cache.counts, first.sends, i.second);
-      memory = omega (arith, lower.memory_counts, first.sends, i.memory, first.copies, lower.cache.copies);
-    }
+invariant_of-self g c = grind (arith, first_level_grows, all_grow)
 
 pub returns-in-Some-clause-step : goal.returns-in-Some-clause-step
 returns-in-Some-clause-step g c = rw (← c.self.view_is) record {
