@@ -83,9 +83,9 @@ def comes(condition, seconds=20):
 def processes(group):
     """What runs in a group of processes, by /proc."""
     found = []
-    for path in pathlib.Path("/proc").glob("[0-9]*/stat"):
+    for path in pathlib.Path("/proc").glob("[0-9]*"):
         try:
-            name, _, rest = path.read_text().rpartition(")")
+            name, _, rest = (path / "stat").read_text().rpartition(")")
         except OSError:
             continue
         state, _, its_group = rest.split()[:3]

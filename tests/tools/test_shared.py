@@ -3,6 +3,7 @@
 import gzip
 import os
 import pathlib
+import shutil
 import signal
 import subprocess
 import time
@@ -122,6 +123,20 @@ class Signals(Shared):
         for tool in BASH:
             ran = self.read_by(tool, "trace", env=env)
             self.assertEqual((ran.returncode, ran.stderr.decode()), (1, f"{tool}: program ended with signal 9\n"))
+
+
+class Beginning(Shared):
+    def test_an_interrupt_while_python_reads_modules(self):
+        """It ends each tool without a traceback."""
+        copy = shutil.copytree(TOOLS, self.folder / "tools", ignore=shutil.ignore_patterns("out"))
+        tools = [path for folder in (copy, copy / "lab") for path in folder.iterdir()
+                 if path.is_file() and path.read_bytes().startswith(b"#!/usr/bin/python3")]
+        self.assertGreaterEqual(len(tools), 10)
+        for folder in (copy, copy / "lab"):
+            (folder / "argparse.py").write_text("import os, signal\nos.kill(os.getpid(), signal.SIGINT)\n")
+        for tool in tools:
+            ran = self.run_command(tool, "--help")
+            self.assertEqual((ran.returncode, ran.stdout + ran.stderr), (-signal.SIGINT, b""), tool)
 
 
 class PackedTraces(Shared):

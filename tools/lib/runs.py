@@ -10,10 +10,10 @@ import sys
 import tempfile
 
 from lib import paging, tool
+from lib.signals import heed_stops, put_off_stops, stop_at_signals
 
 PIECE = 1 << 18  # the bytes that are read at once
 ROOM = 1 << 20  # the bytes that may wait for a run, so that it falls behind the others for a while at no cost
-INTERRUPTS = (signal.SIGHUP, signal.SIGINT, signal.SIGTERM)
 UNPACK = 'here=$1; . "$here/lib/lib.bash"; find_unpacker "$2"; exec "${unpacker[@]}"'
 
 
@@ -32,11 +32,11 @@ def end_text(code):
 @contextlib.contextmanager
 def uninterrupted():
     """Holds back what would interrupt the tool, so that it knows each process that it has started."""
-    signal.pthread_sigmask(signal.SIG_BLOCK, INTERRUPTS)
+    put_off_stops()
     try:
         yield
     finally:
-        signal.pthread_sigmask(signal.SIG_UNBLOCK, INTERRUPTS)
+        heed_stops()
 
 
 class Process:
@@ -249,18 +249,6 @@ def show(text):
         pass  # the terminal has gone
 
 
-def interrupted(number, _):
-    for each in INTERRUPTS:
-        signal.signal(each, signal.SIG_IGN)
-    raise SystemExit(128 + number)
-
-
-def heed_interrupts():
-    """An interrupt ends this tool without a trace of its calls."""
-    if signal.getsignal(signal.SIGINT) is signal.default_int_handler:
-        signal.signal(signal.SIGINT, signal.SIG_DFL)
-
-
 def keep_places():
     """Where standard input, output or error is closed, opens what fails as well, lest a file of this tool take its place."""
     for number in range(3):
@@ -288,9 +276,7 @@ def over(trace, commands, jobs, part=""):
     words to which the trace is added. Where one fails, the others are ended, and the tool ends with its message and status.
     How far they are is told behind the text `part`."""
     runs = Runs(trace, commands, jobs, part)
-    for each in INTERRUPTS:
-        if signal.getsignal(each) != signal.SIG_IGN:
-            signal.signal(each, interrupted)
+    stop_at_signals()
     try:
         if os.isatty(2):
             signal.signal(signal.SIGALRM, runs.tell)

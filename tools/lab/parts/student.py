@@ -1,9 +1,8 @@
 """A student's program and its runs: each has a private folder and limits, and on request bubblewrap around it. At the end what else
-`grade` and `grade-class` share: traces, arguments, signals."""
+`grade` and `grade-class` share: traces and arguments."""
 
 import contextlib
 import ctypes
-import importlib
 import os
 import pathlib
 import re
@@ -16,12 +15,11 @@ import sys
 import tempfile
 from typing import NamedTuple, Optional
 
-sys.path.insert(1, str(pathlib.Path(__file__).resolve().parents[2]))
-tool = importlib.import_module("lib.tool")
+from lib.signals import heed_stops, put_off_stops
+from parts import tool
 
 LEAST_LIMIT = 64 << 20
 TAIL = 1 << 20
-STOPS = (signal.SIGHUP, signal.SIGINT, signal.SIGTERM)
 PR_SET_CHILD_SUBREAPER = 36
 # What a confined program sees beside its own folder: enough for programs in any language that Debian packages.
 SYSTEM = ["/usr", "/bin", "/sbin", "/lib", "/lib32", "/lib64", "/libx32", "/etc/alternatives", "/etc/ld.so.cache"]
@@ -137,10 +135,10 @@ def bound(limit):
 
 def children():
     """The processes whose parent is this one."""
-    for stat in pathlib.Path("/proc").glob("[0-9]*/stat"):
+    for process in pathlib.Path("/proc").glob("[0-9]*"):
         with contextlib.suppress(OSError):
-            if int(stat.read_bytes().rpartition(b")")[2].split()[1]) == os.getpid():
-                yield int(stat.parent.name)
+            if int((process / "stat").read_bytes().rpartition(b")")[2].split()[1]) == os.getpid():
+                yield int(process.name)
 
 
 def end_orphans():
@@ -252,24 +250,3 @@ def seconds(text):
     if not 0 < float(text) < 1e6:
         raise ValueError
     return float(text)
-
-
-def put_off_stops():
-    """Signals that end the tool wait until heed_stops."""
-    signal.pthread_sigmask(signal.SIG_BLOCK, STOPS)
-
-
-def heed_stops():
-    signal.pthread_sigmask(signal.SIG_UNBLOCK, STOPS)
-
-
-def stop(number, _):
-    """Ends the tool at a signal, once, so that what it has begun is ended and removed."""
-    for other in STOPS:
-        signal.signal(other, signal.SIG_IGN)
-    sys.exit(128 + number)
-
-
-def stop_at_signals():
-    for number in STOPS:
-        signal.signal(number, stop)

@@ -4,6 +4,8 @@
     by_line.py NAME report .. --counts FILE --objects FILE
 """
 
+from lib import tool
+
 import argparse
 import collections
 import csv
@@ -13,7 +15,6 @@ import sys
 from typing import NamedTuple
 
 import elf
-from lib import tool
 
 KEYS = ("line", "function", "object")
 COUNTS = ("references", "misses", "compulsory", "capacity", "conflict")
