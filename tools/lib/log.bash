@@ -23,8 +23,21 @@ help_cache() {
 END
 }
 
-# take_arguments ARGUMENT..: reads the arguments of a tool. Sets `trace`, and `options` for cachesim, and gives the others with their
-# values to `own_option`, a function of the tool that answers 1 where an option is not its own.
+# own_option OPTION VALUE: takes an option that is not for cachesim, or answers 1. These are --cache and another, if the tool has set
+# `own` to the name of that, which is also the name of the variable for its value
+own_option() {
+    [ -n "${own-}" ] || return 1
+    case $1 in
+    "--$own") printf -v "$own" %s "$2" ;;
+    --cache)
+        [[ $2 =~ ^(l1-[idu]|l2-u)$ ]] || misused "--cache is l1-i, l1-d, l1-u or l2-u"
+        cache=$2
+        ;;
+    *) return 1 ;;
+    esac
+}
+
+# take_arguments ARGUMENT..: reads the arguments of a tool. Sets `trace`, and `options` for cachesim
 take_arguments() {
     look_for_help "$@"
     if [ $# -eq 0 ] || is_option "$1"; then misused "a trace and the options of 'cachesim din' are needed"; fi
@@ -40,12 +53,6 @@ take_arguments() {
         set -- "${@:2}"
     done
     readable "$trace"
-}
-
-# take_cache NAME: reads the value of --cache
-take_cache() {
-    [[ $1 =~ ^(l1-[idu]|l2-u)$ ]] || misused "--cache is l1-i, l1-d, l1-u or l2-u"
-    cache=$1
 }
 
 # prepare: finds the program, which judges its options, and makes the private folder

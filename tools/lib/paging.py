@@ -60,8 +60,7 @@ class Page:
 
 
 def rows_of(program, options):
-    """The lines of a table, as those of the empty trace. Where the program refuses the options, it has told why, and this tool ends as
-    it did."""
+    """The lines of a table, as those of the empty trace. Where the program refuses the options, this tool ends as it did."""
     read, write = os.pipe()
     try:
         lister = start([program, "sweep", "-t", "/dev/null", *options], stdout=write)

@@ -20,8 +20,7 @@ WORDS = {
 
 class Case(NamedTuple):
     """A combination of values: the texts of its options, the bytes of all its caches, the measure
-    for each seed, and its place. Last what is shown of it, in per cent of references where it is a
-    count."""
+    for each seed, its place, and what is shown of it: for a count, per cent of references."""
 
     given: tuple
     size: int
@@ -46,8 +45,7 @@ class Case(NamedTuple):
 
 
 class Table(NamedTuple):
-    """The options, those of a cache alone, the measure, how many references the trace has, and the
-    cases."""
+    """The options, those of a cache alone, the measure, the trace's references, and the cases."""
 
     options: list
     measure: str
@@ -83,8 +81,7 @@ def usual_measure(columns):
 
 
 def references_of(columns, fields):
-    """How many references a trace has, by a row: those of the first level, and those that no cache
-    takes."""
+    """How many references a trace has, by a row: those of the first level and those bypassed."""
     counted = [column for column in columns if re.fullmatch("l1-[diu]-references|bypassed", column)]
     return sum(int(fields[columns.index(column)]) for column in counted)
 
@@ -115,15 +112,13 @@ def read_rows(lines, name, columns):
 
 
 def judge_columns(columns, measure, name):
-    """Refuses a table without a size or, where no measure is asked for, without the misses of a
-    cache."""
+    """Refuses a table without a size or, if no measure is asked for, the misses of a cache."""
     if not measure or not any(OPTION.fullmatch(column) and kind(column) == "size" for column in columns):
         raise BadTable(f"{name}: no table of din: a cache's size or misses are not among its columns")
 
 
 def read_table(lines, name, measure=None):
-    """The table that some lines are. Without a measure it is that of the misses of the last
-    cache."""
+    """The table that some lines are. Without a measure it is of the misses of the last cache."""
     columns = lines[0].rstrip("\r\n").split(",")
     measure = measure or usual_measure(columns)
     judge_columns(columns, measure, name)

@@ -99,8 +99,7 @@ class Step:
 
 
 class Picture:
-    """The sets as they are drawn, kept apart from the program's. Each step gives the line that the
-    log should have for it."""
+    """The sets as drawn, not those of the program. A step gives the line that its log should have."""
 
     def __init__(self, cache, only=None):
         self.cache, self.sets, self.steps = cache, {}, []
@@ -186,8 +185,7 @@ def why(cache, step):
 
 
 def coming(cache, step):
-    """Which block of the step's set is evicted next, in words; nothing while a line is free, or
-    where there is no choice."""
+    """Which block of the set is evicted next, in words; nothing where a line is free, or only one."""
     if step.next is None or cache.ways == 1:
         return ""
     block, verb = step.held[step.next], "last used" if cache.repl == "l" else "which came"

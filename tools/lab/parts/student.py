@@ -1,5 +1,5 @@
 """A student's program and its runs: each has a private folder and limits, and on request bubblewrap around it. At the end what else
-`grade` and `grade-class` share: traces and arguments."""
+the tools that run programs share: a private folder, traces and arguments."""
 
 import contextlib
 import ctypes
@@ -15,7 +15,7 @@ import sys
 import tempfile
 from typing import NamedTuple, Optional
 
-from lib.signals import heed_stops, put_off_stops
+from lib.signals import heed_stops, put_off_stops, stop_at_signals
 from parts import tool
 
 LEAST_LIMIT = 64 << 20
@@ -231,6 +231,20 @@ def tail_of(path):
 def last_line(path):
     """The last line of a file that isn't blank, or nothing."""
     return tail_of(path).rstrip().rpartition(b"\n")[2]
+
+
+def in_private_folder(work):
+    """What some work answers in a folder that is removed at its end, also by a signal. It may write to standard output."""
+    if sys.stdout:  # it may be closed
+        sys.stdout.reconfigure(errors="backslashreplace")
+    stop_at_signals()
+    try:
+        with tempfile.TemporaryDirectory(prefix=f"cachesim-{tool.NAME}.", ignore_cleanup_errors=True) as folder:
+            return work(pathlib.Path(folder))
+    except OSError as fault:
+        if isinstance(fault, BrokenPipeError):
+            return tool.READER_GONE
+        return tool.fail(f"{fault.filename or 'standard output'}: {fault.strerror}")
 
 
 def hard_traces(folder):

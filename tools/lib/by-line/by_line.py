@@ -190,8 +190,7 @@ def texts_of(numbers, all_of_them):
 
 
 def in_callgrind_format(asked, cells):
-    """The counts by function and innermost line. Conflict misses are not among them, since the format
-    has no numbers below 0."""
+    """The counts by function and innermost line, without conflict misses: no number may be below 0."""
     used = COUNTS[:3 if asked.only_compulsory else 4]
     files = {cell.frames[0].function: cell.frames[0].file for cell in cells if cell.frames[0].file}
     rows = []

@@ -14,8 +14,7 @@ NARROW = 72  # in fewer letters a legend has no room beside its picture
 
 
 class Canvas(NamedTuple):
-    """A terminal of gnuplot: how it is set, its width and height, those of a letter, and the sizes
-    of large and small type."""
+    """A terminal of gnuplot: how it is set, its size, that of a letter, and of large and small type."""
 
     setting: str
     width: float
@@ -30,8 +29,7 @@ class Canvas(NamedTuple):
     is_mono: bool = False
 
     def at(self, x, y):
-        """A place as gnuplot has it, as parts of the width and the height. Of text, the whole is at
-        the last column and line."""
+        """A place in parts of width and height. Text has the whole at its last column and line."""
         return f"{x / (self.width - self.is_text):.5f},{y / (self.height - self.is_text):.5f}"
 
     @property
@@ -40,8 +38,7 @@ class Canvas(NamedTuple):
 
     @property
     def is_narrow(self):
-        """Whether there is no room for a legend beside a picture, or for two pictures side by
-        side."""
+        """Whether it has no room for a legend beside a picture, nor two pictures side by side."""
         return self.columns < NARROW
 
 
@@ -55,8 +52,7 @@ class Frame(NamedTuple):
 
 
 class Size(NamedTuple):
-    """What --size says, in pixels of 1/96 inch, with no height where none is said, and whether it
-    is a length for print."""
+    """What --size says, in pixels of 1/96 inch; the height may be None. A length is for print."""
 
     width: float
     height: float

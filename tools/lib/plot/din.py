@@ -18,8 +18,7 @@ def varied(table):
 
 
 def across_of(asked, options, several, name):
-    """The option on the horizontal axis: the asked one, else the last size that varies, else the
-    last other number that does."""
+    """The option on the horizontal axis: the asked one, else the last size, or number, that varies."""
     if asked.across:
         if asked.across not in options or kind(asked.across) not in NUMBERS:
             numbers = [option for option in options if kind(option) in NUMBERS]
@@ -33,8 +32,7 @@ def across_of(asked, options, several, name):
 
 
 def of_measure(table, several):
-    """The options that change the measure: what a first-level cache counts depends on its own
-    alone."""
+    """The options that change the measure: those of its own cache alone, if that is a first level."""
     if not table.measure.startswith("l1-"):
         return several
     return [option for option in several if table.measure.startswith(f"{cache(option)}-")]
@@ -80,8 +78,7 @@ def point(table, case, x, lines, has_caches):
 
 
 def fix(table, option, wanted, usual, name):
-    """The cases with one value of an option, the wanted one or that nearest to the usual one, and
-    what the title says of it."""
+    """The cases with the wanted value of an option, or that nearest to the usual one; and the value."""
     at = table.options.index(option)
     values = sorted({int(case.given[at]) for case in table.cases})
     value = pictures.nearest(values, usual) if wanted is None else wanted
@@ -113,8 +110,7 @@ def groups(table, across, several):
 
 
 def by_across(asked, table, across, several, measure):
-    """The measure by the option on the horizontal axis, a line for each combination of the
-    others."""
+    """The measure by the option on the horizontal axis, with a line for each value of the others."""
     several = of_measure(table, several)
     has_caches = len({cache(option) for option in [across, *several]}) > 1
     table, told = fixed(asked, table, across, several, has_caches)
@@ -134,8 +130,7 @@ def by_across(asked, table, across, several, measure):
 
 
 def by_front(table, several, measure):
-    """The cases of which no smaller one is as good, before all others. The size is that of all
-    caches together."""
+    """The cases of which none as small is as good, by the size of all caches, before all others."""
     sizes = [option for option in table.options if kind(option) == "size"]
     lines = [option for option in several if kind(option) != "size" or len(sizes) > 1]
     has_caches = len({cache(option) for option in lines}) > 1

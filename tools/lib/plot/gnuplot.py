@@ -17,8 +17,7 @@ DASHES = ("solid", "(9,4)", "(2,3)", "(9,3,2,3)", "(16,5)", "(5,3)", "(9,3,2,3,2
 
 
 class Place(NamedTuple):
-    """Where a picture stands: what its axes enclose, the lines of its title, and how many lines of
-    a legend are below these."""
+    """Where a picture stands: what its axes enclose, its title, and the legend's lines below that."""
 
     area: Frame
     title: list
@@ -32,14 +31,12 @@ class Place(NamedTuple):
 
 
 def quoted(words):
-    """A text as gnuplot's string, in which nothing is special. An SVG by gnuplot may not have
-    `]]>`, so that is parted."""
+    """A text as gnuplot's string, in which nothing is special. `]]>` is parted: no SVG may have it."""
     return "'" + words.replace("'", "''").replace("]]>", "]] >") + "'"
 
 
 def title_of(picture, columns):
-    """The lines of a title. Where it is too long, what the picture fixes or its labels are stands
-    in a line of its own."""
+    """The lines of a title. Of a long one, what is fixed and what labels are have their own lines."""
     labels = f"({picture.labels})" * bool(picture.labels)
     whole = f"{picture.title} {labels}".strip()
     if len(whole) <= columns:
@@ -49,8 +46,7 @@ def title_of(picture, columns):
 
 
 def legend_columns(picture, canvas):
-    """How many names of a legend stand side by side above a narrow picture, and how many lines it
-    then has."""
+    """How many names of a legend above a narrow picture stand side by side, and in how many lines."""
     sample = 9 if canvas.is_text else 10 if canvas.is_mono else 8
     broadest = max(len(line.name) for line in picture.lines) + sample
     beside = max(1, int((canvas.columns - (8 if canvas.is_text else 10)) / broadest))
@@ -110,8 +106,7 @@ def block(name, runs, up):
 
 
 def bars(name, line, up):
-    """The data of the bars from the least to the greatest of several seeds, where there are
-    some."""
+    """The data of the bars from the least to the greatest of several seeds, if any."""
     spread = [point for run in line.runs for point in run if point.ends]
     heights = [map(up.height, (point.y, *point.ends)) for point in spread]
     rows = [" ".join(f"{value:.10g}" for value in (point.x, *three))
@@ -178,9 +173,8 @@ def of_lines(picture, up, place, canvas):
 
 
 def labelled(front, across, up, area, canvas):
-    """The caches of the front whose labels, below them to the left, stay clear of each other:
-    nothing else is there. The one that misses least comes first, and then sizes that are powers of
-    two."""
+    """The caches of the front whose labels, below them to the left where nothing else is, stay clear
+    of each other. The one that misses least comes first, then sizes that are powers of two."""
 
     def apart(box, other):
         return box.left > other.right or other.left > box.right or box.bottom > other.top or other.bottom > box.top
@@ -228,8 +222,7 @@ def front_in_colours(named, place, canvas):
 
 
 def of_front(picture, across, up, place, canvas):
-    """The data of the Pareto front, its labels, and the command that plots it. The step of its last
-    cache goes on to the end."""
+    """The data, labels and plot of the Pareto front, whose last step goes on to the end."""
     front, named, area = picture.lines[0].runs[0], picture.lines[0].name, place.area
     steps = front + [front[-1]._replace(x=max(point.x for point in picture.cloud))]
     cells = (area.right - area.left) / canvas.letter * 4, (area.top - area.bottom) / canvas.line * 8
@@ -286,8 +279,7 @@ def check():
 
 
 def drawn_by(script):
-    """What gnuplot draws by a script, as bytes. In another encoding than UTF-8 it warns of letters
-    that it can't convert."""
+    """What gnuplot draws by a script, in UTF-8: else it warns of letters that it can't convert."""
     ran = subprocess.run(["gnuplot", "-d"], input=script.encode(), capture_output=True, env={**os.environ, "LC_ALL": "C.UTF-8"})
     told = " ".join(ran.stderr.decode(errors="replace").split())
     if ran.returncode or not ran.stdout:
@@ -298,7 +290,6 @@ def drawn_by(script):
 
 
 def lines_of(drawn):
-    """The lines of a text picture without the blanks at their ends, an empty one between two
-    pages."""
+    """The lines of a text picture without blanks at their ends, and an empty one between pages."""
     pages = [page.rstrip().splitlines() for page in drawn.decode(errors="replace").split("\f") if page.strip()]
     return [line.rstrip() for number, page in enumerate(pages) for line in [""] * bool(number) + page]

@@ -11,8 +11,7 @@ from lib.tool import fail
 SYMBOLS = ("circle", "square", "triangle-up", "triangle-down", "diamond", "circle-open", "square-open")
 DASHES = ("solid", "dash", "dot", "dashdot", "longdash", "longdashdot", "8px,3px,2px,3px,2px,3px")
 MOST_POINTS = 4000
-# what may be chosen for a picture: its word, its name after the page's '#', and the texts of the
-# choices
+# what may be chosen for a picture: its word, its name after the page's '#', and the choices' texts
 BLOCK_SIZE = ("Block size", "bsize", pictures.bytes_text)
 MENUS = {"size": BLOCK_SIZE, "curve": BLOCK_SIZE, "block": ("Associativity", "ways", pictures.ways_text)}
 FONT = "system-ui, 'DejaVu Sans', Verdana, sans-serif"
@@ -85,8 +84,7 @@ for (const query of [narrow, dark]) query.onchange = () => shows.forEach(show =>
 
 
 def points(some, up, about):
-    """The places of some caches, and what is told about each where the pointer is over it. None
-    cuts a line."""
+    """The places of some caches, and what the pointer shows of each. None cuts a line."""
     return {
         "x": [point and point.x for point in some],
         "y": [point and up.height(point.y) for point in some],
@@ -155,8 +153,7 @@ def ticks(ends):
 
 
 def figure(picture, up, measure, mono):
-    """A picture as plotly has it, with its title, and the ticks of its horizontal axis for a narrow
-    page and a wide one."""
+    """A picture as plotly has it, its title, and the horizontal ticks of a narrow and a wide page."""
     few, many = (pictures.size_axis([point.x for point in picture.points], closest) for closest in (0.15, 0.05))
     picture = pictures.thinned_lines(picture, many, up, 1000, 500)
     places, words = ticks(up)
@@ -188,8 +185,7 @@ def section(picture, offered):
 
 
 def page(drawn, measure, title, counts, choices, mono):
-    """The page with these pictures of a table. `choices` answers what may be chosen in place of
-    one."""
+    """The page with these pictures. `choices` answers what may be chosen in place of one."""
     offered = [choices(picture) for picture in drawn]
     shown = [point for several in offered for picture in several.values() for point in picture.points]
     up = pictures.value_axis(shown, measure, 0.062)

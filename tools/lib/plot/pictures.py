@@ -7,15 +7,13 @@ from lib.tool import size_text
 
 NAMES = ("size", "block", "pareto", "curve")
 MOST_LINES = 7
-# of Okabe and Ito: people see them apart whatever colours they are blind to. Their yellow is too
-# pale on white.
+# of Okabe and Ito, but for a pale yellow: all people can tell them apart, also the colour-blind
 COLOURS = ("#0072b2", "#d55e00", "#009e73", "#cc79a7", "#e69f00", "#56b4e9", "#000000")
 PALE, FRONT, BLACK = "#bbbbbb", "#d55e00", "#000000"
 
 
 class Point(NamedTuple):
-    """A cache in a picture: its place, what is told about it, its label, and the least and greatest
-    of several seeds."""
+    """A cache in a picture: its place, what is told of it, its label, the ends over several seeds."""
 
     x: int
     y: float
@@ -25,8 +23,7 @@ class Point(NamedTuple):
 
 
 class Line(NamedTuple):
-    """A line of a picture: its name in the legend, and its points, cut where one is missing between
-    two of them."""
+    """A line of a picture: its name in the legend, and its points, cut where one is missing."""
 
     name: str
     runs: list
@@ -78,8 +75,7 @@ class Picture(NamedTuple):
 
 
 class Axis(NamedTuple):
-    """An axis: its ends, whether it is logarithmic, its ticks with their texts, the ticks without,
-    and where 0 stands on it."""
+    """An axis: its ends, whether it is logarithmic, ticks with and without texts, where 0 stands."""
 
     low: float
     high: float
@@ -117,8 +113,7 @@ def nearest(values, wanted):
 
 
 def handful(values, most=MOST_LINES):
-    """Some numbers in order: all where they are few, else the powers of two where they are several;
-    if need be evenly thinned."""
+    """Some numbers in order: all if they are few, else several powers of two; or evenly thinned."""
     values = sorted(set(values))
     powers = [value for value in values if value & (value - 1) == 0]
     if len(values) > most and len(powers) > 2:
@@ -133,8 +128,7 @@ def evenly(values, most=MOST_LINES):
 
 
 def linear_axis(greatest, closest, most):
-    """An axis from 0 to a bit above a value. No two ticks are closer than a part `closest` of
-    it."""
+    """An axis from 0 to a bit above a value, whose ticks are at least a part `closest` of it apart."""
     high = 1.05 * greatest or 1.0
     power = 10.0 ** math.floor(math.log10(high * closest))
     step = next(step * power for step in (1, 2, 5, 10, 20) if step * power >= high * closest)
@@ -151,8 +145,7 @@ def number_text(value):
 
 
 def log_ticks(low, high, closest):
-    """The most ticks for an axis between two values of which no two are closer than a part
-    `closest` of it."""
+    """The most ticks for an axis between two values that are at least a part `closest` apart."""
     decades = range(math.floor(math.log10(low)), math.ceil(math.log10(high)) + 1)
     whole = [10.0 ** decade for decade in decades]
     span = math.log10(high / low)
@@ -164,8 +157,7 @@ def log_ticks(low, high, closest):
 
 
 def log_axis(values, closest, most):
-    """A logarithmic axis around some values. Where 0 is among them it stands at the foot of the
-    axis."""
+    """A logarithmic axis around some values. A 0 among them stands at its foot."""
     least, greatest = min(value for value in values if value), max(values)
     span = greatest / least
     foot = least / span ** 0.12 if 0 in values else 0.0
@@ -179,8 +171,7 @@ def log_axis(values, closest, most):
 
 
 def value_axis(points, measure, closest):
-    """The axis of the measure: logarithmic where the greatest value is five times the least or
-    more."""
+    """The axis of the measure: logarithmic if the greatest value is at least five times the least."""
     values = [value for point in points for value in (point.y, *point.ends)]
     above = [value for value in values if value]
     most = 100 if measure.is_percent and max(values) <= 100 else math.inf
@@ -202,8 +193,7 @@ def size_axis(sizes, closest):
 
 
 def thinned(points, across, up, columns, lines):
-    """Some points without those that would stand in one and the same cell of so many columns and
-    lines."""
+    """Some points, one for each cell of so many columns and lines that has any."""
     cells = {}
     for point in points:
         cell = round(columns * across.fraction(point.x)), round(lines * up.fraction(up.height(point.y)))

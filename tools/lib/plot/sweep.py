@@ -46,8 +46,7 @@ def point(row, x):
 
 
 def cut(rows, step, steps):
-    """The rows of a line in runs: a run ends where there is a step, which other lines have, between
-    a row and the next one."""
+    """The rows of a line in runs, which end where the next row skips a step that other lines have."""
     runs = [[]]
     for row in rows:
         if runs[-1] and any(step(runs[-1][-1]) < other < step(row) for other in steps):
@@ -73,8 +72,7 @@ def by_size(rows, bsize, measure):
 
 
 def by_ways(rows, bsize, measure):
-    """The curve of each number of sets at one block size, over all ways; with one number of sets
-    the curve of each block size."""
+    """The curves over all ways: one for each number of sets at a block size, or each block size."""
     across, sets = "cache size in bytes", sorted({row.sets for row in rows})
     if len(sets) > 1:
         rows = [row for row in rows if row.bsize == bsize]
@@ -93,8 +91,7 @@ def by_ways(rows, bsize, measure):
 
 
 def by_block(rows, ways, measure):
-    """By block size at one associativity, a line for each cache size; a size of several block sizes
-    is preferred."""
+    """By block size at one associativity, a line for each cache size (of several block sizes, if any)."""
     rows = sorted(row for row in rows if row.assoc == ways)
     blocks = {row.bsize for row in rows}
     sizes = [row.size for row in rows]
@@ -115,8 +112,7 @@ def by_front(rows, measure):
 
 
 def fixed(values, wanted, usual, name, what):
-    """The block size or associativity that a picture is for: the wanted one, or the usual one or
-    the nearest to it."""
+    """The block size or associativity of a picture: the wanted one, or that nearest to the usual."""
     values = sorted(set(values))
     if wanted is None:
         return pictures.nearest(values, usual)
@@ -137,9 +133,8 @@ def is_broad(picture):
 
 
 def drawn(asked, rows, measure):
-    """The pictures that are asked for. Without a wish these are three, of which the first is a
-    curve where there is one number of sets, without those that are a column whatever is chosen in a
-    page."""
+    """The pictures that are asked for. Without a wish these are three, the first a curve if there is
+    one number of sets, but for those that are a column whatever is chosen in a page."""
     bsize = fixed((row.bsize for row in rows), asked.bsize, 64, asked.table, "the block size")
     ways = fixed((row.assoc for row in rows), asked.ways, 4, asked.table, "the associativity")
     first = "curve" if is_curve(rows) else "size"

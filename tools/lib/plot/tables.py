@@ -23,8 +23,7 @@ class Rows(NamedTuple):
 
 
 def names_of(files):
-    """What the legend calls some tables: their files without folders and endings, where these
-    differ."""
+    """What the legend calls some tables: their files, without folders and endings if that will do."""
     short = [os.path.splitext(os.path.basename(file))[0] for file in files]
     names = short if len(set(short)) == len(short) else files
     names = ["standard input" if name == "-" else name for name in names]
@@ -98,8 +97,7 @@ def of_sweeps(asked, tables, measure):
 
 
 def of_dins(asked, tables):
-    """The same of tables of din, given the lines and the name of each. What is on the axes is by
-    the first of them."""
+    """The same of tables of din, given the lines and name of each; the axes are by the first."""
     lines, _ = tables[0]
     asked = argparse.Namespace(**vars(asked))
     first = table_din.read_table(*tables[0])
