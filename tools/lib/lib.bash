@@ -86,11 +86,6 @@ private_folder() {
     folder=$private_folder_made
 }
 
-remove_private_folder() {
-    [ -z "$private_folder_made" ] || rm -rf -- "$private_folder_made"
-    [ -z "$compiling" ] || rm -f -- "$compiling"
-}
-
 # writes_trace FILE: for a tool that writes a trace to a file, or '-'. If the tool fails, the trace ends in a line that no simulator
 # takes, so that a reader of a pipe doesn't take a part for the whole, nor an earlier trace in FILE for a new one. At its end the tool
 # calls trace_is_whole
@@ -119,7 +114,8 @@ at_end() {
     stop_jobs
     [ $BASHPID = $$ ] || return 0
     spoil_trace || :
-    remove_private_folder || :
+    [ -z "$private_folder_made" ] || rm -rf -- "$private_folder_made" || :
+    [ -z "$compiling" ] || rm -f -- "$compiling" || :
 }
 
 # stop PROCESS: ends a process, unless it is this shell, and all that it has started. It ends before these, so that it does not

@@ -151,14 +151,10 @@ def end_orphans():
                 os.waitpid(-1, 0)
 
 
-def holds_cachesim(folder):
-    return os.access(os.path.join(folder, "cachesim"), os.X_OK)
-
-
 def environment():
     """That of a student's program: nothing in it leads to cachesim, unless that is among the system's own programs."""
     folders = os.environ.get("PATH", PATH).split(":")
-    kept = [folder for folder in folders if folder in PATH.split(":") or not holds_cachesim(folder)]
+    kept = [folder for folder in folders if folder in PATH.split(":") or not os.access(f"{folder}/cachesim", os.X_OK)]
     own = {name: value for name, value in os.environ.items() if name != "CACHESIM"}
     return {**own, **FILLED, "PATH": ":".join(kept)}
 

@@ -2,7 +2,6 @@
 
 import math
 import os
-import shutil
 import subprocess
 import sys
 import textwrap
@@ -272,15 +271,13 @@ def script(drawn, canvas, title, measure):
     return "\n".join(lines + ["unset multiplot"] * (not canvas.is_text)) + "\n"
 
 
-def check():
-    """Ends the tool where gnuplot is not there."""
-    if not shutil.which("gnuplot"):
-        fail("gnuplot is missing: apt-get install gnuplot-nox")
-
-
 def drawn_by(script):
     """What gnuplot draws by a script, in UTF-8: else it warns of letters that it can't convert."""
-    ran = subprocess.run(["gnuplot", "-d"], input=script.encode(), capture_output=True, env={**os.environ, "LC_ALL": "C.UTF-8"})
+    known = {**os.environ, "LC_ALL": "C.UTF-8"}
+    try:
+        ran = subprocess.run(["gnuplot", "-d"], input=script.encode(), capture_output=True, env=known)
+    except FileNotFoundError:
+        fail("gnuplot is missing: apt-get install gnuplot-nox")
     told = " ".join(ran.stderr.decode(errors="replace").split())
     if ran.returncode or not ran.stdout:
         fail(f"gnuplot failed: {told}")

@@ -184,7 +184,7 @@ def section(picture, offered):
     return f"<section>\n{title}\n{menu}<div id={picture.name}></div>\n</section>\n"
 
 
-def page(drawn, measure, title, counts, choices, mono):
+def page(drawn, measure, title, counts, mono, choices=lambda picture: {picture.fixed: picture}):
     """The page with these pictures. `choices` answers what may be chosen in place of one."""
     offered = [choices(picture) for picture in drawn]
     shown = [point for several in offered for picture in several.values() for point in picture.points]
@@ -219,23 +219,14 @@ const darkColours = {as_script(DARK)};
 def of_sweep(drawn, rows, measure, title, mono):
     """The page for a table of a sweep."""
     counts = f"{len(rows):,} cache{'s' * (len(rows) > 1)}, {rows[0].references:,} references"
-
-    def choices(picture):
-        return plot_sweep.choices(picture, rows, measure)
-
-    return page(drawn, measure, title, counts, choices, mono)
+    return page(drawn, measure, title, counts, mono, lambda picture: plot_sweep.choices(picture, rows, measure))
 
 
 def of_din(drawn, table, measure, title, mono):
     """The page for a table of din."""
     runs = sum(len(case.values) for case in table.cases)
     counts = f"{runs:,} run{'s' * (runs > 1)}, {table.references:,} references"
-    return page(drawn, measure, title, counts, lambda picture: {picture.fixed: picture}, mono)
-
-
-def of_tables(drawn, count, measure, title, mono):
-    """The page for several tables."""
-    return page(drawn, measure, title, f"{count} tables", lambda picture: {picture.fixed: picture}, mono)
+    return page(drawn, measure, title, counts, mono)
 
 
 def as_script(data):

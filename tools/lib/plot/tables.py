@@ -31,32 +31,26 @@ def names_of(files):
     return [name if len(name) <= LONGEST else f"{name[:LONGEST - 1]}…" for name in names]
 
 
-def shared(tables, of, wanted, usual, what):
-    """The block size, associativity or number of sets that the lines are for: the wanted one, or of
-    those that are in all tables the usual one or the nearest to it."""
-    values = [{of(row) for row in given.rows} for given in tables]
-    if wanted is not None:
-        return [plot_sweep.fixed(each, wanted, usual, given.file, what)
-                for each, given in zip(values, tables)][0]
-    common = set.intersection(*values)
-    if not common:
-        fail(f"the tables have no {what.removeprefix('the ')} in common")
-    return pictures.nearest(common, usual)
-
-
-def only(tables, of, value):
-    """The tables with the rows that have such a value."""
-    return [given._replace(rows=[row for row in given.rows if of(row) == value])
-            for given in tables]
+def shared(tables, column, wanted, usual, what):
+    """The tables with the rows of one block size, associativity or number of sets, and that: the
+    wanted one, or of those that are in all tables the usual one or the nearest to it."""
+    values = [{getattr(row, column) for row in given.rows} for given in tables]
+    if wanted is None:
+        common = set.intersection(*values)
+        if not common:
+            fail(f"the tables have no {what} in common")
+        wanted = pictures.nearest(common, usual)
+    for each, given in zip(values, tables):
+        plot_sweep.fixed(each, wanted, usual, given.file, f"the {what}")
+    return [given._replace(rows=[row for row in given.rows if getattr(row, column) == wanted])
+            for given in tables], wanted
 
 
 def by_size(asked, tables, measure):
     """By cache size at one block size and one associativity."""
-    bsize = shared(tables, lambda row: row.bsize, asked.bsize, 64, "the block size")
-    tables = only(tables, lambda row: row.bsize, bsize)
+    tables, bsize = shared(tables, "bsize", asked.bsize, 64, "block size")
     steps = {row.sets for given in tables for row in given.rows}
-    ways = shared(tables, lambda row: row.assoc, asked.ways, 4, "the associativity")
-    tables = only(tables, lambda row: row.assoc, ways)
+    tables, ways = shared(tables, "assoc", asked.ways, 4, "associativity")
     title = f"{measure.name} by cache size: blocks of {bytes_text(bsize)}, {ways_text(ways)}"
     lines = []
     for given in tables:
@@ -67,10 +61,8 @@ def by_size(asked, tables, measure):
 
 def by_ways(asked, tables, measure):
     """The curve over all ways at one block size and one number of sets."""
-    bsize = shared(tables, lambda row: row.bsize, asked.bsize, 64, "the block size")
-    tables = only(tables, lambda row: row.bsize, bsize)
-    sets = shared(tables, lambda row: row.sets, None, 1, "the number of sets")
-    tables = only(tables, lambda row: row.sets, sets)
+    tables, bsize = shared(tables, "bsize", asked.bsize, 64, "block size")
+    tables, sets = shared(tables, "sets", None, 1, "number of sets")
     kind = "fully associative" if sets == 1 else f"{sets} sets"
     title = f"{measure.name} by cache size: {kind}, blocks of {bytes_text(bsize)}"
     lines = [plot_sweep.line(given.name, [sorted(given.rows, key=lambda row: row.size)])
