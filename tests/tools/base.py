@@ -8,6 +8,7 @@ import importlib.util
 import os
 import pathlib
 import shutil
+import signal
 import subprocess
 import sys
 import tempfile
@@ -146,6 +147,10 @@ class Lru:
     def flush(self):
         self.sets = [[] for _ in self.sets]
 
+    def take(self, event):
+        """A reference or a flush of the model."""
+        self.flush() if event is model.FLUSH else self.access(event.addr)
+
     @property
     def counts(self):
         """Hits, misses and evictions, as in a row of a table."""
@@ -228,6 +233,14 @@ class ToolTest(unittest.TestCase):
         os.read(reader, reads)
         os.close(reader)
         self.assertEqual((running.communicate(timeout=20)[1], running.returncode), (b"", 141))
+
+    def end_of(self, running):
+        """What a process with a group of its own has written. One that goes on is a failure, and is ended with its group."""
+        try:
+            return running.communicate(timeout=20)
+        except subprocess.TimeoutExpired:
+            os.killpg(running.pid, signal.SIGKILL)
+            self.fail(f"{running.args}: it doesn't end")
 
     def write(self, name, text):
         """Writes a file, in the test's folder if it is not elsewhere."""

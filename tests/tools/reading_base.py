@@ -141,11 +141,7 @@ class ReadingForMany(Many):
             time.sleep(0.03)
             self.assertTrue(not is_late or base.comes(begun.exists))
             (os.killpg if sent == signal.SIGINT else os.kill)(ran.pid, sent)
-            try:
-                _, message = ran.communicate(timeout=20)
-            except subprocess.TimeoutExpired:
-                os.killpg(ran.pid, signal.SIGKILL)
-                raise
+            _, message = self.end_of(ran)
             # Python itself may be interrupted as it begins
             is_known = ran.returncode in (-sent, 128 + sent) or b"KeyboardInterrupt" in message
             self.assertEqual((is_known, os.listdir(rooms)), (True, []), begun.name)

@@ -107,11 +107,7 @@ class FailureTest(ToolTest):
         shutil.copytree(self.given, folder)
         given = {"env": env, "cwd": folder, "stdin": subprocess.DEVNULL, "stdout": subprocess.PIPE, "stderr": subprocess.PIPE}
         with subprocess.Popen(["/bin/bash", "-c", f'{before} "$@" {after}', "bash", *words], start_new_session=True, **given) as running:
-            try:
-                out, told = running.communicate(timeout=20)
-            except subprocess.TimeoutExpired:
-                os.killpg(running.pid, signal.SIGKILL)
-                self.fail(f"{words}: {name}: it doesn't end")
+            out, told = self.end_of(running)
         ran = subprocess.CompletedProcess(words, running.returncode, out, told)
         ran.private = [path.name for path in (calls / "private").iterdir()]
         ran.calls = sorted(path.name for path in calls.iterdir() if path.is_file())
@@ -199,10 +195,7 @@ class Signals(FailureTest):
             time.sleep(0.5)
             send(running.pid, number)
             try:
-                out, told = running.communicate(timeout=10)
-            except subprocess.TimeoutExpired:
-                os.killpg(running.pid, signal.SIGKILL)
-                self.fail(f"{tool}: it doesn't end")
+                out, told = self.end_of(running)
             finally:
                 os.close(writer)
         self.assertNotEqual(running.returncode, 0, told)

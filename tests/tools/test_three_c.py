@@ -16,10 +16,7 @@ HEADER = "bsize,sets,assoc,size,hits,misses,evictions,compulsory,capacity,confli
 def misses(events, bsize, sets, assoc):
     cache = base.Lru(bsize, sets, assoc)
     for event in events:
-        if event is base.model.FLUSH:
-            cache.flush()
-        else:
-            cache.access(event.addr)
+        cache.take(event)
     return cache.counts[1]
 
 

@@ -28,10 +28,7 @@ def counts(events, first, cache):
     for number, event in enumerate(events):
         if number == first:
             simulated.went.clear()
-        if event is base.model.FLUSH:
-            simulated.flush()
-        else:
-            simulated.access(event.addr)
+        simulated.take(event)
     return simulated.counts
 
 
