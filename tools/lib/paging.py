@@ -5,7 +5,7 @@ import os
 import signal
 import sys
 
-from lib.tool import fail, misused
+from lib.tool import fail, faults_of, misused
 
 
 def number_of_jobs(word):
@@ -62,10 +62,8 @@ class Page:
 def rows_of(program, options):
     """The lines of a table, as those of the empty trace. Where the program refuses the options, this tool ends as it did."""
     read, write = os.pipe()
-    try:
+    with faults_of(f"{program} can't be run"):
         lister = start([program, "sweep", "-t", "/dev/null", *options], stdout=write)
-    except OSError as fault:
-        fail(f"{program} can't be run: {fault.strerror}")
     os.close(write)
     with open(read, "rb") as lines:
         yield from lines

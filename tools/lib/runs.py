@@ -97,11 +97,9 @@ class Run(Process):
 
     def give(self, piece):
         left = memoryview(piece)
-        try:
+        with contextlib.suppress(BrokenPipeError):  # it has ended, which is seen with its cause by who looks after the pipes
             while left:
                 left = left[os.write(self.pipe, left):]
-        except BrokenPipeError:
-            pass  # it has ended, which is seen with its cause by who looks after the pipes
 
     def bytes_read(self):
         with open(f"/proc/{self.number}/io", encoding="ascii") as lines:
@@ -235,18 +233,14 @@ class Runs:
 
     def tell(self, *_):
         """Shows that on the terminal's line."""
-        try:
+        with contextlib.suppress(OSError, ValueError, ZeroDivisionError):  # a run has just ended, or there is nothing to read
             show(f"{tool.NAME}: {self.part}{self.progress()}")
-        except (OSError, ValueError, ZeroDivisionError):
-            pass  # a run has just ended, or there is nothing to read
 
 
 def show(text):
     """Replaces the text in the terminal's line."""
-    try:
+    with contextlib.suppress(OSError):  # the terminal has gone
         os.write(2, f"\r{text}\033[K".encode())
-    except OSError:
-        pass  # the terminal has gone
 
 
 def keep_places():

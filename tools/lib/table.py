@@ -4,7 +4,7 @@ import fractions
 import re
 from typing import NamedTuple
 
-from lib.tool import fail
+from lib.tool import faults_of
 
 HEADER = "bsize,sets,assoc,size,hits,misses,evictions"
 # columns that count references, those of `three-c` too: they are shown in per cent of all
@@ -113,11 +113,8 @@ def lines_of(name):
     line where that fails. A spreadsheet may have put a byte order mark in front."""
     shown = "standard input" if name == "-" else name
     text = {"encoding": "utf-8-sig", "errors": "replace"}
-    try:
-        with open(0 if name == "-" else name, closefd=name != "-", **text) as file:
-            return list(file), shown
-    except OSError as fault:
-        fail(f"{shown}: {fault.strerror}")
+    with faults_of(shown), open(0 if name == "-" else name, closefd=name != "-", **text) as file:
+        return list(file), shown
 
 
 def pareto(rows):

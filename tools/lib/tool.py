@@ -6,6 +6,7 @@ those in bash. A tool in a folder below tools/ reads it so:
 """
 
 import argparse
+import contextlib
 import os
 import re
 import subprocess
@@ -28,6 +29,15 @@ def fail(text, status=FAILED):
 def misused(text):
     """The same for wrong arguments."""
     fail(f"{text}; '{NAME} --help' explains the arguments", MISUSED)
+
+
+@contextlib.contextmanager
+def faults_of(name):
+    """Within this, what the system refuses ends the tool with one line that begins with this name."""
+    try:
+        yield
+    except OSError as fault:
+        fail(f"{name}: {fault.strerror}")
 
 
 class Arguments(argparse.ArgumentParser):

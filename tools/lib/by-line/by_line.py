@@ -165,11 +165,8 @@ def counts_in(path, cells):
 
 def annotated(asked, cells):
     """The lines of a source file with counts before them."""
-    try:
-        with open(asked.annotate, encoding="utf-8", errors="surrogateescape") as source:
-            lines = [line.rstrip("\n") for line in source]  # as compilers count them: a form feed ends none
-    except OSError as fault:
-        tool.fail(f"{asked.annotate}: {fault.strerror}")
+    with tool.faults_of(asked.annotate), open(asked.annotate, encoding="utf-8", errors="surrogateescape") as source:
+        lines = [line.rstrip("\n") for line in source]  # as compilers count them: a form feed ends none
     used = COUNTS[:3] if asked.only_compulsory else COUNTS
     all_of_them = [sum(column) for column in zip(*(cell.counts for cell in cells))] or [0] * len(COUNTS)
     counts = counts_in(asked.annotate, cells) if cells else {}
@@ -214,14 +211,6 @@ def in_callgrind_format(asked, cells):
     yield from ("", f"totals: {totals}")
 
 
-def write_callgrind(asked, cells):
-    try:
-        with open(asked.callgrind, "w", encoding="utf-8", errors="surrogateescape") as file:
-            file.writelines(f"{line}\n" for line in in_callgrind_format(asked, cells))
-    except OSError as fault:
-        tool.fail(f"{asked.callgrind}: {fault.strerror}")
-
-
 def warn(text):
     print(f"{tool.NAME}: {text}", file=sys.stderr)
 
@@ -263,7 +252,8 @@ def lines_of(rows):
 def report(asked, layout):
     cells, pairs = read_counts(asked, layout)
     if asked.callgrind:
-        write_callgrind(asked, cells)
+        with tool.faults_of(asked.callgrind), open(asked.callgrind, "w", encoding="utf-8", errors="surrogateescape") as file:
+            file.writelines(f"{line}\n" for line in in_callgrind_format(asked, cells))
     if asked.annotate or asked.callgrind or "line" in asked.by:
         warn_of_lines(cells)
     sys.stdout.reconfigure(encoding="utf-8", errors="surrogateescape")

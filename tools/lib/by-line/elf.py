@@ -172,11 +172,8 @@ class Layout:
             self.read_map(map_file)
 
     def read_map(self, map_file):
-        try:
-            with open(map_file, encoding="utf-8", errors="surrogateescape") as lines:
-                found = [MAPPING.fullmatch(line.rstrip("\n")) for line in lines]
-        except OSError as fault:
-            tool.fail(f"{map_file}: {fault.strerror}")
+        with tool.faults_of(map_file), open(map_file, encoding="utf-8", errors="surrogateescape") as lines:
+            found = [MAPPING.fullmatch(line.rstrip("\n")) for line in lines]
         if not found:  # as `trace` leaves it while the program runs
             tool.fail(f"{map_file}: an empty map; if the trace comes through a pipe from the run that writes it, trace into a file")
         for number, mapping in enumerate(found, 1):
