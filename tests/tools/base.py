@@ -81,18 +81,18 @@ def comes(condition, seconds=20):
     return condition()
 
 
-def processes(group):
-    """What runs in a group of processes, by /proc."""
-    found = []
+def all_processes(*names):
+    """Of each process its number, and what some files of /proc/NUMBER hold. One that has just ended is left out."""
     for path in pathlib.Path("/proc").glob("[0-9]*"):
-        try:
-            name, _, rest = (path / "stat").read_text().rpartition(")")
-        except OSError:
-            continue
-        state, _, its_group = rest.split()[:3]
-        if its_group == str(group) and state != "Z":
-            found.append(name)
-    return found
+        with contextlib.suppress(OSError):
+            yield int(path.name), *((path / name).read_bytes() for name in names)
+
+
+def processes(group):
+    """What runs in a group of processes."""
+    parted = (stat.decode().rpartition(")") for _, stat in all_processes("stat"))
+    states = ((name, *rest.split()[:3]) for name, _, rest in parted)
+    return [name for name, state, _, its_group in states if its_group == str(group) and state != "Z"]
 
 
 @contextlib.contextmanager

@@ -8,7 +8,7 @@ import subprocess
 import tempfile
 import time
 
-from base import EXAMPLES, PROGRAM, TOOLS, ToolTest, needs
+from base import EXAMPLES, PROGRAM, TOOLS, ToolTest, all_processes, needs
 
 CLUSTER = TOOLS / "cluster"
 SPACE = "--bsize 16-64 --sets 1-64 --assoc 1-8 --size 256-16k".split()
@@ -145,14 +145,9 @@ class Submitting(ToolTest):
 
 def daemons(place):
     """The commands of the processes that work for a Slurm in a folder."""
-    found = []
-    for path in pathlib.Path("/proc").glob("[0-9]*"):
-        try:
-            if str(place) in (path / "cmdline").read_text() or str(place) in (path / "environ").read_text(errors="replace"):
-                found.append((path / "comm").read_text().strip())
-        except OSError:
-            pass
-    return sorted(set(found) & {"munged", "slurmctld", "slurmd", "slurmstepd"})
+    known = all_processes("comm", "cmdline", "environ")
+    found = {name.decode().strip() for _, name, *texts in known if any(str(place).encode() in text for text in texts)}
+    return sorted(found & {"munged", "slurmctld", "slurmd", "slurmstepd"})
 
 
 @needs("slurm-wlm", "munge")

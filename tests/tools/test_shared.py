@@ -2,13 +2,12 @@
 
 import gzip
 import os
-import pathlib
 import shutil
 import signal
 import subprocess
 import time
 
-from base import EXAMPLES, PROGRAM, TOOLS, ToolTest, copy_tools
+from base import EXAMPLES, PROGRAM, TOOLS, ToolTest, all_processes, copy_tools
 
 SPACE = "--bsize 16 --sets 1-4 --assoc 1-2 --size 64".split()
 CACHE = "-l1-dsize 128 -l1-dbsize 16 -l1-dassoc 2".split()
@@ -85,14 +84,7 @@ class Signals(Shared):
     def waiting(self):
         """The processes whose folder for temporary files is that of this test."""
         mark = f"TMPDIR={self.folder}".encode()
-        found = []
-        for path in pathlib.Path("/proc").glob("[0-9]*/environ"):
-            try:
-                if mark in path.read_bytes().split(b"\0"):
-                    found.append((path.parent / "cmdline").read_bytes())
-            except OSError:
-                pass  # it has just ended
-        return found
+        return [words for _, environment, words in all_processes("environ", "cmdline") if mark in environment.split(b"\0")]
 
     def test_an_idle_input(self):
         """A tool ends at once where no line comes, without a word, and leaves neither a file nor a process."""

@@ -9,7 +9,7 @@ import subprocess
 import tempfile
 import time
 
-from base import TOOLS, ToolTest
+from base import TOOLS, ToolTest, all_processes
 
 TRACED = pathlib.Path(__file__).parent / "traced"
 LINE = re.compile(r"[012] (0|[1-9a-f][0-9a-f]{0,15})\n")
@@ -107,18 +107,7 @@ class TraceTest(ToolTest):
 
     def processes(self):
         """Those whose arguments name a file of this test's folder."""
-        return [
-            int(entry.name)
-            for entry in pathlib.Path("/proc").iterdir()
-            if entry.name.isdigit() and str(self.folder).encode() in self.words_of(entry)
-        ]
-
-    @staticmethod
-    def words_of(entry):
-        try:
-            return (entry / "cmdline").read_bytes()
-        except OSError:
-            return b""
+        return [number for number, words in all_processes("cmdline") if str(self.folder).encode() in words]
 
     def no_process_is_left(self):
         self.wait_until(lambda: not self.processes(), "the program still runs")
