@@ -8,8 +8,7 @@
 
 name=${0##*/}
 
-# explain: the comment at the head of the script, which is its help. In the place of a line '{NAME}' stands what the function
-# help_NAME writes
+# explain: the comment at the head of the script, which is its help. For a line '{NAME}' stands what the function help_NAME writes
 explain() {
     local line
     unfinished=''
@@ -52,8 +51,7 @@ size_of() {
 # needs COMMAND PACKAGE: ends where a command is missing, naming Debian's package
 needs() { command -v -- "$1" > /dev/null || fail "$1 is missing: apt-get install $2"; }
 
-# find_cachesim: sets `cachesim` to the program: $CACHESIM, else that of this checkout, else that installed with the tools, else the
-# one on the path
+# find_cachesim: sets `cachesim` to the first program of $CACHESIM, this checkout, the installation of the tools, and the path
 find_cachesim() {
     cachesim=${CACHESIM:-$here/../crates/cachesim/out/cachesim}
     [ -n "${CACHESIM:-}" ] || [ -x "$cachesim" ] || cachesim=$here/../../bin/cachesim
@@ -65,8 +63,7 @@ find_cachesim() {
     export CACHESIM=$cachesim
 }
 
-# is_cachesim: whether `cachesim` writes the table of an empty trace, whatever it counts. Another program may end well with nothing
-# written
+# is_cachesim: whether `cachesim` writes the table of an empty trace, whatever it counts: another program may end well too
 is_cachesim() {
     local columns=bsize,sets,assoc,size, row=1,1,1,1,
     [[ $("$cachesim" sweep --bsize 1 --sets 1 --assoc 1 --size 1 2> /dev/null < /dev/null) = "$columns"*$'\n'"$row"* ]]
@@ -87,8 +84,7 @@ private_folder() {
 }
 
 # writes_trace FILE: for a tool that writes a trace to a file, or '-'. If the tool fails, the trace ends in a line that no simulator
-# takes, so that a reader of a pipe doesn't take a part for the whole, nor an earlier trace in FILE for a new one. At its end the tool
-# calls trace_is_whole
+# takes, so that nobody takes a part in a pipe for the whole, or an earlier trace in FILE for a new one. Its end is trace_is_whole
 writes_trace() {
     trap at_end EXIT
     unfinished=$1
@@ -141,9 +137,8 @@ watched() {
     tell_signal $status "$1"
 }
 
-# beside COMMAND..: the same beside this shell, which then heeds each signal at once: it would wait for a command in front. So for
-# a function with a pipeline: bash 5.2, where a signal comes while it starts one in front, ends the last process of it and waits for
-# the others
+# beside COMMAND..: the same beside this shell, which then heeds each signal at once: it would wait for a command in front. So for a
+# function with a pipeline: if a signal comes while bash 5.2 starts one in front, it ends the last process and waits for the others
 beside() {
     local status=0
     { "$@" <&0 2>&8 8>&- & wait $!; } 8>&2 2> /dev/null || status=$?

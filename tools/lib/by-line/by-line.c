@@ -1,5 +1,4 @@
-// Counts the references that arrive at a cache by program counter and object: the inner half of
-// by-line, which has the help.
+// Counts the references that arrive at a cache by program counter and object, for by-line.
 //
 //     by-line FORMAT TAKEN PLACE SHIFT OBJECTS TO LOG [TO FULL] < TRACE
 //
@@ -248,8 +247,7 @@ static void take_arrival(bool is_full, const char *outcome, uint64_t address) {
     else if (misses && !is_first) ((struct cell *)cells)[cell].capacity++;
 }
 
-// Takes a line, and answers the next one. Each reference has one line that is of the first level or bypasses it, in the
-// order of the trace.
+// Takes a line, and answers the next one. Of each reference one line, in their order, is of the first level or bypasses it.
 static const char *take_line(bool is_full, const char *line) {
     uint64_t address;
     bool is_here = !memcmp(line, place, 4), is_first_level = !is_full && (*line == 'b' || line[1] == '1');

@@ -232,8 +232,7 @@ static void take_ended(void) {
 }
 
 // A signal from a terminal goes to the program as well; one that was sent to this process is passed on. After the program's end it
-// ends this process, which may wait for a reader of the trace; but often the program has just ended by the same signal, so there is
-// time for its last lines.
+// ends this process, which may wait for a reader; but in some time, as the program has often just ended by it, for its last lines.
 static void on_signal(int number, siginfo_t *info, void *context) {
     static volatile sig_atomic_t late;
     (void)context;
