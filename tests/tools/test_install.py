@@ -201,3 +201,12 @@ class Installed(ToolTest):
         ):
             ran = self.run_command(installed() / arguments[0], *arguments[1:], env=env)
             self.assertEqual((ran.returncode, ran.stdout.decode(), ran.stderr), (0, text, b""))
+
+    def test_tools_are_named_as_they_are_called(self):
+        """In what grade says of a program that takes each hit for a miss."""
+        folder = installed()
+        wrong = self.executable("wrong", f"{folder}/bin/cachesim-lab-csim \"$@\" | sed 's/ hit/ miss/; s/hits:/hits:1/'")
+        ran = self.run_command(folder / "lib/cachesim/lab/grade", wrong)
+        self.assertEqual((ran.returncode, ran.stderr), (1, b""))
+        self.assertIn(b"\n    see cachesim-replay -s ", ran.stdout)
+        self.assertIn(b"\nnote: 'cachesim-hard-traces .' writes the traces", ran.stdout)

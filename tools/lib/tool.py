@@ -40,6 +40,12 @@ def faults_of(name):
         fail(f"{name}: {fault.strerror}")
 
 
+def called(name):
+    """How another tool is called: where the tools are installed, by the name that it has on the path."""
+    installed = f"cachesim-{name}"
+    return installed if os.path.exists(f"{HERE}/../../bin/{installed}") else name
+
+
 class Arguments(argparse.ArgumentParser):
     """The arguments of a tool, whose help begins with a text of its own. A fault of them is one line."""
 
