@@ -14,7 +14,7 @@ def lines_of(commands):
 
 
 def bash(title, commands):
-    """A function that is called for each word: behind an option with a value it answers words, files or nothing, else options."""
+    """A function that is called for each word: behind an option with a value it gives words, files or nothing, else options."""
 
     def cases(command):
         after = {}

@@ -38,7 +38,7 @@ misused() {
     exit "${failure:-2}"
 }
 
-# size_of TEXT: sets `bytes` to the number of bytes that a scaled number such as 512, 32k or 1m says, or answers 1. It is below 2^62
+# size_of TEXT: sets `bytes` to the number of bytes that a scaled number such as 512, 32k or 1m says, or returns 1. It is below 2^62
 size_of() {
     local unit
     [[ $1 =~ ^0*([0-9]{1,18})([kKmMgG]?)$ ]] || return 1
@@ -145,7 +145,7 @@ beside() {
     tell_signal $status "$1"
 }
 
-# tell_signal STATUS COMMAND: answers the status of a command that has ended; that of a signal is told, and 1
+# tell_signal STATUS COMMAND: returns the status of a command that has ended; if a signal ended it, says so and returns 1
 tell_signal() {
     [ "$1" -gt 128 ] && [ "$1" != 141 ] || return "$1"
     printf '%s: %s ended with signal %s\n' "$name" "${2##*/}" $(($1 - 128)) >&2
@@ -231,13 +231,13 @@ make_pipes() { mkfifo -- "$@" 2> /dev/null || fail "$1: no named pipe can be mad
 # hand_out PIPE..: copies standard input to each of these
 hand_out() { tee -p -- "${@:2}" > "$1"; }
 
-# hand_out_trace TRACE PIPE..: writes a trace to each of these. Answers 1 where that fails, and 4 where only the trace could not be read
+# hand_out_trace TRACE PIPE..: writes a trace to each of these. Returns 1 where that fails, and 4 where only the trace could not be read
 hand_out_trace() {
     unpacked "$1" | hand_out "${@:2}" || return $((PIPESTATUS[1] ? 1 : 4))
 }
 
 # side_by_side TRACE STEP..: runs functions side by side over one reading of a trace. Each has it as standard input and writes to
-# $folder/STEP. Where one fails, its message is told and the tool ends with its status.
+# $folder/STEP. Where one fails, its message is shown and the tool ends with its status.
 side_by_side() {
     local step status=0 ended pipes jobs=()
     pipes=("${@:2}") && pipes=("${pipes[@]/#/$folder/}") && pipes=("${pipes[@]/%/.pipe}")
@@ -258,7 +258,7 @@ side_by_side() {
     [ $status = 0 ] || exit 1
 }
 
-# deliver FILE: writes a finished answer to standard output
+# deliver FILE: writes a finished table to standard output
 deliver() {
     local status=0
     cat -- "$1" 2> /dev/null || status=$?

@@ -23,7 +23,7 @@ help_cache() {
 END
 }
 
-# own_option OPTION VALUE: takes an option that is not for cachesim, or answers 1. These are --cache and another, if the tool has set
+# own_option OPTION VALUE: takes an option that is not for cachesim, or returns 1. These are --cache and another, if the tool has set
 # `own` to the name of that, which is also the name of the variable for its value
 own_option() {
     [ -n "${own-}" ] || return 1
@@ -62,7 +62,7 @@ prepare() {
     private_folder
 }
 
-# log_of_input: the log of standard input. It is read by a program that tells of its own end, so that a failed write is not told
+# log_of_input: the log of standard input. It is read by a program that tells of its own end, so that a failed write is not reported
 log_of_input() {
     local status=0
     watched "$cachesim" log "${options[@]}" 2> "$folder/fault" || status=$?

@@ -17,7 +17,7 @@ def number_of_jobs(word):
 
 
 def start(command, stdin=0, stdout=1, stderr=2, **given):
-    """Starts a command with these descriptors as its first three, and answers the number of its process."""
+    """Starts a command with these descriptors as its first three, and returns the number of its process."""
     signal.signal(signal.SIGCHLD, signal.SIG_DFL)  # where it is ignored, the end of a process can't be waited for
     ends = [(os.POSIX_SPAWN_DUP2, end, number) for number, end in enumerate((stdin, stdout, stderr))]
     return os.posix_spawnp(command[0], command, os.environ, file_actions=ends, **given)

@@ -266,9 +266,9 @@ def write_out(texts):
 
 
 def over(trace, commands, jobs, part=""):
-    """Runs commands over a trace, at most so many at once, and answers what each has written. Each is a text that names it, and
+    """Runs commands over a trace, at most so many at once, and returns what each has written. Each is a text that names it, and
     words to which the trace is added. Where one fails, the others are ended, and the tool ends with its message and status.
-    How far they are is told behind the text `part`."""
+    How far they are is shown behind the text `part`."""
     runs = Runs(trace, commands, jobs, part)
     stop_at_signals()
     try:

@@ -79,7 +79,7 @@ static unsigned hexadecimal_digit(char c) { return digit_of[(unsigned char)c]; }
 static bool ended(const struct line *line) { return line->at >= line->end; }
 static bool word_ended(const struct line *line) { return ended(line) || is_blank(*line->at); }
 
-// Each of these moves on behind what it names, and answers whether that stood there.
+// Each of these moves on behind what it names, and returns whether that stood there.
 
 static bool text(struct line *line, const char *wanted) {
     const char *at = line->at;
@@ -123,7 +123,7 @@ static bool decimal(struct line *line, uint64_t *value) {
     return at > from;
 }
 
-// ---- The formats: each function answers whether a line is one of its format, and puts the line's accesses
+// ---- The formats: each function returns whether a line is one of its format, and puts the line's accesses
 
 // 7ffd1230
 static bool addresses(struct line line) {
@@ -359,7 +359,7 @@ static const char *shown(struct line line) {
     return start;
 }
 
-// Converts the whole lines of the bytes that are held, and answers how many bytes these were.
+// Converts the whole lines of the bytes that are held, and returns how many bytes these were.
 static size_t lines(const struct format *format, size_t held) {
     char *from = input, *feed, *end;
     for (; (feed = memchr(from, '\n', (size_t)(input + held - from))); from = feed + 1, number++) {

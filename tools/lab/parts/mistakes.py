@@ -7,7 +7,7 @@ from typing import Callable, Optional
 
 LONG = 1000  # accesses: of longer traces two cases are looked at
 MOST = 200000  # longer ones are not looked at
-FEW = 3  # so many guesses are told; where more fit, the cases say too little
+FEW = 3  # so many guesses are shown; where more fit, the cases say too little
 
 
 @dataclass(frozen=True)
@@ -132,7 +132,7 @@ class Cache:
         self.hits = self.misses = self.evictions = 0
 
     def touch(self, kind, address):
-        """An access to one block. Answers whether it hits."""
+        """An access to one block. Returns whether it hits."""
         habits = self.habits
         self.now = self.now + 1 & (1 << habits.clock_bits) - 1
         address &= (1 << habits.address_bits) - 1
@@ -242,7 +242,7 @@ class Evidence:
 
 def guesses(runs):
     """The mistakes that give exactly the numbers of a program, as texts. Where no single one does,
-    and there are cases enough, two at once are tried. Nothing where it can't be told."""
+    and there are cases enough, two at once are tried. Nothing where it can't be said."""
     evidence = Evidence(runs)
     if all(is_right for _, _, _, is_right in evidence.runs):
         return []

@@ -230,7 +230,7 @@ def last_line(path):
 
 
 def in_private_folder(work):
-    """What some work answers in a folder that is removed at its end, also by a signal. It may write to standard output."""
+    """What some work returns in a folder that is removed at its end, also by a signal. It may write to standard output."""
     if sys.stdout:  # it may be closed
         sys.stdout.reconfigure(errors="backslashreplace")
     stop_at_signals()
@@ -244,7 +244,7 @@ def in_private_folder(work):
 
 
 def hard_traces(folder):
-    """Makes the traces by which to judge where none is named. Answers their names in the folder."""
+    """Makes the traces by which to judge where none is named. Returns their names in the folder."""
     maker = pathlib.Path(__file__).resolve().parents[1] / "hard-traces"
     made = subprocess.run([maker, folder], stdout=subprocess.PIPE, text=True, check=False)
     return made.stdout.split() if made.returncode == 0 else sys.exit(tool.failure)

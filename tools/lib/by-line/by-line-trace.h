@@ -33,7 +33,7 @@ static bool is_plain(const char *address, const char *at) {
     return *at == '\n';
 }
 
-// Takes the references of a line, and answers the LF behind it. `*is_left_out` is whether it is a plain line that no first-level
+// Takes the references of a line, and returns the LF behind it. `*is_left_out` is whether it is a plain line that no first-level
 // cache takes. A faulty line may be taken as anything, since no log goes on after it.
 static const char *take_references(const char *line, bool *is_left_out) {
     const char *label = past_blanks(line), *from = past_blanks(label + 1);
@@ -85,7 +85,7 @@ static void take_trace(bool has_ended) {
     trace.ready = (size_t)(to - trace.text), trace.rest = (size_t)(line - trace.text);
 }
 
-// Reads more of the trace, and answers whether there is something to hand out or may be later.
+// Reads more of the trace, and returns whether there is something to hand out or may be later.
 static bool read_trace(void) {
     memmove(trace.text, trace.text + trace.rest, trace.used - trace.rest);
     trace.used -= trace.rest, trace.rest = 0;
@@ -99,7 +99,7 @@ static bool read_trace(void) {
 
 static bool has_all(const struct log *log) { return log->to < 0 || log->written == trace.ready; }
 
-// A log that has gone away has told why; the trace is not read on.
+// A log that has gone away has said why; the trace is not read on.
 static void write_trace(struct log *log) {
     ssize_t put = write(log->to, trace.text + log->written, trace.ready - log->written);
     if (put >= 0) log->written += (size_t)put;

@@ -159,7 +159,7 @@ static struct block *block_at(uint64_t block) {
     return (struct block *)blocks + number;
 }
 
-// Counts a miss, and answers whether it is the first reference to the block.
+// Counts a miss, and returns whether it is the first reference to the block.
 static bool count_miss(uint32_t cell, uint64_t address) {
     struct block *block = block_at(address);
     struct cell *counts = (struct cell *)cells + cell;
@@ -247,7 +247,7 @@ static void take_arrival(bool is_full, const char *outcome, uint64_t address) {
     else if (misses && !is_first) ((struct cell *)cells)[cell].capacity++;
 }
 
-// Takes a line, and answers the next one. Of each reference one line, in their order, is of the first level or bypasses it.
+// Takes a line, and returns the next one. Of each reference one line, in their order, is of the first level or bypasses it.
 static const char *take_line(bool is_full, const char *line) {
     uint64_t address;
     bool is_here = !memcmp(line, place, 4), is_first_level = !is_full && (*line == 'b' || line[1] == '1');

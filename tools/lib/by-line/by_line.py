@@ -1,4 +1,4 @@
-"""The names in the answers of by-line, which has the help: what lies where before the run, and the table behind it.
+"""The names in the tables of by-line, which has the help: what lies where before the run, and the table behind it.
 
     by_line.py NAME objects [--program FILE] [--base HEX] [--map FILE] ..
     by_line.py NAME report .. --counts FILE --objects FILE

@@ -185,7 +185,7 @@ def section(picture, offered):
 
 
 def page(drawn, measure, title, counts, mono, choices=lambda picture: {picture.fixed: picture}):
-    """The page with these pictures. `choices` answers what may be chosen in place of one."""
+    """The page with these pictures. `choices` returns what may be chosen in place of one."""
     offered = [choices(picture) for picture in drawn]
     shown = [point for several in offered for picture in several.values() for point in picture.points]
     up = pictures.value_axis(shown, measure, 0.062)

@@ -13,7 +13,7 @@ PALE, FRONT, BLACK = "#bbbbbb", "#d55e00", "#000000"
 
 
 class Point(NamedTuple):
-    """A cache in a picture: its place, what is told of it, its label, the ends over several seeds."""
+    """A cache in a picture: its place, what is said of it, its label, the ends over several seeds."""
 
     x: int
     y: float

@@ -241,7 +241,7 @@ static void on_signal(int number, siginfo_t *info, void *context) {
         if (program) kill(program, SIGKILL);
         else if (late) leave_mark(), _exit(128 + late);
     } else {
-        take_ended();  // which may be told only after this signal
+        take_ended();  // which may be reported only after this signal
         if (number != SIGCHLD) stopped = number;
         if (number != SIGCHLD && !program) {
             late = number;
