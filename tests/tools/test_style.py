@@ -123,7 +123,7 @@ class Linters(unittest.TestCase):
     def test_shell(self):
         paths = written_in(b"bash") + written_in(b"/sh") + [str(path) for path in (base.TOOLS / "lib").glob("*.bash")]
         self.assertGreater(len(paths), 5)
-        self.clean("shellcheck", "-x", "-P", str(base.TOP), "-P", "SCRIPTDIR", *paths)
+        self.clean("shellcheck", *paths)
 
     @base.needs("flake8")
     def test_python(self):
