@@ -69,8 +69,9 @@ class Process:
 
     def kill(self):
         if self.is_running:
-            os.kill(self.number, signal.SIGKILL)
-            os.waitpid(self.number, 0)
+            with contextlib.suppress(ProcessLookupError):  # its end was taken as a signal came, and not noted
+                os.kill(self.number, signal.SIGKILL)
+                os.waitpid(self.number, 0)
             self.is_running = False
 
 
