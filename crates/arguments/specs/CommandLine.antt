@@ -50,7 +50,7 @@ abbrev pub command_result : Result Command WordsFault → Option (Result Command
 command_result (Ok c) = Some (Ok (command_value c))
 command_result (Err e) = option_map Err (job_fault_of e)
 
--- where clap refused the arguments, whether it says that help was asked for
+-- if clap refused the arguments, whether it says that help was asked for
 abbrev pub usage_of : WordsFault → Option Bool
 usage_of (fault.Usage text help) = Some help
 usage_of _ = None

@@ -16,11 +16,11 @@ value_of_digits (d ∷ ds) = (d - 48) * 10 ^ length ds + value_of_digits ds
 abbrev pub is_numeral : Text → Bool
 is_numeral text = nat_lt 0 (length text) && list_all is_ascii_digit text
 
--- n, where it is below 2^64
+-- n, if it is below 2^64
 abbrev pub within_u64 : ℕ → Option ℕ
 within_u64 n = if nat_lt n (2 ^ 64) then Some n else None
 
--- a numeral times the scale, where the product is below 2^64
+-- a numeral times the scale, if the product is below 2^64
 abbrev pub scaled_numeral : Text → ℕ → Option ℕ
 scaled_numeral text scale =
     if is_numeral text then within_u64 (value_of_digits text * scale) else None
@@ -40,11 +40,11 @@ abbrev pub scaled_of : Text → Option ℕ
 scaled_of text = option_map_or (scaled_numeral (take (length text - 1) text))
     (option_and_then scale_of (slice_get text (length text - 1))) (number_of text)
 
--- both numbers, where there are both
+-- both numbers, if there are both
 abbrev pub both_of : Option ℕ → Option ℕ → Option (ℕ × ℕ)
 both_of low high = option_and_then (λ x. option_map (λ y. (x, y)) high) low
 
--- what is before the first such byte and what is after it, where the text has one
+-- what is before the first such byte and what is after it, if the text has one
 abbrev pub split_at : ℕ → Text → Option (Text × Text)
 split_at c text = if list_any (λ b. b == c) text
     then Some (before_first (λ b. b == c) text, after_first (λ b. b == c) text) else None
@@ -54,7 +54,7 @@ abbrev pub range_of : Text → Option (ℕ × ℕ)
 range_of text = option_map_or (λ parts. both_of (scaled_of parts.0) (scaled_of parts.1)) (split_at 45 text)
     (option_map (λ x. (x, x)) (scaled_of text))
 
--- the triple of three numbers, where there are all three
+-- the triple of three numbers, if there are all three
 abbrev pub config_of : Option ℕ → Option ℕ → Option ℕ → Option Config
 config_of (Some b) (Some s) (Some e) = Some (record { bsize = b; sets = s; assoc = e })
 config_of _ _ _ = None

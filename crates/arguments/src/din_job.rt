@@ -118,7 +118,7 @@ fn read_cache(matches: &ArgMatches<'_>, cache: CacheName) -> Result<CacheReading
     })
 }
 
-/// The cache, where one of its options was given.
+/// The cache, if one of its options was given.
 fn complete(cache: CacheName, reading: &CacheReading) -> Result<Option<CacheSpec>, WordsFault>
     ensures { job_result result ≡ Some (cache_of cache reading.now) }
 {

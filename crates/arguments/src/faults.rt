@@ -36,7 +36,7 @@ pub enum WordsFault {
 }
 
 impl WordsFault {
-    /// The status that the program ends with: 0 where help was asked for, 1 for `Memory`, and else
+    /// The status that the program ends with: 0 if help was asked for, 1 for `Memory`, and else
     /// 2.
     pub fn status(&self) -> u8
         ensures { result ≡ status_of self.now }

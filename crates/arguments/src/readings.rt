@@ -13,7 +13,7 @@ use sweep_core::space::Config;
 use trace_core::events::Kind;
 use trace_core::line::Format;
 
-/// The text of an option, where it was given.
+/// The text of an option, if it was given.
 pub fn text_at<'a>(matches: &ArgMatches<'a>, option: &str) -> Option<&'a str>
     ensures { option_map (λ s. s.now) result ≡ first_of option.now (rows_given matches.now) }
 {
@@ -70,7 +70,7 @@ pub fn config_at(
     Ok(Some(config))
 }
 
-/// The kind of `--kind`, all where it is left out.
+/// The kind of `--kind`, all if it is left out.
 pub fn kind_at(matches: &ArgMatches<'_>, option: &'static str) -> Result<Kind, WordsFault>
     ensures { job_result result
         ≡ Some (value_or Kind.All option.entry.now kind_named (rows_given matches.now)) }
@@ -83,7 +83,7 @@ pub fn kind_at(matches: &ArgMatches<'_>, option: &'static str) -> Result<Kind, W
     }
 }
 
-/// The format of `--format` or `-informat`, din where it is left out.
+/// The format of `--format` or `-informat`, din if it is left out.
 pub fn format_at(matches: &ArgMatches<'_>, option: &'static str) -> Result<Format, WordsFault>
     ensures { job_result result
         ≡ Some (value_or Format.Din option.entry.now format_named (rows_given matches.now)) }

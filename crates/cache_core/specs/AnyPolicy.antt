@@ -1,4 +1,4 @@
--- Any policy: it keeps a set's slots, and a cache under it does what the stamp machine does, where any line of a full set may be evicted.
+-- Any policy: it keeps a set's slots, and a cache under it does what a stamp machine does that may evict any line of a full set.
 use Rattle.std.specs.Prelude.{◌≡◌, ℕ, ◌<◌, ◌≤◌, ◌^◌, Bool, true, false, ◌&&◌, List, [], Option, None, Some, is_none, find, map, length}
 use Rattle.std.specs.Prelude.{replicate, Contains, IsPermutation}
 use Rattle.trace_core.specs.declared.events.Ref.{Ref}
@@ -17,7 +17,7 @@ use Rattle.cache_core.specs.Stands.{Distinct}
 abbrev pub TouchKeeps : Type 0
 TouchKeeps = (policy : Option Repl) (old : List Slot) (at : ℕ) (new : List Slot) → at < length old → Touches policy old at new → IsPermutation old new
 
--- A placing does what it may under any policy: the new slot is in, and where the set is full one of its slots is out.
+-- A placing does what it may under any policy: the new slot is in, and if the set is full one of its slots is out.
 abbrev pub PlaceKeeps : Type 0
 PlaceKeeps = (policy : Option Repl) (number capacity : ℕ) (old : List Slot) (slot : Slot) (gone : Option Slot) (new : List Slot) →
     1 ≤ capacity → TakesIn policy number capacity old slot gone new → TakesIn None 0 capacity old slot gone new
@@ -37,7 +37,7 @@ needs_victim m st ref =
     is_none (find (is_block (block_of m.design.geometry ref.addr)) st.lines) && allocates m.design.allocate ref.access
     && is_full m st (set_of m.design.geometry ref.addr)
 
--- A line is evicted exactly where a block needs a victim, and then it is any line of the set.
+-- A line is evicted exactly if a block needs a victim, and then it is any line of the set.
 abbrev pub MayLeave : Bool → List Line → Option Line → Type 0
 MayLeave needed here None = needed ≡ false
 MayLeave needed here (Some line) = (needed ≡ true) × Contains here line

@@ -33,7 +33,7 @@ arrives seed name (Some planned) before ref =
     let effect = (step m (run m before) ref).effect in
     arrival_at name planned.design.geometry ref effect.hit effect.evicted ∷ []
 
--- what the second level sends to memory for a reference after these events: the reference itself where the plan has no second level
+-- what the second level sends to memory for a reference after these events: the reference itself if the plan has no second level
 abbrev pub passes : ℕ → Option PlannedCache → List Event → Ref → List Ref
 passes seed None before ref = ref ∷ []
 passes seed (Some planned) before ref = (step (machine_of seed planned) (run (machine_of seed planned) before) ref).effect.down

@@ -49,7 +49,7 @@ abbrev pub refs_past : Arrival → List Ref
 refs_past (Bypassed ref) = ref ∷ []
 refs_past _ = []
 
--- What arrives at memory is, in order, what the last level sends: the second where there is one, else the first.
+-- What arrives at memory is, in order, what the last level sends: the second if there is one, else the first.
 abbrev pub MemoryLaw : Type 0
 MemoryLaw = (plan : PlannedCaches) (seed : ℕ) (events : List Event) →
     flat_map refs_at_memory (arrivals plan seed events) ≡ to_memory seed plan.second (below plan seed events)
@@ -97,12 +97,12 @@ victim_write (Some victim) = if victim.dirty then record { access = Write; addr 
 abbrev pub load : ℕ → Ref → Ref
 load b ref = record { access = (if is_fetch ref.access then Fetch else Read); addr = ref.addr - ref.addr % 2 ^ b }
 
--- a write goes on unchanged where the cache writes through
+-- a write goes on unchanged if the cache writes through
 abbrev pub goes_on : WriteMode → Ref → List Ref
 goes_on Back ref = []
 goes_on Through ref = if is_write ref.access then ref ∷ [] else []
 
--- whether a reference that misses goes on alone: a write, where the cache allocates no block for it
+-- whether a reference that misses goes on alone: a write, if the cache allocates no block for it
 abbrev pub goes_alone : AllocMode → Ref → Bool
 goes_alone Always ref = false
 goes_alone Never ref = is_write ref.access
@@ -120,7 +120,7 @@ abbrev pub sends_by_line : Option PlannedCache → Ref → Bool → Option Victi
 sends_by_line None ref hit victim = []
 sends_by_line (Some planned) ref hit victim = must_send planned.design ref hit victim
 
--- what the first level sends is on its way to memory where there is no second level
+-- what the first level sends is on its way to memory if there is no second level
 abbrev pub direct : Option PlannedCache → List Ref → List Ref
 direct None down = down
 direct (Some second) down = []
@@ -130,8 +130,8 @@ abbrev pub indirect : Option PlannedCache → List Ref → List Ref
 indirect None down = []
 indirect (Some second) down = down
 
--- The lines of a log follow from one another, where the first references are on their way to memory, and the others to the second level. One
--- to memory arrives first; then the next at the second level, which may send more to memory. Only where none is on its way another
+-- The lines of a log follow from one another; the first references are on their way to memory, and the others to the second level. One
+-- to memory arrives first; then the next at the second level, which may send more to memory. Only if none is on its way another
 -- reference comes to the first level, or is bypassed, or a cache is flushed.
 abbrev pub Follow : PlannedCaches → List Ref → List Ref → List Arrival → Type 0
 Follow plan [] [] [] = Unit {0}

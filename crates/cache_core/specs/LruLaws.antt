@@ -39,12 +39,12 @@ NextLaw = (g : GeometryValue) (write : WriteMode) (events : List Event) (ref : R
     ((step m (run m events) ref).effect.hit ≡ is_hit g (occurrence_after g events ref))
     × (is_some (step m (run m events) ref).effect.evicted ≡ is_evict g (occurrence_after g events ref))
 
--- the machine hits exactly where the windows say so
+-- the machine hits exactly if the windows say so
 abbrev pub HitLaw : Type 0
 HitLaw = (g : GeometryValue) (write : WriteMode) (events : List Event) → 1 ≤ g.e
     → map (λ a. a.hit) (effects (lru_machine g write) events) ≡ map (is_hit g) (occurrences g events)
 
--- a block is evicted exactly where the windows say so
+-- a block is evicted exactly if the windows say so
 abbrev pub VictimLaw : Type 0
 VictimLaw = (g : GeometryValue) (write : WriteMode) (events : List Event) → 1 ≤ g.e
     → map (λ a. is_some a.evicted) (effects (lru_machine g write) events) ≡ map (is_evict g) (occurrences g events)

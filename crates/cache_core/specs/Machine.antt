@@ -115,7 +115,7 @@ pub record Step : Type 0 where
   pub after : MachineState
   pub effect : Effect
 
--- a reference whose block is placed, where this line of its set leaves, if any
+-- a reference whose block is placed; this line of its set leaves, if any
 abbrev pub placing : Machine → Ref → ℕ → Option Line → MachineState → Step
 placing m ref block leaving st =
     let set = set_of_block m.design.geometry block in
@@ -133,7 +133,7 @@ placing m ref block leaving st =
 abbrev pub passing : Ref → MachineState → Step
 passing ref st = record { after = record st { clock = st.clock + 1 }; effect = on_passing ref }
 
--- one reference to a block, where this line leaves if the block is placed (the last argument is the block's line, if it is held)
+-- one reference to a block; this line leaves if the block is placed (the last argument is the block's line, if it is held)
 abbrev pub step_at : Machine → Ref → ℕ → Option Line → MachineState → Option Line → Step
 step_at m ref block leaving st (Some line) = record {
   after = record st {
@@ -145,7 +145,7 @@ step_at m ref block leaving st (Some line) = record {
 step_at m ref block leaving st None =
     if allocates m.design.allocate ref.access then placing m ref block leaving st else passing ref st
 
--- one reference, where this line leaves if its block is placed
+-- one reference; this line leaves if its block is placed
 abbrev pub step_with : Machine → Ref → Option Line → MachineState → Step
 step_with m ref leaving st =
     let block = block_of m.design.geometry ref.addr in step_at m ref block leaving st (find (is_block block) st.lines)
@@ -157,7 +157,7 @@ leaves m st set =
     if nat_lt (length here) m.design.geometry.e then None
     else victim (rules m.policy).victim (m.random_numbers st.drawn % m.design.geometry.e) here
 
--- one reference, where the line leaves that the policy names
+-- one reference; the line leaves that the policy names
 abbrev pub step : Machine → MachineState → Ref → Step
 step m st ref = step_with m ref (leaves m st (set_of m.design.geometry ref.addr)) st
 

@@ -41,7 +41,7 @@ abbrev pub victim_at : Victim → ℕ → List Slot → ℕ
 victim_at Last number slots = length slots - 1
 victim_at Drawn number slots = number % length slots
 
--- A slot put into a full set, where one leaves: LRU and FIFO put it in front and take out the last,
+-- A slot put into a full set, from which one leaves: LRU and FIFO put it in front and take out the last,
 -- random exchanges the way that the random number names.
 abbrev pub Exchanges : Option Repl → ℕ → List Slot → Slot → Slot → List Slot → Type 0
 Exchanges None number old slot gone new =

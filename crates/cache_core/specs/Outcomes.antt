@@ -51,7 +51,7 @@ pub record Effect : Type 0 where
 abbrev pub on_hit : WriteMode → Ref → Effect
 on_hit write ref = record { hit = true; evicted = None; placed = false; down = writes_through write ref }
 
--- a miss that places the block, where this victim left, if any
+-- a miss that places the block and evicts this slot, if any
 abbrev pub on_placing : GeometryValue → WriteMode → Ref → ℕ → Option Slot → Effect
 on_placing g write ref block victim = record {
   hit = false;

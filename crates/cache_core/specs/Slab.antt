@@ -34,7 +34,7 @@ pub record CacheValue (P : Type 0) : Type 0 where
   pub policy : P
   pub sets : List (List Slot)
 
--- what it holds, where policy and numbers are those of its policy's type
+-- what it holds, with the policy and the numbers of its policy's type
 abbrev pub contents_of : {P : Type 0} → (P → Option Repl) → (P → ℕ → ℕ) → CacheValue P → Contents
 contents_of policy numbers c = record { design = c.design; policy = policy c.policy; random_numbers = numbers c.policy; sets = c.sets }
 

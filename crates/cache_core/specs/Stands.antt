@@ -28,7 +28,7 @@ abbrev pub CountsUp : ℕ → List Line → Type 0
 CountsUp n [] = Unit {0}
 CountsUp n (line ∷ lines) = (line.key ≡ n) × CountsUp (n + 1) lines
 
--- the lines of a set are in order: the newest key first where a new block goes in front, and else way after way
+-- the lines of a set are in order: the newest key first if a new block goes in front, and else way after way
 abbrev pub InOrder : Place → ℕ → List Line → Type 0
 InOrder InFront clock lines = Falls (clock + 1) lines
 InOrder InPlace clock lines = CountsUp 0 lines

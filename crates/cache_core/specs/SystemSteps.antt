@@ -31,7 +31,7 @@ abbrev pub all_reach : Memory → List Ref → Memory
 all_reach memory [] = memory
 all_reach memory (ref ∷ refs) = all_reach (reaches memory ref) refs
 
--- a reference arrives at the second level, or at memory where there is no second level
+-- a reference arrives at the second level, or at memory if there is no second level
 abbrev pub Descends : Ref → Option SystemCache → Memory → Option SystemCache → Memory → Type 0
 Descends ref None memory second after = (second ≡ None) × (after ≡ reaches memory ref)
 Descends ref (Some cache) memory second after =
@@ -127,12 +127,12 @@ pub record FlushesSystem (old new : SystemValue) : Type 0 where
   pub bypassed : new.bypassed ≡ old.bypassed
   pub steps : new.steps ≡ old.steps + 1
 
--- the counts of a cache, where there is one
+-- the counts of a cache, if there is one
 abbrev pub stats_held : Option SystemCache → Option CacheStats
 stats_held None = None
 stats_held (Some cache) = Some cache.stats
 
--- a cache, where there is one, copied back no more blocks than it took writes
+-- a cache, if there is one, copied back no more blocks than it took writes
 abbrev pub HasWritten : Option CacheStats → Type 0
 HasWritten None = Unit {0}
 HasWritten (Some stats) = stats.copybacks ≤ stats.writes
@@ -157,7 +157,7 @@ pub record IsNewSystemCache (seed : ℕ) (planned : PlannedCache) (cache : Syste
   pub empty : cache.cache.sets ≡ empty_sets planned.design.geometry
   pub counts : cache.stats ≡ no_counts
 
--- a new cache of a system exactly where the plan has one
+-- a new cache of a system exactly if the plan has one
 abbrev pub IsNewCache : ℕ → Option PlannedCache → Option SystemCache → Type 0
 IsNewCache seed None cache = cache ≡ None
 IsNewCache seed (Some planned) cache = (new : SystemCache) × (cache ≡ Some new) × IsNewSystemCache seed planned new

@@ -92,7 +92,7 @@ flush_counts_if_planned seed (Some planned) events = flush_counts (machine_of se
 abbrev pub flush_copybacks : ℕ → Option PlannedCache → List Event → ℕ
 flush_copybacks seed planned events = sum (flush_counts_if_planned seed planned events)
 
--- what the last level sends on, where these events come to the second
+-- what the last level sends on, if these events come to the second
 abbrev pub to_memory : ℕ → Option PlannedCache → List Event → List Ref
 to_memory seed None events = references_in events
 to_memory seed (Some planned) events = flat_map (λ p. p.1.down) (with_effects (machine_of seed planned) events)

@@ -8,7 +8,7 @@ pub record TouchedValue : Type 0 where
   pub capacity : ℕ
   pub listed : Option (List ℕ)
 
--- a list with one set more, where it is not full yet
+-- a list with one set more, if it is not full yet
 abbrev pub with_set : ℕ → ℕ → Option (List ℕ) → Option (List ℕ)
 with_set capacity set None = None
 with_set capacity set (Some sets) = if nat_lt (length sets) capacity then Some (sets ++ set ∷ []) else None

@@ -28,7 +28,7 @@ pub enum Arrival {
     Memory {
         reference: Ref,
     },
-    /// At no cache, where no first-level cache takes the reference.
+    /// At no cache, if no first-level cache takes the reference.
     Bypassed {
         reference: Ref,
     },
@@ -39,7 +39,7 @@ pub enum Arrival {
     },
 }
 
-/// The arrival of a reference at a cache of this geometry, where it had this outcome.
+/// The arrival of a reference at a cache of this geometry, with this outcome.
 #[inline(always)]
 pub(crate) fn arrival_at(
     cache: CacheName,

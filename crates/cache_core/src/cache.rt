@@ -204,7 +204,7 @@ fn find_block(slots: &[Slot], block: u64) -> Option<usize>
     slots.iter().position(|slot| slot.block == block)
 }
 
-/// Uses the slot at an index, and marks it dirty where it is to be.
+/// Uses the slot at an index, and marks it dirty if it is to be.
 #[inline(always)]
 fn use_slot<P: Replacement>(policy: &mut P, slots: &mut [Slot], at: usize, dirty: bool)
     requires { at < length slots.old }
@@ -261,7 +261,7 @@ fn passing_outcome(reference: Ref) -> Outcome
     }
 }
 
-/// The outcome of a miss that places its block, where this slot left, if any.
+/// The outcome of a miss that places its block and evicts this slot, if any.
 #[inline(always)]
 fn placing_outcome(design: Design, reference: Ref, block: u64, evicted: Option<Slot>) -> Outcome
     requires block { block * 2 ^ design.geometry.b < 2 ^ 64 }

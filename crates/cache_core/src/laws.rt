@@ -64,7 +64,7 @@ pub fn sets_in_order()
 {}
 
 /// Under any policy a touch keeps the slots of its set. A placing puts its slot in; it takes one
-/// out exactly where the set is full, and that is one of the set's.
+/// out exactly if the set is full, and that is one of the set's.
 pub fn slots_are_kept()
     ensures touch { TouchKeeps }
     ensures place { PlaceKeeps }
@@ -83,7 +83,7 @@ pub fn any_policy()
     ensures flush { AnyFlushLaw }
 {}
 
-/// The LRU machine hits, and evicts, exactly where the windows say so; so the counts agree.
+/// The LRU machine hits, and evicts, exactly if the windows say so; so the counts agree.
 pub fn window_is_machine()
     ensures hits { HitLaw }
     ensures victims { VictimLaw }

@@ -136,7 +136,7 @@ impl Model for Random {
 impl Random {
     ghost use Rattle.cache_core.specs.RandomNumbers.{generator_of, random_number};
 
-    /// The policy with the generator of a seed. It draws a number only where a full set has to
+    /// The policy with the generator of a seed. It draws a number only if a full set has to
     /// give up a slot.
     pub fn new(seed: u64) -> Self
         ensures value { result ≡ generator_of seed }

@@ -1,4 +1,5 @@
 //! The statistics of a system of caches.
+use crate::outcome::Outcome;
 use trace_core::events::Access;
 
 /// What one cache counted: its accesses and misses by kind, its evictions, and its copybacks, the
@@ -17,19 +18,20 @@ pub struct CacheStats {
 
 impl CacheStats {
     ghost use Rattle.std.specs.Prelude.{◌≡◌, ◌≤◌, ◌<◌, ◌+◌, ◌^◌};
+    ghost use Rattle.std.specs.Option.{option_map};
     ghost use Rattle.cache_core.specs.CacheStats.{accesses, count_access, count_flush, IsCounted};
 
-    /// Counts an access: whether it hit, and whether the block that it evicted was dirty, if it
-    /// evicted one.
+    /// Counts an access of this kind, and what it did.
     #[inline(always)]
-    pub(crate) fn count_access(&mut self, access: Access, hit: bool, evicted: Option<bool>)
+    pub(crate) fn count_access(&mut self, access: Access, outcome: &Outcome)
         requires few { accesses self.old < 2 ^ 62 }
         requires counted { IsCounted self.old }
         requires copybacks { self.old.copybacks ≤ self.old.writes }
-        ensures value { self.new ≡ count_access access hit evicted self.old }
+        ensures value { self.new ≡ count_access access outcome.now.hit
+            (option_map (λ slot. slot.dirty) outcome.now.evicted) self.old }
         ensures counted { IsCounted self.new }
     {
-        let missed = u64::from(!hit);
+        let missed = u64::from(!outcome.hit);
         match access {
             Access::Fetch => {
                 self.fetches += 1;
@@ -44,9 +46,9 @@ impl CacheStats {
                 self.write_misses += missed;
             }
         }
-        if let Some(dirty) = evicted {
+        if let Some(victim) = outcome.evicted {
             self.evictions += 1;
-            self.copybacks += u64::from(dirty);
+            self.copybacks += u64::from(victim.dirty);
         }
     }
 
@@ -59,8 +61,8 @@ impl CacheStats {
     }
 }
 
-/// What a system counted: for each of its caches; what came to memory, where a fetch is a read, and
-/// each dirty block of a flush, of either level, a write; and the references that no first-level
+/// What a system counted: for each of its caches; what came to memory (a fetch is a read there, and
+/// each dirty block of a flush, of either level, a write); and the references that no first-level
 /// cache takes, which come to neither a second level nor memory.
 #[derive(Clone, Copy, Debug, PartialEq, Eq)]
 pub struct Stats {

@@ -105,7 +105,7 @@ impl System {
         self.step_observed(reference, &mut Nobody);
     }
 
-    /// The same step, where an observer sees each arrival.
+    /// The same step; an observer sees each arrival.
     #[inline(always)]
     pub fn step_observed<O: Observer>(&mut self, reference: Ref, observer: &mut O)
         requires steps { self.old.steps < MAX_STEPS }
@@ -137,7 +137,7 @@ impl System {
         self.flush_observed(&mut Nobody);
     }
 
-    /// The same flush, where an observer sees each cache flushed.
+    /// The same flush; an observer sees each cache flushed.
     pub fn flush_observed<O: Observer>(&mut self, observer: &mut O)
         requires steps { self.old.steps < MAX_STEPS }
         requires room { MAX_ARRIVALS ≤ O.room observer.old }

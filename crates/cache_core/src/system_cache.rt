@@ -109,9 +109,7 @@ impl SystemCache {
     {
         let geometry = self.cache.geometry();
         let outcome = self.cache.access(reference);
-        let evicted = outcome.evicted.map(|slot| slot.dirty);
-        self.stats
-            .count_access(reference.access, outcome.hit, evicted);
+        self.stats.count_access(reference.access, &outcome);
         observer.see(arrival_at(name, geometry, reference, &outcome));
         outcome
     }

@@ -65,7 +65,7 @@ impl TouchedSets {
         requires { set < 2 ^ 32 }
         ensures { self.new ≡ after_count set before after self.old }
     {
-        // The counts are compared first: at most references they are equal, and where this is
+        // The counts are compared first: at most references they are equal, and if this is
         // inlined the compiler often knows it.
         if before != after && before == 0 {
             self.add(set as u32);
@@ -88,7 +88,7 @@ impl TouchedSets {
         };
     }
 
-    /// The sets that are listed, or `None` where there were more than entries.
+    /// The sets that are listed, or `None` if there were more than entries.
     pub fn listed(&self) -> Option<&[u32]>
         ensures { option_map (λ sets. sets.now) result ≡ self.now.listed }
     {

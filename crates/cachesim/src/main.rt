@@ -50,7 +50,7 @@ fn arguments_of(rt: &HostRuntime) -> Result<Vec<String>, ProgramFault> {
     Ok(collect_arguments(rt.alloc(), args)?)
 }
 
-/// Collects the arguments one by one: `collect` would ask for less room where the room for all of
+/// Collects the arguments one by one: `collect` would ask for less room if the room for all of
 /// them is refused.
 fn collect_arguments(alloc: Global, args: Args) -> Result<Vec<String>, AllocError> {
     let mut arguments = Vec::new(alloc);

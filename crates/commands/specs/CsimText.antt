@@ -1,4 +1,4 @@
--- What `csim` writes of a trace, in the form of the CS:APP cache lab handout: a line for each data item where lines are wanted, and
+-- What `csim` writes of a trace, in the form of the CS:APP cache lab handout: a line for each data item if lines are wanted, and
 -- a summary.
 use Rattle.std.specs.Prelude.{ℕ, Bool, true, List, [], ◌∷◌, ◌++◌, Option, None, Some, if◌then◌else◌, map, flat_map, codes}
 use Rattle.std.specs.Option.{option_to_list}
@@ -59,7 +59,7 @@ unfoldable pub lines_after : GeometryValue → List Event → List Entry → Lis
 lines_after g before [] = []
 lines_after g before (e ∷ es) = line_of e (lookups_of g before e) ++ lines_after g (before ++ events_of DataOnly e) es
 
--- the lines of entries, where they are wanted
+-- the lines of entries, if they are wanted
 abbrev pub csim_lines : GeometryValue → Bool → List Entry → List ℕ
 csim_lines g verbose es = if verbose then lines_after g [] es else []
 

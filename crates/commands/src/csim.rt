@@ -24,8 +24,8 @@ use trace_core::text::Text;
 /// summary after the last one; then the sink is flushed, once. All memory is taken before the first
 /// read. `max_lines` is the most lines that the trace may have.
 ///
-/// Errors: `Memory`, with nothing read or written; `Trace` where the trace has a fault or the
-/// source failed, with the lines before it written and no summary; `Write` where the sink failed,
+/// Errors: `Memory`, with nothing read or written; `Trace` if the trace has a fault or the
+/// source failed, with the lines before it written and no summary; `Write` if the sink failed,
 /// with what it took written, and then nothing is read on.
 pub fn csim<S: Source, K: Sink>(
     alloc: Global,

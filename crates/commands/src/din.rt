@@ -24,8 +24,8 @@ use trace_core::text::Text;
 /// seed. All memory is taken before the first read. `max_lines` is the most lines that the trace
 /// may have.
 ///
-/// Errors: `Memory`, with nothing read or written; `Trace` where the trace has a fault or the
-/// source failed, with nothing written; `Write` where the sink failed, with what it took written.
+/// Errors: `Memory`, with nothing read or written; `Trace` if the trace has a fault or the
+/// source failed, with nothing written; `Write` if the sink failed, with what it took written.
 pub fn din<S: Source, K: Sink>(
     alloc: Global,
     plan: Plan,

@@ -19,8 +19,8 @@ use trace_core::reader::{Lines, MAX_LINES};
 /// random replacement draws from a generator of its own, of this seed. All memory is taken before
 /// the first read. `max_lines` is the most lines that the trace may have.
 ///
-/// Errors: `Memory`, with nothing read or written; `Trace` where the trace has a fault or the
-/// source failed, with the lines of the entries before it written; `Write` where the sink failed,
+/// Errors: `Memory`, with nothing read or written; `Trace` if the trace has a fault or the
+/// source failed, with the lines of the entries before it written; `Write` if the sink failed,
 /// with what it took written, and then nothing is read on.
 pub fn log<S: Source, K: Sink>(
     alloc: Global,

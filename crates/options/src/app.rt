@@ -19,7 +19,7 @@ use cache_core::plan::CacheName;
 use clap::{Arg, ArgAction, Command};
 use std::alloc::{AllocError, Global};
 
-// The check takes long where a `Command` or an `Arg` is alive across a branch. So each is made in
+// The check takes long if a `Command` or an `Arg` is alive across a branch. So each is made in
 // one expression without a way out, or kept in a list.
 
 /// The program's command line.

@@ -6,7 +6,7 @@ ghost use Rattle.options.specs.Respell.{takes_dinero};
 
 use std::alloc::{AllocError, Global};
 
-/// The arguments, where Dinero's options have two dashes. The first two, the program's name and the
+/// The arguments, with two dashes for Dinero's options. The first two, the program's name and the
 /// command, stay as they are.
 pub fn respell(alloc: Global, arguments: &[String]) -> Result<Vec<String>, AllocError>
     ensures { IfOk result (λ v. map string_bytes v.items

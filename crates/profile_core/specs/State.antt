@@ -66,7 +66,7 @@ abbrev pub held_of : ProfileState → ℕ
 held_of v = sum_by length v.lists
 
 -- the counts of an LRU cache of e lines per set: a reference found at a distance below e hits a cache of e lines, and
--- any other misses (Mattson 1970); a miss evicts where e blocks or more had been seen
+-- any other misses (Mattson 1970); a miss evicts if e blocks or more had been seen
 abbrev pub counts_at : ProfileState → ℕ → Counts
 counts_at v e = record {
   hits = sum (take e v.distances);
@@ -90,8 +90,8 @@ unfoldable pub weighed : ℕ → List ℕ → ℕ
 weighed n [] = 0
 weighed n (x ∷ xs) = x * n + weighed (n + 1) xs
 
--- the comparisons of the references that were not found in front: d + 1 where a block was found at distance d, and n
--- where it was not found in a list of n blocks
+-- the comparisons of the references that were not found in front: d + 1 if a block was found at distance d, and n
+-- if it was not found in a list of n blocks
 abbrev pub compared_behind : List ℕ → List ℕ → ℕ
 compared_behind behind missed = weighed 1 behind + weighed 0 missed
 

@@ -31,7 +31,7 @@ pub fn stands_after()
 {}
 
 /// What finds its block in front of its set's list does so in each profile with more sets of the
-/// same block size too, and where there is but one set, in each with larger blocks: these profiles
+/// same block size too, and if there is but one set, in each with larger blocks: these profiles
 /// are fed the same events.
 pub fn fronts_are_refined()
     ensures { (g h : GeometryValue) (es : List Event) (addr : ℕ) → IsGeometry g → IsGeometry h
@@ -40,7 +40,7 @@ pub fn fronts_are_refined()
         → finds_front (fold after_event (empty h) es) (block_of h addr) ≡ true }
 {}
 
-/// The same in the words of the definitions: where a reference's distance is 0, it is so in each
+/// The same in the words of the definitions: if a reference's distance is 0, it is so in each
 /// geometry that refines this one.
 pub fn distance_0_is_refined()
     ensures { (g h : GeometryValue) (es : List Event) (r : Ref) → IsGeometry g → IsGeometry h

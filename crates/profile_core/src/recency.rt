@@ -23,7 +23,7 @@ pub enum Touch {
     New(usize),
 }
 
-/// How far a list is shifted: up to a block that stood at a stack distance, or to the end, where
+/// How far a list is shifted: up to a block that stood at a stack distance, or to the end, if
 /// the last block falls out (its caller keeps it if the list may still grow).
 #[derive(Debug, Clone, Copy)]
 enum Shifted {

@@ -15,7 +15,7 @@ use Rattle.sweep_core.specs.Table.{is_after, table, all_configs}
 use Rattle.sweep_core.specs.SweepText.{geometry_of_config}
 use Rattle.sweep_core.specs.Work.{depth, has_pair}
 use Rattle.sweep_core.proofs.Validity.{IsLimited, valid_of, power-exponent}
-use Rattle.sweep_core.proofs.Tables.{valid-member}
+use Rattle.sweep_core.proofs.Rising.{valid-member}
 use Rattle.sweep_core.proofs.Orders.{is_less-from, later_after}
 
 pub geometry-of : (space : Ranges) (c : Config) → IsLimited space → is_valid space c ≡ true → IsGeometry (geometry_of_config c)

@@ -2,7 +2,7 @@ pub mod Lists
 pub mod Orders
 pub mod Validity
 pub mod Ways
-pub mod Tables
+pub mod Rising
 pub mod Walk
 pub mod Members
 pub mod Pages

@@ -8,7 +8,7 @@ use Rattle.sweep_core.specs.Space.{Ranges, is_valid}
 use Rattle.sweep_core.specs.Table.{is_less, is_after, table, all_configs, IsRising}
 use Rattle.sweep_core.proofs.Lists.{Member, Each-member, Each-weaker, Each-filter, Each-get_or, contains-of, member-of, passes-all, kept-of}
 use Rattle.sweep_core.proofs.Validity.{IsLimited}
-use Rattle.sweep_core.proofs.Tables.{all_configs-rise, valid-member}
+use Rattle.sweep_core.proofs.Rising.{all_configs-rise, valid-member}
 use Rattle.sweep_core.proofs.Orders.{is_less-asym, is_less-same}
 
 Rising-filter : (p : Config → Bool) (xs : List Config) → IsRising xs → IsRising (filter p xs)

@@ -10,7 +10,7 @@ use Rattle.sweep_core.specs.Space.{bytes_of}
 use Rattle.cache_core.specs.Powers.{log2}
 use Rattle.sweep_core.specs.Work.{pair_of, has_pair}
 
--- the associativity after another: the next number, or where powers of two alone count, the next of these
+-- the associativity after another: the next number, or if powers of two alone count, the next of these
 abbrev pub next_ways : Bool → ℕ → ℕ
 next_ways powers ways = if powers then ways * 2 else ways + 1
 

@@ -29,7 +29,7 @@ csv_line numbers = join_with_byte 44 (map decimal numbers) ++ 10 ∷ []
 abbrev pub row_of : Config → Counts → List ℕ
 row_of c n = csv_line (c.bsize ∷ c.sets ∷ c.assoc ∷ bytes_of c ∷ n.hits ∷ n.misses ∷ n.evictions ∷ [])
 
--- the header, which stands only where a sweep begins at the first configuration
+-- the header, which is written only if a sweep begins at the first configuration
 abbrev pub header_of : Option Config → List ℕ
 header_of None = codes "bsize,sets,assoc,size,hits,misses,evictions\n"
 header_of (Some after) = []

@@ -83,7 +83,7 @@ fn catch_up(profiles: &mut [PairProfile], fed: u64)
     }
 }
 
-/// Feeds a reference where it is of a kind, which is one more of those fed. No address from the
+/// Feeds a reference if it is of a kind, which is one more of those fed. No address from the
 /// greatest block size on is in block 0, which is tested once for all profiles.
 #[inline(always)]
 fn feed_kept(profiles: &mut [PairProfile], kind: Kind, reference: Ref, fed: &mut u64)

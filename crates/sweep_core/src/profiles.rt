@@ -25,7 +25,7 @@ pub(crate) struct PairProfile {
 }
 
 /// Makes the profiles of a request, each as deep as the greatest associativity of its pair in the
-/// space, also where `rows` cuts that one off.
+/// space, also if `rows` cuts that one off.
 pub(crate) fn make_profiles(
     alloc: Global,
     request: &Request,

@@ -164,7 +164,7 @@ impl Space {
     }
 }
 
-/// The fault of a range, where there is a cause.
+/// The fault of a range, if there is a cause.
 fn judge(which: Which, cause: Option<Cause>) -> Result<(), SpaceFault>
     ensures { MatchResult result (λ _. cause ≡ None)
         (λ fault. (fault.which ≡ which) × (cause ≡ Some fault.cause)) }

@@ -26,7 +26,7 @@ pub type SweepFault = RunFault;
 ///
 /// Each pair of block size and set count that has a row costs one profile, as deep as the pair's
 /// greatest associativity in the space. A reference is fed to each of them as it is read, except
-/// where one profile has the block in front and so others must have it in front too.
+/// to those that must have its block in front because another one has.
 ///
 /// It returns the number of comparisons of a block with an entry of a recency list, as it is
 /// defined by the trace and the space: each profile looks for each reference's block from the most
@@ -34,8 +34,8 @@ pub type SweepFault = RunFault;
 /// decides for several profiles counts as one comparison in each of them. No comparison is made
 /// that isn't counted.
 ///
-/// Errors: `Memory`, with nothing read or written; `Trace` where the trace has a fault or the
-/// source failed, with nothing written; `Write` where the sink failed, after the whole trace was
+/// Errors: `Memory`, with nothing read or written; `Trace` if the trace has a fault or the
+/// source failed, with nothing written; `Write` if the sink failed, after the whole trace was
 /// read, with a part of the table written.
 pub fn sweep<S: Source, K: Sink>(
     alloc: Global,

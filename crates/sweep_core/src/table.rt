@@ -31,7 +31,7 @@ pub(crate) fn write_table<K: Sink>(
     sink.flush()
 }
 
-/// The header, where a sweep begins at the first configuration, and else nothing.
+/// The header if a sweep begins at the first configuration, and else nothing.
 fn header(after: Option<Config>) -> &'static [u8]
     ensures { result.now ≡ header_of after }
 {

@@ -63,7 +63,7 @@ is_write Fetch = false
 is_write Read = false
 is_write Write = true
 
--- 1 where something is so, and else 0
+-- 1 if something is so, and else 0
 abbrev pub one_if : Bool → ℕ
 one_if b = if b then 1 else 0
 

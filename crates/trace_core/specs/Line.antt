@@ -97,7 +97,7 @@ abbrev pub is_message : List ℕ → Bool
 is_message [] = false
 is_message (c ∷ cs) = c == 61 || c == 45 || c == 42
 
--- What a line means: an entry, or nothing where it is skipped; or the fault of its leftmost bad field.
+-- What a line means: an entry, or nothing if it is skipped; or the fault of its leftmost bad field.
 abbrev pub meaning : Format → List ℕ → Result (Option Entry) LineFault
 meaning Din line = din_meaning (fields (without_trailing line))
 meaning Lackey line = if is_message line then Ok None else lackey_meaning (fields (without_trailing line))

@@ -6,7 +6,7 @@ use Rattle.std.specs.List.{onto_first}
 abbrev pub is_line_feed : ℕ → Bool
 is_line_feed c = c == 10
 
--- the pieces between LFs, where an empty last piece is no line
+-- the pieces between LFs; an empty last piece is no line
 abbrev pub lines : List ℕ → List (List ℕ)
 lines [] = []
 lines (c ∷ text) = if is_line_feed c then [] ∷ lines text else onto_first c (lines text)
@@ -21,7 +21,7 @@ abbrev pub line_feeds : List ℕ → ℕ
 line_feeds [] = 0
 line_feeds (c ∷ text) = if is_line_feed c then suc (line_feeds text) else line_feeds text
 
--- some pieces without their last one where that is empty
+-- some pieces without their last one if that is empty
 abbrev pub without_empty_last : List (List ℕ) → List (List ℕ)
 without_empty_last [] = []
 without_empty_last ([] ∷ []) = []

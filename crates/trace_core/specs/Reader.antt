@@ -19,17 +19,17 @@ pub record Progress : Type 0 where
   pub unread : List ℕ
   pub state : ReaderState
 
--- what a reader in this state still returns, where an open one would return this reading
+-- what a reader in this state still returns, if an open one would return this reading
 abbrev pub left_in : ReaderState → Reading → Reading
 left_in state.Open r = r
 left_in state.Ended r = ends None
 left_in (state.Failed f) r = ends (Some f)
 
--- what a reader will return, where these bytes come and then this ending
+-- what a reader will return, if these bytes come and then this ending
 abbrev pub still_gives : Ending → Progress → List ℕ → Reading
 still_gives e p later = left_in p.state (reading_after e p.format p.limit p.lines (p.unread ++ later))
 
--- What may follow the bytes that led to a state, where `reported` is what the source still reports: anything while the reader is
+-- What may follow the bytes that led to a state (`reported` is what the source still reports): anything while the reader is
 -- open, nothing after the end or a failure, and after another fault what is reported.
 abbrev pub MayFollow : Option (List ℕ) → ReaderState → Ending → List ℕ → Type 0
 MayFollow reported state.Open e later = ⊤
@@ -94,5 +94,5 @@ pub record Reached (format : Format) (limit : ℕ) (start now : SourceView) (xs 
   pub reads : Advances now.remaining (begun format limit) p bytes xs
   -- a reader at its end has left no byte
   pub at_end : p.state ≡ state.Ended → IsAtEnd now.remaining
-  -- a read failed just where the state says so
+  -- a read failed exactly if the state says so
   pub counted : now.failures ≡ failures_after (device_failed p.state) start.failures

@@ -65,7 +65,7 @@ cut_off limit n (piece ∷ none) =
     else if nat_lt longest_line (length piece) then fault.TooLong n
     else fault.Read n
 
--- The reading of a text, n lines before which were read: of all its lines; or, where the device then failed, of the lines
+-- The reading of a text, n lines before which were read: of all its lines; or, if the device then failed, of the lines
 -- whose LF came, and of the piece that was cut off.
 abbrev pub reading_after : Ending → Format → ℕ → ℕ → List ℕ → Reading
 reading_after at_end format limit n text = read_lines format limit n (lines text) (ends None)

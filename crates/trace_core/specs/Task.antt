@@ -32,7 +32,7 @@ entries_of xs = map (λ x. x.1) xs
 abbrev pub entries_in : Reading → List Entry
 entries_in r = entries_of r.entries
 
--- what a run writes where these entries come before the end of a text, or before its first fault
+-- what a run writes if these entries come before the end of a text, or before its first fault
 abbrev pub output_for : Task → List ℕ → List Entry → Option TraceFault → List ℕ
 output_for task text before None = task.whole text
 output_for task text before (Some f) = task.partial before
@@ -99,7 +99,7 @@ pub record Stopped (task : Task) (f : TraceFault) (source source' : SourceView) 
   pub fault : is_failed_read f ≡ false → IfSome source.remaining (λ text. StopsAt task f text sink sink')
   -- a failure of the source came after some bytes, and the output for their entries was written
   pub cut : is_failed_read f ≡ true → IfSome source.remaining (λ text. IfSome source'.remaining (λ rest. CutsOff task f text rest sink sink'))
-  -- one read failed where the fault is the source's failure, and none otherwise
+  -- one read failed if the fault is the source's failure, and none otherwise
   pub read_failures : source'.failures ≡ failures_after (is_failed_read f) source.failures
   -- no write failed
   pub write_failures : sink'.failures ≡ sink.failures

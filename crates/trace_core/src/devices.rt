@@ -164,7 +164,7 @@ impl<'a> Source for LoopSource<'a> {
     ghost view = { λ _. record { remaining = None; failures = 0 } };
 
     fn read(&mut self, into: &mut [u8]) -> Result<usize, DeviceFault>
-        // The source's clauses, which say little where nothing is reported.
+        // The source's clauses, which say little if nothing is reported.
         ensures bound { IfOk result (λ n. n ≤ length into.new) }
         ensures gives { let view = ⟦<LoopSource<'a> as Source>⟧.view in
             Gives (view self.old) (view self.new) result into.new }
@@ -268,7 +268,7 @@ impl Sink for ArraySink {
         ensures takes { let view = ⟦<ArraySink as Sink>⟧.view in
             Takes (view self.old) (view self.new) result from.now }
 
-        // Each is a call. It fails just where it has the number `fails_at`, or has bytes for a full
+        // Each is a call. It fails exactly if it has the number `fails_at`, or has bytes for a full
         // sink.
         ensures one_call { self.new.calls ≡ one_more self.old.calls }
         ensures fails { IsErr result ↔ ((self.old.calls + 1 ≡ self.old.fails_at)

@@ -74,7 +74,7 @@ fn read_hexadecimal(text: &[u8]) -> (u64, usize)
     (value, 16)
 }
 
-/// The value that four bytes write, from index `at` of a text on, or at least `NO_DIGIT` where one
+/// The value that four bytes write, from index `at` of a text on, or at least `NO_DIGIT` if one
 /// of them is not a hexadecimal digit.
 #[inline(always)]
 fn four_digits(text: &[u8], at: usize) -> u32

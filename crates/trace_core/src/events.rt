@@ -23,7 +23,7 @@ pub struct Item {
     pub size: u32,
 }
 
-/// What a line stands for, where it isn't skipped.
+/// What a line stands for, if it isn't skipped.
 #[derive(Clone, Copy, Debug, PartialEq, Eq)]
 pub enum Entry {
     Item(Item),

@@ -43,7 +43,7 @@ pub(crate) fn read_spaced_line(format: Format, text: &[u8]) -> Option<(Item, usi
     read_labelled(format, text, label, rest)
 }
 
-/// The same for a text that begins with this label, where the other fields begin at `fields`.
+/// The same for a text that begins with this label and has its other fields from `fields` on.
 /// `None` also for a line that is malformed or too long.
 #[inline(always)]
 fn read_labelled(format: Format, text: &[u8], label: u8, fields: &[u8]) -> Option<(Item, usize)>
@@ -74,7 +74,7 @@ fn line_end(rest: &[u8]) -> Option<usize>
     }
 }
 
-/// The same where it comes after a CR, or after a blank and a comment.
+/// The same if it comes after a CR, or after a blank and a comment.
 #[inline(never)]
 fn late_end(rest: &[u8]) -> Option<usize>
     ensures line { IfSome result (λ end. IsFirstByte (is_byte 10) rest.now (Some end)) }

@@ -26,7 +26,7 @@ pub fn lines_are_pieces()
 {}
 
 /// The fault of a text is that of the first line that is judged to be at fault, and it has none
-/// where no line is.
+/// if no line is.
 pub fn first_fault_is_least()
     ensures some { (format : Format) (limit : ℕ) (text : List ℕ) (fault : TraceFault) →
         (first_fault format limit text ≡ Some fault)

@@ -36,7 +36,7 @@ pub enum LineFault {
     Size,
 }
 
-/// What a line means, given without its LF: an entry, or nothing where it is skipped. The line may
+/// What a line means, given without its LF: an entry, or nothing if it is skipped. The line may
 /// have any length, and a byte 10 in it is a byte like any other.
 pub fn read_line(format: Format, line: &[u8]) -> Result<Option<Entry>, LineFault>
     ensures { result ≡ meaning format line.now }

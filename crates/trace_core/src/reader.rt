@@ -35,7 +35,7 @@ impl Lines {
     ghost use Rattle.trace_core.specs.Reader.{device_failed, stopped_result};
 
     /// A reader of lines in a format, of which there may be at most `max_lines`. It takes one
-    /// buffer of 64 KiB, whatever the limit, and fails only where there is no memory for it.
+    /// buffer of 64 KiB, whatever the limit, and fails only if there is no memory for it.
     pub fn new(alloc: Global, format: Format, max_lines: u64) -> Result<Lines, AllocError>
         requires some { 1 ≤ max_lines }
         requires most { max_lines ≤ MAX_LINES }
@@ -55,7 +55,7 @@ impl Lines {
     /// The next entry with the number of its line, counted from 1, or `None` at the end. Skipped
     /// lines are counted.
     ///
-    /// It fails at the first line that is at fault, or where the source fails before such a line
+    /// It fails at the first line that is at fault, or if the source fails before such a line
     /// was delivered. What was delivered is checked before a failure that comes after it.
     #[inline(always)]
     pub fn next<S: Source>(&mut self, source: &mut S) -> Result<Option<(u64, Entry)>, TraceFault>
@@ -73,7 +73,7 @@ impl Lines {
             (source.new ≡ source.old) × (self.new ≡ self.old)
             × (result ≡ stopped_result self.old.state) }
 
-        // A failure of the source is counted exactly where an open reader is left with a failed
+        // A failure of the source is counted exactly if an open reader is left with a failed
         // device.
         ensures counted { self.old.state ≡ ReaderState.Open → (S.view source.new).failures
             ≡ failures_after (device_failed self.new.state) (S.view source.old).failures }

@@ -143,7 +143,7 @@ impl Scan {
         }
     }
 
-    /// Asks for more bytes, where no whole line is left.
+    /// Asks for more bytes, if no whole line is left.
     #[cold]
     #[inline(never)]
     fn refill<S: Source>(&mut self, source: &mut S) -> Option<(u64, Entry)>

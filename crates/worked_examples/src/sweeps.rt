@@ -48,7 +48,7 @@ pub fn request(sets: u64, assoc: (u64, u64), size: (u64, u64)) -> Result<Request
     })
 }
 
-/// What a sweep returns, where there was enough memory. Where there was not, nothing was read or
+/// What a sweep returns, if there was enough memory. If not, nothing was read or
 /// written, and that ends a test.
 fn swept(
     rt: &impl Abort,
@@ -68,7 +68,7 @@ fn swept(
     Ok(answer)
 }
 
-/// What a sweep returns and writes, into sinks that take different parts. It flushes once where it
+/// What a sweep returns and writes, into sinks that take different parts. It flushes once if it
 /// ends well, and else never.
 fn expect_sweep(
     rt: &impl Abort,
@@ -141,7 +141,7 @@ fn a_sweep_returns_its_comparisons(rt: HostRuntime) -> Result<(), Fail> {
     expect_sweep(&rt, rt.alloc(), &one_set, NINE, Ok(14), TABLE_OF_ONE_SET)
 }
 
-// The whole trace is read even where no row is to be written.
+// The whole trace is read even if no row is to be written.
 #[test]
 fn a_fault_is_reported_where_no_row_is_written(rt: HostRuntime) -> Result<(), Fail> {
     let mut text = NINE.to_vec(rt.alloc())?;
