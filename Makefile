@@ -2,19 +2,26 @@
 #   make demo                   sweeps an example within a minute; without a proved program it makes an unproved one, which tests/run takes
 #   make test                   proves everything and tests the program; the last line is 'N passed, M failed'
 #   make test-tools             builds the program and tests the tools and the package with it
-#   make strain                 tests that take longer: refusals, 100,000 random cases, against Cachegrind, against C code
-#   make refusals               of these, only refused memory, for the program and for each call of the libraries
-#   make mutants                small changes that make the code wrong, each of which the prover must refuse at the goal that it names
-#   make tools                  compiles the C parts of the tools, which else are compiled at their first use
-#   make install PREFIX=/usr    builds the program and puts it, tools, manual, completion and documents below PREFIX (/usr/local)
+#   make strain                 tests that take longer: refusals, 100,000 random cases, against
+#                               Cachegrind, against C code
+#   make refusals               of these, only refused memory, for the program and for each call of
+#                               the libraries
+#   make mutants                small changes that make the code wrong, each of which the prover
+#                               must refuse at the goal that it names
+#   make tools                  compiles the C parts of the tools, which else are compiled at their
+#                               first use
+#   make install PREFIX=/usr    builds the program and puts it, tools, manual, completion and
+#                               documents below PREFIX (/usr/local)
 #   make uninstall PREFIX=/usr  removes what make install has put there
-#   make deb                    builds the program and makes a Debian package of the same, out/cachesim_VERSION_amd64.deb
+#   make deb                    builds the program and makes a Debian package of the same,
+#                               out/cachesim_VERSION_amd64.deb
 #   make clean                  removes all that was built; the next make proves everything anew
 #   make help                   writes this
 #
-# What proves or builds needs the kit's command rt, on the path or by RT=/its/path. make test, make refusals and make strain need
-# Python 3 and a C compiler too, make strain Valgrind, and make mutants Python 3 and a checkout of git. make test-tools and
-# make deb name the Debian packages that they miss. make install and make uninstall put DESTDIR in front of PREFIX, if it is given.
+# What proves or builds needs the kit's command rt, on the path or by RT=/its/path. make test, make
+# refusals and make strain need Python 3 and a C compiler too, make strain Valgrind, and make
+# mutants Python 3 and a checkout of git. make test-tools and make deb name the Debian packages that
+# they miss. make install and make uninstall put DESTDIR in front of PREFIX, if it is given.
 
 PREFIX ?= /usr/local
 PROGRAM := crates/cachesim/out/cachesim

@@ -1,9 +1,10 @@
 #!/bin/bash
 # Makes the traces of this folder anew: bash examples/trace.sh. It needs Valgrind and a C compiler.
 #
-# A program is built without position independence, so that the addresses of its code and of its static data are the same at
-# each run (those of its stack depend on the environment), and traced by lackey. Of the trace the lines between the two stores to
-# `mark` are kept: without them it would begin with the accesses of the program's start, about a hundred thousand.
+# A program is built without position independence, so that the addresses of its code and of its
+# static data are the same at each run (those of its stack depend on the environment), and traced by
+# lackey. Of the trace the lines between the two stores to `mark` are kept: without them it would
+# begin with the accesses of the program's start, about a hundred thousand.
 set -eu
 cd "$(dirname "$0")"
 work=$(mktemp -d)

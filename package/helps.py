@@ -1,4 +1,5 @@
-"""What the help of a program or a tool tells of its options and of the words that its first argument may be."""
+"""What the help of a program or a tool tells of its options and of the words that its first
+argument may be."""
 
 import itertools
 import re
@@ -11,8 +12,9 @@ LETTER = re.compile(r"([a-z]) (.+)")
 
 
 class Option(NamedTuple):
-    """An option: its spellings, what its value is called if it has one, the beginning of its help, the words that the value is one of,
-    each with its meaning, whether the value is else a file, and whether the option may be given again."""
+    """An option: its spellings, what its value is called if it has one, the beginning of its help,
+    the words that the value is one of, each with its meaning, whether the value is else a file, and
+    whether the option may be given again."""
 
     names: tuple
     value: str
@@ -23,7 +25,8 @@ class Option(NamedTuple):
 
 
 class Command(NamedTuple):
-    """What a command takes: options; first a word, each with its meaning, and for some of these what the command then takes; files."""
+    """What a command takes: options; first a word, each with its meaning, and for some of these
+    what the command then takes; files."""
 
     options: tuple
     words: tuple = ()
@@ -32,7 +35,8 @@ class Command(NamedTuple):
 
 
 def words_of(value, text):
-    """The words that a value is one of, each with its meaning: yes and no of {yes,no} or yes|no, u and d of 'u all, d data'."""
+    """The words that a value is one of, each with its meaning: yes and no of {yes,no} or yes|no, u
+    and d of 'u all, d data'."""
     found = re.split("[|,]", value.strip("{}"))
     if len(found) > 1 and (value.startswith("{") or "|" in value):
         return tuple((word, "") for word in found)
@@ -41,8 +45,8 @@ def words_of(value, text):
 
 
 def options_in(text, is_file):
-    """The options that a help tells of: the lines that begin with one, with what stands further right below. `is_file` says of the name
-    of a value whether it is a file."""
+    """The options that a help tells of: the lines that begin with one, with what stands further
+    right below. `is_file` says of the name of a value whether it is a file."""
     lines = text.splitlines()
     for number, line in enumerate(lines, 1):
         if match := OPTION.fullmatch(line):
@@ -57,6 +61,7 @@ def options_in(text, is_file):
 
 
 def words_in(text):
-    """The words that the first argument may be, each with its meaning: commands, or those of a line 'FORMAT is one of those below'."""
+    """The words that the first argument may be, each with its meaning: commands, or those of a line
+    'FORMAT is one of those below'."""
     found = FIRST.search(text)
     return tuple(match.groups() for match in map(WORD.fullmatch, found[1].splitlines()) if match) if found else ()

@@ -1,4 +1,5 @@
-"""What the Python scripts of this folder share: the tools and what all of them share, and runs of a command."""
+"""What the Python scripts of this folder share: the tools and what all of them share, and runs of a
+command."""
 
 import importlib
 import os

@@ -1,4 +1,5 @@
-"""Writes the completion of commands for bash, zsh and fish. `commands` has of the name of each what it takes, a helps.Command."""
+"""Writes the completion of commands for bash, zsh and fish. `commands` has of the name of each what
+it takes, a helps.Command."""
 
 import re
 
@@ -14,7 +15,8 @@ def lines_of(commands):
 
 
 def bash(title, commands):
-    """A function that is called for each word: behind an option with a value it gives words, files or nothing, else options."""
+    """A function that is called for each word: behind an option with a value it gives words, files
+    or nothing, else options."""
 
     def cases(command):
         after = {}

@@ -2,7 +2,8 @@
 #SBATCH --job-name=cachesim-page
 #SBATCH --cpus-per-task=1
 #SBATCH --output=page-%a.log
-# One task of an array job: it sweeps the page that one line of the file `pages` tells, in the folder that `submit` made.
+# One task of an array job: it sweeps the page that one line of the file `pages` tells, in the
+# folder that `submit` made.
 #
 #     sbatch --array=1-N --chdir=FOLDER sweep.sbatch TRACE PROGRAM TOOLS
 set -euo pipefail

@@ -1,5 +1,6 @@
-# What the bash tools share: their name, faults and help, sizes, the program, traces and C parts. tool.py has the same for those in
-# Python. A tool sets `here` to the folder above this one and reads this file:
+# What the bash tools share: their name, faults and help, sizes, the program, traces and C parts.
+# tool.py has the same for those in Python. A tool sets `here` to the folder above this one and
+# reads this file:
 #
 #     here=$(dirname "$(readlink -f "${BASH_SOURCE[0]}")")
 #     . "$here/lib/lib.bash"
@@ -8,13 +9,14 @@
 
 name=${0##*/}
 
-# explain: the comment at the head of the script, which is its help. For a line '{NAME}' stands what the function help_NAME writes
+# explain: the comment at the head of the script, which is its help. For a line '{NAME}' stands what
+# the function help_NAME writes
 explain() {
     local line
     unfinished=''
     while IFS= read -r line; do
-        if [[ $line = '{'*'}' ]]; then "help_${line:1:-1}"; else printf '%s\n' "$line"; fi 2> /dev/null ||
-            fail "standard output: write failed"
+        if [[ $line = '{'*'}' ]]; then "help_${line:1:-1}"; else printf '%s\n' "$line"; fi \
+            2> /dev/null || fail "standard output: write failed"
     done < <(sed -n '2,/^[^#]/ { /^#/ { s/^# \{0,1\}//; p } }' "$0")
 }
 
@@ -38,7 +40,8 @@ misused() {
     exit "${failure:-2}"
 }
 
-# size_of TEXT: sets `bytes` to the number of bytes that a scaled number such as 512, 32k or 1m says, or returns 1. It is below 2^62
+# size_of TEXT: sets `bytes` to the number of bytes that a scaled number such as 512, 32k or 1m
+# says, or returns 1. It is below 2^62
 size_of() {
     local unit
     [[ $1 =~ ^0*([0-9]{1,18})([kKmMgG]?)$ ]] || return 1
@@ -51,7 +54,8 @@ size_of() {
 # needs COMMAND PACKAGE: ends where a command is missing, naming Debian's package
 needs() { command -v -- "$1" > /dev/null || fail "$1 is missing: apt-get install $2"; }
 
-# find_cachesim: sets `cachesim` to the first program of $CACHESIM, this checkout, the installation of the tools, and the path
+# find_cachesim: sets `cachesim` to the first program of $CACHESIM, this checkout, the installation
+# of the tools, and the path
 find_cachesim() {
     cachesim=${CACHESIM:-$here/../crates/cachesim/out/cachesim}
     [ -n "${CACHESIM:-}" ] || [ -x "$cachesim" ] || cachesim=$here/../../bin/cachesim
@@ -63,17 +67,19 @@ find_cachesim() {
     export CACHESIM=$cachesim
 }
 
-# is_cachesim: whether `cachesim` writes the table of an empty trace, whatever it counts: another program may end well too
+# is_cachesim: whether `cachesim` writes the table of an empty trace, whatever it counts: another
+# program may end well too
 is_cachesim() {
-    local columns=bsize,sets,assoc,size, row=1,1,1,1,
-    [[ $("$cachesim" sweep --bsize 1 --sets 1 --assoc 1 --size 1 2> /dev/null < /dev/null) = "$columns"*$'\n'"$row"* ]]
+    local columns=bsize,sets,assoc,size, row=1,1,1,1, one=(--bsize 1 --sets 1 --assoc 1 --size 1)
+    [[ $("$cachesim" sweep "${one[@]}" 2> /dev/null < /dev/null) = "$columns"*$'\n'"$row"* ]]
 }
 
-private_folder_made=''  # a name that no function has for something else, so that nothing else is ever removed
+private_folder_made=''  # a name that nothing else has, so that nothing else is ever removed
 compiling=''            # what a compiler is writing
 unfinished=''           # where a trace is being written: a file, or '-'
 
-# private_folder: makes a folder, `folder`, that only this user can read and that is removed when the tool ends, also by a signal
+# private_folder: makes a folder, `folder`, that only this user can read and that is removed when
+# the tool ends, also by a signal
 private_folder() {
     trap at_end EXIT
     trap 'exit 130' INT
@@ -83,8 +89,9 @@ private_folder() {
     folder=$private_folder_made
 }
 
-# writes_trace FILE: for a tool that writes a trace to a file, or '-'. If the tool fails, the trace ends in a line that no simulator
-# takes, so that nobody takes a part in a pipe for the whole, or an earlier trace in FILE for a new one. Its end is trace_is_whole
+# writes_trace FILE: for a tool that writes a trace to a file, or '-'. If the tool fails, the trace
+# ends in a line that no simulator takes, so that nobody takes a part in a pipe for the whole, or an
+# earlier trace in FILE for a new one. Its end is trace_is_whole
 writes_trace() {
     trap at_end EXIT
     unfinished=$1
@@ -103,9 +110,9 @@ spoil_trace() {
     fi
 }
 
-# at_end: what is done when the tool ends, also by a signal. In a subshell it only ends what that has started
+# at_end: what is done when the tool ends, also by a signal. A subshell ends what it has started
 at_end() {
-    exec 2>&-  # bash would report the end of each process; a redirection may have no descriptor left
+    exec 2>&-  # bash would tell of each process's end; a redirection may have no descriptor left
     trap '' HUP INT PIPE TERM
     stop_jobs
     [ $BASHPID = $$ ] || return 0
@@ -114,8 +121,9 @@ at_end() {
     [ -z "$compiling" ] || rm -f -- "$compiling" || :
 }
 
-# stop PROCESS: ends a process, unless it is this shell, and all that it has started. It ends before these, so that it does not
-# report their ends. A subshell of this tool is killed: bash heeds no SIGTERM while it waits for the other end of a pipe
+# stop PROCESS: ends a process, unless it is this shell, and all that it has started. It ends before
+# these, so that it does not report their ends. A subshell of this tool is killed: bash heeds no
+# SIGTERM while it waits for the other end of a pipe
 stop() {
     local child children=() whose='' own='' signal=TERM
     read -ra children 2> /dev/null < "/proc/$1/task/$1/children" || :
@@ -128,8 +136,9 @@ stop() {
 
 stop_jobs() { stop "$BASHPID"; }
 
-# watched COMMAND..: runs a command. If a signal ends it, one line says so, instead of bash's, which names a line of this file. It fails
-# also where the command can't be run so, as with a closed standard error
+# watched COMMAND..: runs a command. If a signal ends it, one line says so, instead of bash's, which
+# names a line of this file. It fails also where the command can't be run so, as with a closed
+# standard error
 watched() {
     local status=0
     { "$@" 2>&8 8>&-; } 8>&2 2> /dev/null || status=$?
@@ -137,22 +146,25 @@ watched() {
     tell_signal $status "$1"
 }
 
-# beside COMMAND..: the same beside this shell, which then heeds each signal at once: it would wait for a command in front. So for a
-# function with a pipeline: if a signal comes while bash 5.2 starts one in front, it ends the last process and waits for the others
+# beside COMMAND..: the same beside this shell, which then heeds each signal at once: it would wait
+# for a command in front. So for a function with a pipeline: if a signal comes while bash 5.2 starts
+# one in front, it ends the last process and waits for the others
 beside() {
     local status=0
     { "$@" <&0 2>&8 8>&- & wait $!; } 8>&2 2> /dev/null || status=$?
     tell_signal $status "$1"
 }
 
-# tell_signal STATUS COMMAND: returns the status of a command that has ended; if a signal ended it, says so and returns 1
+# tell_signal STATUS COMMAND: returns the status of a command that has ended; if a signal ended it,
+# says so and returns 1
 tell_signal() {
     [ "$1" -gt 128 ] && [ "$1" != 141 ] || return "$1"
     printf '%s: %s ended with signal %s\n' "$name" "${2##*/}" $(($1 - 128)) >&2
     return 1
 }
 
-# find_unpacker FILE: sets `unpacker` to the command that writes a trace to standard output, for a tool that must know its process
+# find_unpacker FILE: sets `unpacker` to the command that writes a trace to standard output, for a
+# tool that must know its process
 find_unpacker() {
     case $1 in
     -) unpacker=(cat) ;;
@@ -163,17 +175,18 @@ find_unpacker() {
     esac
 }
 
-# unpacked FILE: writes a trace to standard output. '-' is standard input; .gz, .xz and .zst are unpacked
+# unpacked FILE: writes a trace to standard output, unpacked as its name says. '-' is standard input
 unpacked() {
     local -a unpacker
     local status=0
     find_unpacker "$1"
     watched "${unpacker[@]}" || status=$?
-    [ $status != 2 ] || status=1  # gzip's for bytes after the end; for the tools 2 is wrong arguments
+    [ $status != 2 ] || status=1  # gzip's for bytes after the end; here it is wrong arguments
     return $status
 }
 
-# awk, sorted: where these fail, it is a fault of the run; the status of awk and sort, 2, is that of wrong arguments here
+# awk, sorted: where these fail, it is a fault of the run; the status of awk and sort, 2, is that of
+# wrong arguments here
 awk() { watched command awk "$@" || return $(($? == 2 ? 1 : $?)); }
 sorted() { watched sort "$@" || return $(($? == 2 ? 1 : $?)); }
 
@@ -183,8 +196,9 @@ find_compiler() {
     if [ -n "${CC:-}" ]; then needs "${compiler[0]}" "${compiler[0]##*/}"; else needs cc gcc; fi
 }
 
-# compiled NAME SOURCE FLAG..: compiles a C file of this folder to out/NAME where it or a header beside it is newer; sets `binary` to that.
-# The installed tools come with out/ and without the C files. The environment's CC and flags are heeded; those named here come last.
+# compiled NAME SOURCE FLAG..: compiles a C file of this folder to out/NAME where it or a header
+# beside it is newer; sets `binary` to that. The installed tools come with out/ and without the C
+# files. The environment's CC and flags are heeded; those named here come last.
 compiled() {
     binary=$here/out/$1
     local source=$here/lib/$2 part old='' compiler flags
@@ -195,21 +209,23 @@ compiled() {
     read -rd '' -a flags <<< "${CPPFLAGS-} ${CFLAGS--O2 -Wall -Wextra} ${LDFLAGS-}" || :
     trap at_end EXIT
     { mkdir -p -- "$here/out" && compiling=$(mktemp -- "$here/out/$1.XXXXXXXX"); } 2> /dev/null ||
-        fail "$here/out can't be written: 'make tools' compiles the C parts, by someone who may write there"
-    "${compiler[@]}" "${flags[@]}" "${@:3}" -o "$compiling" "$source" || fail "$source can't be compiled"
+        fail "$here/out can't be written: 'make tools' compiles the C parts," \
+            "by someone who may write there"
+    "${compiler[@]}" "${flags[@]}" "${@:3}" -o "$compiling" "$source" ||
+        fail "$source can't be compiled"
     chmod 755 -- "$compiling"  # for all who may use the folder: mktemp made it for one
     mv -- "$compiling" "$binary"
     compiling=''
 }
 
-# is_option WORD: whether the first argument is an option where a trace is wanted. A file's name may begin with a dash
+# is_option WORD: whether an argument where a trace is wanted is an option, and no file of that name
 is_option() { [[ $1 = -?* && ! -e $1 ]]; }
 
 # readable TRACE: ends where a trace is neither '-' nor something that can be read
-readable() { [ "$1" = - ] || { [ -r "$1" ] && [ ! -d "$1" ]; } || fail "$1: no file that can be read"; }
+readable() { [[ $1 = - || (-r $1 && ! -d $1) ]] || fail "$1: no file that can be read"; }
 
-# take_sweep_options PLACE OPTION..: sets `options` to the options of a sweep, and `shared` to those of them that say which references
-# and which rows count. The trace is the argument in that PLACE
+# take_sweep_options PLACE OPTION..: sets `options` to the options of a sweep, and `shared` to those
+# of them that say which references and which rows count. The trace is the argument in that PLACE
 take_sweep_options() {
     local at
     options=("${@:2}") shared=()
@@ -231,13 +247,15 @@ make_pipes() { mkfifo -- "$@" 2> /dev/null || fail "$1: no named pipe can be mad
 # hand_out PIPE..: copies standard input to each of these
 hand_out() { tee -p -- "${@:2}" > "$1"; }
 
-# hand_out_trace TRACE PIPE..: writes a trace to each of these. Returns 1 where that fails, and 4 where only the trace could not be read
+# hand_out_trace TRACE PIPE..: writes a trace to each of these. Returns 1 where that fails, and 4
+# where only the trace could not be read
 hand_out_trace() {
     unpacked "$1" | hand_out "${@:2}" || return $((PIPESTATUS[1] ? 1 : 4))
 }
 
-# side_by_side TRACE STEP..: runs functions side by side over one reading of a trace. Each has it as standard input and writes to
-# $folder/STEP. Where one fails, its message is shown and the tool ends with its status.
+# side_by_side TRACE STEP..: runs functions side by side over one reading of a trace. Each has it as
+# standard input and writes to $folder/STEP. Where one fails, its message is shown and the tool ends
+# with its status.
 side_by_side() {
     local step status=0 ended pipes jobs=()
     pipes=("${@:2}") && pipes=("${pipes[@]/#/$folder/}") && pipes=("${pipes[@]/%/.pipe}")

@@ -1,4 +1,4 @@
-# What the tools that filter `cachesim log` share: their arguments, and the log. Read in place of lib.bash.
+# What the tools that filter `cachesim log` share: arguments, and the log. Read in place of lib.bash
 #
 # shellcheck shell=bash
 
@@ -8,23 +8,27 @@
 export LC_ALL=C # numbers with a point, and sorting by bytes
 cache=l1-       # how the name of a cache that counts begins
 
-# help_caches: what the help of each of these tools says of the trace and the caches. Behind it stand the tool's own options
+# help_caches: what the help of each of these tools says of the trace and the caches. Behind it
+# stand the tool's own options
 help_caches() {
     cat << 'END'
-TRACE is a file, which may end in .gz, .xz or .zst, or - for standard input. It is read once. The OPTIONs are those of
-`cachesim din`, but for -t: the caches, -informat and --seed. --format is another name for -informat.
+TRACE is a file, which may end in .gz, .xz or .zst, or - for standard input. It is read once. The
+OPTIONs are those of `cachesim din`, but for -t: the caches, -informat and --seed. --format is
+another name for -informat.
 END
 }
 
 # help_cache: the same of --cache
 help_cache() {
     cat << 'END'
-  --cache CACHE     counts what comes to l1-i, l1-d, l1-u or l2-u; without it, all that the first level takes
+  --cache CACHE     counts what comes to l1-i, l1-d, l1-u or l2-u; without it, all that the first
+                    level takes
 END
 }
 
-# own_option OPTION VALUE: takes an option that is not for cachesim, or returns 1. These are --cache and another, if the tool has set
-# `own` to the name of that, which is also the name of the variable for its value
+# own_option OPTION VALUE: takes an option that is not for cachesim, or returns 1. These are --cache
+# and another, if the tool has set `own` to the name of that, which is also the name of the variable
+# for its value
 own_option() {
     [ -n "${own-}" ] || return 1
     case $1 in
@@ -40,7 +44,8 @@ own_option() {
 # take_arguments ARGUMENT..: reads the arguments of a tool. Sets `trace`, and `options` for cachesim
 take_arguments() {
     look_for_help "$@"
-    if [ $# -eq 0 ] || is_option "$1"; then misused "a trace and the options of 'cachesim din' are needed"; fi
+    { [ $# -gt 0 ] && ! is_option "$1"; } ||
+        misused "a trace and the options of 'cachesim din' are needed"
     trace=$1 options=()
     set -- "${@:2}"
     while [ $# -gt 0 ]; do
@@ -57,12 +62,13 @@ take_arguments() {
 
 # prepare: finds the program, which judges its options, and makes the private folder
 prepare() {
-    [[ $cache = l1- || " ${options[*]}" = *" -$cache"* || " ${options[*]}" = *" --$cache"* ]] || misused "no option is of $cache"
+    [[ $cache = l1- || " ${options[*]}" =~ " -"-?"$cache" ]] || misused "no option is of $cache"
     find_cachesim
     private_folder
 }
 
-# log_of_input: the log of standard input. It is read by a program that tells of its own end, so that a failed write is not reported
+# log_of_input: the log of standard input. It is read by a program that tells of its own end, so
+# that a failed write is not reported
 log_of_input() {
     local status=0
     watched "$cachesim" log "${options[@]}" 2> "$folder/fault" || status=$?

@@ -17,14 +17,16 @@ def number_of_jobs(word):
 
 
 def start(command, stdin=0, stdout=1, stderr=2, **given):
-    """Starts a command with these descriptors as its first three, and returns the number of its process."""
+    """Starts a command with these descriptors as its first three, and returns the number of its
+    process."""
     signal.signal(signal.SIGCHLD, signal.SIG_DFL)  # where it is ignored, the end of a process can't be waited for
     ends = [(os.POSIX_SPAWN_DUP2, end, number) for number, end in enumerate((stdin, stdout, stderr))]
     return os.posix_spawnp(command[0], command, os.environ, file_actions=ends, **given)
 
 
 class Pair:
-    """A block size and a number of sets: how many rows they have, and the greatest associativity."""
+    """A block size and a number of sets: how many rows they have, and the greatest
+    associativity."""
 
     def __init__(self, bsize, sets):
         self.bsize, self.sets, self.rows, self.assoc = bsize, sets, 0, "0"
@@ -39,8 +41,9 @@ class Pair:
         return int(self.bsize) * int(self.sets)
 
     def cost(self, before):
-        """What a pair adds to a page behind another pair, or None: the part of the references that it looks at, and its
-        searches for those that it does not find in front. What the pair before it finds in front it need not look at."""
+        """What a pair adds to a page behind another pair, or None: the part of the references that
+        it looks at, and its searches for those that it does not find in front. What the pair before
+        it finds in front it need not look at."""
         looks = min(1, 2.7 / before.size**0.18) if before and before.bsize == self.bsize else 1
         return looks + 13 * math.log2(1 + int(self.assoc)) / self.size**0.57
 
@@ -60,7 +63,8 @@ class Page:
 
 
 def rows_of(program, options):
-    """The lines of a table, as those of the empty trace. Where the program refuses the options, this tool ends as it did."""
+    """The lines of a table, as those of the empty trace. Where the program refuses the options,
+    this tool ends as it did."""
     read, write = os.pipe()
     with faults_of(f"{program} can't be run"):
         lister = start([program, "sweep", "-t", "/dev/null", *options], stdout=write)
@@ -109,7 +113,8 @@ def cut(pairs, most):
 
 
 def split(options):
-    """The arguments that are the same for each page, and the value of --after. The program has found the options good."""
+    """The arguments that are the same for each page, and the value of --after. The program has
+    found the options good."""
     arguments, after, left = [], None, list(options)
     while left:
         name, equals, value = left.pop(0).partition("=")

@@ -1,4 +1,5 @@
-"""Runs of the program side by side over one trace, for sweep-parallel and din-table. A pipe is read once, and handed to all."""
+"""Runs of the program side by side over one trace, for sweep-parallel and din-table. A pipe is read
+once, and handed to all."""
 
 import contextlib
 import fcntl
@@ -31,7 +32,8 @@ def end_text(code):
 
 @contextlib.contextmanager
 def uninterrupted():
-    """Holds back what would interrupt the tool, so that it knows each process that it has started."""
+    """Holds back what would interrupt the tool, so that it knows each process that it has
+    started."""
     put_off_stops()
     try:
         yield
@@ -40,7 +42,8 @@ def uninterrupted():
 
 
 class Process:
-    """A process over the trace. What it tells is kept in memory, and so is what it writes, unless that goes elsewhere."""
+    """A process over the trace. What it tells is kept in memory, and so is what it writes, unless
+    that goes elsewhere."""
 
     def __init__(self, command, stdin=0, stdout=None):
         self.kept, self.told, self.text = os.memfd_create("kept"), os.memfd_create("told"), b""
@@ -76,7 +79,8 @@ class Process:
 
 
 class Run(Process):
-    """A run of the program over a trace: a file that it opens by its name, an open one, or else what it is given by a pipe."""
+    """A run of the program over a trace: a file that it opens by its name, an open one, or else
+    what it is given by a pipe."""
 
     def __init__(self, place, command, name=None, file=None):
         self.place, self.pipe = place, None
@@ -122,8 +126,9 @@ class Unpacker(Process):
 
 
 class Runs:
-    """The runs over a trace, at most so many of them at once. What can be read only once is kept in a file without a name where
-    there are more of them: the first runs read along, so that a bad line ends all at once, and the others read that file."""
+    """The runs over a trace, at most so many of them at once. What can be read only once is kept in
+    a file without a name where there are more of them: the first runs read along, so that a bad
+    line ends all at once, and the others read that file."""
 
     def __init__(self, trace, commands, jobs, part):
         self.trace, self.commands, self.jobs, self.part = trace, commands, jobs, part
@@ -187,7 +192,8 @@ class Runs:
             raise Fault(f"{tool.NAME}: the trace can't be kept in {tempfile.gettempdir()}: {fault.strerror}") from None
 
     def hand_out(self, source):
-        """Gives all that is read to each run. None sees an end before it is known that the trace was not cut short."""
+        """Gives all that is read to each run. None sees an end before it is known that the trace
+        was not cut short."""
         watch = select.poll()
         watch.register(source, select.POLLIN)
         for run in self.runs:
@@ -225,7 +231,8 @@ class Runs:
             process.kill()
 
     def progress(self):
-        """How far the runs are: those that are done, or how much was read by that run which has read least."""
+        """How far the runs are: those that are done, or how much was read by that run which has
+        read least."""
         if self.is_read_once and any(run.pipe is not None and run.is_running for run in self.runs):
             return f"{self.handed // 1000000} MB of the trace read"
         if len(self.commands) > self.jobs:
@@ -245,7 +252,8 @@ def show(text):
 
 
 def keep_places():
-    """Where standard input, output or error is closed, opens what fails as well, lest a file of this tool take its place."""
+    """Where standard input, output or error is closed, opens what fails as well, lest a file of
+    this tool take its place."""
     for number in range(3):
         try:
             os.fstat(number)
@@ -267,9 +275,10 @@ def write_out(texts):
 
 
 def over(trace, commands, jobs, part=""):
-    """Runs commands over a trace, at most so many at once, and returns what each has written. Each is a text that names it, and
-    words to which the trace is added. Where one fails, the others are ended, and the tool ends with its message and status.
-    How far they are is shown behind the text `part`."""
+    """Runs commands over a trace, at most so many at once, and returns what each has written. Each
+    is a text that names it, and words to which the trace is added. Where one fails, the others are
+    ended, and the tool ends with its message and status. How far they are is shown behind the text
+    `part`."""
     runs = Runs(trace, commands, jobs, part)
     stop_at_signals()
     try:

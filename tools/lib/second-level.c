@@ -1,4 +1,5 @@
-// The fast half of second-level: reads the lines of `cachesim log`, and writes what arrives at memory and the flushes as a din trace.
+// The fast half of second-level: reads the lines of `cachesim log`, and writes what arrives at
+// memory and the flushes as a din trace.
 //
 //     second-level NAME < LOG      NAME is that of the tool, for messages
 #define _GNU_SOURCE

@@ -1,4 +1,5 @@
-"""The table that `din-table` writes, for the tools that read one. Rows that differ in their seed alone are one case."""
+"""The table that `din-table` writes, for the tools that read one. Rows that differ in their seed
+alone are one case."""
 
 import re
 import statistics

@@ -1,9 +1,11 @@
-// Writes another tool's memory trace as din lines: the fast half of to-din, whose head has the help.
+// Writes another tool's memory trace as din lines: the fast half of to-din, whose head has the
+// help.
 //
 //     to-din FORMAT < TRACE > TRACE.din
 //
-// To add a format, write a function that reads one of its lines and puts the accesses that it tells of, give it a row in
-// `formats`, and say in the help of to-din how such a trace is made and which lines are skipped.
+// To add a format, write a function that reads one of its lines and puts the accesses that it tells
+// of, give it a row in `formats`, and say in the help of to-din how such a trace is made and which
+// lines are skipped.
 #include <errno.h>
 #include <stdarg.h>
 #include <stdbool.h>
@@ -35,7 +37,8 @@ static void drain(void) {
     used = 0;
 }
 
-// Ends with a line on standard error. What came before is not the whole trace, which to-din makes plain at the end of the output.
+// Ends with a line on standard error. What came before is not the whole trace, which to-din makes
+// plain at the end of the output.
 static _Noreturn void fail(const char *form, ...) {
     char line[256];
     va_list values;
@@ -62,7 +65,8 @@ static void put(enum label label, uint64_t address) {
 
 // ---- The parts of a line
 
-// What is left of a line. At its end stands an LF, at which whatever is read ends, so that few need to compare with `end`.
+// What is left of a line. At its end stands an LF, at which whatever is read ends, so that few need
+// to compare with `end`.
 struct line { const char *at, *end; };
 
 // a hexadecimal digit's value plus 1; 0 for other bytes
@@ -123,7 +127,8 @@ static bool decimal(struct line *line, uint64_t *value) {
     return at > from;
 }
 
-// ---- The formats: each function returns whether a line is one of its format, and puts the line's accesses
+// ---- The formats: each function returns whether a line is one of its format, and puts the line's
+// accesses
 
 // 7ffd1230
 static bool addresses(struct line line) {
@@ -141,7 +146,8 @@ static uint64_t little_endian(const char *bytes) {
     return value;
 }
 
-// 64 bytes: the instruction, whether it is a branch, whether that was taken, 6 registers, 2 places written, 4 read; 0 is no place
+// 64 bytes: the instruction, whether it is a branch, whether that was taken, 6 registers, 2 places
+// written, 4 read; 0 is no place
 static bool champsim(struct line record) {
     if ((record.at[8] | record.at[9]) & ~1) return false;
     put(FETCH, little_endian(record.at));
@@ -290,7 +296,8 @@ static bool pin(struct line line) {
     return true;
 }
 
-// the name of a register, x10 (of older versions 'x 5') or c768_mstatus; or a vector's settings, e32 m1 l4
+// the name of a register, x10 (of older versions 'x 5') or c768_mstatus; or a vector's settings,
+// e32 m1 l4
 static bool spike_name(struct line *line) {
     if (!*line->at || !strchr("xfvcelm", *line->at)) return false;
     if (!text(line, "mf")) line->at++;

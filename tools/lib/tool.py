@@ -1,5 +1,5 @@
-"""What the Python tools share: their name, faults and arguments, sizes, the program, and what they write. lib.bash has the same for
-those in bash. A tool in a folder below tools/ reads it so:
+"""What the Python tools share: their name, faults and arguments, sizes, the program, and what they
+write. lib.bash has the same for those in bash. A tool in a folder below tools/ reads it so:
 
     sys.path.insert(1, str(pathlib.Path(__file__).resolve().parents[1]))
     tool = importlib.import_module("lib.tool")
@@ -14,7 +14,8 @@ import sys
 
 HERE = os.path.dirname(os.path.dirname(os.path.realpath(__file__)))  # the tools
 NAME = os.path.basename(sys.argv[0])
-# exit statuses beside 0; a tool with another status for its faults and for wrong arguments sets `failure` to it
+# exit statuses beside 0; a tool with another status for its faults and for wrong arguments sets
+# `failure` to it
 FAILED, MISUSED, READER_GONE = 1, 2, 141
 failure = None
 UNITS = {"": 0, "k": 10, "m": 20, "g": 30}
@@ -33,7 +34,8 @@ def misused(text):
 
 @contextlib.contextmanager
 def faults_of(name):
-    """Within this, what the system refuses ends the tool with one line that begins with this name."""
+    """Within this, what the system refuses ends the tool with one line that begins with this
+    name."""
     try:
         yield
     except OSError as fault:
@@ -41,13 +43,15 @@ def faults_of(name):
 
 
 def called(name):
-    """How another tool is called: where the tools are installed, by the name that it has on the path."""
+    """How another tool is called: where the tools are installed, by the name that it has on the
+    path."""
     installed = f"cachesim-{name}"
     return installed if os.path.exists(f"{HERE}/../../bin/{installed}") else name
 
 
 class Arguments(argparse.ArgumentParser):
-    """The arguments of a tool, whose help begins with a text of its own. A fault of them is one line."""
+    """The arguments of a tool, whose help begins with a text of its own. A fault of them is one
+    line."""
 
     def __init__(self, text, **given):
         super().__init__(prog=NAME, description=text, formatter_class=argparse.RawDescriptionHelpFormatter, **given)
@@ -60,7 +64,8 @@ class Arguments(argparse.ArgumentParser):
 
 
 def look_for_help(arguments):
-    """Writes the tool's help where it is asked for, in place of a parser, for a tool that hands its arguments on."""
+    """Writes the tool's help where it is asked for, in place of a parser, for a tool that hands its
+    arguments on."""
     if "-h" in arguments or "--help" in arguments:
         write_lines(sys.modules["__main__"].__doc__.strip().splitlines())
         sys.exit()
@@ -83,7 +88,8 @@ def size_text(size):
 
 
 def find_cachesim():
-    """The path of the program: $CACHESIM, else that of this checkout, else that installed with the tools, else the one on the path."""
+    """The path of the program: $CACHESIM, else that of this checkout, else that installed with the
+    tools, else the one on the path."""
     named = os.environ.get("CACHESIM")
     near = [os.path.join(HERE, folder) for folder in ("../crates/cachesim/out", "../../bin")]
     folders = [*near, *os.environ.get("PATH", "").split(":")]
@@ -97,7 +103,8 @@ def find_cachesim():
 
 
 def is_cachesim(path):
-    """Whether a program writes the table of an empty trace, whatever it counts. Another one may end well with nothing written."""
+    """Whether a program writes the table of an empty trace, whatever it counts. Another one may end
+    well with nothing written."""
     words = [path, *"sweep --bsize 1 --sets 1 --assoc 1 --size 1 -t /dev/null".split()]
     try:
         told = subprocess.run(words, stdin=subprocess.DEVNULL, capture_output=True, check=False).stdout
@@ -107,7 +114,8 @@ def is_cachesim(path):
 
 
 def write_lines(lines):
-    """Writes lines to standard output. Ends the tool where that fails: with a message, unless the reader of a pipe has gone."""
+    """Writes lines to standard output. Ends the tool where that fails: with a message, unless the
+    reader of a pipe has gone."""
     if sys.stdout is None:
         fail("standard output: Bad file descriptor")
     try:

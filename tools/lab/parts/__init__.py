@@ -1,4 +1,5 @@
-"""What the tools of this folder share, and the parts of those that have several. They find by it what all tools share."""
+"""What the tools of this folder share, and the parts of those that have several. They find by it
+what all tools share."""
 
 import importlib
 import os

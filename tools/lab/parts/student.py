@@ -1,5 +1,6 @@
-"""A student's program and its runs: each has a private folder and limits, and on request bubblewrap around it. At the end what else
-the tools that run programs share: a private folder, traces and arguments."""
+"""A student's program and its runs: each has a private folder and limits, and on request bubblewrap
+around it. At the end what else the tools that run programs share: a private folder, traces and
+arguments."""
 
 import contextlib
 import ctypes
@@ -21,7 +22,8 @@ from parts import tool
 LEAST_LIMIT = 64 << 20
 TAIL = 1 << 20
 PR_SET_CHILD_SUBREAPER = 36
-# What a confined program sees beside its own folder: enough for programs in any language that Debian packages.
+# What a confined program sees beside its own folder: enough for programs in any language that
+# Debian packages.
 SYSTEM = ["/usr", "/bin", "/sbin", "/lib", "/lib32", "/lib64", "/libx32", "/etc/alternatives", "/etc/ld.so.cache"]
 PATH = "/usr/local/bin:/usr/bin:/bin"
 # has glibc fill memory of malloc, so that who takes it for zeros is found
@@ -48,7 +50,8 @@ class Case(NamedTuple):
 
 
 class Run(NamedTuple):
-    """What a run of a student's program left. The fault is empty where it ended well. A run that was killed had no time to flush."""
+    """What a run of a student's program left. The fault is empty where it ended well. A run that
+    was killed had no time to flush."""
 
     fault: str
     is_slow: bool
@@ -58,7 +61,8 @@ class Run(NamedTuple):
 
 
 class Student:
-    """A student's program, the private folder and the time that its runs have, and what stands before it on its command line."""
+    """A student's program, the private folder and the time that its runs have, and what stands
+    before it on its command line."""
 
     def __init__(self, program, folder, seconds, around=None):
         self.program, self.folder, self.around = without_links(program), pathlib.Path(folder), around or (lambda room: [])
@@ -90,7 +94,8 @@ class Student:
 
 
 def status_of(command, limit, seconds, **given):
-    """The status of a run, or None where its time ran out. What it started and left behind is ended too."""
+    """The status of a run, or None where its time ran out. What it started and left behind is ended
+    too."""
     given.update(stdin=subprocess.DEVNULL, start_new_session=True, preexec_fn=lambda: bound(limit), env=environment())
     put_off_stops()  # else a signal could come before the process is known
     process = subprocess.Popen(command, **given)
@@ -108,7 +113,8 @@ def status_of(command, limit, seconds, **given):
 
 
 def number_of(status):
-    """The number of the signal that a status tells: bubblewrap and shells do so by one above 128."""
+    """The number of the signal that a status tells: bubblewrap and shells do so by one above
+    128."""
     return -status if status < 0 else status - 128
 
 
@@ -127,7 +133,8 @@ def fault_of(status, messages, seconds):
 
 
 def bound(limit):
-    """Bounds the size of the files that a student's process writes, before it begins; no core files."""
+    """Bounds the size of the files that a student's process writes, before it begins; no core
+    files."""
     heed_stops()
     resource.setrlimit(resource.RLIMIT_FSIZE, (limit, resource.getrlimit(resource.RLIMIT_FSIZE)[1]))
     resource.setrlimit(resource.RLIMIT_CORE, (0, 0))
@@ -142,7 +149,8 @@ def children():
 
 
 def end_orphans():
-    """Ends what a program left behind, in other sessions too: the orphans that became children of this process."""
+    """Ends what a program left behind, in other sessions too: the orphans that became children of
+    this process."""
     with contextlib.suppress(ChildProcessError):  # none is left
         while True:
             if os.waitpid(-1, os.WNOHANG)[0] == 0:
@@ -152,7 +160,8 @@ def end_orphans():
 
 
 def environment():
-    """That of a student's program: nothing in it leads to cachesim, unless that is among the system's own programs."""
+    """That of a student's program: nothing in it leads to cachesim, unless that is among the
+    system's own programs."""
     folders = os.environ.get("PATH", PATH).split(":")
     kept = [folder for folder in folders if folder in PATH.split(":") or not os.access(f"{folder}/cachesim", os.X_OK)]
     own = {name: value for name, value in os.environ.items() if name != "CACHESIM"}
@@ -171,14 +180,16 @@ def is_below(path, *folders):
 
 
 def cachesims(found):
-    """Where cachesim is: the one that was found, and those on the path and among the system's programs."""
+    """Where cachesim is: the one that was found, and those on the path and among the system's
+    programs."""
     folders = [*os.environ.get("PATH", "").split(":"), *PATH.split(":")]
     return sorted({os.path.realpath(path) for path in [found, *(os.path.join(at, "cachesim") for at in folders)] if os.path.exists(path)})
 
 
 def bubblewrap(program, cachesim):
-    """What stands before a confined run, as a function of its room, the only folder that it can write to. It reads the system's
-    folders and its own, and finds no cachesim there; it reaches no network and no other process, and leaves none behind."""
+    """What stands before a confined run, as a function of its room, the only folder that it can
+    write to. It reads the system's folders and its own, and finds no cachesim there; it reaches no
+    network and no other process, and leaves none behind."""
     own = os.path.dirname(without_links(program))
     begin = ["bwrap", "--unshare-all", "--die-with-parent", "--clearenv"]
     for name, value in {"PATH": PATH, "LANG": "C.UTF-8", **FILLED}.items():
@@ -205,7 +216,8 @@ def confinement(program, cachesim, folder):
 
 
 def results_in(room):
-    """What .csim_results begins with, or None. A program can leave anything under that name, a pipe too."""
+    """What .csim_results begins with, or None. A program can leave anything under that name, a pipe
+    too."""
     with contextlib.suppress(OSError):
         with open(os.open(os.path.join(room, ".csim_results"), os.O_RDONLY | os.O_NOFOLLOW | os.O_NONBLOCK), "rb") as file:
             return file.read(200)
@@ -230,7 +242,8 @@ def last_line(path):
 
 
 def in_private_folder(work):
-    """What some work returns in a folder that is removed at its end, also by a signal. It may write to standard output."""
+    """What some work returns in a folder that is removed at its end, also by a signal. It may write
+    to standard output."""
     if sys.stdout:  # it may be closed
         sys.stdout.reconfigure(errors="backslashreplace")
     stop_at_signals()

@@ -2,7 +2,8 @@
 // part of by-line.c, which has read what it needs.
 //
 // The logs get each line, but an empty one in the place of a line whose reference no first-level
-// cache takes. A line that is in any way unusual is handed out as it is, and judged by `cachesim log`.
+// cache takes. A line that is in any way unusual is handed out as it is, and judged by `cachesim
+// log`.
 
 // ---- The lines of the trace
 
@@ -33,8 +34,9 @@ static bool is_plain(const char *address, const char *at) {
     return *at == '\n';
 }
 
-// Takes the references of a line, and returns the LF behind it. `*is_left_out` is whether it is a plain line that no first-level
-// cache takes. A faulty line may be taken as anything, since no log goes on after it.
+// Takes the references of a line, and returns the LF behind it. `*is_left_out` is whether it is a
+// plain line that no first-level cache takes. A faulty line may be taken as anything, since no log
+// goes on after it.
 static const char *take_references(const char *line, bool *is_left_out) {
     const char *label = past_blanks(line), *from = past_blanks(label + 1);
     bool is_fetch = *label == (is_lackey ? 'I' : '2');
@@ -67,7 +69,8 @@ static struct {
     uint64_t lines;
 } trace;
 
-// Takes the lines that have been read. The last one may have no end; one that fills all the room is longer than any may be.
+// Takes the lines that have been read. The last one may have no end; one that fills all the room is
+// longer than any may be.
 static void take_trace(bool has_ended) {
     char *line = trace.text, *end = line + trace.used, *to = line;
     char *last = memrchr(line, '\n', trace.used), *stop = last ? last + 1 : line;

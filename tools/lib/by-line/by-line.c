@@ -2,19 +2,18 @@
 //
 //     by-line FORMAT TAKEN PLACE SHIFT OBJECTS TO LOG [TO FULL] < TRACE
 //
-// It hands the trace out to each TO, where `cachesim log` reads it: LOG is what this writes, and FULL
-// the same with a fully associative LRU cache at the PLACE. FORMAT is d or l, and TAKEN is d, i or u:
-// what the first-level caches take. A block has 2^SHIFT bytes. Each line of the file OBJECTS begins
-// with the first address of an object and the first address after it, in hexadecimal, by rising
-// addresses. The answer has a line for each pair of a program counter and an object, and then one
-// for each two pairs of which one had evicted the block that the other misses:
+// It hands the trace out to each TO, where `cachesim log` reads it: LOG is what this writes, and
+// FULL the same with a fully associative LRU cache at the PLACE. FORMAT is d or l, and TAKEN is d,
+// i or u: what the first-level caches take. A block has 2^SHIFT bytes. Each line of the file
+// OBJECTS begins with the first address of an object and the first address after it, in
+// hexadecimal, by rising addresses. The answer has a line for each pair of a program counter and an
+// object, and then one for each two pairs of which one had evicted the block that the other misses:
 //
 //     cell PC OBJECT REFERENCES MISSES COMPULSORY CAPACITY
 //     evicted CELL BY MISSES                                  the numbers of two cells, from 0
 //     end
 //
-// PC is '-' before the first fetch, OBJECT counts from 0 or is -1. Where a log goes away, there is no
-// answer.
+// PC is '-' before the first fetch, OBJECT counts from 0 or is -1. No answer where a log goes away.
 #define _GNU_SOURCE
 #include <err.h>
 #include <errno.h>
@@ -72,7 +71,8 @@ static void make_room(struct numbers *numbers) {
         numbers->slots[slot_of(numbers, numbers->keys[number])] = number + 1;
 }
 
-// The number of a key. Where it is a new one, `*values` grows by a zero of this size where there is no room for it.
+// The number of a key. Where it is a new one, `*values` grows by a zero of this size where there is
+// no room for it.
 static uint32_t number_of(struct numbers *numbers, uint64_t key, void **values, size_t size) {
     uint32_t slot = numbers->room ? slot_of(numbers, key) : 0;
     if (numbers->room && numbers->slots[slot]) return numbers->slots[slot] - 1;
@@ -105,7 +105,8 @@ static void read_objects(const char *path) {
     fclose(file);
 }
 
-// The number of the last object that begins at or before an address and 1, or 0. It may end before the address.
+// The number of the last object that begins at or before an address and 1, or 0. It may end before
+// the address.
 static uint32_t objects_up_to(uint64_t address) {
     uint32_t low = 0, high = object_count;
     while (low < high) {
@@ -247,7 +248,8 @@ static void take_arrival(bool is_full, const char *outcome, uint64_t address) {
     else if (misses && !is_first) ((struct cell *)cells)[cell].capacity++;
 }
 
-// Takes a line, and returns the next one. Of each reference one line, in their order, is of the first level or bypasses it.
+// Takes a line, and returns the next one. Of each reference one line, in their order, is of the
+// first level or bypasses it.
 static const char *take_line(bool is_full, const char *line) {
     uint64_t address;
     bool is_here = !memcmp(line, place, 4), is_first_level = !is_full && (*line == 'b' || line[1] == '1');

@@ -1,4 +1,5 @@
-"""The names in the tables of by-line, which has the help: what lies where before the run, and the table behind it.
+"""The names in the tables of by-line, which has the help: what lies where before the run, and the
+table behind it.
 
     by_line.py NAME objects [--program FILE] [--base HEX] [--map FILE] ..
     by_line.py NAME report .. --counts FILE --objects FILE
@@ -69,7 +70,8 @@ def arguments():
 
 
 class Names:
-    """How lines are called: by the name of the file, with as much of its path as tells it from others."""
+    """How lines are called: by the name of the file, with as much of its path as tells it from
+    others."""
 
     def __init__(self, cells):
         paths = {frame.file for cell in cells for frame in cell.frames if frame.file}
@@ -153,7 +155,8 @@ def table_of_evictions(asked, cells, pairs):
 
 
 def counts_in(path, cells):
-    """For each line of a source file the counts of the instructions whose innermost line in this file it is."""
+    """For each line of a source file the counts of the instructions whose innermost line in this
+    file it is."""
     name, real = os.path.basename(path), os.path.realpath(path)
     found = {frame.file for cell in cells for frame in cell.frames if frame.file and os.path.basename(frame.file) == name}
     files = [file for file in found if os.path.realpath(file) == real] or found
@@ -187,7 +190,8 @@ def texts_of(numbers, all_of_them):
 
 
 def in_callgrind_format(asked, cells):
-    """The counts by function and innermost line, without conflict misses: no number may be below 0."""
+    """The counts by function and innermost line, without conflict misses: no number may be below
+    0."""
     used = COUNTS[:3 if asked.only_compulsory else 4]
     files = {cell.frames[0].function: cell.frames[0].file for cell in cells if cell.frames[0].file}
     rows = []
@@ -226,7 +230,8 @@ def length_of(path):
 
 
 def warn_of_lines(cells):
-    """Warns of lines that may be wrong: those behind the end of their file, and of another finder."""
+    """Warns of lines that may be wrong: those behind the end of their file, and of another
+    finder."""
     files = collections.defaultdict(collections.Counter)
     for cell in cells:
         for file, line in {(frame.file, frame.line) for frame in cell.frames if frame.file}:

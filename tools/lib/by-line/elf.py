@@ -71,7 +71,8 @@ def output_of(command, path, *options, text=None):
 
 @functools.cache
 def segments_of(path):
-    """Of each loaded segment of an ELF file its offset in the file, its address and its size in memory."""
+    """Of each loaded segment of an ELF file its offset in the file, its address and its size in
+    memory."""
     lines = output_of("readelf", path, "-lW", "--").splitlines()
     return [tuple(int(number, 16) for number in found.groups()) for found in map(SEGMENT.match, lines) if found]
 
@@ -95,14 +96,15 @@ class Loaded:
 
     @functools.cached_property
     def thread_local(self):
-        """Where nm has variables of threads, which are elsewhere: the address and size that it tells of each."""
+        """Where nm has variables of threads, which are elsewhere: the address and size that it
+        tells of each."""
         told = map(THREAD_LOCAL.match, output_of("readelf", self.path, "-sW", "--").splitlines())
         return {(int(one[1], 16) + self.base, int(one[2], 0)) for one in told if one}
 
     @functools.cached_property
     def symbols(self):
-        """All that has a name and a size, by address, with the letter of nm before the name, and the
-        name of its source file where only this file knows the name."""
+        """All that has a name and a size, by address, with the letter of nm before the name, and
+        the name of its source file where only this file knows the name."""
         found = {}
         for which in (["-a", "-p"], ["-D"]):
             source = ""
@@ -132,7 +134,8 @@ class Loaded:
         return self.functions[at].name if is_in else f"({self.name})"
 
     def frames(self, addresses):
-        """Of each address its frames, the function that has the instruction first, then those inlined there."""
+        """Of each address its frames, the function that has the instruction first, then those
+        inlined there."""
         asked = "".join(f"{address - self.base:x}\n" for address in addresses)
         told = output_of(line_finder(), self.path, "-a", "-i", "-f", "-C", "-e", text=asked)
         lines = told.splitlines()
@@ -199,8 +202,8 @@ class Layout:
             self.others.append(Range(start, end, f"({os.path.basename(path)})"))
 
     def variables(self):
-        """The variables by address. Where several have a name, static ones have that of their source
-        file behind it, and their address where it is the same too."""
+        """The variables by address. Where several have a name, static ones have that of their
+        source file behind it, and their address where it is the same too."""
         found = [one for file in self.files for one in file.objects()]
         for tell_apart in (lambda one, source: f"{one.name} ({source})",
                            lambda one, _: f"{one.name[:-1]} at {one.start:x})"):
@@ -210,7 +213,8 @@ class Layout:
         return sorted(one for one, _ in found)
 
     def objects(self):
-        """What is where, by rising addresses and without overlaps: a global variable before the file that has it."""
+        """What is where, by rising addresses and without overlaps: a global variable before the
+        file that has it."""
         regions = sorted([*(region for file in self.files for region in file.regions), *self.stacks, *self.others])
         variables = self.variables()
         at, answer = 0, []

@@ -1,4 +1,5 @@
-"""What tools/plot draws on by gnuplot: the terminals, their sizes and type, and where on them the pictures stand."""
+"""What tools/plot draws on by gnuplot: the terminals, their sizes and type, and where on them the
+pictures stand."""
 
 import re
 from typing import NamedTuple
@@ -14,7 +15,8 @@ NARROW = 72  # in fewer letters a legend has no room beside its picture
 
 
 class Canvas(NamedTuple):
-    """A terminal of gnuplot: how it is set, its size, that of a letter, and of large and small type."""
+    """A terminal of gnuplot: how it is set, its size, that of a letter, and of large and small
+    type."""
 
     setting: str
     width: float

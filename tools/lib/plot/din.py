@@ -1,4 +1,5 @@
-"""The pictures of a table of din-table: a measure by the size of a cache, with a line for each of the other options' values."""
+"""The pictures of a table of din-table: a measure by the size of a cache, with a line for each of
+the other options' values."""
 
 import html
 import re
@@ -18,7 +19,8 @@ def varied(table):
 
 
 def across_of(asked, options, several, name):
-    """The option on the horizontal axis: the asked one, else the last size, or number, that varies."""
+    """The option on the horizontal axis: the asked one, else the last size, or number, that
+    varies."""
     if asked.across:
         if asked.across not in options or kind(asked.across) not in NUMBERS:
             numbers = [option for option in options if kind(option) in NUMBERS]
@@ -32,7 +34,8 @@ def across_of(asked, options, several, name):
 
 
 def of_measure(table, several):
-    """The options that change the measure: those of its own cache alone, if that is a first level."""
+    """The options that change the measure: those of its own cache alone, if that is a first
+    level."""
     if not table.measure.startswith("l1-"):
         return several
     return [option for option in several if table.measure.startswith(f"{cache(option)}-")]
@@ -78,7 +81,8 @@ def point(table, case, x, lines, has_caches):
 
 
 def fix(table, option, wanted, usual, name):
-    """The cases with the wanted value of an option, or that nearest to the usual one; and the value."""
+    """The cases with the wanted value of an option, or that nearest to the usual one; and the
+    value."""
     at = table.options.index(option)
     values = sorted({int(case.given[at]) for case in table.cases})
     value = pictures.nearest(values, usual) if wanted is None else wanted
@@ -110,7 +114,8 @@ def groups(table, across, several):
 
 
 def by_across(asked, table, across, several, measure):
-    """The measure by the option on the horizontal axis, with a line for each value of the others."""
+    """The measure by the option on the horizontal axis, with a line for each value of the
+    others."""
     several = of_measure(table, several)
     has_caches = len({cache(option) for option in [across, *several]}) > 1
     table, told = fixed(asked, table, across, several, has_caches)

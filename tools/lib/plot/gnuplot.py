@@ -16,7 +16,8 @@ DASHES = ("solid", "(9,4)", "(2,3)", "(9,3,2,3)", "(16,5)", "(5,3)", "(9,3,2,3,2
 
 
 class Place(NamedTuple):
-    """Where a picture stands: what its axes enclose, its title, and the legend's lines below that."""
+    """Where a picture stands: what its axes enclose, its title, and the legend's lines below
+    that."""
 
     area: Frame
     title: list
@@ -30,12 +31,14 @@ class Place(NamedTuple):
 
 
 def quoted(words):
-    """A text as gnuplot's string, in which nothing is special. `]]>` is parted: no SVG may have it."""
+    """A text as gnuplot's string, in which nothing is special. `]]>` is parted: no SVG may have
+    it."""
     return "'" + words.replace("'", "''").replace("]]>", "]] >") + "'"
 
 
 def title_of(picture, columns):
-    """The lines of a title. Of a long one, what is fixed and what labels are have their own lines."""
+    """The lines of a title. Of a long one, what is fixed and what labels are have their own
+    lines."""
     labels = f"({picture.labels})" * bool(picture.labels)
     whole = f"{picture.title} {labels}".strip()
     if len(whole) <= columns:
@@ -45,7 +48,8 @@ def title_of(picture, columns):
 
 
 def legend_columns(picture, canvas):
-    """How many names of a legend above a narrow picture stand side by side, and in how many lines."""
+    """How many names of a legend above a narrow picture stand side by side, and in how many
+    lines."""
     sample = 9 if canvas.is_text else 10 if canvas.is_mono else 8
     broadest = max(len(line.name) for line in picture.lines) + sample
     beside = max(1, int((canvas.columns - (8 if canvas.is_text else 10)) / broadest))
@@ -172,8 +176,9 @@ def of_lines(picture, up, place, canvas):
 
 
 def labelled(front, across, up, area, canvas):
-    """The caches of the front whose labels, below them to the left where nothing else is, stay clear
-    of each other. The one that misses least comes first, then sizes that are powers of two."""
+    """The caches of the front whose labels, below them to the left where nothing else is, stay
+    clear of each other. The one that misses least comes first, then sizes that are powers of
+    two."""
 
     def apart(box, other):
         return box.left > other.right or other.left > box.right or box.bottom > other.top or other.bottom > box.top

@@ -153,7 +153,8 @@ def ticks(ends):
 
 
 def figure(picture, up, measure, mono):
-    """A picture as plotly has it, its title, and the horizontal ticks of a narrow and a wide page."""
+    """A picture as plotly has it, its title, and the horizontal ticks of a narrow and a wide
+    page."""
     few, many = (pictures.size_axis([point.x for point in picture.points], closest) for closest in (0.15, 0.05))
     picture = pictures.thinned_lines(picture, many, up, 1000, 500)
     places, words = ticks(up)

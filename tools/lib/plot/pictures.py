@@ -1,4 +1,5 @@
-"""What tools/plot draws: pictures of lines and points, their axes and ticks, for gnuplot and for a browser alike."""
+"""What tools/plot draws: pictures of lines and points, their axes and ticks, for gnuplot and for a
+browser alike."""
 
 import math
 from typing import NamedTuple
@@ -13,7 +14,8 @@ PALE, FRONT, BLACK = "#bbbbbb", "#d55e00", "#000000"
 
 
 class Point(NamedTuple):
-    """A cache in a picture: its place, what is said of it, its label, the ends over several seeds."""
+    """A cache in a picture: its place, what is said of it, its label, the ends over several
+    seeds."""
 
     x: int
     y: float
@@ -75,7 +77,8 @@ class Picture(NamedTuple):
 
 
 class Axis(NamedTuple):
-    """An axis: its ends, whether it is logarithmic, ticks with and without texts, where 0 stands."""
+    """An axis: its ends, whether it is logarithmic, ticks with and without texts, where 0
+    stands."""
 
     low: float
     high: float
@@ -128,7 +131,8 @@ def evenly(values, most=MOST_LINES):
 
 
 def linear_axis(greatest, closest, most):
-    """An axis from 0 to a bit above a value, whose ticks are at least a part `closest` of it apart."""
+    """An axis from 0 to a bit above a value, whose ticks are at least a part `closest` of it
+    apart."""
     high = 1.05 * greatest or 1.0
     power = 10.0 ** math.floor(math.log10(high * closest))
     step = next(step * power for step in (1, 2, 5, 10, 20) if step * power >= high * closest)
@@ -171,7 +175,8 @@ def log_axis(values, closest, most):
 
 
 def value_axis(points, measure, closest):
-    """The axis of the measure: logarithmic if the greatest value is at least five times the least."""
+    """The axis of the measure: logarithmic if the greatest value is at least five times the
+    least."""
     values = [value for point in points for value in (point.y, *point.ends)]
     above = [value for value in values if value]
     most = 100 if measure.is_percent and max(values) <= 100 else math.inf

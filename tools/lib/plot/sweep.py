@@ -46,7 +46,8 @@ def point(row, x):
 
 
 def cut(rows, step, steps):
-    """The rows of a line in runs, which end where the next row skips a step that other lines have."""
+    """The rows of a line in runs, which end where the next row skips a step that other lines
+    have."""
     runs = [[]]
     for row in rows:
         if runs[-1] and any(step(runs[-1][-1]) < other < step(row) for other in steps):
@@ -91,7 +92,8 @@ def by_ways(rows, bsize, measure):
 
 
 def by_block(rows, ways, measure):
-    """By block size at one associativity, a line for each cache size (of several block sizes, if any)."""
+    """By block size at one associativity, a line for each cache size (of several block sizes, if
+    any)."""
     rows = sorted(row for row in rows if row.assoc == ways)
     blocks = {row.bsize for row in rows}
     sizes = [row.size for row in rows]
@@ -112,7 +114,8 @@ def by_front(rows, measure):
 
 
 def fixed(values, wanted, usual, name, what):
-    """The block size or associativity of a picture: the wanted one, or that nearest to the usual."""
+    """The block size or associativity of a picture: the wanted one, or that nearest to the
+    usual."""
     values = sorted(set(values))
     if wanted is None:
         return pictures.nearest(values, usual)
@@ -133,8 +136,8 @@ def is_broad(picture):
 
 
 def drawn(asked, rows, measure):
-    """The pictures that are asked for. Without a wish these are three, the first a curve if there is
-    one number of sets, but for those that are a column whatever is chosen in a page."""
+    """The pictures that are asked for. Without a wish these are three, the first a curve if there
+    is one number of sets, but for those that are a column whatever is chosen in a page."""
     bsize = fixed((row.bsize for row in rows), asked.bsize, 64, asked.table, "the block size")
     ways = fixed((row.assoc for row in rows), asked.ways, 4, asked.table, "the associativity")
     first = "curve" if is_curve(rows) else "size"

@@ -1,10 +1,13 @@
-// A plugin of QEMU's user-mode emulation: puts the references of a program into the memory that trace-run reads (trace-memory.h).
+// A plugin of QEMU's user-mode emulation: puts the references of a program into the memory that
+// trace-run reads (trace-memory.h).
 //
-//     qemu-x86_64 -plugin out/trace-plugin.so[,map=FILE][,from=HEX][,to=HEX][,during=HEX],memory=FD PROGRAM ARGS..
+//     qemu-x86_64 -plugin out/trace-plugin.so[,map=FILE][,from=HEX][,to=HEX][,during=HEX],memory=FD
+//         PROGRAM ARGS..
 //
-// trace-run starts QEMU so, FD being the memory's descriptor; trace has the help. FILE gets what was loaded where. HEX is how far a
-// function is behind the start of the program's code. No descriptor is kept: the program may close those that it doesn't know, and open
-// its own files under their numbers.
+// trace-run starts QEMU so, FD being the memory's descriptor; trace has the help. FILE gets what
+// was loaded where. HEX is how far a function is behind the start of the program's code. No
+// descriptor is kept: the program may close those that it doesn't know, and open its own files
+// under their numbers.
 #include <errno.h>
 #include <limits.h>
 #include <pthread.h>
@@ -28,11 +31,14 @@ enum way { READ = 1, WRITE = 2, BOTH = 3 };
 struct qemu_info;
 
 void qemu_plugin_register_vcpu_tb_trans_cb(plugin_id, void (*)(plugin_id, struct qemu_plugin_tb *));
-void qemu_plugin_register_vcpu_insn_exec_cb(struct qemu_plugin_insn *, void (*)(unsigned cpu, void *), enum registers, void *);
-void qemu_plugin_register_vcpu_mem_cb(struct qemu_plugin_insn *, void (*)(unsigned cpu, uint32_t access, uint64_t address, void *),
-                                      enum registers, enum way, void *);
-void qemu_plugin_register_vcpu_syscall_cb(plugin_id, void (*)(plugin_id, unsigned cpu, int64_t number, uint64_t, uint64_t, uint64_t,
-                                                              uint64_t, uint64_t, uint64_t, uint64_t, uint64_t));
+void qemu_plugin_register_vcpu_insn_exec_cb(struct qemu_plugin_insn *,
+                                            void (*)(unsigned cpu, void *), enum registers, void *);
+void qemu_plugin_register_vcpu_mem_cb(
+    struct qemu_plugin_insn *, void (*)(unsigned cpu, uint32_t access, uint64_t address, void *),
+    enum registers, enum way, void *);
+void qemu_plugin_register_vcpu_syscall_cb(
+    plugin_id, void (*)(plugin_id, unsigned cpu, int64_t number, uint64_t, uint64_t, uint64_t,
+                        uint64_t, uint64_t, uint64_t, uint64_t, uint64_t));
 void qemu_plugin_register_atexit_cb(plugin_id, void (*)(plugin_id, void *), void *);
 size_t qemu_plugin_tb_n_insns(const struct qemu_plugin_tb *);
 struct qemu_plugin_insn *qemu_plugin_tb_get_insn(const struct qemu_plugin_tb *, size_t);
@@ -41,9 +47,11 @@ void *qemu_plugin_insn_haddr(const struct qemu_plugin_insn *);
 __attribute__((weak)) size_t qemu_plugin_insn_size(const struct qemu_plugin_insn *);
 __attribute__((weak)) char *qemu_plugin_insn_disas(const struct qemu_plugin_insn *);
 bool qemu_plugin_mem_is_store(uint32_t access);
-__attribute__((weak)) uint64_t qemu_plugin_start_code(void);  // from QEMU 7.1 on; it knows an answer while code is translated
+// from QEMU 7.1 on; it knows an answer while code is translated
+__attribute__((weak)) uint64_t qemu_plugin_start_code(void);
 
-// QEMU 9 and later want a version from 2 on. What is used here is the same in them; they are known by a call that came with version 2.
+// QEMU 9 and later want a version from 2 on. What is used here is the same in them; they are known
+// by a call that came with version 2.
 EXPORTED int qemu_plugin_version = 1;
 __attribute__((weak)) void *qemu_plugin_scoreboard_new(size_t);
 __attribute__((constructor)) static void choose_version(void) {
@@ -55,7 +63,7 @@ static struct memory *memory;
 // ---- The part of the run that is traced, from one function to another
 
 #define NOWHERE UINT64_MAX
-static uint64_t from = NOWHERE, to = NOWHERE;  // how far these functions are behind the start of the program's code
+static uint64_t from = NOWHERE, to = NOWHERE;  // how far behind the start of the program's code
 static _Atomic bool in_part;                   // one for all threads
 
 static void on_from(unsigned cpu, void *own) {
@@ -68,13 +76,13 @@ static void on_to(unsigned cpu, void *own) {
     in_part = false;
 }
 
-// ---- Or the calls of one function, of each thread from the function's first instruction to where that call returns
+// ---- Or the calls of one function: in each thread from its first instruction to where it returns
 
 static uint64_t during = NOWHERE;
-struct step { uint64_t begin, end; bool calls; };    // instructions that QEMU runs at one go; whether the last of them is a call
+struct step { uint64_t begin, end; bool calls; };  // run at one go; whether it ends with a call
 static __thread struct step last;
-static __thread uint64_t back;                       // where the outermost call returns to
-static __thread unsigned depth;                      // how many calls, one within the other, return there
+static __thread uint64_t back;                     // where the outermost call returns to
+static __thread unsigned depth;                    // how many calls, one in another, return there
 
 static void on_step(unsigned cpu, void *own) {
     const struct step *step = own;
@@ -92,7 +100,8 @@ static void on_step(unsigned cpu, void *own) {
 // The words of x86, arm and aarch64, and riscv.
 static bool is_call(const struct qemu_plugin_insn *instruction) {
     static const char *calls[] = {"call", "callq", "calll", "bl", "blr", "blx", "jal", "jalr"};
-    char *text = qemu_plugin_insn_disas(instruction), *rest = text, *word = text ? strsep(&rest, " \t") : "";
+    char *text = qemu_plugin_insn_disas(instruction), *rest = text;
+    char *word = text ? strsep(&rest, " \t") : "";
     bool is = false;
     while (rest && (!strcmp(word, "bnd") || !strcmp(word, "notrack"))) word = strsep(&rest, " \t");
     for (size_t i = 0; i < sizeof calls / sizeof *calls; i++) is |= !strcmp(word, calls[i]);
@@ -101,21 +110,25 @@ static bool is_call(const struct qemu_plugin_insn *instruction) {
 }
 
 static void watch_for_calls(struct qemu_plugin_tb *block, size_t count) {
-    struct qemu_plugin_insn *first = qemu_plugin_tb_get_insn(block, 0), *final = qemu_plugin_tb_get_insn(block, count - 1);
+    struct qemu_plugin_insn *first = qemu_plugin_tb_get_insn(block, 0);
+    struct qemu_plugin_insn *final = qemu_plugin_tb_get_insn(block, count - 1);
+    uint64_t end = qemu_plugin_insn_vaddr(final) + qemu_plugin_insn_size(final);
     struct step *step = malloc(sizeof *step);  // QEMU doesn't tell when it is no longer of use
     if (!step) abort();
-    *step = (struct step){qemu_plugin_insn_vaddr(first), qemu_plugin_insn_vaddr(final) + qemu_plugin_insn_size(final), is_call(final)};
+    *step = (struct step){qemu_plugin_insn_vaddr(first), end, is_call(final)};
     qemu_plugin_register_vcpu_insn_exec_cb(first, on_step, NO_REGISTERS, step);
 }
 
 static bool has_bounds(void) { return from != NOWHERE || to != NOWHERE || during != NOWHERE; }
 
-// Has the part begin or end before an instruction's fetch, which is registered later: QEMU calls in that order.
+// Has the part begin or end before an instruction's fetch: QEMU calls what is registered in order.
 static void watch_for_bounds(struct qemu_plugin_insn *instruction, uint64_t address) {
     if (!has_bounds()) return;
     uint64_t distance = address - qemu_plugin_start_code();
-    if (distance == to) qemu_plugin_register_vcpu_insn_exec_cb(instruction, on_to, NO_REGISTERS, NULL);
-    if (distance == from) qemu_plugin_register_vcpu_insn_exec_cb(instruction, on_from, NO_REGISTERS, NULL);
+    if (distance == to)
+        qemu_plugin_register_vcpu_insn_exec_cb(instruction, on_to, NO_REGISTERS, NULL);
+    if (distance == from)
+        qemu_plugin_register_vcpu_insn_exec_cb(instruction, on_from, NO_REGISTERS, NULL);
 }
 
 // ---- The blocks of a thread
@@ -149,7 +162,8 @@ static struct block *next_block(void) {
 static inline void put(char label, uint64_t address) {
     if (!atomic_load_explicit(&in_part, memory_order_relaxed) && !depth) return;
     struct block *block = mine;
-    if (!block || atomic_load_explicit(&block->used, memory_order_relaxed) == REFERENCES) block = next_block();
+    if (!block || atomic_load_explicit(&block->used, memory_order_relaxed) == REFERENCES)
+        block = next_block();
     if (!block) return;
     uint32_t at = atomic_load_explicit(&block->used, memory_order_relaxed);
     block->label[at] = label;
@@ -157,7 +171,7 @@ static inline void put(char label, uint64_t address) {
     atomic_store_explicit(&block->used, at + 1, memory_order_release);
 }
 
-// ---- The map: mappings as in /proc/PID/maps, at the program's own addresses, which QEMU may have moved
+// ---- The map: as /proc/PID/maps, at the program's own addresses, which QEMU may have moved
 
 enum { MAPPINGS = 4096 };
 static const char *map_name;  // NULL where no map is wanted
@@ -165,7 +179,7 @@ static struct { uint64_t from, to; } mapped[MAPPINGS];  // in QEMU's addresses
 static unsigned mapped_count;
 static bool has_stack;
 static bool lacks_lines;     // they could not be written
-static uint64_t first_data;  // the address of the program's very first data reference, which is of its stack
+static uint64_t first_data;  // where the program's very first data reference was: in its stack
 
 static bool is_mapped(uint64_t address) {
     for (unsigned i = 0; i < mapped_count; i++)
@@ -173,8 +187,8 @@ static bool is_mapped(uint64_t address) {
     return mapped_count == MAPPINGS;
 }
 
-// Remembers the files that were loaded since, and adds them to a map if it is there. So is the stack, of which an address is given.
-// Returns whether what is loaded could be read.
+// Remembers the files that were loaded since, and adds them to a map if it is there. So is the
+// stack, of which an address is given. Returns whether what is loaded could be read.
 static bool follow_mappings(FILE *map, uint64_t moved, uint64_t stack) {
     FILE *present = fopen("/proc/self/maps", "re");
     char line[PATH_MAX + 128];
@@ -189,7 +203,8 @@ static bool follow_mappings(FILE *map, uint64_t moved, uint64_t stack) {
             if (map) fprintf(map, "%lx-%lx%s", from - moved, to - moved, line + rest);
         } else if (map && stack && from - moved <= stack && stack < to - moved) {
             has_stack = true;
-            fprintf(map, "%lx-%lx%.*s [stack]\n", from - moved, to - moved, (int)strcspn(line + rest, "\n"), line + rest);
+            fprintf(map, "%lx-%lx%.*s [stack]\n", from - moved, to - moved,
+                    (int)strcspn(line + rest, "\n"), line + rest);
         }
     }
     fclose(present);
@@ -202,7 +217,8 @@ static void on_first_data(unsigned cpu, uint32_t access, uint64_t address, void 
 }
 
 static void add_to_map(const struct qemu_plugin_insn *instruction) {
-    uint64_t here = (uintptr_t)qemu_plugin_insn_haddr(instruction), stack = has_stack ? 0 : first_data;
+    uint64_t here = (uintptr_t)qemu_plugin_insn_haddr(instruction);
+    uint64_t stack = has_stack ? 0 : first_data;
     if (!stack && is_mapped(here)) return;
     pthread_mutex_lock(&lock);
     FILE *map = fopen(map_name, "ae");
@@ -216,18 +232,21 @@ static void add_to_map(const struct qemu_plugin_insn *instruction) {
 
 // ---- What QEMU calls
 
-// A block begins with a fetch, and what an instruction refers to stands behind its fetch: other threads don't come between, unless
-// it has more references than TOGETHER, or the part begins while it is executed.
+// A block begins with a fetch, and what an instruction refers to stands behind its fetch: other
+// threads don't come between, unless it has more references than TOGETHER, or the part begins while
+// it is executed.
 enum { TOGETHER = 128 };
 
 static void on_fetch(unsigned cpu, void *address) {
     (void)cpu;
-    if (mine && atomic_load_explicit(&mine->used, memory_order_relaxed) > REFERENCES - TOGETHER) hand_over();
+    if (mine && atomic_load_explicit(&mine->used, memory_order_relaxed) > REFERENCES - TOGETHER)
+        hand_over();
     put('2', (uintptr_t)address);
 }
 
-// The way of an access stands above its lowest 16 bits. An atomic instruction is one access in both ways where there are several
-// threads, for which the interface has no call: it tells that it is a store, and not that it reads.
+// The way of an access stands above its lowest 16 bits. An atomic instruction is one access in both
+// ways where there are several threads, for which the interface has no call: it tells that it is a
+// store, and not that it reads.
 static enum way way_of(uint32_t access) { return access >> 16 & BOTH; }
 
 static void on_data(unsigned cpu, uint32_t access, uint64_t address, void *own) {
@@ -247,16 +266,21 @@ static void on_translation(plugin_id id, struct qemu_plugin_tb *block) {
         struct qemu_plugin_insn *instruction = qemu_plugin_tb_get_insn(block, i);
         void *address = (void *)(uintptr_t)qemu_plugin_insn_vaddr(instruction);
         watch_for_bounds(instruction, (uintptr_t)address);
-        if (map_name && !first_data) qemu_plugin_register_vcpu_mem_cb(instruction, on_first_data, NO_REGISTERS, BOTH, NULL);
-        if (memory->kind != 'd') qemu_plugin_register_vcpu_insn_exec_cb(instruction, on_fetch, NO_REGISTERS, address);
-        if (memory->kind != 'i') qemu_plugin_register_vcpu_mem_cb(instruction, on_data, NO_REGISTERS, BOTH, NULL);
+        if (map_name && !first_data)
+            qemu_plugin_register_vcpu_mem_cb(instruction, on_first_data, NO_REGISTERS, BOTH, NULL);
+        if (memory->kind != 'd')
+            qemu_plugin_register_vcpu_insn_exec_cb(instruction, on_fetch, NO_REGISTERS, address);
+        if (memory->kind != 'i')
+            qemu_plugin_register_vcpu_mem_cb(instruction, on_data, NO_REGISTERS, BOTH, NULL);
     }
 }
 
-// What a thread did before a system call stands before what others do after it, and nothing waits in a thread that sleeps or ends.
-static void on_system_call(plugin_id id, unsigned cpu, int64_t number, uint64_t a, uint64_t b, uint64_t c, uint64_t d, uint64_t e,
-                           uint64_t f, uint64_t g, uint64_t h) {
-    (void)id, (void)cpu, (void)number, (void)a, (void)b, (void)c, (void)d, (void)e, (void)f, (void)g, (void)h;
+// What a thread did before a system call stands before what others do after it, and nothing waits
+// in a thread that sleeps or ends.
+static void on_system_call(plugin_id id, unsigned cpu, int64_t number, uint64_t a, uint64_t b,
+                           uint64_t c, uint64_t d, uint64_t e, uint64_t f, uint64_t g, uint64_t h) {
+    (void)id, (void)cpu, (void)number;
+    (void)a, (void)b, (void)c, (void)d, (void)e, (void)f, (void)g, (void)h;
     hand_over();
 }
 
@@ -284,22 +308,26 @@ static int refuse(const char *why) {
 
 static bool take(const char *word, int *descriptor) {
     if (!strncmp(word, "map=", 4)) return (map_name = strdup(word + 4)) != NULL;
-    return sscanf(word, "from=%lx", &from) == 1 || sscanf(word, "to=%lx", &to) == 1 || sscanf(word, "during=%lx", &during) == 1 ||
-           sscanf(word, "memory=%d", descriptor) == 1;
+    return sscanf(word, "from=%lx", &from) == 1 || sscanf(word, "to=%lx", &to) == 1 ||
+           sscanf(word, "during=%lx", &during) == 1 || sscanf(word, "memory=%d", descriptor) == 1;
 }
 
-EXPORTED int qemu_plugin_install(plugin_id id, const struct qemu_info *info, int count, char **words) {
+EXPORTED int qemu_plugin_install(plugin_id id, const struct qemu_info *info, int count,
+                                 char **words) {
     (void)info;
     int descriptor = -1, taken = 0;
     while (taken < count && take(words[taken], &descriptor)) taken++;
     if (taken < count || descriptor < 0) return refuse("memory=FD is wanted; tools/trace uses it");
-    if (has_bounds() && !qemu_plugin_start_code) return refuse("--from, --to and --during want QEMU 7.1 or later");
+    if (has_bounds() && !qemu_plugin_start_code)
+        return refuse("--from, --to and --during want QEMU 7.1 or later");
     memory = mmap(NULL, sizeof *memory, PROT_READ | PROT_WRITE, MAP_SHARED, descriptor, 0);
     if (memory == MAP_FAILED) return refuse("no shared memory");
     close(descriptor);
-    if (memory->layout != LAYOUT) return refuse("not compiled together with trace-run: remove both from the folder out");
-    bool as_known = qemu_plugin_mem_is_store(WRITE << 16) && !qemu_plugin_mem_is_store(~(WRITE << 16));
-    if (!as_known) return refuse("this QEMU tells reads and writes in another way");
+    if (memory->layout != LAYOUT)
+        return refuse("not compiled together with trace-run: remove both from the folder out");
+    uint32_t store = WRITE << 16;
+    if (!qemu_plugin_mem_is_store(store) || qemu_plugin_mem_is_store(~store))
+        return refuse("this QEMU tells reads and writes in another way");
     if (map_name) follow_mappings(NULL, 0, 0);  // QEMU's own
     in_part = memory->began = from == NOWHERE && during == NOWHERE;
     pthread_atfork(before_fork, in_forking_parent, in_forked_child);

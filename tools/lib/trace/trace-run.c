@@ -1,12 +1,16 @@
-// Runs a program under a tracer and writes its references as din lines: the inner half of trace, which has the help.
+// Runs a program under a tracer and writes its references as din lines: the inner half of trace,
+// which has the help.
 //
-//     trace-run FD NAME KIND SKIP COUNT qemu FROM PLUGIN QEMU WORD..            takes them from trace-plugin.c, by a memory that both share
-//     trace-run FD NAME KIND SKIP COUNT lines IN OUT CONVERTER TRACER WORD..    takes them as din lines from the descriptor IN
+//     trace-run FD NAME KIND SKIP COUNT qemu FROM PLUGIN QEMU WORD..
+//     trace-run FD NAME KIND SKIP COUNT lines IN OUT CONVERTER TRACER WORD..
 //
-// The trace goes to the descriptor FD; NAME is for messages. SKIP references of the KIND are omitted, and the program is ended after
-// COUNT more; a COUNT of 0 means no limit. FROM is the function with which the trace begins, for messages. OUT is a descriptor that
-// only the tracer is to keep, for the child CONVERTER of this process, which writes the lines. trace-run ends with the program's status,
-// 128 and the number of the signal that ended it, or 125 or 126 for a fault.
+// The first takes them from trace-plugin.c, by a memory that both share, the second as din lines
+// from the descriptor IN. The trace goes to the descriptor FD; NAME is for messages. SKIP
+// references of the KIND are omitted, and the program is ended after COUNT more; a COUNT of 0 means
+// no limit. FROM is the function with which the trace begins, for messages. OUT is a descriptor
+// that only the tracer is to keep, for the child CONVERTER of this process, which writes the lines.
+// trace-run ends with the program's status, 128 and the number of its last signal, or 125 or 126
+// for a fault.
 #define _GNU_SOURCE
 #include <err.h>
 #include <errno.h>
@@ -22,10 +26,11 @@
 #include <unistd.h>
 #include "trace-memory.h"
 
-enum { OWN_FAULT = 125, CANNOT_RUN = 126, TEXT = 1 << 20, LONGEST = sizeof "0 0123456789abcdef", PATIENCE = 2 };
+enum { OWN_FAULT = 125, CANNOT_RUN = 126, TEXT = 1 << 20, PATIENCE = 2 };
+enum { LONGEST = sizeof "0 0123456789abcdef" };
 
 static struct memory *memory;               // where QEMU is the tracer
-static volatile pid_t program, converter;   // each 0 after its end; a converter is there where another is the tracer
+static volatile pid_t program, converter;   // each 0 after its end; QEMU needs no converter
 static volatile int status;                 // of the program's end
 static volatile bool converter_failed;
 static bool ran;                            // there was a reference
@@ -36,7 +41,7 @@ static sem_t ends;                          // of these processes, for who waits
 static int trace;
 static const char *trace_name;
 static char kind;
-static uint64_t skip, count;  // how many references are to be left out still, and how many to be written
+static uint64_t skip, count;  // how many references are still to be left out, and to be written
 static bool skips;            // some were to be left out
 static bool wrote;            // a reference was not
 static char text[TEXT];
@@ -65,7 +70,7 @@ static void drain(void) {
     used = 0;
 }
 
-// Ends the trace in a line that is no din line: what reads the trace doesn't take it for a whole one.
+// Ends the trace in a line that is no din line: who reads it doesn't take it for a whole one.
 static void put_mark(const char *message) {
     used = (size_t)snprintf(text, TEXT, "%s: %s\n", program_invocation_short_name, message);
     drain();
@@ -78,15 +83,17 @@ static _Noreturn void fail(int own_status, const char *message) {
     exit(own_status);
 }
 
-// Whether a reader may take what was written for the whole trace without knowing how this process ended.
+// Whether a reader may take what was written for the whole trace, whatever ended this process.
 static bool goes_to_a_pipe(void) {
     struct stat of;
     return !fstat(trace, &of) && (S_ISFIFO(of.st_mode) || S_ISSOCK(of.st_mode));
 }
 
-// Leaves a process that ends the trace in a line which is not a din line, when its reader has room for that. Called in a handler.
+// Leaves a process that ends the trace in a line which is not a din line, when its reader has room
+// for that. Called in a handler.
 static void leave_mark(void) {
-    static const char mark[] = "\ntrace: a signal ended it: what stands above is not all\n";  // what was written may end within a line
+    // what was written may end within a line
+    static const char mark[] = "\ntrace: a signal ended it: what stands above is not all\n";
     sigset_t none;
     if (!goes_to_a_pipe() || fork()) return;
     for (int standard = 0; standard < 3; standard++) close(standard);
@@ -101,7 +108,8 @@ static char three_digits[4096][4];  // of each number below 4096, and a byte of 
 
 static void make_digits(void) {
     for (unsigned i = 0; i < 4096; i++)
-        for (unsigned place = 0; place < 3; place++) three_digits[i][place] = "0123456789abcdef"[i >> (8 - 4 * place) & 15];
+        for (unsigned place = 0; place < 3; place++)
+            three_digits[i][place] = "0123456789abcdef"[i >> (8 - 4 * place) & 15];
 }
 
 // Writes up to LONGEST bytes, of which those behind the line don't matter.
@@ -164,16 +172,18 @@ static void follow_blocks(void) {
     for (bool last = false; !last;) {
         sem_wait(&memory->full);  // the program's end counts as a block
         last = !program;
-        for (; taken != atomic_load(&memory->handed_over); taken++) empty_block(memory->order[taken % BLOCKS]);
+        for (; taken != atomic_load(&memory->handed_over); taken++)
+            empty_block(memory->order[taken % BLOCKS]);
         drain();
     }
-    for (size_t i = 0; i < BLOCKS; i++) write_block(&memory->blocks[i]);  // what threads had begun when they were killed
+    for (size_t i = 0; i < BLOCKS; i++) write_block(&memory->blocks[i]);  // of killed threads
     drain();
 }
 
 static int share_memory(void) {
     int descriptor = memfd_create("references", 0);
-    if (descriptor < 0 || ftruncate(descriptor, sizeof *memory)) fail(OWN_FAULT, "no memory to share");
+    if (descriptor < 0 || ftruncate(descriptor, sizeof *memory))
+        fail(OWN_FAULT, "no memory to share");
     memory = mmap(NULL, sizeof *memory, PROT_READ | PROT_WRITE, MAP_SHARED, descriptor, 0);
     if (memory == MAP_FAILED) fail(OWN_FAULT, "no memory to share");
     memory->layout = LAYOUT;
@@ -231,8 +241,9 @@ static void take_ended(void) {
     sem_post(memory ? &memory->full : &ends);
 }
 
-// A signal from a terminal goes to the program as well; one that was sent to this process is passed on. After the program's end it
-// ends this process, which may wait for a reader; but in some time, as the program has often just ended by it, for its last lines.
+// A signal from a terminal goes to the program as well; one that was sent to this process is passed
+// on. After the program's end it ends this process, which may wait for a reader; but in some time,
+// as the program has often just ended by it, for its last lines.
 static void on_signal(int number, siginfo_t *info, void *context) {
     static volatile sig_atomic_t late;
     (void)context;
@@ -254,11 +265,13 @@ static void on_signal(int number, siginfo_t *info, void *context) {
 }
 
 static void watch_signals(void) {
-    struct sigaction action = {.sa_sigaction = on_signal, .sa_flags = SA_SIGINFO | SA_RESTART | SA_NOCLDSTOP};
+    struct sigaction action = {.sa_sigaction = on_signal,
+                               .sa_flags = SA_SIGINFO | SA_RESTART | SA_NOCLDSTOP};
     sigfillset(&action.sa_mask);
     sigaction(SIGCHLD, &action, NULL);
     sigaction(SIGALRM, &action, NULL);
-    for (size_t i = 0; i < sizeof passed_on / sizeof *passed_on; i++) sigaction(passed_on[i], &action, NULL);
+    for (size_t i = 0; i < sizeof passed_on / sizeof *passed_on; i++)
+        sigaction(passed_on[i], &action, NULL);
     signal(SIGPIPE, SIG_IGN);  // a failing write tells it
     signal(SIGXFSZ, SIG_IGN);
 }
@@ -286,13 +299,14 @@ static void start(char **words) {
 
 // Whether a signal to this process kept the program from going to its end.
 static bool is_cut(void) {
-    bool is_own = stopped == SIGUSR1 || stopped == SIGUSR2;  // which programs take for their own purposes
+    bool is_own = stopped == SIGUSR1 || stopped == SIGUSR2;  // which programs use themselves
     return stopped && !closed && (WIFSIGNALED(status) || (!is_own && WEXITSTATUS(status)));
 }
 
 static int judged(void) {
     if (converter_failed) fail(OWN_FAULT, "the tracer's lines can't be converted");
-    if (!closed && !ran) fail(CANNOT_RUN, "the program can't be run: see the message of its tracer");
+    if (!closed && !ran)
+        fail(CANNOT_RUN, "the program can't be run: see the message of its tracer");
     if (is_cut() && goes_to_a_pipe()) {
         put_mark("a signal ended it: what stands above is not all");
     } else if (skips && !wrote && !fault && !stopped) {
@@ -308,8 +322,10 @@ static int judged(void) {
     if (fault) err(OWN_FAULT, "%s", trace_name);
     if (closed) return 0;
     if (WIFSIGNALED(status)) return 128 + WTERMSIG(status);
-    if (memory && !memory->exited) warnx("the program became another by exec, and what that did is not in the trace");
-    if (memory && memory->forked) warnx("the program forked, and what its children did is not in the trace");
+    if (memory && !memory->exited)
+        warnx("the program became another by exec, and what that did is not in the trace");
+    if (memory && memory->forked)
+        warnx("the program forked, and what its children did is not in the trace");
     return WEXITSTATUS(status);
 }
 
@@ -318,8 +334,10 @@ static void trace_by_qemu(char **words) {
     int descriptor = share_memory();
     char *plugin, *never, *jumped, *no_map;
     if (asprintf(&plugin, "%s,memory=%d", words[2], descriptor) < 0 ||
-        asprintf(&jumped, "a jump led to %s, not a call: -fno-optimize-sibling-calls makes them calls", words[1]) < 0 ||
-        asprintf(&never, "%s was never called, or only inlined", words[1]) < 0) fail(OWN_FAULT, "no memory");
+        asprintf(&jumped, "a jump led to %s, not a call: "
+                          "-fno-optimize-sibling-calls makes them calls", words[1]) < 0 ||
+        asprintf(&never, "%s was never called, or only inlined", words[1]) < 0)
+        fail(OWN_FAULT, "no memory");
     char *first[] = {words[3], "-plugin", plugin};
     memcpy(words + 1, first, sizeof first);
     start(words + 1);
@@ -331,7 +349,8 @@ static void trace_by_qemu(char **words) {
     if (ran && !memory->began) fail(OWN_FAULT, never);
     if (memory->jumped) fail(OWN_FAULT, jumped);
     if (!memory->map_fault) return;
-    if (asprintf(&no_map, "the map can't be written: %s", strerror(memory->map_fault)) < 0) fail(OWN_FAULT, "no memory");
+    if (asprintf(&no_map, "the map can't be written: %s", strerror(memory->map_fault)) < 0)
+        fail(OWN_FAULT, "no memory");
     fail(OWN_FAULT, no_map);
 }
 
