@@ -1,11 +1,9 @@
-// Writes another tool's memory trace as din lines: the fast half of to-din, whose head has the
-// help.
+// Writes another tool's memory trace as din lines: the fast half of to-din, which has the help.
 //
 //     to-din FORMAT < TRACE > TRACE.din
 //
-// To add a format, write a function that reads one of its lines and puts the accesses that it tells
-// of, give it a row in `formats`, and say in the help of to-din how such a trace is made and which
-// lines are skipped.
+// To add a format, write a function that reads one of its lines and puts its accesses, give it a
+// row in `formats`, and say in to-din's help how such a trace is made and which lines are skipped.
 #include <errno.h>
 #include <stdarg.h>
 #include <stdbool.h>
@@ -15,7 +13,8 @@
 #include <string.h>
 #include <unistd.h>
 
-enum { PIECE = 1 << 18, LONGEST = 1 << 24, RECORD = 64, SHOWN = 60, ACCESS = sizeof "0 0123456789abcdef" };
+enum { PIECE = 1 << 18, LONGEST = 1 << 24, RECORD = 64, SHOWN = 60 };
+enum { ACCESS = sizeof "0 0123456789abcdef" };
 enum label { READ, WRITE, FETCH };
 
 static const char *name = "to-din";
@@ -29,16 +28,14 @@ static int failure = 1;  // the exit status after a fault
 // ---- Writing
 
 static void drain(void) {
-    size_t wrote = fwrite(output, 1, used, stdout);
-    if (wrote < used) {
+    if (fwrite(output, 1, used, stdout) < used) {
         fprintf(stderr, "%s: write failed: %s\n", name, strerror(errno));
         exit(1);
     }
     used = 0;
 }
 
-// Ends with a line on standard error. What came before is not the whole trace, which to-din makes
-// plain at the end of the output.
+// Ends with a line on standard error. to-din ends the output in a line that is no din line.
 static _Noreturn void fail(const char *form, ...) {
     char line[256];
     va_list values;
@@ -65,14 +62,13 @@ static void put(enum label label, uint64_t address) {
 
 // ---- The parts of a line
 
-// What is left of a line. At its end stands an LF, at which whatever is read ends, so that few need
-// to compare with `end`.
+// What is left of a line. Its end is an LF, at which whatever is read ends: few compare with `end`.
 struct line { const char *at, *end; };
 
 // a hexadecimal digit's value plus 1; 0 for other bytes
 static const unsigned char digit_of[256] = {
-    ['0'] = 1, ['1'] = 2, ['2'] = 3, ['3'] = 4, ['4'] = 5, ['5'] = 6, ['6'] = 7, ['7'] = 8, ['8'] = 9, ['9'] = 10,
-    ['a'] = 11, ['b'] = 12, ['c'] = 13, ['d'] = 14, ['e'] = 15, ['f'] = 16,
+    ['0'] = 1, ['1'] = 2, ['2'] = 3, ['3'] = 4, ['4'] = 5, ['5'] = 6, ['6'] = 7, ['7'] = 8,
+    ['8'] = 9, ['9'] = 10, ['a'] = 11, ['b'] = 12, ['c'] = 13, ['d'] = 14, ['e'] = 15, ['f'] = 16,
     ['A'] = 11, ['B'] = 12, ['C'] = 13, ['D'] = 14, ['E'] = 15, ['F'] = 16,
 };
 
@@ -127,8 +123,7 @@ static bool decimal(struct line *line, uint64_t *value) {
     return at > from;
 }
 
-// ---- The formats: each function returns whether a line is one of its format, and puts the line's
-// accesses
+// ---- The formats: each tells whether a line is one of its format, and puts the line's accesses
 
 // 7ffd1230
 static bool addresses(struct line line) {
@@ -146,8 +141,7 @@ static uint64_t little_endian(const char *bytes) {
     return value;
 }
 
-// 64 bytes: the instruction, whether it is a branch, whether that was taken, 6 registers, 2 places
-// written, 4 read; 0 is no place
+// 64 bytes: the instruction, two of a branch, 6 registers, 2 places written, 4 read; 0 is no place
 static bool champsim(struct line record) {
     if ((record.at[8] | record.at[9]) & ~1) return false;
     put(FETCH, little_endian(record.at));
@@ -166,7 +160,7 @@ static bool drmemtrace_thread(struct line *line) {
         blanks(line);
     }
     const char *from = line->at;
-    while (is_digit(*line->at) || *line->at == 'T' || *line->at == 'W' || *line->at == '.') line->at++;
+    line->at += strspn(from, "0123456789TW.");
     return line->at > from && blanks(line);
 }
 
@@ -185,13 +179,15 @@ static bool drmemtrace(struct line line) {
     uint64_t size, at;
     blanks(&line);
     struct line whole = line;
-    if (begins(line, "<") || begins(line, "---") || begins(line, "Output format:") || begins(line, "View tool ")) return true;
-    if (!drmemtrace_thread(&line)) return decimal(&whole, &size) && blanks(&whole) && text(&whole, ": total ");
-    bool passed = begins(line, "<") || begins(line, "pref") || begins(line, "iflush ") || begins(line, "dflush ");
-    if (passed || drmemtrace_bytes(line)) return true;
+    if (begins(line, "<") || begins(line, "---") || begins(line, "Output format:") ||
+        begins(line, "View tool ")) return true;
+    if (!drmemtrace_thread(&line))
+        return decimal(&whole, &size) && blanks(&whole) && text(&whole, ": total ");
+    if (begins(line, "<") || begins(line, "pref") || begins(line, "iflush ") ||
+        begins(line, "dflush ") || drmemtrace_bytes(line)) return true;
     bool fetches = text(&line, "ifetch"), writes = !fetches && text(&line, "write");
-    if (!(fetches || writes || text(&line, "read")) || !blanks(&line) || !decimal(&line, &size) || !text(&line, " byte(s) @ ") ||
-        !address(&line, &at) || !word_ended(&line)) return false;
+    if (!(fetches || writes || text(&line, "read")) || !blanks(&line) || !decimal(&line, &size) ||
+        !text(&line, " byte(s) @ ") || !address(&line, &at) || !word_ended(&line)) return false;
     if (!begins(line, " non-fetched instruction")) put(fetches ? FETCH : writes ? WRITE : READ, at);
     return true;
 }
@@ -208,15 +204,16 @@ static bool execlog_disassembly(struct line *line) {
 static bool execlog(struct line line) {
     uint64_t processor, instruction, code, data;
     if (begins(line, "#")) return true;
-    if (!decimal(&line, &processor) || !text(&line, ", ") || !address(&line, &instruction) || !text(&line, ", ") ||
-        !address(&line, &code) || !text(&line, ", \"") || !execlog_disassembly(&line)) return false;
+    if (!decimal(&line, &processor) || !text(&line, ", ") || !address(&line, &instruction) ||
+        !text(&line, ", ") || !address(&line, &code) || !text(&line, ", \"") ||
+        !execlog_disassembly(&line)) return false;
     put(FETCH, instruction);
     while (!ended(&line)) {
         if (!text(&line, ", ")) return false;
         const char *from = line.at;
         while (!ended(&line) && *line.at != ',') line.at++;
-        size_t length = (size_t)(line.at - from);
-        bool reads = length == 4 && !memcmp(from, "load", length), writes = length == 5 && !memcmp(from, "store", length);
+        bool reads = line.at - from == 4 && !memcmp(from, "load", 4);
+        bool writes = line.at - from == 5 && !memcmp(from, "store", 5);
         if (!reads && !writes) continue;  // the name of a device, or a register
         if (!text(&line, ", ") || !address(&line, &data)) return false;
         put(writes ? WRITE : READ, data);
@@ -227,7 +224,7 @@ static bool execlog(struct line line) {
 // [5,]r,2147483648,64[,256],1000[,4198400]
 static bool gem5(struct line line) {
     enum { INST_FETCH = 0x100 };
-    uint64_t id, fields[5] = {0};  // address, size, and then tick, or flags and tick, or flags, tick and program counter
+    uint64_t id, fields[5] = {0};  // address, size; tick, or flags and tick[, program counter]
     int count = 0;
     if (is_digit(*line.at) && !(decimal(&line, &id) && text(&line, ","))) return false;
     bool reads = text(&line, "r"), writes = !reads && text(&line, "w");
@@ -246,8 +243,10 @@ static bool lackey(struct line line) {
     if (begins(line, "=") || begins(line, "-") || begins(line, "*")) return true;
     blanks(&line);
     char kind = *line.at++;
-    bool fetches = kind == 'I', reads = kind == 'L' || kind == 'M', writes = kind == 'S' || kind == 'M';
-    if (!(fetches || reads || writes) || !blanks(&line) || !hexadecimal(&line, &at) || !text(&line, ",")) return false;
+    bool fetches = kind == 'I', reads = kind == 'L' || kind == 'M';
+    bool writes = kind == 'S' || kind == 'M';
+    if (!(fetches || reads || writes) || !blanks(&line) || !hexadecimal(&line, &at) ||
+        !text(&line, ",")) return false;
     const char *from = line.at;
     if (!decimal(&line, &size) || line.at - from > 9 || !word_ended(&line)) return false;
     if (fetches) put(FETCH, at);
@@ -263,13 +262,13 @@ static bool memtrace(struct line line) {
     if (!address(&line, &at)) return false;
     if (text(&line, ",")) {
         bool writes = text(&line, "w");
-        if (!(writes || text(&line, "r")) || !text(&line, ",") || !decimal(&line, &size) || !text(&line, ",") ||
-            !address(&line, &at) || !ended(&line)) return false;
+        if (!(writes || text(&line, "r")) || !text(&line, ",") || !decimal(&line, &size) ||
+            !text(&line, ",") || !address(&line, &at) || !ended(&line)) return false;
         put(writes ? WRITE : READ, at);
         return true;
     }
-    if (!text(&line, ":") || !blanks(&line) || !decimal(&line, &size) || !text(&line, ", ")) return false;
-    if (!is_letter(*line.at) && *line.at != '<') return false;
+    if (!text(&line, ":") || !blanks(&line) || !decimal(&line, &size) || !text(&line, ", ") ||
+        (!is_letter(*line.at) && *line.at != '<')) return false;
     bool letter = line.end - line.at == 1;  // any other word than r and w is an instruction's name
     put(letter && *line.at == 'r' ? READ : letter && *line.at == 'w' ? WRITE : FETCH, at);
     return true;
@@ -291,13 +290,13 @@ static bool pin(struct line line) {
     if (!(writes || text(&line, "R")) || !blanks(&line)) return false;
     fill(&line);
     if (!(text(&line, "(nil)") || address(&line, &data))) return false;
-    if (!ended(&line) && !(blanks(&line) && decimal(&line, &size) && word_ended(&line))) return false;
+    if (!ended(&line) && !(blanks(&line) && decimal(&line, &size) && word_ended(&line)))
+        return false;
     put(writes ? WRITE : READ, data);
     return true;
 }
 
-// the name of a register, x10 (of older versions 'x 5') or c768_mstatus; or a vector's settings,
-// e32 m1 l4
+// a register's name, x10 (of old versions 'x 5') or c768_mstatus; or vector settings, e32 m1 l4
 static bool spike_name(struct line *line) {
     if (!*line->at || !strchr("xfvcelm", *line->at)) return false;
     if (!text(line, "mf")) line->at++;
@@ -321,22 +320,24 @@ static bool spike(struct line line) {
         blanks(&line);
         if (!decimal(&line, &core) || !text(&line, ": ")) return false;
         blanks(&line);
-        if (begins(line, ">>>>") || begins(line, "Executed ") || begins(line, "exception ") || begins(line, "tval ")) return true;
+        if (begins(line, ">>>>") || begins(line, "Executed ") || begins(line, "exception ") ||
+            begins(line, "tval ")) return true;
     }
     bool privilege = is_digit(line.at[0]) && line.at[1] == ' ';
     if (privilege) line.at += 2;
-    if (!address(&line, &at) || !text(&line, " (") || !address(&line, &code) || !text(&line, ")")) return false;
+    if (!address(&line, &at) || !text(&line, " (") || !address(&line, &code) ||
+        !text(&line, ")")) return false;
     struct line rest = line;
-    bool disassembled = !privilege && blanks(&rest) && is_letter(*rest.at) && !begins(rest, "mem") && !spike_name(&rest);
-    if (disassembled) return true;
+    if (!privilege && blanks(&rest) && is_letter(*rest.at) && !begins(rest, "mem") &&
+        !spike_name(&rest)) return true;  // disassembled
     put(FETCH, at);
     while (!ended(&line)) {
         if (!blanks(&line)) return false;
-        bool accesses = text(&line, "mem "), sets = !accesses && strchr("elm", *line.at);
-        if (!(accesses ? address(&line, &at) && word_ended(&line) : spike_name(&line))) return false;
-        bool valued = accesses ? begins(line, " 0x") : !sets;
+        bool memory = text(&line, "mem "), sets = !memory && strchr("elm", *line.at);
+        if (memory ? !address(&line, &at) || !word_ended(&line) : !spike_name(&line)) return false;
+        bool valued = memory ? begins(line, " 0x") : !sets;
         if (valued && !spike_value(&line)) return false;
-        if (accesses) put(valued ? WRITE : READ, at);
+        if (memory) put(valued ? WRITE : READ, at);
     }
     return true;
 }
@@ -362,7 +363,8 @@ static const struct format {
 static const char *shown(struct line line) {
     static char start[SHOWN + 1];
     size_t length = 0;
-    for (; length < SHOWN && !ended(&line); line.at++) start[length++] = *line.at >= ' ' && *line.at <= '~' ? *line.at : '?';
+    for (; length < SHOWN && !ended(&line); line.at++)
+        start[length++] = *line.at >= ' ' && *line.at <= '~' ? *line.at : '?';
     return start;
 }
 
@@ -372,7 +374,8 @@ static size_t lines(const struct format *format, size_t held) {
     for (; (feed = memchr(from, '\n', (size_t)(input + held - from))); from = feed + 1, number++) {
         for (end = feed; end > from && (is_blank(end[-1]) || end[-1] == '\r');) *--end = '\n';
         struct line line = {from, end};
-        if (!ended(&line) && !format->takes(line)) fail("line %ju: not a line of %s: %s", number + 1, format->whose, shown(line));
+        if (!ended(&line) && !format->takes(line))
+            fail("line %ju: not a line of %s: %s", number + 1, format->whose, shown(line));
     }
     return (size_t)(from - input);
 }
@@ -381,18 +384,20 @@ static size_t lines(const struct format *format, size_t held) {
 static size_t records(const struct format *format, size_t held) {
     const char *from = input;
     for (; input + held - from >= RECORD; from += RECORD, number++)
-        if (!format->takes((struct line){from, from + RECORD})) fail("record %ju: not a record of %s", number + 1, format->whose);
+        if (!format->takes((struct line){from, from + RECORD}))
+            fail("record %ju: not a record of %s", number + 1, format->whose);
     return (size_t)(from - input);
 }
 
 static int convert(const struct format *format) {
     bool binary = format->takes == champsim;
+    const char *unit = binary ? "record" : "line";
     size_t held = 0;
     ssize_t got;
     do {
         if (held == LONGEST) fail("line %ju: %d bytes or more", number + 1, LONGEST);
         got = read(STDIN_FILENO, input + held, LONGEST - held < PIECE ? LONGEST - held : PIECE);
-        if (got < 0) fail("%s %ju: read failed: %s", binary ? "record" : "line", number + 1, strerror(errno));
+        if (got < 0) fail("%s %ju: read failed: %s", unit, number + 1, strerror(errno));
         held += (size_t)got;
         if (!got && held && !binary) input[held++] = '\n';  // the last line may be without it
         size_t taken = binary ? records(format, held) : lines(format, held);
@@ -405,10 +410,11 @@ static int convert(const struct format *format) {
 }
 
 int main(int count, char **words) {
+    const char *asked = count == 2 ? words[1] : "that";
     if (count) name = words[0];
     setvbuf(stdout, NULL, _IONBF, 0);
-    for (size_t i = 0; count == 2 && i < sizeof formats / sizeof *formats; i++)
-        if (!strcmp(words[1], formats[i].name)) return convert(&formats[i]);
+    for (size_t i = 0; i < sizeof formats / sizeof *formats; i++)
+        if (!strcmp(asked, formats[i].name)) return convert(&formats[i]);
     failure = 2;
-    fail("%.99s is no format; '%.99s --help' explains the arguments", count == 2 ? words[1] : "that", name);
+    fail("%.99s is no format; '%.99s --help' explains the arguments", asked, name);
 }

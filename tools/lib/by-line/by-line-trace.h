@@ -2,14 +2,13 @@
 // part of by-line.c, which has read what it needs.
 //
 // The logs get each line, but an empty one in the place of a line whose reference no first-level
-// cache takes. A line that is in any way unusual is handed out as it is, and judged by `cachesim
-// log`.
+// cache takes. A line that is in any way unusual is handed out as it is: `cachesim log` judges it.
 
 // ---- The lines of the trace
 
 enum { UNKNOWN = UINT32_MAX };
 static bool is_lackey, takes_data, takes_fetches;
-static uint64_t fetched = UINT64_MAX;  // the address of the last fetch; before the first one that of no instruction
+static uint64_t fetched = UINT64_MAX;  // of the last fetch; at first that of no instruction
 static uint32_t counter_fetched;       // its number, or UNKNOWN
 
 static void hand(uint64_t address) {
@@ -40,14 +39,16 @@ static bool is_plain(const char *address, const char *at) {
 static const char *take_references(const char *line, bool *is_left_out) {
     const char *label = past_blanks(line), *from = past_blanks(label + 1);
     bool is_fetch = *label == (is_lackey ? 'I' : '2');
-    bool is_data = is_lackey ? *label == 'L' || *label == 'S' || *label == 'M' : *label == '0' || *label == '1';
+    bool is_data = is_lackey ? *label == 'L' || *label == 'S' || *label == 'M'
+                             : *label == '0' || *label == '1';
     *is_left_out = false;
     if (!is_fetch && !is_data) return rawmemchr(label, '\n');
     uint64_t address;
     if (!is_lackey && *from == '0' && (from[1] | ' ') == 'x') from += 2;
     const char *at = hexadecimal(from, &address);
     if (is_fetch && address != fetched) fetched = address, counter_fetched = UNKNOWN;
-    *is_left_out = !(is_fetch ? takes_fetches : takes_data) && from > label + 1 && is_plain(from, at);
+    bool is_taken = is_fetch ? takes_fetches : takes_data;
+    *is_left_out = !is_taken && from > label + 1 && is_plain(from, at);
     if (!*is_left_out) hand(address);
     if (!*is_left_out && *label == 'M') hand(address);
     return rawmemchr(at, '\n');
@@ -65,7 +66,7 @@ static struct log logs[2] = {{.to = -1, .from = -1}, {.to = -1, .from = -1}};
 static int log_count;
 static struct {
     char text[ROOM + 1];
-    size_t ready, rest, used;  // what is to be handed out; where what is not yet taken begins, and ends
+    size_t ready, rest, used;  // what is handed out; where what is not yet taken begins, and ends
     uint64_t lines;
 } trace;
 

@@ -37,10 +37,12 @@ static void *grown(void *memory, size_t size) {
 }
 
 static const char *hexadecimal(const char *at, uint64_t *number) {
-    static const signed char values[256] = {['0'] = 1, 2, 3, 4, 5, 6, 7, 8, 9, 10,
-                                            ['A'] = 11, 12, 13, 14, 15, 16, ['a'] = 11, 12, 13, 14, 15, 16};
+    static const signed char values[256] = {
+        ['0'] = 1, 2, 3, 4, 5, 6, 7, 8, 9, 10,
+        ['A'] = 11, 12, 13, 14, 15, 16, ['a'] = 11, 12, 13, 14, 15, 16};
     uint64_t read = 0;
-    for (int value; (value = values[(unsigned char)*at]); at++) read = read << 4 | (unsigned)(value - 1);
+    for (int value; (value = values[(unsigned char)*at]); at++)
+        read = read << 4 | (unsigned)(value - 1);
     *number = read;
     return at;
 }
@@ -49,14 +51,15 @@ static const char *hexadecimal(const char *at, uint64_t *number) {
 
 struct numbers {
     uint64_t *keys;   // by number
-    uint32_t *slots;  // a number and 1, or 0; a power of two of them, at most half of which are taken
+    uint32_t *slots;  // a number and 1, or 0; a power of two of them, of which half may be used
     uint32_t count, room;
 };
 
 static uint32_t slot_of(const struct numbers *numbers, uint64_t key) {
     uint64_t mixed = (key ^ key >> 32) * UINT64_C(0x9e3779b97f4a7c15);
     uint32_t slot = (uint32_t)(mixed >> 32) & (numbers->room - 1);
-    while (numbers->slots[slot] && numbers->keys[numbers->slots[slot] - 1] != key) slot = (slot + 1) & (numbers->room - 1);
+    while (numbers->slots[slot] && numbers->keys[numbers->slots[slot] - 1] != key)
+        slot = (slot + 1) & (numbers->room - 1);
     return slot;
 }
 
@@ -71,8 +74,7 @@ static void make_room(struct numbers *numbers) {
         numbers->slots[slot_of(numbers, numbers->keys[number])] = number + 1;
 }
 
-// The number of a key. Where it is a new one, `*values` grows by a zero of this size where there is
-// no room for it.
+// The number of a key; for a new one `*values` gets a zero of this size, and room where needed.
 static uint32_t number_of(struct numbers *numbers, uint64_t key, void **values, size_t size) {
     uint32_t slot = numbers->room ? slot_of(numbers, key) : 0;
     if (numbers->room && numbers->slots[slot]) return numbers->slots[slot] - 1;
@@ -96,17 +98,16 @@ static uint32_t object_count;
 
 static void read_objects(const char *path) {
     FILE *file = fopen(path, "r");
-    struct object object;
+    struct object one;
     if (!file) err(FAILED, "%s", path);
-    for (uint32_t room = 0; fscanf(file, "%lx %lx%*[^\n]", &object.from, &object.to) == 2; object_count++) {
-        if (object_count == room) objects = grown(objects, (room = 2 * room + 64) * sizeof *objects);
-        objects[object_count] = object;
+    for (uint32_t room = 0; fscanf(file, "%lx %lx%*[^\n]", &one.from, &one.to) == 2;) {
+        if (object_count == room) objects = grown(objects, (room = 2 * room + 64) * sizeof one);
+        objects[object_count++] = one;
     }
     fclose(file);
 }
 
-// The number of the last object that begins at or before an address and 1, or 0. It may end before
-// the address.
+// The number, from 1 on, of the last object that begins at or before an address, or 0.
 static uint32_t objects_up_to(uint64_t address) {
     uint32_t low = 0, high = object_count;
     while (low < high) {
@@ -119,7 +120,7 @@ static uint32_t objects_up_to(uint64_t address) {
 
 // ---- Cells: what is counted for a program counter and an object
 
-struct counter {              // a program counter, with the cell of its last reference and where this was valid
+struct counter {              // the cell of a program counter's last reference, and where it holds
     uint64_t from, to;
     uint32_t cell;
 };
@@ -129,6 +130,8 @@ struct cell {
 static struct numbers counter_numbers, cell_numbers;
 static void *counters, *cells;
 static uint32_t counter;      // that of the last reference; 0 stands for none
+
+static struct cell *cell_of(uint32_t number) { return (struct cell *)cells + number; }
 
 static uint32_t number_of_counter(uint64_t address) {
     return number_of(&counter_numbers, address, &counters, sizeof(struct counter));
@@ -140,7 +143,8 @@ static uint32_t cell_at(uint64_t address) {
     uint32_t place = objects_up_to(address);
     bool is_in_one = place && address < objects[place - 1].to;
     present->from = !place ? 0 : is_in_one ? objects[place - 1].from : objects[place - 1].to;
-    present->to = is_in_one ? objects[place - 1].to : place < object_count ? objects[place].from : UINT64_MAX;
+    present->to = is_in_one ? objects[place - 1].to
+                            : place < object_count ? objects[place].from : UINT64_MAX;
     uint64_t key = (uint64_t)counter << 32 | (is_in_one ? place : 0);
     return present->cell = number_of(&cell_numbers, key, &cells, sizeof(struct cell));
 }
@@ -163,13 +167,13 @@ static struct block *block_at(uint64_t block) {
 // Counts a miss, and returns whether it is the first reference to the block.
 static bool count_miss(uint32_t cell, uint64_t address) {
     struct block *block = block_at(address);
-    struct cell *counts = (struct cell *)cells + cell;
+    struct cell *counts = cell_of(cell);
     bool is_first = block->seen != flushes;
     counts->misses++;
     if (is_first) {
         counts->compulsory++;
         block->evicted = 0;  // before a flush, where there was one
-    } else if (block->evicted) {  // by the same one as at the miss before, where that was a write that brings no block in
+    } else if (block->evicted) {  // perhaps as at the miss before: a write may bring no block in
         uint64_t key = (uint64_t)cell << 32 | (block->evicted - 1);
         uint32_t pair = number_of(&pair_numbers, key, &pairs, sizeof(uint64_t));
         ((uint64_t *)pairs)[pair]++;
@@ -183,14 +187,14 @@ static bool count_miss(uint32_t cell, uint64_t address) {
 struct reference {
     uint64_t address;
     uint32_t number;  // of its program counter, or of its cell
-    bool counts;      // as a capacity miss, if the fully associative cache misses; from its log: whether it does
+    bool counts;      // as a capacity miss if FULL misses; from FULL's log: whether it does
 };
 struct queue {
     struct reference *held;
     size_t first, last, room;  // the room is a power of two
 };
-static struct queue handed;    // references that were handed out and have not yet come in the first log
-static struct queue ahead[2];  // what has come from one log and not yet from the other: one of them is empty
+static struct queue handed;    // what was handed out and has not yet come in the first log
+static struct queue ahead[2];  // what has come from one log alone: one of them is empty
 
 static bool is_empty(const struct queue *queue) { return queue->first == queue->last; }
 
@@ -208,7 +212,8 @@ static void push(struct queue *queue, struct reference one) {
 
 // The first one, of this address.
 static struct reference popped(struct queue *queue, uint64_t address) {
-    if (is_empty(queue) || queue->held[queue->first & (queue->room - 1)].address != address) errx(FAILED, "a log is of another trace");
+    if (is_empty(queue) || queue->held[queue->first & (queue->room - 1)].address != address)
+        errx(FAILED, "a log is of another trace");
     return queue->held[queue->first++ & (queue->room - 1)];
 }
 
@@ -218,7 +223,7 @@ static void meet(bool is_full, struct reference one) {
         return;
     }
     struct reference other = popped(&ahead[!is_full], one.address);
-    if (one.counts && other.counts) ((struct cell *)cells)[is_full ? other.number : one.number].capacity++;
+    if (one.counts && other.counts) cell_of(is_full ? other.number : one.number)->capacity++;
 }
 
 #include "by-line-trace.h"
@@ -237,7 +242,7 @@ static void take_arrival(bool is_full, const char *outcome, uint64_t address) {
         return;
     }
     uint32_t cell = cell_at(address);
-    ((struct cell *)cells)[cell].references++;
+    cell_of(cell)->references++;
     if (misses) is_first = count_miss(cell, address >> shift);
     if (misses && outcome[4] == ' ') {
         hexadecimal(outcome + sizeof "miss eviction", &evicted);
@@ -245,14 +250,15 @@ static void take_arrival(bool is_full, const char *outcome, uint64_t address) {
     }
     // what misses in the fully associative cache counts there, also where this one hits
     if (log_count > 1) meet(false, (struct reference){address, cell, !is_first});
-    else if (misses && !is_first) ((struct cell *)cells)[cell].capacity++;
+    else if (misses && !is_first) cell_of(cell)->capacity++;
 }
 
 // Takes a line, and returns the next one. Of each reference one line, in their order, is of the
 // first level or bypasses it.
 static const char *take_line(bool is_full, const char *line) {
     uint64_t address;
-    bool is_here = !memcmp(line, place, 4), is_first_level = !is_full && (*line == 'b' || line[1] == '1');
+    bool is_here = !memcmp(line, place, 4);
+    bool is_first_level = !is_full && (*line == 'b' || line[1] == '1');
     const char *at = line + (*line == 'b' ? sizeof "bypassed" : sizeof "l1-d");
     if (is_here && *at == 'f') {
         flushes += !is_full;
@@ -293,7 +299,8 @@ static void show_progress(void) {
     if (!began) began = now;
     if (now == (shown ? shown : began) || !isatty(STDERR_FILENO)) return;
     shown = now;
-    fprintf(stderr, "\r%s: %.1f million lines ", program_invocation_short_name, (double)trace.lines / 1e6);
+    fprintf(stderr, "\r%s: %.1f million lines ", program_invocation_short_name,
+            (double)trace.lines / 1e6);
 }
 
 // Waits until something can be written to a log or read from one, and does it.
@@ -310,7 +317,7 @@ static void go_on(void) {
     }
 }
 
-// Reads, hands out and counts, until the trace and the logs have ended.
+// Reads, hands out and counts, until the trace and the logs have ended, or a log has gone away.
 static void work(void) {
     while (read_trace()) {
         show_progress();
@@ -319,22 +326,23 @@ static void work(void) {
     for (int i = 0; i < log_count; i++) close_end(&logs[i].to);
     while (logs[0].from >= 0 || logs[1].from >= 0) go_on();
     clear_progress();
-    if (!is_empty(&ahead[0]) || !is_empty(&ahead[1]) || !is_empty(&handed)) exit(0);  // a log has gone away
+    if (!is_empty(&ahead[0]) || !is_empty(&ahead[1]) || !is_empty(&handed)) exit(0);
 }
 
 // ---- The whole
 
 static void write_answer(void) {
     for (uint32_t i = 0; i < cell_numbers.count; i++) {
-        const struct cell *cell = (struct cell *)cells + i;
+        const struct cell *cell = cell_of(i);
         uint32_t own = (uint32_t)(cell_numbers.keys[i] >> 32);
         if (own) printf("cell %lx", counter_numbers.keys[own]);
         else printf("cell -");
-        printf(" %d %lu %lu %lu %lu\n", (int)(uint32_t)cell_numbers.keys[i] - 1, cell->references, cell->misses, cell->compulsory,
-               cell->capacity);
+        printf(" %d %lu %lu %lu %lu\n", (int)(uint32_t)cell_numbers.keys[i] - 1, cell->references,
+               cell->misses, cell->compulsory, cell->capacity);
     }
     for (uint32_t i = 0; i < pair_numbers.count; i++)
-        printf("evicted %lu %lu %lu\n", pair_numbers.keys[i] >> 32, pair_numbers.keys[i] & UINT32_MAX, ((uint64_t *)pairs)[i]);
+        printf("evicted %lu %lu %lu\n", pair_numbers.keys[i] >> 32,
+               pair_numbers.keys[i] & UINT32_MAX, ((uint64_t *)pairs)[i]);
     puts("end");
     if (fflush(stdout) || ferror(stdout)) err(FAILED, "the counts can't be written");
 }
@@ -347,7 +355,8 @@ int main(int count, char **words) {
     place = words[3];
     shift = (unsigned)atoi(words[4]);
     read_objects(words[5]);
-    for (char **word = words + 6; word < words + count; word += 2) open_log(&logs[log_count++], word[0], word[1]);
+    for (char **word = words + 6; word < words + count; word += 2)
+        open_log(&logs[log_count++], word[0], word[1]);
     // number 0, with an address of no instruction
     number_of_counter(fetched);
     widen(STDIN_FILENO);

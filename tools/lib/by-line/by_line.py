@@ -41,7 +41,8 @@ def hexadecimal(text):
 def keys(text):
     found = text.split(",")
     if not set(found) <= set(KEYS):
-        raise argparse.ArgumentTypeError(f"{text!r} is not one or more of line, function and object, joined by commas")
+        raise argparse.ArgumentTypeError(
+            f"{text!r} is not one or more of line, function and object, joined by commas")
     return [key for key in KEYS if key in found]
 
 
@@ -70,8 +71,7 @@ def arguments():
 
 
 class Names:
-    """How lines are called: by the name of the file, with as much of its path as tells it from
-    others."""
+    """How lines are called: by the file's name, and as much of its path as tells it from others."""
 
     def __init__(self, cells):
         paths = {frame.file for cell in cells for frame in cell.frames if frame.file}
@@ -89,14 +89,18 @@ class Names:
     @staticmethod
     def cut(lines):
         """The lines of functions inlined in one another, without the middle ones of many."""
-        return lines if len(lines) <= MOST_INLINED else [*lines[:MOST_INLINED // 2], "..", *lines[-MOST_INLINED // 2:]]
+        half = MOST_INLINED // 2
+        return lines if len(lines) <= MOST_INLINED else [*lines[:half], "..", *lines[-half:]]
 
     def columns(self, cell, by):
         """What tells a row from others, in its columns."""
-        outer, inlined = cell.frames[0], [self.line(frame) if frame.file else "?" for frame in cell.frames[1:]]
-        line = self.line(outer) if outer.file else outer.function if outer.function.startswith("(") else f"({outer.function})"
-        all_of_them = {"line": [line, " ".join(self.cut(inlined))], "function": [outer.function], "object": [cell.object]}
-        return tuple(text for key in by for text in all_of_them[key])
+        outer, *others = cell.frames
+        line = outer.function if outer.function.startswith("(") else f"({outer.function})"
+        line = self.line(outer) if outer.file else line
+        inlined = [self.line(frame) if frame.file else "?" for frame in others]
+        told = {"line": [line, " ".join(self.cut(inlined))], "function": [outer.function],
+                "object": [cell.object]}
+        return tuple(text for key in by for text in told[key])
 
 
 def header(by):
@@ -105,7 +109,7 @@ def header(by):
 
 def read_counts(asked, layout):
     """The cells, and for each two their misses of blocks that the second had evicted."""
-    with open(asked.objects, encoding="utf-8", errors="surrogateescape") as lines:
+    with open(asked.objects, **elf.ANY_TEXT) as lines:
         objects = [line.rstrip("\n").split(" ", 2)[2] for line in lines] + ["(heap)"]
     with open(asked.counts, encoding="ascii") as lines:
         rows = [line.split() for line in lines]
@@ -119,7 +123,8 @@ def read_counts(asked, layout):
         own = [NO_FETCH] if address == "-" else frames[int(address, 16)]
         counts = [references, misses, compulsory, capacity, misses - compulsory - capacity]
         cells.append(Cell(own, objects[int(number)], counts))
-    pairs = [(cells[int(row[1])], cells[int(row[2])], int(row[3])) for row in rows if row[0] == "evicted"]
+    pairs = [(cells[int(row[1])], cells[int(row[2])], int(row[3]))
+             for row in rows if row[0] == "evicted"]
     return cells, pairs
 
 
@@ -133,7 +138,7 @@ def sums(pairs):
     """Of pairs of a key and a list of numbers the sum for each key."""
     found = {}
     for key, numbers in pairs:
-        found[key] = [one + other for one, other in zip(found[key], numbers)] if key in found else list(numbers)
+        found[key] = list(map(sum, zip(found.get(key, [0] * len(numbers)), numbers)))
     return found
 
 
@@ -143,40 +148,45 @@ def table(asked, cells):
     rows = sums((names.columns(cell, asked.by), cell.counts) for cell in cells)
     yield [*header(asked.by), *COUNTS, "share"]
     for key, counts in sorted(rows.items(), key=lambda row: (-row[1][1], row[0])):
-        yield [*key, *(counts[:3] + ["", ""] if asked.only_compulsory else counts), share(counts[1])]
+        told = counts[:3] + ["", ""] if asked.only_compulsory else counts
+        yield [*key, *told, share(counts[1])]
 
 
 def table_of_evictions(asked, cells, pairs):
-    names, share = Names(cells), shares(cells)
-    rows = sums((names.columns(cell, asked.by) + names.columns(by, asked.by), [misses]) for cell, by, misses in pairs)
-    yield [*header(asked.by), *(f"evicted-by-{column}" for column in header(asked.by)), "misses", "share"]
+    names, share, columns = Names(cells), shares(cells), header(asked.by)
+    rows = sums((names.columns(cell, asked.by) + names.columns(by, asked.by), [misses])
+                for cell, by, misses in pairs)
+    yield [*columns, *(f"evicted-by-{column}" for column in columns), "misses", "share"]
     for key, (misses,) in sorted(rows.items(), key=lambda row: (-row[1][0], row[0])):
         yield [*key, misses, share(misses)]
 
 
 def counts_in(path, cells):
-    """For each line of a source file the counts of the instructions whose innermost line in this
-    file it is."""
+    """The counts of the instructions by their innermost line in a source file."""
     name, real = os.path.basename(path), os.path.realpath(path)
-    found = {frame.file for cell in cells for frame in cell.frames if frame.file and os.path.basename(frame.file) == name}
+    found = {frame.file for cell in cells for frame in cell.frames
+             if frame.file and os.path.basename(frame.file) == name}
     files = [file for file in found if os.path.realpath(file) == real] or found
     if not files:
-        tool.fail(f"{path}: no reference is from a line of it: compile the program with -g, and name it by --map or --program")
-    own = ((next((frame.line for frame in reversed(cell.frames) if frame.file in files), None), cell.counts) for cell in cells)
+        tool.fail(f"{path}: no reference is from a line of it: compile the program with -g, and"
+                  " name it by --map or --program")
+    own = ((next((frame.line for frame in reversed(cell.frames) if frame.file in files), None),
+            cell.counts) for cell in cells)
     return sums(pair for pair in own if pair[0])
 
 
 def annotated(asked, cells):
     """The lines of a source file with counts before them."""
-    with tool.faults_of(asked.annotate), open(asked.annotate, encoding="utf-8", errors="surrogateescape") as source:
-        lines = [line.rstrip("\n") for line in source]  # as compilers count them: a form feed ends none
+    with tool.faults_of(asked.annotate), open(asked.annotate, **elf.ANY_TEXT) as source:
+        lines = [line.rstrip("\n") for line in source]  # as for compilers a form feed ends none
     used = COUNTS[:3] if asked.only_compulsory else COUNTS
-    all_of_them = [sum(column) for column in zip(*(cell.counts for cell in cells))] or [0] * len(COUNTS)
     counts = counts_in(asked.annotate, cells) if cells else {}
-    in_file = [sum(column) for column in zip(*counts.values())] or [0] * len(COUNTS)
+    all_of_them, in_file = ([sum(column) for column in zip(*rows)] or [0] * len(COUNTS)
+                            for rows in ([cell.counts for cell in cells], counts.values()))
     rows = [(all_of_them, "the whole trace"), (in_file, "this file"), (None, "")]
     rows += [(counts.get(number), line) for number, line in enumerate(lines, 1)]
-    widths = [max(len(name), len(text)) for name, text in zip(used, texts_of(all_of_them, all_of_them))]
+    texts = texts_of(all_of_them, all_of_them)
+    widths = [max(len(name), len(text)) for name, text in zip(used, texts)]
     yield "  ".join([*(name.rjust(width) for name, width in zip(used, widths)), "source"])
     for numbers, line in rows:
         texts = ["."] * len(used) if numbers is None else texts_of(numbers, all_of_them)
@@ -185,13 +195,13 @@ def annotated(asked, cells):
 
 def texts_of(numbers, all_of_them):
     """Counts, of which the references and the misses have their share of all."""
-    shares = [f" ({100 * number / max(1, total):.1f}%)" for number, total in zip(numbers[:2], all_of_them)]
+    shares = [f" ({100 * number / max(1, total):.1f}%)"
+              for number, total in zip(numbers[:2], all_of_them)]
     return [f"{number:,}{share}" for number, share in zip(numbers, [*shares, "", "", ""])]
 
 
 def in_callgrind_format(asked, cells):
-    """The counts by function and innermost line, without conflict misses: no number may be below
-    0."""
+    """The counts by function and innermost line, without conflict misses, which may be below 0."""
     used = COUNTS[:3 if asked.only_compulsory else 4]
     files = {cell.frames[0].function: cell.frames[0].file for cell in cells if cell.frames[0].file}
     rows = []
@@ -201,8 +211,9 @@ def in_callgrind_format(asked, cells):
         key = files.get(function, "???"), function, inner.file or "???", inner.line
         rows.append((key, cell.counts[:len(used)]))
     totals = " ".join(str(sum(counts[at] for _, counts in rows)) for at in range(len(used)))
-    yield from ("# callgrind format", "version: 1", "creator: by-line of cachesim", "positions: line",
-                f"events: {' '.join(map(str.capitalize, used))}", f"summary: {totals}")
+    yield from ("# callgrind format", "version: 1", "creator: by-line of cachesim",
+                "positions: line", f"events: {' '.join(map(str.capitalize, used))}",
+                f"summary: {totals}")
     last, present = None, None
     for (file, function, inner, line), counts in sorted(sums(rows).items()):
         if (file, function) != last:
@@ -220,18 +231,17 @@ def warn(text):
 
 
 def length_of(path):
-    """How many lines a source file has, or None where it can't be read."""
+    """How many lines a source file has; more than any where it can't be read."""
     try:
         with open(path, "rb") as source:
             text = source.read()
     except OSError:
-        return None
+        return float("inf")
     return text.count(b"\n") + (not text.endswith(b"\n"))
 
 
 def warn_of_lines(cells):
-    """Warns of lines that may be wrong: those behind the end of their file, and of another
-    finder."""
+    """Warns of lines that may be wrong: behind the end of their file, and of another finder."""
     files = collections.defaultdict(collections.Counter)
     for cell in cells:
         for file, line in {(frame.file, frame.line) for frame in cell.frames if frame.file}:
@@ -241,10 +251,10 @@ def warn_of_lines(cells):
              " code of headers")
     for path, lines in sorted(files.items()):
         length = length_of(path)
-        behind = 0 if length is None else sum(count for line, count in lines.items() if line > length)
+        behind = sum(count for line, count in lines.items() if line > length)
         if behind:
-            warn(f"{path}: {behind} references are at lines behind its end, {length}: is it the file"
-                 " that was compiled?")
+            warn(f"{path}: {behind} references are at lines behind its end, {length}: is it the"
+                 " file that was compiled?")
 
 
 def lines_of(rows):
@@ -257,11 +267,11 @@ def lines_of(rows):
 def report(asked, layout):
     cells, pairs = read_counts(asked, layout)
     if asked.callgrind:
-        with tool.faults_of(asked.callgrind), open(asked.callgrind, "w", encoding="utf-8", errors="surrogateescape") as file:
+        with tool.faults_of(asked.callgrind), open(asked.callgrind, "w", **elf.ANY_TEXT) as file:
             file.writelines(f"{line}\n" for line in in_callgrind_format(asked, cells))
     if asked.annotate or asked.callgrind or "line" in asked.by:
         warn_of_lines(cells)
-    sys.stdout.reconfigure(encoding="utf-8", errors="surrogateescape")
+    sys.stdout.reconfigure(**elf.ANY_TEXT)
     if asked.annotate:
         tool.write_lines(annotated(asked, cells))
     else:
@@ -276,9 +286,9 @@ def main():
     if asked.command == "report":
         report(asked, layout)
         return
-    for path in layout.newer_than(asked.map) if asked.map else ():  # the trace is of an earlier build
-        warn(f"{path} is newer than {asked.map}: if it was built again since, its names and lines are"
-             " wrong; then trace it again")
+    for path in layout.newer_than(asked.map) if asked.map else ():  # it traced an earlier build
+        warn(f"{path} is newer than {asked.map}: if it was built again since, its names and lines"
+             " are wrong; then trace it again")
     tool.write_lines(f"{place.start:x} {place.end:x} {place.name}" for place in layout.objects())
 
 

@@ -13,6 +13,7 @@ from typing import NamedTuple
 from lib import tool
 
 PAGE = 4096
+ANY_TEXT = {"encoding": "utf-8", "errors": "surrogateescape"}
 MAPPING = re.compile(r"([0-9a-f]+)-([0-9a-f]+) \S+ ([0-9a-f]+) \S+ \d+\s*(.*)")
 SEGMENT = re.compile(r"\s*LOAD\s+0x(\w+) 0x(\w+) 0x\w+ 0x\w+ 0x(\w+)")
 SYMBOL = re.compile(r"([0-9a-f]+) ([0-9a-f]+) (\w) (.+)")
@@ -62,19 +63,18 @@ def output_of(command, path, *options, text=None):
     prefix = "" if command == LLVM else prefix_of(path)
     words = [f"{prefix}-{command}" if prefix else command, *options, path]
     try:
-        known = {**os.environ, "LC_ALL": "C"}
-        ran = subprocess.run(words, input=text, capture_output=True, encoding="utf-8", errors="replace", env=known, check=False)
+        ran = subprocess.run(words, input=text, capture_output=True, encoding="utf-8",
+                             errors="replace", env={**os.environ, "LC_ALL": "C"}, check=False)
     except FileNotFoundError:
-        tool.fail(f"{words[0]} is missing: apt-get install binutils{'-' + prefix if prefix else ''}")
+        tool.fail(f"{words[0]} is missing: apt-get install {f'binutils-{prefix}'.rstrip('-')}")
     return ran.stdout if ran.returncode == 0 else ""
 
 
 @functools.cache
 def segments_of(path):
-    """Of each loaded segment of an ELF file its offset in the file, its address and its size in
-    memory."""
-    lines = output_of("readelf", path, "-lW", "--").splitlines()
-    return [tuple(int(number, 16) for number in found.groups()) for found in map(SEGMENT.match, lines) if found]
+    """Of each loaded segment of an ELF file its offset, its address and its size in memory."""
+    found = map(SEGMENT.match, output_of("readelf", path, "-lW", "--").splitlines())
+    return [tuple(int(number, 16) for number in each.groups()) for each in found if each]
 
 
 @functools.cache
@@ -89,15 +89,15 @@ class Loaded:
     def __init__(self, path, base):
         self.path, self.base = path, base
         self.name = os.path.basename(path)
-        self.regions = [Range(at + base, at + size + base, f"({self.name})") for _, at, size in segments_of(path)]
+        self.regions = [Range(at + base, at + size + base, f"({self.name})")
+                        for _, at, size in segments_of(path)]
 
     def has(self, address):
         return any(region.start <= address < region.end for region in self.regions)
 
     @functools.cached_property
     def thread_local(self):
-        """Where nm has variables of threads, which are elsewhere: the address and size that it
-        tells of each."""
+        """Where nm has threads' variables, which are elsewhere: the address and size it tells."""
         told = map(THREAD_LOCAL.match, output_of("readelf", self.path, "-sW", "--").splitlines())
         return {(int(one[1], 16) + self.base, int(one[2], 0)) for one in told if one}
 
@@ -106,12 +106,12 @@ class Loaded:
         """All that has a name and a size, by address, with the letter of nm before the name, and
         the name of its source file where only this file knows the name."""
         found = {}
-        for which in (["-a", "-p"], ["-D"]):
+        for which in ("-apSC", "-DSC"):
             source = ""
-            for line in output_of("nm", self.path, "-S", "-C", "--defined-only", *which, "--").splitlines():
+            for line in output_of("nm", self.path, which, "--defined-only", "--").splitlines():
                 if (symbol := SYMBOL.match(line)) and int(symbol[2], 16):
-                    start = int(symbol[1], 16) + self.base
-                    place = Range(start, start + int(symbol[2], 16), symbol[3] + re.sub("@.*", "", symbol[4]))
+                    start, size = int(symbol[1], 16) + self.base, int(symbol[2], 16)
+                    place = Range(start, start + size, symbol[3] + symbol[4].partition("@")[0])
                     found.setdefault(place, source if symbol[3].islower() else "")
                 elif begins := SOURCE.match(line):
                     source = begins[1]
@@ -119,7 +119,8 @@ class Loaded:
 
     def objects(self):
         """The global and static variables, and the source file of each static one."""
-        return [(symbol._replace(name=symbol.name[1:]), source) for symbol, source in self.symbols.items()
+        return [(symbol._replace(name=symbol.name[1:]), source)
+                for symbol, source in self.symbols.items()
                 if symbol.name[0] in "bBdDrRuVvgGsS"
                 and (symbol.start, symbol.end - symbol.start) not in self.thread_local]
 
@@ -134,8 +135,7 @@ class Loaded:
         return self.functions[at].name if is_in else f"({self.name})"
 
     def frames(self, addresses):
-        """Of each address its frames, the function that has the instruction first, then those
-        inlined there."""
+        """Of each address its frames: that of its function first, then those inlined there."""
         asked = "".join(f"{address - self.base:x}\n" for address in addresses)
         told = output_of(line_finder(), self.path, "-a", "-i", "-f", "-C", "-e", text=asked)
         lines = told.splitlines()
@@ -145,7 +145,8 @@ class Loaded:
                 current, begins = found.setdefault(int(line, 16) + self.base, []), at + 1
             elif current is not None and (at - begins) % 2:
                 current.insert(0, self.frame(lines[at - 1], line))
-        unknown = {address: [Frame(self.function_at(address), None, 0)] for address in addresses if not found.get(address)}
+        unknown = {address: [Frame(self.function_at(address), None, 0)] for address in addresses
+                   if not found.get(address)}
         named = {address: frames for address, frames in found.items() if frames}
         for address, frames in named.items():
             # where something is inlined, the command has another name for the function
@@ -157,8 +158,9 @@ class Loaded:
     @staticmethod
     def frame(function, place):
         file, _, line = re.sub(r" \(discriminator.*", "", place).rpartition(":")
-        is_known = line.isdigit() and int(line) > 0 and file != "??"
-        return Frame(function, os.path.normpath(file), int(line)) if is_known else Frame(function, None, 0)
+        if line.isdigit() and int(line) > 0 and file != "??":
+            return Frame(function, os.path.normpath(file), int(line))
+        return Frame(function, None, 0)
 
 
 class Layout:
@@ -175,10 +177,11 @@ class Layout:
             self.read_map(map_file)
 
     def read_map(self, map_file):
-        with tool.faults_of(map_file), open(map_file, encoding="utf-8", errors="surrogateescape") as lines:
+        with tool.faults_of(map_file), open(map_file, **ANY_TEXT) as lines:
             found = [MAPPING.fullmatch(line.rstrip("\n")) for line in lines]
         if not found:  # as `trace` leaves it while the program runs
-            tool.fail(f"{map_file}: an empty map; if the trace comes through a pipe from the run that writes it, trace into a file")
+            tool.fail(f"{map_file}: an empty map; if the trace comes through a pipe from the run"
+                      " that writes it, trace into a file")
         for number, mapping in enumerate(found, 1):
             if not mapping:
                 tool.fail(f"{map_file}: line {number} is none of a map")
@@ -207,15 +210,16 @@ class Layout:
         found = [one for file in self.files for one in file.objects()]
         for tell_apart in (lambda one, source: f"{one.name} ({source})",
                            lambda one, _: f"{one.name[:-1]} at {one.start:x})"):
-            names = collections.Counter(name for name, _ in {(one.name, one.start) for one, _ in found})
-            found = [(one._replace(name=tell_apart(one, source)) if source and names[one.name] > 1 else one, source)
-                     for one, source in found]
+            places = {(one.name, one.start) for one, _ in found}
+            names = collections.Counter(name for name, _ in places)
+            found = [(one._replace(name=tell_apart(one, source))
+                      if source and names[one.name] > 1 else one, source) for one, source in found]
         return sorted(one for one, _ in found)
 
     def objects(self):
-        """What is where, by rising addresses and without overlaps: a global variable before the
-        file that has it."""
-        regions = sorted([*(region for file in self.files for region in file.regions), *self.stacks, *self.others])
+        """What is where, by rising addresses and without overlaps: a variable before its file."""
+        loaded = (region for file in self.files for region in file.regions)
+        regions = sorted([*loaded, *self.stacks, *self.others])
         variables = self.variables()
         at, answer = 0, []
         for region in regions:
