@@ -15,8 +15,7 @@ NARROW = 72  # in fewer letters a legend has no room beside its picture
 
 
 class Canvas(NamedTuple):
-    """A terminal of gnuplot: how it is set, its size, that of a letter, and of large and small
-    type."""
+    """A terminal of gnuplot: how it is set, its size, that of a letter, of large and small type."""
 
     setting: str
     width: float
@@ -64,10 +63,10 @@ class Size(NamedTuple):
 def size(text):
     """The size that such a text as 3.3in, 80x60mm or 800 says."""
     match = re.fullmatch("([0-9]+(?:[.][0-9]+)?)(?:x([0-9]+(?:[.][0-9]+)?))?(in|cm|mm|px|)", text)
-    if not match or float(match[1]) * UNITS[match[3]] > 20_000 or float(match[2] or 0) * UNITS[match[3]] > 20_000:
+    sides = [float(side or 0) * UNITS[match[3]] for side in match.group(1, 2)] if match else []
+    if not sides or max(sides) > 20_000:
         misused(f"{text!r} is no size such as 3.3in, 80x60mm or 800x600")
-    unit = UNITS[match[3]]
-    return Size(float(match[1]) * unit, match[2] and float(match[2]) * unit, match[3] not in ("px", ""))
+    return Size(sides[0], match[2] and sides[1], match[3] not in ("px", ""))
 
 
 def factor(text):
@@ -107,9 +106,11 @@ def png(count, asked, mono, scale):
 def svg(count, asked, mono, scale):
     em = type_size(asked, scale)
     width, height = pixels(count, asked, em, scale)
-    setting = f"svg size {width:.0f},{height:.0f} font 'DejaVu Sans,Verdana,sans-serif,{em:.4g}' background rgb 'white'"
-    return Canvas(setting, round(width), round(height), LETTER * em, 1.39 * em, large=1.21 * em, small=0.86 * em,
-                  mark=0.7, stroke=2 * em / 14, is_mono=mono)  # gnuplot enlarges these marks with letters
+    font = f"font 'DejaVu Sans,Verdana,sans-serif,{em:.4g}'"
+    setting = f"svg size {width:.0f},{height:.0f} {font} background rgb 'white'"
+    return Canvas(setting, round(width), round(height), LETTER * em, 1.39 * em,
+                  large=1.21 * em, small=0.86 * em, mark=0.7,  # gnuplot enlarges it with letters
+                  stroke=2 * em / 14, is_mono=mono)
 
 
 def type_size(asked, scale):

@@ -5,7 +5,8 @@ import html
 import re
 
 from lib.plot import pictures
-from lib.plot.pictures import MOST_LINES, Line, Measure, Picture, Point, bytes_text, short, ways_text
+from lib.plot.pictures import (MOST_LINES, Line, Measure, Picture, Point, bytes_text, short,
+                               ways_text)
 from lib.table import pareto
 from lib.table_din import NUMBERS, WORDS, cache, kind, usual_measure
 from lib.tool import fail
@@ -15,12 +16,12 @@ ACROSS = {"size": "cache size in bytes", "bsize": "block size in bytes", "assoc"
 
 def varied(table):
     """The options of which there are several values."""
-    return [option for at, option in enumerate(table.options) if len({case.given[at] for case in table.cases}) > 1]
+    return [option for at, option in enumerate(table.options)
+            if len({case.given[at] for case in table.cases}) > 1]
 
 
 def across_of(asked, options, several, name):
-    """The option on the horizontal axis: the asked one, else the last size, or number, that
-    varies."""
+    """The option on the horizontal axis: as asked, else the last size or number that varies."""
     if asked.across:
         if asked.across not in options or kind(asked.across) not in NUMBERS:
             numbers = [option for option in options if kind(option) in NUMBERS]
@@ -34,8 +35,7 @@ def across_of(asked, options, several, name):
 
 
 def of_measure(table, several):
-    """The options that change the measure: those of its own cache alone, if that is a first
-    level."""
+    """The options that change the measure: those of its own cache alone, if that is in level 1."""
     if not table.measure.startswith("l1-"):
         return several
     return [option for option in several if table.measure.startswith(f"{cache(option)}-")]
@@ -50,7 +50,8 @@ def chosen_measure(columns, across):
 def measure_of(table):
     """How the measure is called."""
     columns = [*table.options, "size", table.measure]
-    about = "<br>".join(f"{html.escape(name)} %{{customdata[{at}]}}" for at, name in enumerate(columns)) + "<extra></extra>"
+    told = (f"{html.escape(name)} %{{customdata[{at}]}}" for at, name in enumerate(columns))
+    about = "<br>".join(told) + "<extra></extra>"
     if not table.measure.endswith("-percent"):
         own = re.fullmatch("(l[12]-[diu])-(.*)", table.measure)
         name = f"{own[2].replace('-', ' ')} of {own[1]}" if own else table.measure.replace("-", " ")
@@ -67,7 +68,8 @@ def value_text(option, value, has_caches):
         text = WORDS[word].get(value, value)
     else:
         number = int(value)
-        text = {"size": bytes_text(number), "bsize": f"blocks of {short(number)}", "assoc": ways_text(number)}[word]
+        text = {"size": bytes_text(number), "bsize": f"blocks of {short(number)}",
+                "assoc": ways_text(number)}[word]
     return f"{cache(option)} {text}" if has_caches else text
 
 
@@ -75,20 +77,22 @@ def point(table, case, x, lines, has_caches):
     """A case as a point: the mean of its seeds, and its least and greatest."""
     values = list(map(float, case.values))
     ends = (min(values), max(values)) if len(values) > 1 and min(values) < max(values) else ()
-    told = (*case.given, case.size, f"{float(case.measured):.6g}" + (f" ({ends[0]:.6g} to {ends[1]:.6g})" if ends else ""))
-    label = ", ".join(value_text(option, case.given[table.options.index(option)], has_caches) for option in lines)
+    spread = f" ({ends[0]:.6g} to {ends[1]:.6g})" if ends else ""
+    told = (*case.given, case.size, f"{float(case.measured):.6g}{spread}")
+    label = ", ".join(value_text(option, case.given[table.options.index(option)], has_caches)
+                      for option in lines)
     return Point(x, float(case.measured), told, label, ends)
 
 
 def fix(table, option, wanted, usual, name):
-    """The cases with the wanted value of an option, or that nearest to the usual one; and the
-    value."""
+    """The cases with the wanted value of an option, or that nearest to the usual; and the value."""
     at = table.options.index(option)
     values = sorted({int(case.given[at]) for case in table.cases})
     value = pictures.nearest(values, usual) if wanted is None else wanted
     if value not in values:
         fail(f"{name}: no run has {option} {wanted}; there are {', '.join(map(str, values))}")
-    return table._replace(cases=[case for case in table.cases if int(case.given[at]) == value]), value
+    cases = [case for case in table.cases if int(case.given[at]) == value]
+    return table._replace(cases=cases), value
 
 
 def fixed(asked, table, across, several, has_caches):
@@ -96,7 +100,7 @@ def fixed(asked, table, across, several, has_caches):
     horizontal axis, or where there would be too many lines."""
     told = []
     for word, wanted, usual in (("assoc", asked.ways, 4), ("bsize", asked.bsize, 64)):
-        for option in [option for option in table.options if kind(option) == word and option != across]:
+        for option in [one for one in table.options if kind(one) == word and one != across]:
             is_asked = wanted is not None and cache(option) == cache(across)
             if is_asked or (option in several and len(groups(table, across, several)) > MOST_LINES):
                 table, value = fix(table, option, wanted if is_asked else None, usual, asked.table)
@@ -114,8 +118,7 @@ def groups(table, across, several):
 
 
 def by_across(asked, table, across, several, measure):
-    """The measure by the option on the horizontal axis, with a line for each value of the
-    others."""
+    """The measure by the option on the horizontal axis; a line for each value of the others."""
     several = of_measure(table, several)
     has_caches = len({cache(option) for option in [across, *several]}) > 1
     table, told = fixed(asked, table, across, several, has_caches)
@@ -127,7 +130,8 @@ def by_across(asked, table, across, several, measure):
     for given, cases in chosen:
         name = ", ".join(value_text(*pair, has_caches) for pair in zip(several, given))
         cases = {int(case.given[at]): case for case in reversed(cases)}
-        lines.append(Line(name, [[point(table, cases[x], x, several, has_caches) for x in sorted(cases)]]))
+        points = [point(table, cases[x], x, several, has_caches) for x in sorted(cases)]
+        lines.append(Line(name, [points]))
     what = {"size": "cache size", "bsize": "block size", "assoc": "ways"}[kind(across)]
     title = ": ".join([f"{measure.name} by {what}", *[", ".join(told)] * bool(told)])
     words = f"{ACROSS[kind(across)]} ({cache(across)})" if has_caches else ACROSS[kind(across)]
@@ -142,7 +146,8 @@ def by_front(table, several, measure):
     cloud = [point(table, case, case.size, lines, has_caches) for case in table.cases]
     front = [point(table, case, case.size, lines, has_caches) for case in pareto(table.cases)]
     words = "size of all caches in bytes" if len(sizes) > 1 else ACROSS["size"]
-    return Picture("pareto", 0, measure.least, words, "", [Line("least up to this size", [front])], cloud)
+    lines = [Line("least up to this size", [front])]
+    return Picture("pareto", 0, measure.least, words, "", lines, cloud)
 
 
 def drawn(asked, table, across, measure):

@@ -16,8 +16,7 @@ DASHES = ("solid", "(9,4)", "(2,3)", "(9,3,2,3)", "(16,5)", "(5,3)", "(9,3,2,3,2
 
 
 class Place(NamedTuple):
-    """Where a picture stands: what its axes enclose, its title, and the legend's lines below
-    that."""
+    """Where a picture stands: what its axes enclose, its title, and a legend's lines below that."""
 
     area: Frame
     title: list
@@ -31,14 +30,12 @@ class Place(NamedTuple):
 
 
 def quoted(words):
-    """A text as gnuplot's string, in which nothing is special. `]]>` is parted: no SVG may have
-    it."""
+    """A text as gnuplot's string, in which all is plain. `]]>` is parted: no SVG may have it."""
     return "'" + words.replace("'", "''").replace("]]>", "]] >") + "'"
 
 
 def title_of(picture, columns):
-    """The lines of a title. Of a long one, what is fixed and what labels are have their own
-    lines."""
+    """The lines of a title. In a long one what is fixed and what labels are have their own."""
     labels = f"({picture.labels})" * bool(picture.labels)
     whole = f"{picture.title} {labels}".strip()
     if len(whole) <= columns:
@@ -48,8 +45,7 @@ def title_of(picture, columns):
 
 
 def legend_columns(picture, canvas):
-    """How many names of a legend above a narrow picture stand side by side, and in how many
-    lines."""
+    """How many names of a legend above a picture stand side by side, and in how many lines."""
     sample = 9 if canvas.is_text else 10 if canvas.is_mono else 8
     broadest = max(len(line.name) for line in picture.lines) + sample
     beside = max(1, int((canvas.columns - (8 if canvas.is_text else 10)) / broadest))
@@ -59,7 +55,8 @@ def legend_columns(picture, canvas):
 def place_of(picture, frame, canvas, widest):
     """Where a picture stands in its frame: right of it or above the legend, left and below what is
     written on the axes. No text of a tick has more letters than `widest`."""
-    title = title_of(picture, int((frame.right - frame.left) / canvas.letter) - (0 if canvas.is_text else 2))
+    columns = int((frame.right - frame.left) / canvas.letter)
+    title = title_of(picture, columns - (0 if canvas.is_text else 2))
     has_names, right, legend = any(line.name for line in picture.lines), 2, 0
     sample = 11 if canvas.is_text or canvas.is_mono else 9
     if picture.cloud:
@@ -68,12 +65,14 @@ def place_of(picture, frame, canvas, widest):
     elif has_names and canvas.is_narrow:
         legend = legend_columns(picture, canvas)[1]
     elif has_names:
-        right = max([len(picture.legend) + 3] + [len(line.name) + sample for line in picture.lines])
+        names = [len(line.name) + sample for line in picture.lines]
+        right = max(len(picture.legend) + 3, *names)
     if canvas.is_text:
-        return Place(Frame(widest + 2, 2, frame.right - right, frame.top - len(title) - 2 - legend), title, legend)
+        top = frame.top - len(title) - 2 - legend
+        return Place(Frame(widest + 2, 2, frame.right - right, top), title, legend)
     left, bottom = frame.left + (widest + 5) * canvas.letter, frame.bottom + 3.4 * canvas.line
-    above = len(title) + 1.2 + 1.05 * legend
-    return Place(Frame(left, bottom, frame.right - right * canvas.letter, frame.top - above * canvas.line), title, legend)
+    top = frame.top - (len(title) + 1.2 + 1.05 * legend) * canvas.line
+    return Place(Frame(left, bottom, frame.right - right * canvas.letter, top), title, legend)
 
 
 def ticks(axis):
@@ -85,8 +84,8 @@ def ticks(axis):
 def axes(picture, across, up, place, canvas, words):
     """The commands that set the place of a picture, its title and its axes."""
     area = place.area
-    (left, bottom), (right, top) = canvas.at(*area[:2]).split(","), canvas.at(*area[2:]).split(",")
-    lines = [f"set {side}margin at screen {where}" for side, where in zip("lbrt", (left, bottom, right, top))]
+    ends = f"{canvas.at(*area[:2])},{canvas.at(*area[2:])}".split(",")
+    lines = [f"set {side}margin at screen {where}" for side, where in zip("lbrt", ends)]
     lines += [f"set xlabel {quoted(picture.across)}"]
     middle = canvas.width / 2 if canvas.is_text else (area.left + area.right) / 2
     for line, height in place.title_lines(canvas):
@@ -98,13 +97,15 @@ def axes(picture, across, up, place, canvas, words):
         lines += [f"set ylabel {quoted(words)}"]
     for letter, axis in (("x", across), ("y", up)):
         lines += [f"{'set' if axis.log else 'unset'} logscale {letter}"]
-        lines += [f"set {letter}range [{axis.low:.10g}:{axis.high:.10g}]", f"set {letter}tics {ticks(axis)}"]
+        lines += [f"set {letter}range [{axis.low:.10g}:{axis.high:.10g}]"]
+        lines += [f"set {letter}tics {ticks(axis)}"]
     return lines
 
 
 def block(name, runs, up):
     """The data of a line: the place of each cache, with an empty line where the line is cut."""
-    cut = "\n\n".join("\n".join(f"{point.x} {up.height(point.y):.10g}" for point in run) for run in runs)
+    cut = "\n\n".join("\n".join(f"{point.x} {up.height(point.y):.10g}" for point in run)
+                      for run in runs)
     return [f"${name} << END", cut, "END"]
 
 
@@ -141,15 +142,16 @@ def legend_of_lines(picture, place, canvas):
     """The commands for the legend: right of the picture, or above it."""
     area, title = place.area, f"title {quoted(picture.legend)}"
     if not place.legend:
-        return [f"set key at screen {canvas.at(area.right + canvas.letter, area.top)} left top vertical Left reverse {title}"]
-    beside, _ = legend_columns(picture, canvas)
+        where = canvas.at(area.right + canvas.letter, area.top)
+        return [f"set key at screen {where} left top vertical Left reverse {title}"]
+    way = f"horizontal Left reverse maxcols {legend_columns(picture, canvas)[0]}"
     if canvas.is_text:
-        top = area.top + 1 + place.legend
-        words = [f"set label {quoted(picture.legend)} at screen {canvas.at(3, top)}"] * bool(picture.legend)
-        where = canvas.at(0, top + 1 - bool(picture.legend))
-        return words + [f"set key at screen {where} left top horizontal Left reverse maxcols {beside} title ''"]
+        top, is_named = area.top + 1 + place.legend, bool(picture.legend)
+        words = [f"set label {quoted(picture.legend)} at screen {canvas.at(3, top)}"] * is_named
+        where = canvas.at(0, top + 1 - is_named)
+        return words + [f"set key at screen {where} left top {way} title ''"]
     where = canvas.at((area.left + area.right) / 2, area.top + 0.3 * canvas.line)
-    return [f"set key at screen {where} center bottom horizontal Left reverse maxcols {beside} {title}"]
+    return [f"set key at screen {where} center bottom {way} {title}"]
 
 
 def of_lines(picture, up, place, canvas):
@@ -163,12 +165,14 @@ def of_lines(picture, up, place, canvas):
         marks = "" if canvas.is_text or picture.is_curve else marks
         style = "lines" if picture.is_curve else "linespoints"
         if spread and not canvas.is_text:
-            plots.append(plot_of_bars(f"{name}_ends", canvas, drawn.replace(DASHES[number], "solid")))
+            solid = drawn.replace(DASHES[number], "solid")
+            plots.append(plot_of_bars(f"{name}_ends", canvas, solid))
         titled = f"title {quoted(' ' * canvas.is_text + line.name)}" if line.name else "notitle"
         if picture.is_front and canvas.is_text:
             plots.append(f"${name} with steps {titled}")
         elif picture.is_front:
-            plots += [f"${name} with steps{drawn} notitle", f"${name} with points{drawn}{marks} notitle"]
+            plots.append(f"${name} with steps{drawn} notitle")
+            plots.append(f"${name} with points{drawn}{marks} notitle")
             plots.append(f"keyentry with {style}{drawn}{marks} {titled}")
         else:
             plots.append(f"${name} with {style}{drawn}{marks} {titled}")
@@ -177,18 +181,20 @@ def of_lines(picture, up, place, canvas):
 
 def labelled(front, across, up, area, canvas):
     """The caches of the front whose labels, below them to the left where nothing else is, stay
-    clear of each other. The one that misses least comes first, then sizes that are powers of
-    two."""
+    clear of each other. First comes that which misses least, then sizes that are powers of two."""
 
     def apart(box, other):
-        return box.left > other.right or other.left > box.right or box.bottom > other.top or other.bottom > box.top
+        return (box.left > other.right or other.left > box.right
+                or box.bottom > other.top or other.bottom > box.top)
 
     kept, boxes = [], []
-    for point in sorted(front, key=lambda point: point != front[-1] and 1 + (point.x & (point.x - 1) != 0)):
+    by_rank = sorted(front, key=lambda one: one != front[-1] and 1 + (one.x & (one.x - 1) != 0))
+    for point in by_rank:
         x = area.left + across.fraction(point.x) * (area.right - area.left)
         y = area.bottom + up.fraction(up.height(point.y)) * (area.top - area.bottom)
         more = 0.5 * canvas.is_text  # a line of text may be rounded to the next one
-        box = Frame(x - (len(point.label) + 1) * canvas.letter, y - (1.3 + more) * canvas.line, x, y - (0.4 - more) * canvas.line)
+        left, top = x - (len(point.label) + 1) * canvas.letter, y - (0.4 - more) * canvas.line
+        box = Frame(left, y - (1.3 + more) * canvas.line, x, top)
         is_within = box.left > area.left + canvas.letter / 2 and y - 1.3 * canvas.line > area.bottom
         if point.label and is_within and all(apart(box, other) for other in boxes):
             kept.append(point)
@@ -201,9 +207,11 @@ def front_as_text(named, place, canvas):
     area = place.area
     if place.legend:
         rows = enumerate((f"o {named}", ". all caches"), 2)
-        legend = [f"set label {quoted(words)} at screen {canvas.at(3, area.top + row)}" for row, words in rows]
+        legend = [f"set label {quoted(words)} at screen {canvas.at(3, area.top + row)}"
+                  for row, words in rows]
     else:
-        legend = [f"set label {quoted(f'. all caches   o {named}')} at screen {canvas.at(area.right, area.top + 1)} right"]
+        where = canvas.at(area.right, area.top + 1)
+        legend = [f"set label {quoted(f'. all caches   o {named}')} at screen {where} right"]
     marks = (("all", "."), ("front", "o"), ("labelled", "O"))
     points = [f"$pareto_{name} with points pointtype '{mark}'" for name, mark in marks]
     return [*legend, "unset key"], ["$pareto_steps with steps"] + points
@@ -217,11 +225,12 @@ def front_in_colours(named, place, canvas):
     pale, dark = f"linecolor rgb '{pictures.PALE}'", f"linecolor rgb '{colour}'"
     every, each, ring = (f"{part * canvas.mark:.3g}" for part in (0.5, 0.7, 1.1))
     way = "vertical" if place.legend > 1 else "horizontal"
+    black = f"linewidth {0.75 * canvas.stroke:.3g} linecolor rgb 'black'"
     return [f"set key at screen {middle} center bottom {way} Left reverse title ''"], [
         f"$pareto_all with points pointtype 7 pointsize {every} {pale} title 'all caches'",
         f"$pareto_steps with steps linewidth {canvas.stroke:.3g} {dark} title {quoted(named)}",
         f"$pareto_front with points pointtype 7 pointsize {each} {dark} notitle",
-        f"$pareto_labelled with points pointtype 6 pointsize {ring} linewidth {0.75 * canvas.stroke:.3g} linecolor rgb 'black' notitle",
+        f"$pareto_labelled with points pointtype 6 pointsize {ring} {black} notitle",
     ]
 
 
@@ -230,22 +239,24 @@ def of_front(picture, across, up, place, canvas):
     front, named, area = picture.lines[0].runs[0], picture.lines[0].name, place.area
     steps = front + [front[-1]._replace(x=max(point.x for point in picture.cloud))]
     cells = (area.right - area.left) / canvas.letter * 4, (area.top - area.bottom) / canvas.line * 8
-    cloud = pictures.thinned(picture.cloud, across, up, *((side / 8 for side in cells) if canvas.is_text else cells))
+    parts = [side / 8 for side in cells] if canvas.is_text else cells
+    cloud = pictures.thinned(picture.cloud, across, up, *parts)
     chosen = labelled(front, across, up, area, canvas)
     lines = []
     for name, points in (("all", cloud), ("steps", steps), ("front", front), ("labelled", chosen)):
         lines += block(f"pareto_{name}", [points], up)
-    offset, font = ("-1,-1", "") if canvas.is_text else ("-0.5,-0.6", f" font ',{canvas.small:.3g}'")
+    offset = "-1,-1" if canvas.is_text else f"-0.5,-0.6 font ',{canvas.small:.3g}'"
     for point in chosen:
         where = f"{point.x},{up.height(point.y):.10g}"
-        lines += [f"set label {quoted(point.label)} at {where} right offset character {offset}{font}"]
+        lines += [f"set label {quoted(point.label)} at {where} right offset character {offset}"]
     legend, plots = (front_as_text if canvas.is_text else front_in_colours)(named, place, canvas)
     return lines + legend + plot(plots if chosen else plots[:-1])
 
 
 def beginning(canvas, title):
     """The commands for all pictures."""
-    lines = [f"set terminal {canvas.setting}", "set encoding utf8", "set termoption noenhanced", "set border 3"]
+    lines = [f"set terminal {canvas.setting}", "set encoding utf8", "set termoption noenhanced",
+             "set border 3"]
     if canvas.is_text:
         return lines + ["set tics nomirror scale 0"]
     lines += ["set tics nomirror textcolor rgb 'black'", "set border linecolor rgb '#606060'"]
@@ -260,27 +271,31 @@ def script(drawn, canvas, title, measure):
     within = list(zip(drawn, frames(canvas, len(drawn), bool(title))))
     heights = [place_of(*each, canvas, 0).area for each in within]
     shortest = max(canvas.line, min(area.top - area.bottom for area in heights))
-    up = pictures.value_axis([point for picture in drawn for point in picture.points], measure, 1.3 * canvas.line / shortest)
+    points = [point for picture in drawn for point in picture.points]
+    up = pictures.value_axis(points, measure, 1.3 * canvas.line / shortest)
     widest = max(len(words) for _, words in up.ticks)
     lines = beginning(canvas, title)
     for picture, frame in within:
         place = place_of(picture, frame, canvas, widest)
         broad, high = place.area.right - place.area.left, place.area.top - place.area.bottom
-        across = pictures.size_axis([point.x for point in picture.points], 5.5 * canvas.letter / broad)
-        picture = pictures.thinned_lines(picture, across, up, 8 * broad / canvas.letter, 16 * high / canvas.line)
+        sizes = [point.x for point in picture.points]
+        across = pictures.size_axis(sizes, 5.5 * canvas.letter / broad)
+        picture = pictures.thinned_lines(picture, across, up, 8 * broad / canvas.letter,
+                                         16 * high / canvas.line)
         if canvas.is_text and title:
             where = canvas.at(canvas.width / 2, canvas.height - 1)
             lines += [f"set label {quoted(title[:canvas.width])} at screen {where} center"]
         lines += axes(picture, across, up, place, canvas, measure.up)
-        lines += of_front(picture, across, up, place, canvas) if picture.cloud else of_lines(picture, up, place, canvas)
+        lines += (of_front(picture, across, up, place, canvas) if picture.cloud
+                  else of_lines(picture, up, place, canvas))
     return "\n".join(lines + ["unset multiplot"] * (not canvas.is_text)) + "\n"
 
 
 def drawn_by(script):
     """What gnuplot draws by a script, in UTF-8: else it warns of letters that it can't convert."""
-    known = {**os.environ, "LC_ALL": "C.UTF-8"}
     try:
-        ran = subprocess.run(["gnuplot", "-d"], input=script.encode(), capture_output=True, env=known)
+        ran = subprocess.run(["gnuplot", "-d"], input=script.encode(), capture_output=True,
+                             env={**os.environ, "LC_ALL": "C.UTF-8"})
     except FileNotFoundError:
         fail("gnuplot is missing: apt-get install gnuplot-nox")
     told = " ".join(ran.stderr.decode(errors="replace").split())
@@ -293,5 +308,7 @@ def drawn_by(script):
 
 def lines_of(drawn):
     """The lines of a text picture without blanks at their ends, and an empty one between pages."""
-    pages = [page.rstrip().splitlines() for page in drawn.decode(errors="replace").split("\f") if page.strip()]
-    return [line.rstrip() for number, page in enumerate(pages) for line in [""] * bool(number) + page]
+    pages = [page.rstrip().splitlines()
+             for page in drawn.decode(errors="replace").split("\f") if page.strip()]
+    return [line.rstrip() for number, page in enumerate(pages)
+            for line in [""] * bool(number) + page]

@@ -8,25 +8,29 @@ from lib.plot import pictures
 from lib.plot import sweep as plot_sweep
 from lib.tool import fail
 
-SYMBOLS = ("circle", "square", "triangle-up", "triangle-down", "diamond", "circle-open", "square-open")
+SYMBOLS = ("circle", "square", "triangle-up", "triangle-down", "diamond", "circle-open",
+           "square-open")
 DASHES = ("solid", "dash", "dot", "dashdot", "longdash", "longdashdot", "8px,3px,2px,3px,2px,3px")
 MOST_POINTS = 4000
 # what may be chosen for a picture: its word, its name after the page's '#', and the choices' texts
 BLOCK_SIZE = ("Block size", "bsize", pictures.bytes_text)
-MENUS = {"size": BLOCK_SIZE, "curve": BLOCK_SIZE, "block": ("Associativity", "ways", pictures.ways_text)}
+MENUS = {"size": BLOCK_SIZE, "curve": BLOCK_SIZE,
+         "block": ("Associativity", "ways", pictures.ways_text)}
 FONT = "system-ui, 'DejaVu Sans', Verdana, sans-serif"
 # in a page of at most so many pixels a legend is above its picture, and ticks are few
 NARROW = 640
 # in the dark each colour of a picture has another
 DARK = {
-    "#0072b2": "#5cb3ec", "#d55e00": "#ff8a3d", "#009e73": "#2fd0a2", "#cc79a7": "#eba3cb", "#e69f00": "#ffc14a",
-    "#56b4e9": "#a9d9f7", "#000000": "#ffffff", "#bbbbbb": "#6a6a6a",
+    "#0072b2": "#5cb3ec", "#d55e00": "#ff8a3d", "#009e73": "#2fd0a2", "#cc79a7": "#eba3cb",
+    "#e69f00": "#ffc14a", "#56b4e9": "#a9d9f7", "#000000": "#ffffff", "#bbbbbb": "#6a6a6a",
 }
 # Whatever plotly might ask for, the browser must not fetch it.
-POLICY = "default-src 'none'; script-src 'unsafe-inline'; style-src 'unsafe-inline'; img-src data: blob:"
+POLICY = ("default-src 'none'; script-src 'unsafe-inline'; style-src 'unsafe-inline'; "
+          "img-src data: blob:")
 STYLE = f"""
 :root {{ color-scheme: light dark; overflow-y: scroll }}
-body {{ font: 16px {FONT}; margin: 1em auto; max-width: 70em; padding: 0 1em; background: #fff; color: #222 }}
+body {{ font: 16px {FONT}; margin: 1em auto; max-width: 70em; padding: 0 1em }}
+body {{ background: #fff; color: #222 }}
 h1 {{ font-size: 1.4em }}
 h2 {{ font-size: 1em; margin: 1.5em 0 .5em }}
 select {{ font: inherit }}
@@ -35,7 +39,8 @@ section {{ overflow: hidden }}
 """
 SCRIPT = """
 const asked = new URLSearchParams(location.hash.slice(1));
-const narrow = matchMedia("(max-width: NARROWpx)"), dark = matchMedia("(prefers-color-scheme: dark)");
+const narrow = matchMedia("(max-width: NARROWpx)");
+const dark = matchMedia("(prefers-color-scheme: dark)");
 const inDark = colour => dark.matches && darkColours[colour] || colour;
 const coloured = trace => {
     const changed = {...trace};
@@ -46,7 +51,8 @@ const coloured = trace => {
 };
 const laidOut = figure => {
     const text = dark.matches ? "#e4e4e4" : "#222", grid = dark.matches ? "#3a3d3f" : "#e4e4e4";
-    const {xaxis, yaxis, legend, font, margin, ...layout} = figure.layout, beside = !narrow.matches && !figure.above;
+    const {xaxis, yaxis, legend, font, margin, ...layout} = figure.layout;
+    const beside = !narrow.matches && !figure.above;
     const [places, words] = narrow.matches ? figure.few : figure.many;
     return {
         ...layout, paper_bgcolor: "rgba(0,0,0,0)", plot_bgcolor: "rgba(0,0,0,0)",
@@ -65,7 +71,8 @@ for (const [name, choices] of Object.entries(figures)) {
     const show = () => {
         const figure = choices[menu ? menu.value : Object.keys(choices)[0]];
         title.textContent = figure.title;
-        const looks = {responsive: true, displaylogo: false, displayModeBar: narrow.matches ? false : "hover"};
+        const bar = narrow.matches ? false : "hover";
+        const looks = {responsive: true, displaylogo: false, displayModeBar: bar};
         Plotly.react(name, figure.data.map(coloured), laidOut(figure), looks);
     };
     if (menu) {
@@ -100,7 +107,8 @@ def bars(some, up, colour):
     ends = [(point.ends or (point.y, point.y)) if point else (0, 0) for point in some]
     above = [end[1] - point.y if point else 0 for end, point in zip(ends, some)]
     below = [point.y - up.height(end[0]) if point else 0 for end, point in zip(ends, some)]
-    return {"error_y": {"type": "data", "symmetric": False, "array": above, "arrayminus": below, "color": colour, "thickness": 1}}
+    return {"error_y": {"type": "data", "symmetric": False, "array": above, "arrayminus": below,
+                        "color": colour, "thickness": 1}}
 
 
 def of_lines(picture, up, about, mono):
@@ -109,11 +117,13 @@ def of_lines(picture, up, about, mono):
     for line, colour, symbol, dash in zip(picture.lines, pictures.COLOURS, SYMBOLS, DASHES):
         some = [point for run in line.runs for point in [None, *run]][1:]
         colour = pictures.BLACK if mono else colour
-        looks = {"line": {"color": colour, **({"dash": dash} if mono else {})}, "marker": {"color": colour, "symbol": symbol, "size": 8}}
+        looks = {"line": {"color": colour, **({"dash": dash} if mono else {})},
+                 "marker": {"color": colour, "symbol": symbol, "size": 8}}
         if picture.is_front:
             looks["line"]["shape"] = "hv"
         mode = "lines" if picture.is_curve else "lines+markers"
-        traces.append({**points(some, up, about), "mode": mode, "name": line.name, **looks, **bars(some, up, colour)})
+        traces.append({**points(some, up, about), "mode": mode, "name": line.name, **looks,
+                       **bars(some, up, colour)})
     return traces
 
 
@@ -121,7 +131,8 @@ def of_front(picture, across, up, about, mono):
     """The same for the Pareto front. Of very many caches those close together are shown as one."""
     front, cloud, named = picture.lines[0].runs[0], picture.cloud, "all caches"
     if len(cloud) > MOST_POINTS:
-        cloud, named = pictures.thinned(cloud, across, up, 400, 200), "all caches, close ones as one"
+        cloud = pictures.thinned(cloud, across, up, 400, 200)
+        named = "all caches, close ones as one"
     steps = [(point.x, up.height(point.y)) for point in front]
     steps.append((max(point.x for point in picture.cloud), steps[-1][1]))
     colour = pictures.BLACK if mono else pictures.FRONT
@@ -130,7 +141,8 @@ def of_front(picture, across, up, about, mono):
     x, y = zip(*steps)
     return [
         {**points(cloud, up, about), "mode": "markers", "name": named, "marker": pale},
-        {"x": x, "y": y, "mode": "lines", "name": picture.lines[0].name, "line": line, "hoverinfo": "skip"},
+        {"x": x, "y": y, "mode": "lines", "name": picture.lines[0].name, "line": line,
+         "hoverinfo": "skip"},
         {**points(front, up, about), "mode": "markers", "marker": dark, "showlegend": False},
     ]
 
@@ -153,9 +165,9 @@ def ticks(ends):
 
 
 def figure(picture, up, measure, mono):
-    """A picture as plotly has it, its title, and the horizontal ticks of a narrow and a wide
-    page."""
-    few, many = (pictures.size_axis([point.x for point in picture.points], closest) for closest in (0.15, 0.05))
+    """A picture as plotly has it, its title, and the horizontal ticks of narrow and wide pages."""
+    across = [point.x for point in picture.points]
+    few, many = (pictures.size_axis(across, closest) for closest in (0.15, 0.05))
     picture = pictures.thinned_lines(picture, many, up, 1000, 500)
     places, words = ticks(up)
     layout = {
@@ -170,8 +182,10 @@ def figure(picture, up, measure, mono):
         "showlegend": any(line.name for line in picture.lines),
         "uirevision": "as it was",
     }
-    front = of_front(picture, many, up, measure.about, mono) if picture.cloud else of_lines(picture, up, measure.about, mono)
-    return {"title": picture.title, "above": bool(picture.cloud), "few": ticks(few), "many": ticks(many), "data": front, "layout": layout}
+    data = (of_front(picture, many, up, measure.about, mono) if picture.cloud
+            else of_lines(picture, up, measure.about, mono))
+    return {"title": picture.title, "above": bool(picture.cloud), "few": ticks(few),
+            "many": ticks(many), "data": data, "layout": layout}
 
 
 def section(picture, offered):
@@ -179,8 +193,10 @@ def section(picture, offered):
     menu = ""
     if len(offered) > 1:
         word, name, text = MENUS[picture.name]
-        options = [f"<option value={fixed}{' selected' * (fixed == picture.fixed)}>{text(fixed)}</option>" for fixed in offered]
-        menu = f"<label>{word} <select name={name} data-for={picture.name}>{''.join(options)}</select></label>\n"
+        options = [f"<option value={one}{' selected' * (one == picture.fixed)}>{text(one)}</option>"
+                   for one in offered]
+        menu = (f"<label>{word} <select name={name} data-for={picture.name}>"
+                f"{''.join(options)}</select></label>\n")
     title = f"<h2 data-for={picture.name}>{html.escape(picture.title)}</h2>"
     return f"<section>\n{title}\n{menu}<div id={picture.name}></div>\n</section>\n"
 
@@ -188,10 +204,11 @@ def section(picture, offered):
 def page(drawn, measure, title, counts, mono, choices=lambda picture: {picture.fixed: picture}):
     """The page with these pictures. `choices` returns what may be chosen in place of one."""
     offered = [choices(picture) for picture in drawn]
-    shown = [point for several in offered for picture in several.values() for point in picture.points]
+    shown = [point for several in offered for picture in several.values()
+             for point in picture.points]
     up = pictures.value_axis(shown, measure, 0.062)
     figures = {
-        picture.name: {fixed: figure(chosen, up, measure, mono) for fixed, chosen in several.items()}
+        picture.name: {fixed: figure(each, up, measure, mono) for fixed, each in several.items()}
         for picture, several in zip(drawn, offered)
     }
     heading = html.escape(title or measure.heading)
@@ -220,7 +237,8 @@ const darkColours = {as_script(DARK)};
 def of_sweep(drawn, rows, measure, title, mono):
     """The page for a table of a sweep."""
     counts = f"{len(rows):,} cache{'s' * (len(rows) > 1)}, {rows[0].references:,} references"
-    return page(drawn, measure, title, counts, mono, lambda picture: plot_sweep.choices(picture, rows, measure))
+    return page(drawn, measure, title, counts, mono,
+                lambda picture: plot_sweep.choices(picture, rows, measure))
 
 
 def of_din(drawn, table, measure, title, mono):

@@ -14,8 +14,7 @@ PALE, FRONT, BLACK = "#bbbbbb", "#d55e00", "#000000"
 
 
 class Point(NamedTuple):
-    """A cache in a picture: its place, what is said of it, its label, the ends over several
-    seeds."""
+    """A cache in a picture: its place, what is said of it, its label, ends over several seeds."""
 
     x: int
     y: float
@@ -77,8 +76,7 @@ class Picture(NamedTuple):
 
 
 class Axis(NamedTuple):
-    """An axis: its ends, whether it is logarithmic, ticks with and without texts, where 0
-    stands."""
+    """An axis: its ends, whether it is logarithmic, ticks with and without texts, where 0 is."""
 
     low: float
     high: float
@@ -131,13 +129,13 @@ def evenly(values, most=MOST_LINES):
 
 
 def linear_axis(greatest, closest, most):
-    """An axis from 0 to a bit above a value, whose ticks are at least a part `closest` of it
-    apart."""
+    """An axis from 0 to a bit above a value, whose ticks are at least `closest` of it apart."""
     high = 1.05 * greatest or 1.0
     power = 10.0 ** math.floor(math.log10(high * closest))
     step = next(step * power for step in (1, 2, 5, 10, 20) if step * power >= high * closest)
     values = [step * count for count in range(int(high / step) + 1)]
-    return Axis(0.0, high, False, [(value, number_text(value)) for value in values if value <= most], [], 0.0)
+    ticks = [(value, number_text(value)) for value in values if value <= most]
+    return Axis(0.0, high, False, ticks, [], 0.0)
 
 
 def number_text(value):
@@ -166,17 +164,19 @@ def log_axis(values, closest, most):
     span = greatest / least
     foot = least / span ** 0.12 if 0 in values else 0.0
     low, high = (foot or least) / span ** 0.12, greatest * span ** 0.05
-    ticks = [(value, number_text(value)) for value in log_ticks(low, high, closest) if 0.999 * least <= value <= min(high, most)]
-    ticks = [tick for tick in ticks if not foot or math.log(tick[0] / foot) >= closest * math.log(high / low)]
+    ticks = [(value, number_text(value)) for value in log_ticks(low, high, closest)
+             if 0.999 * least <= value <= min(high, most)]
+    apart = closest * math.log(high / low)
+    ticks = [tick for tick in ticks if not foot or math.log(tick[0] / foot) >= apart]
     decades = range(math.floor(math.log10(least)), math.ceil(math.log10(high)))
-    minor = [digit * 10.0 ** decade for decade in decades for digit in range(1, 10)] if len(decades) < 7 else []
-    minor = [value for value in minor if least <= value <= high and all(abs(value / tick - 1) > 0.01 for tick, _ in ticks)]
+    minor = [digit * 10.0 ** decade for decade in decades for digit in range(1, 10)]
+    minor = [value for value in minor if len(decades) < 7 and least <= value <= high
+             and all(abs(value / tick - 1) > 0.01 for tick, _ in ticks)]
     return Axis(low, high, True, [(foot, "0")] * bool(foot) + ticks, minor, foot)
 
 
 def value_axis(points, measure, closest):
-    """The axis of the measure: logarithmic if the greatest value is at least five times the
-    least."""
+    """The axis of the measure: logarithmic if the greatest is at least five times the least."""
     values = [value for point in points for value in (point.y, *point.ends)]
     above = [value for value in values if value]
     most = 100 if measure.is_percent and max(values) <= 100 else math.inf
@@ -193,16 +193,17 @@ def size_axis(sizes, closest):
     span = math.log2(greatest / least)
     low, high = least / 2 ** (0.04 * span), greatest * 2 ** (0.04 * span)
     step = math.ceil(closest * span * 1.08)
-    powers = [2 ** power for power in range(math.ceil(math.log2(least)), math.floor(math.log2(greatest)) + 1, step)]
-    return Axis(low, high, True, [(value, short(value)) for value in powers or (least, greatest)], [], 0.0)
+    powers = range(math.ceil(math.log2(least)), math.floor(math.log2(greatest)) + 1, step)
+    values = [2 ** power for power in powers] or (least, greatest)
+    return Axis(low, high, True, [(value, short(value)) for value in values], [], 0.0)
 
 
 def thinned(points, across, up, columns, lines):
     """Some points, one for each cell of so many columns and lines that has any."""
     cells = {}
     for point in points:
-        cell = round(columns * across.fraction(point.x)), round(lines * up.fraction(up.height(point.y)))
-        cells.setdefault(cell, point)
+        line = round(lines * up.fraction(up.height(point.y)))
+        cells.setdefault((round(columns * across.fraction(point.x)), line), point)
     return list(cells.values())
 
 
@@ -210,5 +211,6 @@ def thinned_lines(picture, across, up, columns, lines):
     """A picture whose curves have no more points than can be seen; each keeps its last one."""
     if not picture.is_curve:
         return picture
-    kept = [Line(line.name, [[*thinned(run[:-1], across, up, columns, lines), run[-1]] for run in line.runs]) for line in picture.lines]
+    kept = [Line(line.name, [[*thinned(run[:-1], across, up, columns, lines), run[-1]]
+                             for run in line.runs]) for line in picture.lines]
     return picture._replace(lines=kept)

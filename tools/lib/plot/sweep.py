@@ -8,7 +8,8 @@ from lib.table import COUNTS, pareto
 from lib.tool import fail
 
 ABOUT = (
-    "%{customdata[3]:,} bytes: block %{customdata[0]:,}, sets %{customdata[1]:,}, ways %{customdata[2]:,}<br>"
+    "%{customdata[3]:,} bytes: block %{customdata[0]:,}, sets %{customdata[1]:,}, "
+    "ways %{customdata[2]:,}<br>"
     "hits %{customdata[4]:,}, misses %{customdata[5]:,}, evictions %{customdata[6]:,}<br>"
 )
 MANY = 32  # from so many points on a curve has no marks
@@ -25,8 +26,8 @@ def judge(rows, name):
         if row.cache in seen:
             fail(f"{name}: two rows for the cache {cache}")
         if row.references != rows[0].references:
-            counts = f"{rows[0].references} references in the first row, {row.references} in that of {cache}"
-            fail(f"{name}: the rows are not of one trace: {counts}")
+            fail(f"{name}: the rows are not of one trace: {rows[0].references} references in the"
+                 f" first row, {row.references} in that of {cache}")
         seen.add(row.cache)
 
 
@@ -46,8 +47,7 @@ def point(row, x):
 
 
 def cut(rows, step, steps):
-    """The rows of a line in runs, which end where the next row skips a step that other lines
-    have."""
+    """The rows of a line in runs, which end where the next row skips a step of other lines."""
     runs = [[]]
     for row in rows:
         if runs[-1] and any(step(runs[-1][-1]) < other < step(row) for other in steps):
@@ -65,7 +65,8 @@ def by_size(rows, bsize, measure):
     rows = sorted((row for row in rows if row.bsize == bsize), key=lambda row: row.size)
     sets = {row.sets for row in rows}
     lines = [
-        line(ways_text(ways), cut([row for row in rows if row.assoc == ways], lambda row: row.sets, sets))
+        line(ways_text(ways), cut([row for row in rows if row.assoc == ways],
+                                  lambda row: row.sets, sets))
         for ways in handful(row.assoc for row in rows)
     ]
     title = f"{measure.name} by cache size: blocks of {bytes_text(bsize)}"
@@ -78,28 +79,31 @@ def by_ways(rows, bsize, measure):
     if len(sets) > 1:
         rows = [row for row in rows if row.bsize == bsize]
         sets = handful(row.sets for row in rows)
-        groups = [(f"{count} set{'s' * (count > 1)}", [row for row in rows if row.sets == count]) for count in sets]
+        groups = [(f"{count} set{'s' * (count > 1)}", [row for row in rows if row.sets == count])
+                  for count in sets]
         title, legend = f"blocks of {bytes_text(bsize)}", ""
     else:
         blocks = handful(row.bsize for row in rows)
         groups = [(bytes_text(size), [row for row in rows if row.bsize == size]) for size in blocks]
         title, legend = "fully associative" if sets == [1] else f"{sets[0]} sets", "block size"
     if len(groups) == 1:
-        groups, title, legend = [("", groups[0][1])], f"{title}, blocks of {bytes_text(blocks[0])}", ""
+        title = f"{title}, blocks of {bytes_text(blocks[0])}"
+        groups, legend = [("", groups[0][1])], ""
     lines = [line(name, [sorted(group, key=lambda row: row.size)]) for name, group in groups]
     is_curve = max(len(group) for _, group in groups) >= MANY
-    return Picture("curve", bsize, f"{measure.name} by cache size: {title}", across, legend, lines, is_curve=is_curve)
+    title = f"{measure.name} by cache size: {title}"
+    return Picture("curve", bsize, title, across, legend, lines, is_curve=is_curve)
 
 
 def by_block(rows, ways, measure):
-    """By block size at one associativity, a line for each cache size (of several block sizes, if
-    any)."""
+    """By block size at one associativity, a line for each size (of several blocks, if any)."""
     rows = sorted(row for row in rows if row.assoc == ways)
     blocks = {row.bsize for row in rows}
     sizes = [row.size for row in rows]
     several = [size for size in sizes if sizes.count(size) > 1]
     lines = [
-        line(short(size), cut([row for row in rows if row.size == size], lambda row: row.bsize, blocks), lambda row: row.bsize)
+        line(short(size), cut([row for row in rows if row.size == size],
+                              lambda row: row.bsize, blocks), lambda row: row.bsize)
         for size in handful(several or sizes)
     ]
     title = f"{measure.name} by block size: {ways_text(ways)}"
@@ -108,20 +112,22 @@ def by_block(rows, ways, measure):
 
 def by_front(rows, measure):
     """The smallest caches that miss least, before all others."""
-    named = "fewest misses up to this size" if measure == measure_of("misses") else "least up to this size"
+    is_usual = measure == measure_of("misses")
+    named = "fewest misses up to this size" if is_usual else "least up to this size"
     cloud = [point(row, row.size) for row in rows]
-    return Picture("pareto", 0, measure.least, "cache size in bytes", "", [line(named, [pareto(rows)])], cloud, "block size, sets, ways")
+    return Picture("pareto", 0, measure.least, "cache size in bytes", "",
+                   [line(named, [pareto(rows)])], cloud, "block size, sets, ways")
 
 
 def fixed(values, wanted, usual, name, what):
-    """The block size or associativity of a picture: the wanted one, or that nearest to the
-    usual."""
+    """The block size or associativity of a picture: the wanted, or the nearest to the usual."""
     values = sorted(set(values))
     if wanted is None:
         return pictures.nearest(values, usual)
     some = handful(values, 12)
     if wanted not in values:
-        fail(f"{name}: no cache has {what} {wanted}; there are {', '.join(map(str, some))}{' and others' * (len(some) < len(values))}")
+        there = ", ".join(map(str, some)) + " and others" * (len(some) < len(values))
+        fail(f"{name}: no cache has {what} {wanted}; there are {there}")
     return wanted
 
 
@@ -158,11 +164,12 @@ def drawn(asked, rows, measure):
 
 def choices(picture, rows, measure):
     """The pictures that may be chosen in place of one: by what they fix."""
+    blocks = sorted({row.bsize for row in rows})
     if picture.name == "size":
-        return {bsize: by_size(rows, bsize, measure) for bsize in sorted({row.bsize for row in rows})}
+        return {bsize: by_size(rows, bsize, measure) for bsize in blocks}
     if picture.name == "block":
         values = handful((row.assoc for row in rows), MOST_CHOICES)
         return {ways: by_block(rows, ways, measure) for ways in sorted({*values, picture.fixed})}
     if picture.name == "curve" and len({row.sets for row in rows}) > 1:
-        return {bsize: by_ways(rows, bsize, measure) for bsize in sorted({row.bsize for row in rows})}
+        return {bsize: by_ways(rows, bsize, measure) for bsize in blocks}
     return {picture.fixed: picture}

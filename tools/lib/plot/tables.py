@@ -23,8 +23,7 @@ class Rows(NamedTuple):
 
 
 def names_of(files):
-    """What the legend calls some tables: their files, without folders and endings if that will
-    do."""
+    """What the legend calls some tables: their files, without folder and ending if that will do."""
     short = [os.path.splitext(os.path.basename(file))[0] for file in files]
     names = short if len(set(short)) == len(short) else files
     names = ["standard input" if name == "-" else name for name in names]
