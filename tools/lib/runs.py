@@ -14,7 +14,7 @@ from lib import paging, tool
 from lib.signals import heed_stops, put_off_stops, stop_at_signals
 
 PIECE = 1 << 18  # the bytes that are read at once
-ROOM = 1 << 20  # the bytes that may wait for a run, so that it falls behind the others for a while at no cost
+ROOM = 1 << 20  # the bytes that may wait for a run, so that it may fall behind for a while
 UNPACK = 'here=$1; . "$here/lib/lib.bash"; find_unpacker "$2"; exec "${unpacker[@]}"'
 
 
@@ -32,8 +32,7 @@ def end_text(code):
 
 @contextlib.contextmanager
 def uninterrupted():
-    """Holds back what would interrupt the tool, so that it knows each process that it has
-    started."""
+    """Holds back what would interrupt the tool, so that it knows each process that it starts."""
     put_off_stops()
     try:
         yield
@@ -49,7 +48,8 @@ class Process:
         self.kept, self.told, self.text = os.memfd_create("kept"), os.memfd_create("told"), b""
         # what a terminal sends to all processes is for this tool alone, which ends the others
         blocked = (signal.SIGHUP, signal.SIGINT)
-        self.number = paging.start(command, stdin, self.kept if stdout is None else stdout, self.told, setsigmask=blocked)
+        self.number = paging.start(command, stdin, self.kept if stdout is None else stdout,
+                                   self.told, setsigmask=blocked)
         self.is_running = True
 
     def message(self):
@@ -72,7 +72,7 @@ class Process:
 
     def kill(self):
         if self.is_running:
-            with contextlib.suppress(ProcessLookupError):  # its end was taken as a signal came, and not noted
+            with contextlib.suppress(ProcessLookupError):  # its end was taken, and not noted
                 os.kill(self.number, signal.SIGKILL)
                 os.waitpid(self.number, 0)
             self.is_running = False
@@ -102,7 +102,8 @@ class Run(Process):
 
     def give(self, piece):
         left = memoryview(piece)
-        with contextlib.suppress(BrokenPipeError):  # it has ended, which is seen with its cause by who looks after the pipes
+        # where it has ended, who looks after the pipes sees that with its cause
+        with contextlib.suppress(BrokenPipeError):
             while left:
                 left = left[os.write(self.pipe, left):]
 
@@ -122,7 +123,8 @@ class Unpacker(Process):
 
     def fault(self, code):
         text = self.message().split("\n")[-1] or f"what unpacks it ended with {end_text(code)}"
-        return Fault(text if text.startswith(f"{tool.NAME}: ") else f"{tool.NAME}: {self.trace} can't be read: {text}")
+        is_own = text.startswith(f"{tool.NAME}: ")
+        return Fault(text if is_own else f"{tool.NAME}: {self.trace} can't be read: {text}")
 
 
 class Runs:
@@ -151,7 +153,8 @@ class Runs:
         if not self.is_read_once:
             name = f"./{self.trace}" if self.trace.startswith("-") else self.trace
         elif len(self.runs) >= self.jobs:
-            file = os.open(f"/proc/self/fd/{self.spool.fileno()}", os.O_RDONLY)  # with a place in the file of its own
+            # with a place in the file of its own
+            file = os.open(f"/proc/self/fd/{self.spool.fileno()}", os.O_RDONLY)
         with uninterrupted():
             self.runs.append(Run(place, command, name, file))
 
@@ -164,7 +167,8 @@ class Runs:
                 with uninterrupted():
                     self.unpacker = Unpacker(self.trace)
         except OSError as fault:
-            raise Fault(f"{tool.NAME}: no more processes can be started: {fault.strerror}") from None
+            text = f"no more processes can be started: {fault.strerror}"
+            raise Fault(f"{tool.NAME}: {text}") from None
 
     def source(self):
         """The descriptor that a trace is read from which is read once."""
@@ -189,7 +193,8 @@ class Runs:
             while left:
                 left = left[self.spool.write(left):]
         except OSError as fault:
-            raise Fault(f"{tool.NAME}: the trace can't be kept in {tempfile.gettempdir()}: {fault.strerror}") from None
+            text = f"the trace can't be kept in {tempfile.gettempdir()}: {fault.strerror}"
+            raise Fault(f"{tool.NAME}: {text}") from None
 
     def hand_out(self, source):
         """Gives all that is read to each run. None sees an end before it is known that the trace
@@ -231,17 +236,19 @@ class Runs:
             process.kill()
 
     def progress(self):
-        """How far the runs are: those that are done, or how much was read by that run which has
-        read least."""
+        """How far the runs are: how many are done, or what that has read which has read least."""
         if self.is_read_once and any(run.pipe is not None and run.is_running for run in self.runs):
             return f"{self.handed // 1000000} MB of the trace read"
         if len(self.commands) > self.jobs:
-            return f"{sum(not run.is_running for run in self.runs)} of {len(self.commands)} runs done"
-        return f"{100 * min(run.bytes_read() for run in self.runs if run.is_running) // self.size} % of the trace read"
+            done = sum(not run.is_running for run in self.runs)
+            return f"{done} of {len(self.commands)} runs done"
+        least = min(run.bytes_read() for run in self.runs if run.is_running)
+        return f"{100 * least // self.size} % of the trace read"
 
     def tell(self, *_):
         """Shows that on the terminal's line."""
-        with contextlib.suppress(OSError, ValueError, ZeroDivisionError):  # a run has just ended, or there is nothing to read
+        # a run may just have ended, or there may be nothing to read
+        with contextlib.suppress(OSError, ValueError, ZeroDivisionError):
             show(f"{tool.NAME}: {self.part}{self.progress()}")
 
 

@@ -22,9 +22,8 @@ from parts import tool
 LEAST_LIMIT = 64 << 20
 TAIL = 1 << 20
 PR_SET_CHILD_SUBREAPER = 36
-# What a confined program sees beside its own folder: enough for programs in any language that
-# Debian packages.
-SYSTEM = ["/usr", "/bin", "/sbin", "/lib", "/lib32", "/lib64", "/libx32", "/etc/alternatives", "/etc/ld.so.cache"]
+# What a confined program sees beside its own folder: enough for any language that Debian packages.
+SYSTEM = "/usr /bin /sbin /lib /lib32 /lib64 /libx32 /etc/alternatives /etc/ld.so.cache".split()
 PATH = "/usr/local/bin:/usr/bin:/bin"
 # has glibc fill memory of malloc, so that who takes it for zeros is found
 FILLED = {"MALLOC_PERTURB_": "165"}
@@ -65,9 +64,11 @@ class Student:
     before it on its command line."""
 
     def __init__(self, program, folder, seconds, around=None):
-        self.program, self.folder, self.around = without_links(program), pathlib.Path(folder), around or (lambda room: [])
-        self.seconds, self.few_seconds, self.slow_runs = seconds, min(seconds, max(1, seconds / 10)), 0
-        ctypes.CDLL(None).prctl(PR_SET_CHILD_SUBREAPER, 1, 0, 0, 0)  # what it leaves behind becomes a child of this process
+        self.program, self.folder = without_links(program), pathlib.Path(folder)
+        self.around, self.seconds = around or (lambda room: []), seconds
+        self.few_seconds, self.slow_runs = min(seconds, max(1, seconds / 10)), 0
+        # what it leaves behind becomes a child of this process
+        ctypes.CDLL(None).prctl(PR_SET_CHILD_SUBREAPER, 1, 0, 0, 0)
 
     def run(self, case, *flags, by_line=False, is_filled=True):
         """Runs the program on a case; by line, so that a crash loses none; with memory of malloc
@@ -86,7 +87,8 @@ class Student:
             with open(output, "wb") as out, open(messages, "wb") as err:
                 status = status_of(command, limit, seconds, cwd=room, stdout=out, stderr=err)
             is_slow = status is None
-            ran = Run(fault_of(status, messages, seconds), is_slow, is_slow or is_signal(status), output, results_in(room))
+            ran = Run(fault_of(status, messages, seconds), is_slow, is_slow or is_signal(status),
+                      output, results_in(room))
         if ran.is_slow:
             self.slow_runs += 1
             self.seconds = self.seconds if flags else self.few_seconds
@@ -94,12 +96,13 @@ class Student:
 
 
 def status_of(command, limit, seconds, **given):
-    """The status of a run, or None where its time ran out. What it started and left behind is ended
-    too."""
-    given.update(stdin=subprocess.DEVNULL, start_new_session=True, preexec_fn=lambda: bound(limit), env=environment())
+    """The status of a run, or None where its time ran out. What it left behind is ended too."""
+    given.update(stdin=subprocess.DEVNULL, start_new_session=True, env=environment(),
+                 preexec_fn=lambda: bound(limit))
     put_off_stops()  # else a signal could come before the process is known
     process = subprocess.Popen(command, **given)
-    watch = os.pidfd_open(process.pid)  # process.wait(seconds) looks from time to time, and can keep its lock at a signal
+    # process.wait(seconds) looks from time to time, and can keep its lock at a signal
+    watch = os.pidfd_open(process.pid)
     try:
         heed_stops()
         has_ended = select.select([watch], [], [], seconds)[0]
@@ -113,8 +116,7 @@ def status_of(command, limit, seconds, **given):
 
 
 def number_of(status):
-    """The number of the signal that a status tells: bubblewrap and shells do so by one above
-    128."""
+    """The number of the signal in a status: bubblewrap and shells tell it by one above 128."""
     return -status if status < 0 else status - 128
 
 
@@ -127,16 +129,17 @@ def fault_of(status, messages, seconds):
     if not status:
         return "" if status == 0 else f"no end within {seconds:g} s"
     number = number_of(status)
-    text = f"ended by signal {number}: {signal.strsignal(number)}" if is_signal(status) else f"ended with status {status}"
+    text = (f"ended by signal {number}: {signal.strsignal(number)}" if is_signal(status)
+            else f"ended with status {status}")
     last = last_line(messages)
     return f"{text}; its last message is '{shown(last)}'" if last else text
 
 
 def bound(limit):
-    """Bounds the size of the files that a student's process writes, before it begins; no core
-    files."""
+    """Bounds the size of a student's files, before the process begins; no core files."""
     heed_stops()
-    resource.setrlimit(resource.RLIMIT_FSIZE, (limit, resource.getrlimit(resource.RLIMIT_FSIZE)[1]))
+    most = resource.getrlimit(resource.RLIMIT_FSIZE)[1]
+    resource.setrlimit(resource.RLIMIT_FSIZE, (limit, most))
     resource.setrlimit(resource.RLIMIT_CORE, (0, 0))
 
 
@@ -149,8 +152,7 @@ def children():
 
 
 def end_orphans():
-    """Ends what a program left behind, in other sessions too: the orphans that became children of
-    this process."""
+    """Ends what a program left behind, in other sessions too: orphans are this one's children."""
     with contextlib.suppress(ChildProcessError):  # none is left
         while True:
             if os.waitpid(-1, os.WNOHANG)[0] == 0:
@@ -160,10 +162,10 @@ def end_orphans():
 
 
 def environment():
-    """That of a student's program: nothing in it leads to cachesim, unless that is among the
-    system's own programs."""
+    """That of a student's program: it leads to no cachesim but one among the system's programs."""
     folders = os.environ.get("PATH", PATH).split(":")
-    kept = [folder for folder in folders if folder in PATH.split(":") or not os.access(f"{folder}/cachesim", os.X_OK)]
+    kept = [folder for folder in folders if folder in PATH.split(":")
+            or not os.access(f"{folder}/cachesim", os.X_OK)]
     own = {name: value for name, value in os.environ.items() if name != "CACHESIM"}
     return {**own, **FILLED, "PATH": ":".join(kept)}
 
@@ -180,10 +182,10 @@ def is_below(path, *folders):
 
 
 def cachesims(found):
-    """Where cachesim is: the one that was found, and those on the path and among the system's
-    programs."""
+    """Where cachesim is: as found, and those on the path and among the system's programs."""
     folders = [*os.environ.get("PATH", "").split(":"), *PATH.split(":")]
-    return sorted({os.path.realpath(path) for path in [found, *(os.path.join(at, "cachesim") for at in folders)] if os.path.exists(path)})
+    paths = [found, *(os.path.join(folder, "cachesim") for folder in folders)]
+    return sorted({os.path.realpath(path) for path in paths if os.path.exists(path)})
 
 
 def bubblewrap(program, cachesim):
@@ -195,13 +197,15 @@ def bubblewrap(program, cachesim):
     for name, value in {"PATH": PATH, "LANG": "C.UTF-8", **FILLED}.items():
         begin += ["--setenv", name, value]
     for path in filter(os.path.exists, SYSTEM):
-        begin += ["--symlink", os.readlink(path), path] if os.path.islink(path) else ["--ro-bind", path, path]
+        way = ["--symlink", os.readlink(path)] if os.path.islink(path) else ["--ro-bind", path]
+        begin += [*way, path]
     begin += ["--dev", "/dev", "--proc", "/proc", "--ro-bind", own, own]
     for path in cachesims(cachesim):
         begin += ["--ro-bind", "/dev/null", path] if is_below(path, own, *SYSTEM) else []
     if is_below(tool.HERE, own, *SYSTEM) and not is_below(own, tool.HERE):
         begin += ["--tmpfs", tool.HERE]  # some tools simulate a cache too
-    return lambda room: [*begin, "--bind", room, room, "--chdir", room, "--setenv", "TMPDIR", room, "--remount-ro", "/", "--"]
+    return lambda room: [*begin, "--bind", room, room, "--chdir", room, "--setenv", "TMPDIR", room,
+                         "--remount-ro", "/", "--"]
 
 
 def confinement(program, cachesim, folder):
@@ -209,17 +213,18 @@ def confinement(program, cachesim, folder):
     if not shutil.which("bwrap"):
         tool.fail("bwrap is missing: apt-get install bubblewrap")
     around = bubblewrap(program, cachesim)
-    tried = subprocess.run([*around(str(folder)), "true"], stdin=subprocess.DEVNULL, capture_output=True, text=True, check=False)
+    tried = subprocess.run([*around(str(folder)), "true"], stdin=subprocess.DEVNULL,
+                           capture_output=True, text=True, check=False)
     if tried.returncode:
         tool.fail(f"bubblewrap doesn't work here: {tried.stderr.strip()}")
     return around
 
 
 def results_in(room):
-    """What .csim_results begins with, or None. A program can leave anything under that name, a pipe
-    too."""
+    """What .csim_results begins with, or None. A program can leave anything there, a pipe too."""
+    flags = os.O_RDONLY | os.O_NOFOLLOW | os.O_NONBLOCK
     with contextlib.suppress(OSError):
-        with open(os.open(os.path.join(room, ".csim_results"), os.O_RDONLY | os.O_NOFOLLOW | os.O_NONBLOCK), "rb") as file:
+        with open(os.open(os.path.join(room, ".csim_results"), flags), "rb") as file:
             return file.read(200)
     return None
 
@@ -227,7 +232,8 @@ def results_in(room):
 def shown(line, most=120):
     """A line of a student's program, in a form that does nothing to a terminal."""
     text = line[:most].decode("utf-8", "backslashreplace").rstrip()
-    return "".join(letter if letter.isprintable() else repr(letter)[1:-1] for letter in text) + (".." if len(line) > most else "")
+    plain = "".join(letter if letter.isprintable() else repr(letter)[1:-1] for letter in text)
+    return plain + ".." * (len(line) > most)
 
 
 def tail_of(path):
@@ -248,7 +254,8 @@ def in_private_folder(work):
         sys.stdout.reconfigure(errors="backslashreplace")
     stop_at_signals()
     try:
-        with tempfile.TemporaryDirectory(prefix=f"cachesim-{tool.NAME}.", ignore_cleanup_errors=True) as folder:
+        prefix = f"cachesim-{tool.NAME}."
+        with tempfile.TemporaryDirectory(prefix=prefix, ignore_cleanup_errors=True) as folder:
             return work(pathlib.Path(folder))
     except OSError as fault:
         if isinstance(fault, BrokenPipeError):
