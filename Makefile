@@ -1,6 +1,9 @@
-#   make                        proves and builds the program (8 minutes on four processors), and says where it is
-#   make demo                   sweeps an example within a minute; without a proved program it makes an unproved one, which tests/run takes
-#   make test                   proves everything and tests the program; the last line is 'N passed, M failed'
+#   make                        proves and builds the program (8 minutes on four processors), and
+#                               says where it is
+#   make demo                   sweeps an example within a minute; without a proved program it makes
+#                               an unproved one, which tests/run takes
+#   make test                   proves everything and tests the program; the last line is 'N passed,
+#                               M failed'
 #   make test-tools             builds the program and tests the tools and the package with it
 #   make strain                 tests that take longer: refusals, 100,000 random cases, against
 #                               Cachegrind, against C code
@@ -26,7 +29,8 @@
 PREFIX ?= /usr/local
 PROGRAM := crates/cachesim/out/cachesim
 
-.PHONY: build demo tools test test-tools strain refusals mutants install uninstall deb clean help kit
+.PHONY: build demo tools test test-tools strain refusals mutants install uninstall deb clean
+.PHONY: help kit
 
 build:
 	@package/build

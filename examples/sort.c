@@ -1,4 +1,4 @@
-/* Sorts 32 numbers by merging. Only what happens between the two marks is kept of its trace: see trace.sh. */
+/* Sorts 32 numbers by merging. Of its trace what is between the two marks is kept: see trace.sh. */
 #define N 32
 
 volatile char mark;
@@ -10,7 +10,8 @@ static void sort(int from, int to) {
     sort(from, middle);
     sort(middle, to);
     for (int at = from; at < to; at++)
-        room[at] = right == to || (left < middle && numbers[left] <= numbers[right]) ? numbers[left++] : numbers[right++];
+        room[at] = right == to || (left < middle && numbers[left] <= numbers[right])
+            ? numbers[left++] : numbers[right++];
     for (int at = from; at < to; at++) numbers[at] = room[at];
 }
 

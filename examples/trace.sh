@@ -17,7 +17,8 @@ traced() {
     mark=$(nm "$work/$1" | awk '$3 == "mark" { print $1 }' | sed 's/^0*//')
     valgrind --tool=lackey --trace-mem=yes --log-file="$work/log" "$work/$1" "${@:2}"
     awk -v mark="$mark" '
-        $1 == "S" { split($2, part, ","); at = tolower(part[1]); sub(/^0+/, "", at); if (at == mark) { inside = !inside; next } }
+        $1 == "S" { split($2, part, ","); at = tolower(part[1]); sub(/^0+/, "", at) }
+        $1 == "S" && at == mark { inside = !inside; next }
         inside' "$work/log"
 }
 

@@ -41,7 +41,8 @@ def words_of(value, text):
     if len(found) > 1 and (value.startswith("{") or "|" in value):
         return tuple((word, "") for word in found)
     letters = [LETTER.fullmatch(part) for part in text.rpartition(": ")[2].split(", ")]
-    return tuple(match.groups() for match in letters) if value and len(letters) > 1 and all(letters) else ()
+    is_list = value and len(letters) > 1 and all(letters)
+    return tuple(match.groups() for match in letters) if is_list else ()
 
 
 def options_in(text, is_file):
@@ -50,9 +51,12 @@ def options_in(text, is_file):
     lines = text.splitlines()
     for number, line in enumerate(lines, 1):
         if match := OPTION.fullmatch(line):
-            below = itertools.takewhile(lambda line: line.startswith(f"{match[1]}  ") and not OPTION.fullmatch(line), lines[number:])
+            below = itertools.takewhile(
+                lambda line: line.startswith(f"{match[1]}  ") and not OPTION.fullmatch(line),
+                lines[number:])
             # a line may end within a word that has a hyphen
-            told = re.sub(r"(?<=\w-) ", "", " ".join(filter(None, [match[5], *map(str.strip, below)])))
+            told = " ".join(filter(None, [match[5], *map(str.strip, below)]))
+            told = re.sub(r"(?<=\w-) ", "", told)
             beginning = re.sub(r" \[default: .*\]$", "", told).partition(". ")[0]
             words = words_of(match[4] or "", beginning)
             value = "value" if re.search("[|{]", match[4] or "") else (match[4] or "").strip("<>")
@@ -64,4 +68,5 @@ def words_in(text):
     """The words that the first argument may be, each with its meaning: commands, or those of a line
     'FORMAT is one of those below'."""
     found = FIRST.search(text)
-    return tuple(match.groups() for match in map(WORD.fullmatch, found[1].splitlines()) if match) if found else ()
+    lines = found[1].splitlines() if found else ()
+    return tuple(match.groups() for match in map(WORD.fullmatch, lines) if match)

@@ -1,5 +1,4 @@
-"""What the Python scripts of this folder share: the tools and what all of them share, and runs of a
-command."""
+"""What the Python scripts here share: the tools, what all of them share, and runs of a command."""
 
 import importlib
 import os
@@ -15,7 +14,8 @@ tool = importlib.import_module("lib.tool")
 def tools():
     """The tools that are commands where they are installed: of each name its path below tools/."""
     top = TOP / "tools"
-    paths = [path for folder in (top, top / "lab") for path in folder.iterdir() if path.is_file() and os.access(path, os.X_OK)]
+    paths = [path for folder in (top, top / "lab") for path in folder.iterdir()
+             if path.is_file() and os.access(path, os.X_OK)]
     return {path.name: path.relative_to(top) for path in sorted(paths, key=lambda path: path.name)}
 
 
@@ -24,9 +24,11 @@ def run(*command, text=""):
     # argparse makes its lines as long as the terminal
     known = {**os.environ, "COLUMNS": "100", "LC_ALL": "C.UTF-8"}
     try:
-        ran = subprocess.run(command, input=text, capture_output=True, encoding="utf-8", timeout=60, check=True, env=known)
+        ran = subprocess.run(command, input=text, capture_output=True, encoding="utf-8", timeout=60,
+                             check=True, env=known)
     except FileNotFoundError:
-        tool.fail(f"{command[0]} is missing" + (": apt-get install lowdown" if command[0] == "lowdown" else ""))
+        package = ": apt-get install lowdown" * (command[0] == "lowdown")
+        tool.fail(f"{command[0]} is missing{package}")
     except OSError as fault:
         tool.fail(f"{command[0]}: {fault.strerror}")
     except subprocess.SubprocessError as fault:

@@ -40,14 +40,17 @@ def bash(title, commands):
 
     lines = []
     for name, command in lines_of(commands):
-        lines += [f"    '{name}')", "        case $before in", *(f"        {case}" for case in cases(command)), "        esac ;;"]
+        tried = [f"        {case}" for case in cases(command)]
+        lines += [f"    '{name}')", "        case $before in", *tried, "        esac ;;"]
     name = next(iter(commands))
     line = "${COMP_WORDS[0]##*/}" if len(commands) > 1 else name
     text = BASH.replace("TITLE", title).replace("CASES", "\n".join(lines)).replace("LINE", line)
     above = [name for name, command in commands.items() if command.below]
-    below = (f"    [[ $COMP_CWORD = 1 || $line != {name} ]] || line+=\" ${{COMP_WORDS[1]}}\"\n" for name in above)
+    below = (f"    [[ $COMP_CWORD = 1 || $line != {name} ]] || line+=\" ${{COMP_WORDS[1]}}\"\n"
+             for name in above)
     text = text.replace("BELOW", "".join(below))
-    return text.replace("FUNCTION", f"_{name}" if len(commands) == 1 else "_cachesim_tool").replace("COMMANDS", " ".join(commands))
+    text = text.replace("FUNCTION", f"_{name}" if len(commands) == 1 else "_cachesim_tool")
+    return text.replace("COMMANDS", " ".join(commands))
 
 
 BASH = """\
@@ -67,7 +70,8 @@ CASES
         # each option at most once, however many dashes it was given, unless it may be repeated
         other=-$name
         [[ $name != --* ]] || other=${name#-}
-        [[ $given == *" $name "* || $given == *" $other "* ]] && [[ " $repeated " != *" $name "* ]] || words+=" $name"
+        [[ $given == *" $name "* || $given == *" $other "* ]] &&
+            [[ " $repeated " != *" $name "* ]] || words+=" $name"
     done
     mapfile -t COMPREPLY < <(compgen -W "$words" -- "$word")
 }
@@ -82,30 +86,36 @@ def zsh(title, commands):
         return re.sub(r"([][\\:])", r"\\\1", text)
 
     def one_of(words):
-        told = " ".join(f'{word}\\:"{bare(meaning)}"' if meaning else word for word, meaning in words)
+        told = " ".join(f'{word}\\:"{bare(meaning)}"' if meaning else word
+                        for word, meaning in words)
         return f"(({told}))" if any(dict(words).values()) else f"({told})"
 
     def spec(option):
         action = one_of(option.words) if option.words else "_files" if option.is_file else " "
         value = f":{bare(option.value)}:{action}" if option.value else ""
-        apart = "*" if option.repeats else "(- *)" if "--help" in option.names else f"({' '.join(option.names)})"
+        apart = "(- *)" if "--help" in option.names else f"({' '.join(option.names)})"
+        apart = "*" if option.repeats else apart
         for name in option.names:
-            joined = ("=" if name.startswith("--") else "+" if len(name) == 2 else "") if option.value else ""
+            sign = "=" if name.startswith("--") else "+" if len(name) == 2 else ""
+            joined = sign if option.value else ""
             yield quoted(f"{apart}{name}{joined}[{bare(option.text)}]{value}")
 
     def arguments(command):
         found = [each for option in command.options for each in spec(option)]
         found += [quoted(f"1:word:{one_of(command.words)}")] if command.words else []
-        found += ["'*:: :->words'"] if command.below else ["'*:file:_files'"] if command.files else []
+        files = ["'*:file:_files'"] if command.files else []
+        found += ["'*:: :->words'"] if command.below else files
         return " \\\n        ".join(found)
 
-    lines = [f"#compdef {' '.join(commands)}", f"# {title}", "", "local curcontext=$curcontext state line", "local -A opt_args"]
-    lines.append("case $service in")
+    lines = [f"#compdef {' '.join(commands)}", f"# {title}", "",
+             "local curcontext=$curcontext state line", "local -A opt_args", "case $service in"]
     for name, command in commands.items():
-        lines.append(f"{name if len(commands) > 1 else '*'})\n    _arguments {'-C ' * bool(command.below)}{arguments(command)}")
+        lines.append(f"{name if len(commands) > 1 else '*'})")
+        lines.append(f"    _arguments {'-C ' * bool(command.below)}{arguments(command)}")
         if command.below:
             lines.append("    [[ $state != words ]] || case $words[1] in")
-            lines += [f"    {word})\n        _arguments {arguments(below)} ;;" for word, below in command.below.items()]
+            lines += [f"    {word})\n        _arguments {arguments(below)} ;;"
+                      for word, below in command.below.items()]
             lines.append("    esac")
         lines[-1] += " ;;"
     return "\n".join([*lines, "esac", ""])
@@ -120,7 +130,8 @@ def fish(title, commands):
     def line(start, option):
         words = [start]
         for name in option.names:
-            words.append(f"-l {name[2:]}" if name.startswith("--") else f"-s {name[1:]}" if len(name) == 2 else f"-o {name[1:]}")
+            short = f"-s {name[1:]}" if len(name) == 2 else f"-o {name[1:]}"
+            words.append(f"-l {name[2:]}" if name.startswith("--") else short)
         if option.words:
             told = (f'{word}\\t"{meaning}"' if meaning else word for word, meaning in option.words)
             words.append("-x -a " + quoted(" ".join(told)))
@@ -132,7 +143,8 @@ def fish(title, commands):
     for name, command in commands.items():
         lines += [f"complete -c {name} -f"] if not command.files else []
         first = f"complete -c {name} -n __fish_use_subcommand"
-        lines += [line(first if command.below else f"complete -c {name}", option) for option in command.options]
+        start = first if command.below else f"complete -c {name}"
+        lines += [line(start, option) for option in command.options]
         for word, meaning in command.words:
             lines.append(f"{first} -f -a {word} -d {quoted(meaning)}")
             below = command.below.get(word)
