@@ -17,16 +17,15 @@ def number_of_jobs(word):
 
 
 def start(command, stdin=0, stdout=1, stderr=2, **given):
-    """Starts a command with these descriptors as its first three, and returns the number of its
-    process."""
-    signal.signal(signal.SIGCHLD, signal.SIG_DFL)  # where it is ignored, the end of a process can't be waited for
-    ends = [(os.POSIX_SPAWN_DUP2, end, number) for number, end in enumerate((stdin, stdout, stderr))]
+    """Starts a command with these descriptors as its first three. Returns its process's number."""
+    # where it is ignored, the end of a process can't be waited for
+    signal.signal(signal.SIGCHLD, signal.SIG_DFL)
+    ends = [(os.POSIX_SPAWN_DUP2, *end) for end in zip((stdin, stdout, stderr), range(3))]
     return os.posix_spawnp(command[0], command, os.environ, file_actions=ends, **given)
 
 
 class Pair:
-    """A block size and a number of sets: how many rows they have, and the greatest
-    associativity."""
+    """A block size and a number of sets: how many rows they have, the greatest associativity."""
 
     def __init__(self, bsize, sets):
         self.bsize, self.sets, self.rows, self.assoc = bsize, sets, 0, "0"
@@ -139,6 +138,7 @@ def pages_of(program, most, options):
     arguments, after = split(options)
     pages = []
     for page in cut(pairs, most) if pairs else [[]]:
-        pages.append([*arguments, *(["--after", after] if after else []), "--rows", str(sum(pair.rows for pair in page))])
+        count = str(sum(pair.rows for pair in page))
+        pages.append([*arguments, *(["--after", after] if after else []), "--rows", count])
         after = page[-1].last if page else None
     return pages

@@ -21,7 +21,8 @@ static void take_line(const char *at, size_t length) {
     static const char memory[] = "memory ", flush[] = " flush ";
     static char first[CACHE]; // which has the first line of each flush; there is one for each cache
     const size_t before = sizeof memory - 1;
-    if (length > before && !memcmp(at, memory, before)) fwrite_unlocked(at + before, 1, length - before, stdout);
+    if (length > before && !memcmp(at, memory, before))
+        fwrite_unlocked(at + before, 1, length - before, stdout);
     else if (length > CACHE + sizeof flush - 1 && !memcmp(at + CACHE, flush, sizeof flush - 1)) {
         if (!*first) memcpy(first, at, CACHE);
         if (!memcmp(first, at, CACHE)) fputs_unlocked("4 0\n", stdout);
@@ -36,7 +37,8 @@ int main(int count, char **words) {
     name = words[1];
     while ((got = read(STDIN_FILENO, text + held, PIECE)) > 0) {
         char *at = text, *end = text + held + got;
-        for (char *last; (last = memchr(at, '\n', (size_t)(end - at))); at = last + 1) take_line(at, (size_t)(last + 1 - at));
+        for (char *last; (last = memchr(at, '\n', (size_t)(end - at))); at = last + 1)
+            take_line(at, (size_t)(last + 1 - at));
         held = (size_t)(end - at);
         if (held >= PIECE) fail("what cachesim writes is not a log");
         memmove(text, at, held);

@@ -65,7 +65,8 @@ class Table(NamedTuple):
 
 def is_din(lines):
     """Whether a text is such a table, by its header."""
-    return bool(lines) and bool(OPTION.fullmatch(lines[0].split(",")[0]) or lines[0].startswith("seed,"))
+    return bool(lines) and (bool(OPTION.fullmatch(lines[0].split(",")[0]))
+                            or lines[0].startswith("seed,"))
 
 
 def kind(option):
@@ -78,7 +79,8 @@ def cache(option):
 
 def usual_measure(columns):
     """The misses of the last cache."""
-    return next((column for column in reversed(columns) if column.endswith("-misses") and column.count("-") == 2), None)
+    return next((column for column in reversed(columns)
+                 if column.endswith("-misses") and column.count("-") == 2), None)
 
 
 def references_of(columns, fields):
@@ -114,8 +116,10 @@ def read_rows(lines, name, columns):
 
 def judge_columns(columns, measure, name):
     """Refuses a table without a size or, if no measure is asked for, the misses of a cache."""
-    if not measure or not any(OPTION.fullmatch(column) and kind(column) == "size" for column in columns):
-        raise BadTable(f"{name}: no table of din: a cache's size or misses are not among its columns")
+    sizes = [column for column in columns if OPTION.fullmatch(column) and kind(column) == "size"]
+    if not measure or not sizes:
+        raise BadTable(f"{name}: no table of din: a cache's size or misses are not among its "
+                       "columns")
 
 
 def read_table(lines, name, measure=None):
@@ -136,11 +140,13 @@ def read_table(lines, name, measure=None):
         own = references_of(columns, fields)
         references = own if references is None else references
         if own != references:
-            raise BadTable(f"{place}: the rows are not of one trace: {references} references in the first row, {own} here")
-        first = found.setdefault(given, Case(given, sum(int(fields[at]) for at in sizes), (), len(found)))
+            raise BadTable(f"{place}: the rows are not of one trace: {references} references in the"
+                           f" first row, {own} here")
+        size = sum(int(fields[at]) for at in sizes)
+        first = found.setdefault(given, Case(given, size, (), len(found)))
         value = number_of(fields[measured], measure, place)
         share = share_of(columns, fields, measure, value, references)
-        found[given] = first._replace(values=first.values + (value,), shares=first.shares + (share,))
+        found[given] = first._replace(values=(*first.values, value), shares=(*first.shares, share))
     if not found:
         raise BadTable(f"{name}: a table without a row")
     return Table(options, measure, references, list(found.values()))

@@ -34,8 +34,7 @@ def misused(text):
 
 @contextlib.contextmanager
 def faults_of(name):
-    """Within this, what the system refuses ends the tool with one line that begins with this
-    name."""
+    """Within this, what the system refuses ends the tool with a line that begins with this name."""
     try:
         yield
     except OSError as fault:
@@ -43,18 +42,17 @@ def faults_of(name):
 
 
 def called(name):
-    """How another tool is called: where the tools are installed, by the name that it has on the
-    path."""
+    """How another tool is called: where the tools are installed, by its name on the path."""
     installed = f"cachesim-{name}"
     return installed if os.path.exists(f"{HERE}/../../bin/{installed}") else name
 
 
 class Arguments(argparse.ArgumentParser):
-    """The arguments of a tool, whose help begins with a text of its own. A fault of them is one
-    line."""
+    """The arguments of a tool, whose help begins with its own text. A fault of them is one line."""
 
     def __init__(self, text, **given):
-        super().__init__(prog=NAME, description=text, formatter_class=argparse.RawDescriptionHelpFormatter, **given)
+        super().__init__(prog=NAME, description=text,
+                         formatter_class=argparse.RawDescriptionHelpFormatter, **given)
 
     def error(self, message):
         misused(message)
@@ -64,8 +62,7 @@ class Arguments(argparse.ArgumentParser):
 
 
 def look_for_help(arguments):
-    """Writes the tool's help where it is asked for, in place of a parser, for a tool that hands its
-    arguments on."""
+    """Writes the tool's help where it is asked for, for a tool that hands its arguments on."""
     if "-h" in arguments or "--help" in arguments:
         write_lines(sys.modules["__main__"].__doc__.strip().splitlines())
         sys.exit()
@@ -73,10 +70,10 @@ def look_for_help(arguments):
 
 def size_of(text):
     """The number of bytes that a scaled number as 512, 32k or 1m says."""
-    digits, unit = (text[:-1], text[-1].lower()) if text[-1:].lower() in ("k", "m", "g") else (text, "")
+    digits = text[:-1] if text[-1:].lower() in ("k", "m", "g") else text
     if not (digits.isascii() and digits.isdigit()):
         raise argparse.ArgumentTypeError(f"{text!r} is no size such as 512, 32k or 1m")
-    return int(digits) << UNITS[unit]
+    return int(digits) << UNITS[text[len(digits):].lower()]
 
 
 def size_text(size):
@@ -96,7 +93,8 @@ def find_cachesim():
     for path in [named] if named else [os.path.join(folder, "cachesim") for folder in folders]:
         if os.path.isfile(path) and os.access(path, os.X_OK):
             path = os.path.join(".", path)
-            return path if is_cachesim(path) else fail(f"{path} is not cachesim: it doesn't write a sweep's table")
+            told = f"{path} is not cachesim: it doesn't write a sweep's table"
+            return path if is_cachesim(path) else fail(told)
     if named:
         fail(f"{named} is no program that can be run")
     fail("no program cachesim: build it by 'make', or set CACHESIM to its path")
@@ -107,10 +105,10 @@ def is_cachesim(path):
     well with nothing written."""
     words = [path, *"sweep --bsize 1 --sets 1 --assoc 1 --size 1 -t /dev/null".split()]
     try:
-        told = subprocess.run(words, stdin=subprocess.DEVNULL, capture_output=True, check=False).stdout
+        ran = subprocess.run(words, stdin=subprocess.DEVNULL, capture_output=True, check=False)
     except OSError:
         return False
-    return re.fullmatch(rb"bsize,sets,assoc,size,.*\n1,1,1,1,.*\n", told) is not None
+    return re.fullmatch(rb"bsize,sets,assoc,size,.*\n1,1,1,1,.*\n", ran.stdout) is not None
 
 
 def write_lines(lines):
@@ -122,7 +120,8 @@ def write_lines(lines):
         sys.stdout.write("".join(f"{line}\n" for line in lines))
         sys.stdout.flush()
     except OSError as fault:
-        os.dup2(os.open(os.devnull, os.O_WRONLY), sys.stdout.fileno())  # what is still held must not fail again at the end
+        # what is still held must not fail again at the end
+        os.dup2(os.open(os.devnull, os.O_WRONLY), sys.stdout.fileno())
         if isinstance(fault, BrokenPipeError):
             sys.exit(READER_GONE)
         fail(f"standard output: {fault.strerror}")

@@ -99,8 +99,7 @@ class Step:
 
 
 class Picture:
-    """The sets as drawn, not those of the program. A step gives the line that its log should
-    have."""
+    """The sets as drawn, not those of the program. A step gives the line its log should have."""
 
     def __init__(self, cache, only=None):
         self.cache, self.sets, self.steps = cache, {}, []
@@ -186,8 +185,7 @@ def why(cache, step):
 
 
 def coming(cache, step):
-    """Which block of the set is evicted next, in words; nothing where a line is free, or only
-    one."""
+    """Which block of the set is evicted next, in words; nothing with a free line, or only one."""
     if step.next is None or cache.ways == 1:
         return ""
     block, verb = step.held[step.next], "last used" if cache.repl == "l" else "which came"
