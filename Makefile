@@ -29,8 +29,7 @@
 PREFIX ?= /usr/local
 PROGRAM := crates/cachesim/out/cachesim
 
-.PHONY: build demo tools test test-tools strain refusals mutants install uninstall deb clean
-.PHONY: help kit
+.PHONY: build demo tools test test-tools strain refusals mutants install uninstall deb clean help kit
 
 build:
 	@package/build
