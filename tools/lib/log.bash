@@ -12,9 +12,10 @@ cache=l1-       # how the name of a cache that counts begins
 # stand the tool's own options
 help_caches() {
     cat << 'END'
-TRACE is a file, which may end in .gz, .xz or .zst, or - for standard input. It is read once. The
-OPTIONs are those of `cachesim din`, but for -t: the caches, -informat and --seed. --format is
-another name for -informat.
+TRACE is a file, which may end in .gz, .xz or .zst, or - for standard input.
+It is read once. The OPTIONs are those of
+`cachesim din`, but for -t: the caches, -informat and --seed.
+--format is another name for -informat.
 END
 }
 
