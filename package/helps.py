@@ -1,5 +1,4 @@
-"""What the help of a program or a tool tells of its options and of the words that its first
-argument may be."""
+"""What the help of a program or tool tells of its options, and of words for its first argument."""
 
 import itertools
 import re
@@ -25,8 +24,7 @@ class Option(NamedTuple):
 
 
 class Command(NamedTuple):
-    """What a command takes: options; first a word, each with its meaning, and for some of these
-    what the command then takes; files."""
+    """What a command takes: options; a first word, with its meaning and what comes then; files."""
 
     options: tuple
     words: tuple = ()

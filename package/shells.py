@@ -1,5 +1,4 @@
-"""Writes the completion of commands for bash, zsh and fish. `commands` has of the name of each what
-it takes, a helps.Command."""
+"""Writes completion for bash, zsh and fish. `commands` has for each name a helps.Command."""
 
 import re
 

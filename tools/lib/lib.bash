@@ -9,8 +9,7 @@
 
 name=${0##*/}
 
-# explain: the comment at the head of the script, which is its help. For a line '{NAME}' stands what
-# the function help_NAME writes
+# explain: the comment at the script's head, its help. For '{NAME}' stands what help_NAME writes
 explain() {
     local line
     unfinished=''
@@ -40,8 +39,7 @@ misused() {
     exit "${failure:-2}"
 }
 
-# size_of TEXT: sets `bytes` to the number of bytes that a scaled number such as 512, 32k or 1m
-# says, or returns 1. It is below 2^62
+# size_of TEXT: sets `bytes` to what a number as 512, 32k or 1m says, below 2^62, or returns 1
 size_of() {
     local unit
     [[ $1 =~ ^0*([0-9]{1,18})([kKmMgG]?)$ ]] || return 1
@@ -54,8 +52,7 @@ size_of() {
 # needs COMMAND PACKAGE: ends where a command is missing, naming Debian's package
 needs() { command -v -- "$1" > /dev/null || fail "$1 is missing: apt-get install $2"; }
 
-# find_cachesim: sets `cachesim` to the first program of $CACHESIM, this checkout, the installation
-# of the tools, and the path
+# find_cachesim: sets `cachesim` to $CACHESIM, else this checkout's, the tools' own, or the path's
 find_cachesim() {
     cachesim=${CACHESIM:-$here/../crates/cachesim/out/cachesim}
     [ -n "${CACHESIM:-}" ] || [ -x "$cachesim" ] || cachesim=$here/../../bin/cachesim
@@ -67,8 +64,7 @@ find_cachesim() {
     export CACHESIM=$cachesim
 }
 
-# is_cachesim: whether `cachesim` writes the table of an empty trace, whatever it counts: another
-# program may end well too
+# is_cachesim: whether `cachesim` writes an empty trace's table: another program may end well too
 is_cachesim() {
     local columns=bsize,sets,assoc,size, row=1,1,1,1, one=(--bsize 1 --sets 1 --assoc 1 --size 1)
     [[ $("$cachesim" sweep "${one[@]}" 2> /dev/null < /dev/null) = "$columns"*$'\n'"$row"* ]]
@@ -78,8 +74,7 @@ private_folder_made=''  # a name that nothing else has, so that nothing else is 
 compiling=''            # what a compiler is writing
 unfinished=''           # where a trace is being written: a file, or '-'
 
-# private_folder: makes a folder, `folder`, that only this user can read and that is removed when
-# the tool ends, also by a signal
+# private_folder: makes `folder`, which only this user can read; it is removed when the tool ends
 private_folder() {
     trap at_end EXIT
     trap 'exit 130' INT
@@ -136,9 +131,8 @@ stop() {
 
 stop_jobs() { stop "$BASHPID"; }
 
-# watched COMMAND..: runs a command. If a signal ends it, one line says so, instead of bash's, which
-# names a line of this file. It fails also where the command can't be run so, as with a closed
-# standard error
+# watched COMMAND..: runs a command. If a signal ends it, one line says so, in place of bash's own.
+# It also fails where the command can't be run so, as with a closed standard error
 watched() {
     local status=0
     { "$@" 2>&8 8>&-; } 8>&2 2> /dev/null || status=$?
@@ -155,8 +149,7 @@ beside() {
     tell_signal $status "$1"
 }
 
-# tell_signal STATUS COMMAND: returns the status of a command that has ended; if a signal ended it,
-# says so and returns 1
+# tell_signal STATUS COMMAND: returns the status; where it is a signal's, says so and returns 1
 tell_signal() {
     [ "$1" -gt 128 ] && [ "$1" != 141 ] || return "$1"
     printf '%s: %s ended with signal %s\n' "$name" "${2##*/}" $(($1 - 128)) >&2
@@ -185,8 +178,7 @@ unpacked() {
     return $status
 }
 
-# awk, sorted: where these fail, it is a fault of the run; the status of awk and sort, 2, is that of
-# wrong arguments here
+# awk, sorted: where these fail, it is a fault of the run: their 2 would be wrong arguments here
 awk() { watched command awk "$@" || return $(($? == 2 ? 1 : $?)); }
 sorted() { watched sort "$@" || return $(($? == 2 ? 1 : $?)); }
 
@@ -247,15 +239,13 @@ make_pipes() { mkfifo -- "$@" 2> /dev/null || fail "$1: no named pipe can be mad
 # hand_out PIPE..: copies standard input to each of these
 hand_out() { tee -p -- "${@:2}" > "$1"; }
 
-# hand_out_trace TRACE PIPE..: writes a trace to each of these. Returns 1 where that fails, and 4
-# where only the trace could not be read
+# hand_out_trace TRACE PIPE..: copies a trace to each. Returns 1 if that fails, 4 if only reading
 hand_out_trace() {
     unpacked "$1" | hand_out "${@:2}" || return $((PIPESTATUS[1] ? 1 : 4))
 }
 
-# side_by_side TRACE STEP..: runs functions side by side over one reading of a trace. Each has it as
-# standard input and writes to $folder/STEP. Where one fails, its message is shown and the tool ends
-# with its status.
+# side_by_side TRACE STEP..: runs functions side by side over one reading of a trace, each from
+# standard input to $folder/STEP. Where one fails, the tool ends with its message and status.
 side_by_side() {
     local step status=0 ended pipes jobs=()
     pipes=("${@:2}") && pipes=("${pipes[@]/#/$folder/}") && pipes=("${pipes[@]/%/.pipe}")

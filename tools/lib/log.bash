@@ -8,8 +8,7 @@
 export LC_ALL=C # numbers with a point, and sorting by bytes
 cache=l1-       # how the name of a cache that counts begins
 
-# help_caches: what the help of each of these tools says of the trace and the caches. Behind it
-# stand the tool's own options
+# help_caches: what these tools' helps say of trace and caches. The tool's own options come behind
 help_caches() {
     cat << 'END'
 TRACE is a file, which may end in .gz, .xz or .zst, or - for standard input.
@@ -27,9 +26,8 @@ help_cache() {
 END
 }
 
-# own_option OPTION VALUE: takes an option that is not for cachesim, or returns 1. These are --cache
-# and another, if the tool has set `own` to the name of that, which is also the name of the variable
-# for its value
+# own_option OPTION VALUE: takes an option that is not for cachesim, or returns 1: --cache, or that
+# which the tool has named in `own`, whose value goes to the variable of this name
 own_option() {
     [ -n "${own-}" ] || return 1
     case $1 in

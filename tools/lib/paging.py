@@ -62,8 +62,7 @@ class Page:
 
 
 def rows_of(program, options):
-    """The lines of a table, as those of the empty trace. Where the program refuses the options,
-    this tool ends as it did."""
+    """The lines of a table, for an empty trace. Options that the program refuses end this tool."""
     read, write = os.pipe()
     with faults_of(f"{program} can't be run"):
         lister = start([program, "sweep", "-t", "/dev/null", *options], stdout=write)
@@ -112,8 +111,7 @@ def cut(pairs, most):
 
 
 def split(options):
-    """The arguments that are the same for each page, and the value of --after. The program has
-    found the options good."""
+    """The arguments that each page has, and the value of --after. The program found them good."""
     arguments, after, left = [], None, list(options)
     while left:
         name, equals, value = left.pop(0).partition("=")

@@ -41,8 +41,7 @@ def uninterrupted():
 
 
 class Process:
-    """A process over the trace. What it tells is kept in memory, and so is what it writes, unless
-    that goes elsewhere."""
+    """A process over the trace. What it tells is kept in memory; what it writes too, or goes on."""
 
     def __init__(self, command, stdin=0, stdout=None):
         self.kept, self.told, self.text = os.memfd_create("kept"), os.memfd_create("told"), b""
@@ -79,8 +78,7 @@ class Process:
 
 
 class Run(Process):
-    """A run of the program over a trace: a file that it opens by its name, an open one, or else
-    what it is given by a pipe."""
+    """A run of the program over a trace: a file that it opens by name, an open one, or a pipe."""
 
     def __init__(self, place, command, name=None, file=None):
         self.place, self.pipe = place, None
@@ -197,8 +195,7 @@ class Runs:
             raise Fault(f"{tool.NAME}: {text}") from None
 
     def hand_out(self, source):
-        """Gives all that is read to each run. None sees an end before it is known that the trace
-        was not cut short."""
+        """Gives each run all that is read. None sees an end before the trace is known as whole."""
         watch = select.poll()
         watch.register(source, select.POLLIN)
         for run in self.runs:
@@ -259,8 +256,7 @@ def show(text):
 
 
 def keep_places():
-    """Where standard input, output or error is closed, opens what fails as well, lest a file of
-    this tool take its place."""
+    """Opens what fails as well for closed standard descriptors, lest a file take their place."""
     for number in range(3):
         try:
             os.fstat(number)
@@ -284,8 +280,7 @@ def write_out(texts):
 def over(trace, commands, jobs, part=""):
     """Runs commands over a trace, at most so many at once, and returns what each has written. Each
     is a text that names it, and words to which the trace is added. Where one fails, the others are
-    ended, and the tool ends with its message and status. How far they are is shown behind the text
-    `part`."""
+    ended, and the tool ends with its message and status. How far they are is shown after `part`."""
     runs = Runs(trace, commands, jobs, part)
     stop_at_signals()
     try:

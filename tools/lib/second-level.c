@@ -1,5 +1,4 @@
-// The fast half of second-level: reads the lines of `cachesim log`, and writes what arrives at
-// memory and the flushes as a din trace.
+// second-level's fast half: what comes to memory in `cachesim log`, and flushes, as a din trace.
 //
 //     second-level NAME < LOG      NAME is that of the tool, for messages
 #define _GNU_SOURCE

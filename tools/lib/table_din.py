@@ -1,5 +1,4 @@
-"""The table that `din-table` writes, for the tools that read one. Rows that differ in their seed
-alone are one case."""
+"""A table of `din-table`, for the tools that read one. Rows that differ in the seed are one case."""
 
 import re
 import statistics

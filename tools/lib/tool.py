@@ -14,8 +14,7 @@ import sys
 
 HERE = os.path.dirname(os.path.dirname(os.path.realpath(__file__)))  # the tools
 NAME = os.path.basename(sys.argv[0])
-# exit statuses beside 0; a tool with another status for its faults and for wrong arguments sets
-# `failure` to it
+# exit statuses beside 0; a tool with another for faults and wrong arguments sets `failure` to it
 FAILED, MISUSED, READER_GONE = 1, 2, 141
 failure = None
 UNITS = {"": 0, "k": 10, "m": 20, "g": 30}
@@ -85,8 +84,7 @@ def size_text(size):
 
 
 def find_cachesim():
-    """The path of the program: $CACHESIM, else that of this checkout, else that installed with the
-    tools, else the one on the path."""
+    """The path of the program: $CACHESIM's, else this checkout's, the tools' own, or the path's."""
     named = os.environ.get("CACHESIM")
     near = [os.path.join(HERE, folder) for folder in ("../crates/cachesim/out", "../../bin")]
     folders = [*near, *os.environ.get("PATH", "").split(":")]
@@ -101,8 +99,7 @@ def find_cachesim():
 
 
 def is_cachesim(path):
-    """Whether a program writes the table of an empty trace, whatever it counts. Another one may end
-    well with nothing written."""
+    """Whether a program writes an empty trace's table, with any counts. Others may end well too."""
     words = [path, *"sweep --bsize 1 --sets 1 --assoc 1 --size 1 -t /dev/null".split()]
     try:
         ran = subprocess.run(words, stdin=subprocess.DEVNULL, capture_output=True, check=False)
@@ -112,8 +109,7 @@ def is_cachesim(path):
 
 
 def write_lines(lines):
-    """Writes lines to standard output. Ends the tool where that fails: with a message, unless the
-    reader of a pipe has gone."""
+    """Writes lines to standard output. A fault ends the tool, silently if a pipe's reader went."""
     if sys.stdout is None:
         fail("standard output: Bad file descriptor")
     try:

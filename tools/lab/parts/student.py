@@ -60,8 +60,7 @@ class Run(NamedTuple):
 
 
 class Student:
-    """A student's program, the private folder and the time that its runs have, and what stands
-    before it on its command line."""
+    """A student's program, the folder and time that its runs have, and what stands before it."""
 
     def __init__(self, program, folder, seconds, around=None):
         self.program, self.folder = without_links(program), pathlib.Path(folder)

@@ -70,8 +70,7 @@ static struct {
     uint64_t lines;
 } trace;
 
-// Takes the lines that have been read. The last one may have no end; one that fills all the room is
-// longer than any may be.
+// Takes the lines that were read. The last may have no end; one that fills the room is too long.
 static void take_trace(bool has_ended) {
     char *line = trace.text, *end = line + trace.used, *to = line;
     char *last = memrchr(line, '\n', trace.used), *stop = last ? last + 1 : line;

@@ -1,5 +1,4 @@
-"""The pictures of a table of din-table: a measure by the size of a cache, with a line for each of
-the other options' values."""
+"""The pictures of a table of din-table: by cache size, with a line for each of the other values."""
 
 import html
 import re

@@ -1,5 +1,4 @@
-"""What tools/plot draws: pictures of lines and points, their axes and ticks, for gnuplot and for a
-browser alike."""
+"""What tools/plot draws, by gnuplot and in a browser alike: lines, points, their axes and ticks."""
 
 import math
 from typing import NamedTuple
@@ -31,8 +30,7 @@ class Line(NamedTuple):
 
 
 class Measure(NamedTuple):
-    """What stands on the vertical axis: its name there and above the pictures, what is told of a
-    point, and whether it is in per cent."""
+    """The vertical axis: its name there and above pictures, what points tell, if it is per cent."""
 
     up: str = "miss ratio in per cent"
     name: str = "Miss ratio"

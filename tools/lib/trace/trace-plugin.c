@@ -1,5 +1,4 @@
-// A plugin of QEMU's user-mode emulation: puts the references of a program into the memory that
-// trace-run reads (trace-memory.h).
+// A plugin of QEMU's user emulation: puts references into trace-run's memory (trace-memory.h).
 //
 //     qemu-x86_64 -plugin out/trace-plugin.so[,map=FILE][,from=HEX][,to=HEX][,during=HEX],memory=FD
 //         PROGRAM ARGS..
@@ -50,8 +49,7 @@ bool qemu_plugin_mem_is_store(uint32_t access);
 // from QEMU 7.1 on; it knows an answer while code is translated
 __attribute__((weak)) uint64_t qemu_plugin_start_code(void);
 
-// QEMU 9 and later want a version from 2 on. What is used here is the same in them; they are known
-// by a call that came with version 2.
+// QEMU 9 and later, which have the call below, want a version from 2 on; all else is the same here.
 EXPORTED int qemu_plugin_version = 1;
 __attribute__((weak)) void *qemu_plugin_scoreboard_new(size_t);
 __attribute__((constructor)) static void choose_version(void) {

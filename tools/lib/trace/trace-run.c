@@ -1,5 +1,4 @@
-// Runs a program under a tracer and writes its references as din lines: the inner half of trace,
-// which has the help.
+// Runs a program under a tracer and writes its references as din lines: the inner half of trace.
 //
 //     trace-run FD NAME KIND SKIP COUNT qemu FROM PLUGIN QEMU WORD..
 //     trace-run FD NAME KIND SKIP COUNT lines IN OUT CONVERTER TRACER WORD..
@@ -9,8 +8,7 @@
 // references of the KIND are omitted, and the program is ended after COUNT more; a COUNT of 0 means
 // no limit. FROM is the function with which the trace begins, for messages. OUT is a descriptor
 // that only the tracer is to keep, for the child CONVERTER of this process, which writes the lines.
-// trace-run ends with the program's status, 128 and the number of its last signal, or 125 or 126
-// for a fault.
+// It ends with the program's status, 128 and its signal's number, or 125 or 126 for a fault.
 #define _GNU_SOURCE
 #include <err.h>
 #include <errno.h>
@@ -89,8 +87,7 @@ static bool goes_to_a_pipe(void) {
     return !fstat(trace, &of) && (S_ISFIFO(of.st_mode) || S_ISSOCK(of.st_mode));
 }
 
-// Leaves a process that ends the trace in a line which is not a din line, when its reader has room
-// for that. Called in a handler.
+// Leaves a process that ends the trace in no din line, when a reader has room. Called in a handler.
 static void leave_mark(void) {
     // what was written may end within a line
     static const char mark[] = "\ntrace: a signal ended it: what stands above is not all\n";
