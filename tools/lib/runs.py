@@ -41,7 +41,7 @@ def uninterrupted():
 
 
 class Process:
-    """A process over the trace. What it tells is kept in memory; what it writes too, or goes on."""
+    """A process over the trace. What it tells, and writes to no other place, is kept in memory."""
 
     def __init__(self, command, stdin=0, stdout=None):
         self.kept, self.told, self.text = os.memfd_create("kept"), os.memfd_create("told"), b""

@@ -1,4 +1,4 @@
-"""A table of `din-table`, for the tools that read one. Rows that differ in the seed are one case."""
+"""A table of `din-table`, for the tools that read it. Rows that differ in the seed are one case."""
 
 import re
 import statistics

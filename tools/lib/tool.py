@@ -109,7 +109,7 @@ def is_cachesim(path):
 
 
 def write_lines(lines):
-    """Writes lines to standard output. A fault ends the tool, silently if a pipe's reader went."""
+    """Writes lines to standard output. A fault ends the tool; without a word if a reader left."""
     if sys.stdout is None:
         fail("standard output: Bad file descriptor")
     try:
