@@ -46,12 +46,11 @@ def words_of(value, text):
 def options_in(text, is_file):
     """The options that a help tells of: the lines that begin with one, with what stands further
     right below. `is_file` says of the name of a value whether it is a file."""
-    lines = text.splitlines()
+    lines = re.sub(r"\\\n *", "", text).splitlines()  # an example may go on in a further line
     for number, line in enumerate(lines, 1):
         if match := OPTION.fullmatch(line):
-            below = itertools.takewhile(
-                lambda line: line.startswith(f"{match[1]}  ") and not OPTION.fullmatch(line),
-                lines[number:])
+            below = itertools.takewhile(lambda line: line.startswith(f"{match[1]}  ")
+                                        and not OPTION.fullmatch(line), lines[number:])
             # a line may end within a word that has a hyphen
             told = " ".join(filter(None, [match[5], *map(str.strip, below)]))
             told = re.sub(r"(?<=\w-) ", "", told)

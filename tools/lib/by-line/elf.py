@@ -120,8 +120,7 @@ class Loaded:
     def objects(self):
         """The global and static variables, and the source file of each static one."""
         return [(symbol._replace(name=symbol.name[1:]), source)
-                for symbol, source in self.symbols.items()
-                if symbol.name[0] in "bBdDrRuVvgGsS"
+                for symbol, source in self.symbols.items() if symbol.name[0] in "bBdDrRuVvgGsS"
                 and (symbol.start, symbol.end - symbol.start) not in self.thread_local]
 
     @functools.cached_property

@@ -130,9 +130,8 @@ def pdf(count, asked, mono, scale):
     points = em * 0.75
     font = f"font 'DejaVu Sans,{points:.4g}' fontscale 0.75 linewidth 0.7"
     setting = f"pdfcairo size {width / 96:.4g}in,{height / 96:.4g}in {font}"
-    return Canvas(setting, width, height, LETTER * em, LINE * em,
-                  large=1.2 * points, small=0.86 * points,
-                  mark=0.4 * em / 10, stroke=2 * scale, is_mono=mono)
+    return Canvas(setting, width, height, LETTER * em, LINE * em, large=1.2 * points,
+                  small=0.86 * points, mark=0.4 * em / 10, stroke=2 * scale, is_mono=mono)
 
 
 def text(columns, lines):

@@ -20,10 +20,8 @@ FONT = "system-ui, 'DejaVu Sans', Verdana, sans-serif"
 # in a page of at most so many pixels a legend is above its picture, and ticks are few
 NARROW = 640
 # in the dark each colour of a picture has another
-DARK = {
-    "#0072b2": "#5cb3ec", "#d55e00": "#ff8a3d", "#009e73": "#2fd0a2", "#cc79a7": "#eba3cb",
-    "#e69f00": "#ffc14a", "#56b4e9": "#a9d9f7", "#000000": "#ffffff", "#bbbbbb": "#6a6a6a",
-}
+DARK = {"#0072b2": "#5cb3ec", "#d55e00": "#ff8a3d", "#009e73": "#2fd0a2", "#cc79a7": "#eba3cb",
+        "#e69f00": "#ffc14a", "#56b4e9": "#a9d9f7", "#000000": "#ffffff", "#bbbbbb": "#6a6a6a"}
 # Whatever plotly might ask for, the browser must not fetch it.
 POLICY = ("default-src 'none'; script-src 'unsafe-inline'; style-src 'unsafe-inline'; "
           "img-src data: blob:")
@@ -207,10 +205,9 @@ def page(drawn, measure, title, counts, mono, choices=lambda picture: {picture.f
     shown = [point for several in offered for picture in several.values()
              for point in picture.points]
     up = pictures.value_axis(shown, measure, 0.062)
-    figures = {
-        picture.name: {fixed: figure(each, up, measure, mono) for fixed, each in several.items()}
-        for picture, several in zip(drawn, offered)
-    }
+    figures = {picture.name: {fixed: figure(each, up, measure, mono)
+                              for fixed, each in several.items()}
+               for picture, several in zip(drawn, offered)}
     heading = html.escape(title or measure.heading)
     return f"""<!DOCTYPE html>
 <html lang="en">

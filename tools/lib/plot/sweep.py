@@ -7,11 +7,9 @@ from lib.plot.pictures import Line, Measure, Picture, Point, bytes_text, handful
 from lib.table import COUNTS, pareto
 from lib.tool import fail
 
-ABOUT = (
-    "%{customdata[3]:,} bytes: block %{customdata[0]:,}, sets %{customdata[1]:,}, "
-    "ways %{customdata[2]:,}<br>"
-    "hits %{customdata[4]:,}, misses %{customdata[5]:,}, evictions %{customdata[6]:,}<br>"
-)
+ABOUT = ("%{customdata[3]:,} bytes: block %{customdata[0]:,}, sets %{customdata[1]:,}, "
+         "ways %{customdata[2]:,}<br>"
+         "hits %{customdata[4]:,}, misses %{customdata[5]:,}, evictions %{customdata[6]:,}<br>")
 MANY = 32  # from so many points on a curve has no marks
 MOST_CHOICES = 64  # of a menu of a page
 
@@ -64,11 +62,9 @@ def by_size(rows, bsize, measure):
     """By cache size at one block size, a line for each associativity."""
     rows = sorted((row for row in rows if row.bsize == bsize), key=lambda row: row.size)
     sets = {row.sets for row in rows}
-    lines = [
-        line(ways_text(ways), cut([row for row in rows if row.assoc == ways],
-                                  lambda row: row.sets, sets))
-        for ways in handful(row.assoc for row in rows)
-    ]
+    lines = [line(ways_text(ways), cut([row for row in rows if row.assoc == ways],
+                                       lambda row: row.sets, sets))
+             for ways in handful(row.assoc for row in rows)]
     title = f"{measure.name} by cache size: blocks of {bytes_text(bsize)}"
     return Picture("size", bsize, title, "cache size in bytes", "", lines)
 
@@ -101,11 +97,9 @@ def by_block(rows, ways, measure):
     blocks = {row.bsize for row in rows}
     sizes = [row.size for row in rows]
     several = [size for size in sizes if sizes.count(size) > 1]
-    lines = [
-        line(short(size), cut([row for row in rows if row.size == size],
-                              lambda row: row.bsize, blocks), lambda row: row.bsize)
-        for size in handful(several or sizes)
-    ]
+    lines = [line(short(size), cut([row for row in rows if row.size == size],
+                                   lambda row: row.bsize, blocks), lambda row: row.bsize)
+             for size in handful(several or sizes)]
     title = f"{measure.name} by block size: {ways_text(ways)}"
     return Picture("block", ways, title, "block size in bytes", "cache size", lines)
 
