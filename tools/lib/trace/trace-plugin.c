@@ -18,6 +18,8 @@
 #include <unistd.h>
 #include "trace-memory.h"
 
+#pragma GCC diagnostic ignored "-Wunused-parameter"  // QEMU's calls tell more than is used here
+
 // ---- What is used of the interface for plugins: Debian ships no header of it
 
 #define EXPORTED __attribute__((visibility("default")))
@@ -64,15 +66,8 @@ static struct memory *memory;
 static uint64_t from = NOWHERE, to = NOWHERE;  // how far behind the start of the program's code
 static _Atomic bool in_part;                   // one for all threads
 
-static void on_from(unsigned cpu, void *own) {
-    (void)cpu, (void)own;
-    in_part = memory->began = true;
-}
-
-static void on_to(unsigned cpu, void *own) {
-    (void)cpu, (void)own;
-    in_part = false;
-}
+static void on_from(unsigned cpu, void *own) { in_part = memory->began = true; }
+static void on_to(unsigned cpu, void *own) { in_part = false; }
 
 // ---- Or the calls of one function: in each thread from its first instruction to where it returns
 
@@ -84,7 +79,6 @@ static __thread unsigned depth;                    // how many calls, one in ano
 
 static void on_step(unsigned cpu, void *own) {
     const struct step *step = own;
-    (void)cpu;
     if (depth && step->begin == back) depth--;
     if (step->begin - qemu_plugin_start_code() == during && (last.calls || !depth)) {
         if (!depth) back = last.end;
@@ -210,7 +204,6 @@ static bool follow_mappings(FILE *map, uint64_t moved, uint64_t stack) {
 }
 
 static void on_first_data(unsigned cpu, uint32_t access, uint64_t address, void *own) {
-    (void)cpu, (void)access, (void)own;
     if (!first_data) first_data = address;
 }
 
@@ -236,7 +229,6 @@ static void add_to_map(const struct qemu_plugin_insn *instruction) {
 enum { TOGETHER = 128 };
 
 static void on_fetch(unsigned cpu, void *address) {
-    (void)cpu;
     if (mine && atomic_load_explicit(&mine->used, memory_order_relaxed) > REFERENCES - TOGETHER)
         hand_over();
     put('2', (uintptr_t)address);
@@ -248,13 +240,11 @@ static void on_fetch(unsigned cpu, void *address) {
 static enum way way_of(uint32_t access) { return access >> 16 & BOTH; }
 
 static void on_data(unsigned cpu, uint32_t access, uint64_t address, void *own) {
-    (void)cpu, (void)own;
     if (way_of(access) & READ) put('0', address);
     if (way_of(access) & WRITE) put('1', address);
 }
 
 static void on_translation(plugin_id id, struct qemu_plugin_tb *block) {
-    (void)id;
     if (left_out) return;
     memory->ran = true;
     size_t count = qemu_plugin_tb_n_insns(block);
@@ -277,13 +267,10 @@ static void on_translation(plugin_id id, struct qemu_plugin_tb *block) {
 // in a thread that sleeps or ends.
 static void on_system_call(plugin_id id, unsigned cpu, int64_t number, uint64_t a, uint64_t b,
                            uint64_t c, uint64_t d, uint64_t e, uint64_t f, uint64_t g, uint64_t h) {
-    (void)id, (void)cpu, (void)number;
-    (void)a, (void)b, (void)c, (void)d, (void)e, (void)f, (void)g, (void)h;
     hand_over();
 }
 
 static void on_exit_of_program(plugin_id id, void *own) {
-    (void)id, (void)own;
     if (!left_out) memory->exited = true;
 }
 
@@ -312,7 +299,6 @@ static bool take(const char *word, int *descriptor) {
 
 EXPORTED int qemu_plugin_install(plugin_id id, const struct qemu_info *info, int count,
                                  char **words) {
-    (void)info;
     int descriptor = -1, taken = 0;
     while (taken < count && take(words[taken], &descriptor)) taken++;
     if (taken < count || descriptor < 0) return refuse("memory=FD is wanted; tools/trace uses it");
