@@ -90,9 +90,7 @@ static uint32_t number_of(struct numbers *numbers, uint64_t key, void **values, 
 
 // ---- Objects
 
-struct object {
-    uint64_t from, to;
-};
+struct object { uint64_t from, to; };
 static struct object *objects;
 static uint32_t object_count;
 
@@ -124,9 +122,7 @@ struct counter {              // the cell of a program counter's last reference,
     uint64_t from, to;
     uint32_t cell;
 };
-struct cell {
-    uint64_t references, misses, compulsory, capacity;
-};
+struct cell { uint64_t references, misses, compulsory, capacity; };
 static struct numbers counter_numbers, cell_numbers;
 static void *counters, *cells;
 static uint32_t counter;      // that of the last reference; 0 stands for none

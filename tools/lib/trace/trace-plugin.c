@@ -217,7 +217,7 @@ static void add_to_map(const struct qemu_plugin_insn *instruction) {
     if (!followed) memory->map_fault = errno;  // it is tried again with the next code
     else if (!lacks_lines) memory->map_fault = 0;
     bool failed = map && ferror(map);
-    if (map && (fclose(map) || failed)) lacks_lines = memory->map_fault = errno ? errno : EIO;
+    if (map && (fclose(map) || failed)) lacks_lines = true, memory->map_fault = errno ? errno : EIO;
     pthread_mutex_unlock(&lock);
 }
 
