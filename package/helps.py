@@ -52,13 +52,14 @@ def options_in(text, is_file):
             below = itertools.takewhile(lambda line: line.startswith(f"{match[1]}  ")
                                         and not OPTION.fullmatch(line), lines[number:])
             # a line may end within a word that has a hyphen
-            told = " ".join(filter(None, [match[5], *map(str.strip, below)]))
-            told = re.sub(r"(?<=\w-) ", "", told)
-            beginning = re.sub(r" \[default: .*\]$", "", told).partition(". ")[0]
+            meaning = " ".join(filter(None, [match[5], *map(str.strip, below)]))
+            meaning = re.sub(r"(?<=\w-) ", "", meaning)
+            beginning = re.sub(r" \[default: .*\]$", "", meaning).partition(". ")[0]
             words = words_of(match[4] or "", beginning)
             value = "value" if re.search("[|{]", match[4] or "") else (match[4] or "").strip("<>")
             names = tuple(name for name in match.group(2, 3) if name)
-            yield Option(names, value, beginning, words, is_file(value), "may be repeated" in told)
+            repeats = "may be repeated" in meaning
+            yield Option(names, value, beginning, words, is_file(value), repeats)
 
 
 def words_in(text):

@@ -85,9 +85,9 @@ def zsh(title, commands):
         return re.sub(r"([][\\:])", r"\\\1", text)
 
     def one_of(words):
-        told = " ".join(f'{word}\\:"{bare(meaning)}"' if meaning else word
-                        for word, meaning in words)
-        return f"(({told}))" if any(dict(words).values()) else f"({told})"
+        texts = " ".join(f'{word}\\:"{bare(meaning)}"' if meaning else word
+                         for word, meaning in words)
+        return f"(({texts}))" if any(dict(words).values()) else f"({texts})"
 
     def spec(option):
         action = one_of(option.words) if option.words else "_files" if option.is_file else " "
@@ -132,8 +132,8 @@ def fish(title, commands):
             short = f"-s {name[1:]}" if len(name) == 2 else f"-o {name[1:]}"
             words.append(f"-l {name[2:]}" if name.startswith("--") else short)
         if option.words:
-            told = (f'{word}\\t"{meaning}"' if meaning else word for word, meaning in option.words)
-            words.append("-x -a " + quoted(" ".join(told)))
+            texts = (f'{word}\\t"{meaning}"' if meaning else word for word, meaning in option.words)
+            words.append("-x -a " + quoted(" ".join(texts)))
         elif option.value:
             words.append("-r -F" if option.is_file else "-x")
         return " ".join([*words, f"-d {quoted(option.text)}"])

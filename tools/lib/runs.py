@@ -44,15 +44,16 @@ class Process:
     """A process over the trace. What it tells, and writes to no other place, is kept in memory."""
 
     def __init__(self, command, stdin=0, stdout=None):
-        self.kept, self.told, self.text = os.memfd_create("kept"), os.memfd_create("told"), b""
+        self.kept, self.messages = os.memfd_create("kept"), os.memfd_create("messages")
+        self.text = b""
         # what a terminal sends to all processes is for this tool alone, which ends the others
         blocked = (signal.SIGHUP, signal.SIGINT)
         self.number = paging.start(command, stdin, self.kept if stdout is None else stdout,
-                                   self.told, setsigmask=blocked)
+                                   self.messages, setsigmask=blocked)
         self.is_running = True
 
     def message(self):
-        return os.pread(self.told, PIECE, 0).decode(errors="replace").strip()
+        return os.pread(self.messages, PIECE, 0).decode(errors="replace").strip()
 
     def ended(self, status):
         """Takes note of its end, and of what it has written. It is a fault where it failed."""
@@ -60,7 +61,7 @@ class Process:
         code = os.waitstatus_to_exitcode(status)
         if code:
             raise self.fault(code)
-        os.close(self.told)
+        os.close(self.messages)
         with open(self.kept, "rb") as file:
             file.seek(0)
             self.text = file.read()

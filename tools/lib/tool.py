@@ -91,8 +91,8 @@ def find_cachesim():
     for path in [named] if named else [os.path.join(folder, "cachesim") for folder in folders]:
         if os.path.isfile(path) and os.access(path, os.X_OK):
             path = os.path.join(".", path)
-            told = f"{path} is not cachesim: it doesn't write a sweep's table"
-            return path if is_cachesim(path) else fail(told)
+            fault = f"{path} is not cachesim: it doesn't write a sweep's table"
+            return path if is_cachesim(path) else fail(fault)
     if named:
         fail(f"{named} is no program that can be run")
     fail("no program cachesim: build it by 'make', or set CACHESIM to its path")

@@ -32,7 +32,7 @@ class Habits:
     swaps: bool = False  # set bits and block bits are exchanged
     set_of: Callable = lambda address, s, b: address >> b & (1 << s) - 1
     tag_of: Callable = lambda address, s, b: address >> s + b
-    told: Callable = lambda hits, misses, evictions: (hits, misses, evictions)
+    report: Callable = lambda hits, misses, evictions: (hits, misses, evictions)
 
 
 def short(bits):
@@ -89,15 +89,15 @@ MISTAKES = {
     "the offset is taken for a part of the tag": {"tag_of": lambda address, s, b: address},
     "the tag is the address without s bits, with b bits of the offset": {
         "tag_of": lambda address, s, b: address >> s},
-    "each miss counts as an eviction": {"told": lambda h, m, e: (h, m, m)},
-    "an eviction does not count as a miss": {"told": lambda h, m, e: (h, m - e, e)},
-    "an eviction counts as a hit too": {"told": lambda h, m, e: (h + e, m, e)},
-    "evictions are not counted": {"told": lambda h, m, e: (h, m, 0)},
-    "hits are one too many": {"told": lambda h, m, e: (h + 1, m, e)},
-    "hits and misses are exchanged": {"told": lambda h, m, e: (m, h, e)},
-    "misses and evictions are exchanged": {"told": lambda h, m, e: (h, e, m)},
-    "counts have only 8 bits": {"told": short(8)},
-    "counts have only 16 bits": {"told": short(16)},
+    "each miss counts as an eviction": {"report": lambda h, m, e: (h, m, m)},
+    "an eviction does not count as a miss": {"report": lambda h, m, e: (h, m - e, e)},
+    "an eviction counts as a hit too": {"report": lambda h, m, e: (h + e, m, e)},
+    "evictions are not counted": {"report": lambda h, m, e: (h, m, 0)},
+    "hits are one too many": {"report": lambda h, m, e: (h + 1, m, e)},
+    "hits and misses are exchanged": {"report": lambda h, m, e: (m, h, e)},
+    "misses and evictions are exchanged": {"report": lambda h, m, e: (h, e, m)},
+    "counts have only 8 bits": {"report": short(8)},
+    "counts have only 16 bits": {"report": short(16)},
 }
 
 
@@ -199,7 +199,7 @@ def counts(accesses, cache, habits):
         end = address + size - 1
         if habits.crosses and end >> made.block_bits != address >> made.block_bits:
             made.touch(kind, end)
-    return habits.told(made.hits, made.misses, made.evictions)
+    return habits.report(made.hits, made.misses, made.evictions)
 
 
 def read(path):

@@ -98,9 +98,9 @@ class Names:
         line = outer.function if outer.function.startswith("(") else f"({outer.function})"
         line = self.line(outer) if outer.file else line
         inlined = [self.line(frame) if frame.file else "?" for frame in others]
-        told = {"line": [line, " ".join(self.cut(inlined))], "function": [outer.function],
-                "object": [cell.object]}
-        return tuple(text for key in by for text in told[key])
+        texts = {"line": [line, " ".join(self.cut(inlined))], "function": [outer.function],
+                 "object": [cell.object]}
+        return tuple(text for key in by for text in texts[key])
 
 
 def header(by):
@@ -148,8 +148,8 @@ def table(asked, cells):
     rows = sums((names.columns(cell, asked.by), cell.counts) for cell in cells)
     yield [*header(asked.by), *COUNTS, "share"]
     for key, counts in sorted(rows.items(), key=lambda row: (-row[1][1], row[0])):
-        told = counts[:3] + ["", ""] if asked.only_compulsory else counts
-        yield [*key, *told, share(counts[1])]
+        shown = counts[:3] + ["", ""] if asked.only_compulsory else counts
+        yield [*key, *shown, share(counts[1])]
 
 
 def table_of_evictions(asked, cells, pairs):

@@ -98,8 +98,8 @@ class Loaded:
     @functools.cached_property
     def thread_local(self):
         """Where nm has threads' variables, which are elsewhere: the address and size it tells."""
-        told = map(THREAD_LOCAL.match, output_of("readelf", self.path, "-sW", "--").splitlines())
-        return {(int(one[1], 16) + self.base, int(one[2], 0)) for one in told if one}
+        rows = map(THREAD_LOCAL.match, output_of("readelf", self.path, "-sW", "--").splitlines())
+        return {(int(one[1], 16) + self.base, int(one[2], 0)) for one in rows if one}
 
     @functools.cached_property
     def symbols(self):
@@ -136,8 +136,8 @@ class Loaded:
     def frames(self, addresses):
         """Of each address its frames: that of its function first, then those inlined there."""
         asked = "".join(f"{address - self.base:x}\n" for address in addresses)
-        told = output_of(line_finder(), self.path, "-a", "-i", "-f", "-C", "-e", text=asked)
-        lines = told.splitlines()
+        output = output_of(line_finder(), self.path, "-a", "-i", "-f", "-C", "-e", text=asked)
+        lines = output.splitlines()
         found, current = {}, None
         for at, line in enumerate(lines):
             if line.startswith("0x"):

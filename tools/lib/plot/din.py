@@ -49,8 +49,8 @@ def chosen_measure(columns, across):
 def measure_of(table):
     """How the measure is called."""
     columns = [*table.options, "size", table.measure]
-    told = (f"{html.escape(name)} %{{customdata[{at}]}}" for at, name in enumerate(columns))
-    about = "<br>".join(told) + "<extra></extra>"
+    texts = (f"{html.escape(name)} %{{customdata[{at}]}}" for at, name in enumerate(columns))
+    about = "<br>".join(texts) + "<extra></extra>"
     if not table.measure.endswith("-percent"):
         own = re.fullmatch("(l[12]-[diu])-(.*)", table.measure)
         name = f"{own[2].replace('-', ' ')} of {own[1]}" if own else table.measure.replace("-", " ")
@@ -77,10 +77,10 @@ def point(table, case, x, lines, has_caches):
     values = list(map(float, case.values))
     ends = (min(values), max(values)) if len(values) > 1 and min(values) < max(values) else ()
     spread = f" ({ends[0]:.6g} to {ends[1]:.6g})" if ends else ""
-    told = (*case.given, case.size, f"{float(case.measured):.6g}{spread}")
+    values = (*case.given, case.size, f"{float(case.measured):.6g}{spread}")
     label = ", ".join(value_text(option, case.given[table.options.index(option)], has_caches)
                       for option in lines)
-    return Point(x, float(case.measured), told, label, ends)
+    return Point(x, float(case.measured), values, label, ends)
 
 
 def fix(table, option, wanted, usual, name):
@@ -97,14 +97,14 @@ def fix(table, option, wanted, usual, name):
 def fixed(asked, table, across, several, has_caches):
     """The table with one associativity or block size where these are asked for, of the cache on the
     horizontal axis, or where there would be too many lines."""
-    told = []
+    remarks = []
     for word, wanted, usual in (("assoc", asked.ways, 4), ("bsize", asked.bsize, 64)):
         for option in [one for one in table.options if kind(one) == word and one != across]:
             is_asked = wanted is not None and cache(option) == cache(across)
             if is_asked or (option in several and len(groups(table, across, several)) > MOST_LINES):
                 table, value = fix(table, option, wanted if is_asked else None, usual, asked.table)
-                told.append(value_text(option, value, has_caches))
-    return table, told
+                remarks.append(value_text(option, value, has_caches))
+    return table, remarks
 
 
 def groups(table, across, several):
@@ -120,19 +120,19 @@ def by_across(asked, table, across, several, measure):
     """The measure by the option on the horizontal axis; a line for each value of the others."""
     several = of_measure(table, several)
     has_caches = len({cache(option) for option in [across, *several]}) > 1
-    table, told = fixed(asked, table, across, several, has_caches)
+    table, remarks = fixed(asked, table, across, several, has_caches)
     several = [option for option in of_measure(table, varied(table)) if option != across]
     at, lines = table.options.index(across), []
     found = list(groups(table, across, several).items())
     chosen = pictures.evenly(found)
-    told += [f"{len(chosen)} of {len(found)} lines"] * (len(chosen) < len(found))
+    remarks += [f"{len(chosen)} of {len(found)} lines"] * (len(chosen) < len(found))
     for given, cases in chosen:
         name = ", ".join(value_text(*pair, has_caches) for pair in zip(several, given))
         cases = {int(case.given[at]): case for case in reversed(cases)}
         points = [point(table, cases[x], x, several, has_caches) for x in sorted(cases)]
         lines.append(Line(name, [points]))
     what = {"size": "cache size", "bsize": "block size", "assoc": "ways"}[kind(across)]
-    title = ": ".join([f"{measure.name} by {what}", *[", ".join(told)] * bool(told)])
+    title = ": ".join([f"{measure.name} by {what}", *[", ".join(remarks)] * bool(remarks)])
     words = f"{ACROSS[kind(across)]} ({cache(across)})" if has_caches else ACROSS[kind(across)]
     return Picture("size", 0, title, words, "", lines)
 

@@ -298,11 +298,11 @@ def drawn_by(script):
                              env={**os.environ, "LC_ALL": "C.UTF-8"})
     except FileNotFoundError:
         fail("gnuplot is missing: apt-get install gnuplot-nox")
-    told = " ".join(ran.stderr.decode(errors="replace").split())
+    message = " ".join(ran.stderr.decode(errors="replace").split())
     if ran.returncode or not ran.stdout:
-        fail(f"gnuplot failed: {told}")
-    if told:
-        print(f"{NAME}: gnuplot: {told}", file=sys.stderr)
+        fail(f"gnuplot failed: {message}")
+    if message:
+        print(f"{NAME}: gnuplot: {message}", file=sys.stderr)
     return ran.stdout
 
 

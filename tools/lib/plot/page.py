@@ -93,7 +93,7 @@ def points(some, up, about):
     return {
         "x": [point and point.x for point in some],
         "y": [point and up.height(point.y) for point in some],
-        "customdata": [point and point.told for point in some],
+        "customdata": [point and point.values for point in some],
         "hovertemplate": about,
     }
 

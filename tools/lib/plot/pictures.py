@@ -17,7 +17,7 @@ class Point(NamedTuple):
 
     x: int
     y: float
-    told: tuple
+    values: tuple
     label: str = ""
     ends: tuple = ()
 

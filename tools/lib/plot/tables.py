@@ -107,7 +107,7 @@ def of_dins(asked, tables):
         found += [Line(f"{name}, {line.name}" if line.name else name, line.runs)
                   for line in drawn[-1].lines]
     lines = pictures.evenly(found)
-    told = [] if len(lines) == len(found) else [f"{len(lines)} of {len(found)} lines"]
+    remarks = [] if len(lines) == len(found) else [f"{len(lines)} of {len(found)} lines"]
     titles = {picture.title for picture in drawn}
     title = drawn[0].title if len(titles) == 1 else drawn[0].title.split(": ")[0]
-    return [drawn[0]._replace(title=": ".join([title, *told]), lines=lines)], measure
+    return [drawn[0]._replace(title=": ".join([title, *remarks]), lines=lines)], measure
