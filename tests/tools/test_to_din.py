@@ -19,8 +19,9 @@ SPOILED = b"to-din failed: what stands above is not all\n"
 COPY = (
     "2 401000,2 401005,1 40201c,2 401010,2 401015,2 40101a,2 40101d,2 401022,"
     + "".join(
-        f"2 401024,0 {numbers:x},2 401026,0 {numbers:x},1 {copies:x},2 401027,0 402018,1 402018,2 40102e,2 401030,"
-        for numbers, copies in ((0x402000, 0x40200C), (0x402004, 0x402010), (0x402008, 0x402014))
+        f"2 401024,0 4020{at:02x},2 401026,0 4020{at:02x},1 4020{at + 12:02x},2 401027,"
+        "0 402018,1 402018,2 40102e,2 401030,"
+        for at in (0, 4, 8)
     )
     + "2 401032,1 402028,2 401040,1 40201c,2 401047,0 402028,2 401037,2 40103c,2 40103e"
 ).split(",")
@@ -30,9 +31,9 @@ COPY_RISCV = (
     "2 1000,2 1004,2 1008,2 100c,0 1018,2 1010,"
     "2 80000000,2 80000004,2 80000008,2 8000000c,2 80000010,2 80000014,2 80000018,2 8000001a,"
     + "".join(
-        f"2 8000001c,0 {numbers:x},2 8000001e,1 {copies:x},2 80000020,0 80001018,1 80001018,"
-        "2 80000024,2 80000026,2 80000028,2 8000002a,"
-        for numbers, copies in ((0x80001000, 0x8000100C), (0x80001004, 0x80001010), (0x80001008, 0x80001014))
+        f"2 8000001c,0 800010{at:02x},2 8000001e,1 800010{at + 12:02x},2 80000020,"
+        "0 80001018,1 80001018,2 80000024,2 80000026,2 80000028,2 8000002a,"
+        for at in (0, 4, 8)
     )
     + "2 8000002c,2 80000030"
 ).split(",")
@@ -42,10 +43,11 @@ EXPECTED = {
     "pin-values.txt": COPY_DATA,
     "memtrace-x86.txt": COPY_DATA,
     "spike.txt": COPY_RISCV,
-    **dict.fromkeys("champsim.bin drmemtrace.txt execlog.txt gem5.txt lackey.txt memtrace-simple.txt".split(), COPY),
+    **dict.fromkeys(("champsim.bin", "drmemtrace.txt", "execlog.txt", "gem5.txt", "lackey.txt",
+                     "memtrace-simple.txt"), COPY),
 }
 
-# Lines of a format, with their accesses behind '=>'
+# Lines of a format, with their accesses behind '=>'. ' ..' goes on with the line before.
 GOOD = {
     "addresses": r"""
 7ffd1230 => 0 7ffd1230
@@ -54,8 +56,10 @@ ffffffffffffffff => 0 ffffffffffffffff
 0000000000000000 => 0 0
 # a comment =>""",
     "drmemtrace": r"""
-           5           1: T3264604 ifetch       3 byte(s) @ 0x00007f8b5d1a8090 48 89 e7   mov    %rsp, %rdi => 2 7f8b5d1a8090
-   7: T3264604 write        8 byte(s) @ 0x00007ffe5ac78ac8 by PC 0x00007f8b5d1a8093 => 1 7ffe5ac78ac8
+           5           1: T3264604 ifetch       3 byte(s) @ 0x00007f8b5d1a8090 48 89 e7
+ ..   mov    %rsp, %rdi => 2 7f8b5d1a8090
+   7: T3264604 write        8 byte(s) @ 0x00007ffe5ac78ac8 by PC 0x00007f8b5d1a8093
+ .. => 1 7ffe5ac78ac8
 T342625 read         8 byte(s) @ 0x00007ffe5ac78ac8 by PC 0x00007f8b5d1a8093 => 0 7ffe5ac78ac8
      7   1: W0.T3264 ifetch       2 byte(s) @ 0x0000000000401030 conditional jump => 2 401030
      7   1:  3264604 ifetch       2 byte(s) @ 0x0000000000401030 non-fetched instruction =>
@@ -65,12 +69,15 @@ T342625 read         8 byte(s) @ 0x00007ffe5ac78ac8 by PC 0x00007f8b5d1a8093 => 
      7   1:  3264604 <marker: kernel xfer from 0x7f8b5d1a8090 to handler> =>
 <marker: version 3> =>
 ---- <application exited with code 0> ---- =>""",
-    # the first two from QEMU's documentation of its plugins: a whole system, with the names of devices
+    # the first two from QEMU's documentation of its plugins: a whole system, with names of devices
     "execlog": r"""
 0, 0xa18, 0xfff94803, "ldr r0, [pc, #0xc]", load, 0x00010a28, RAM => 2 a18,0 10a28
-0, 0xd30, 0xfff9b510, "push {r4, lr}", store, 0x20003ee0, RAM, store, 0x20003ee4, RAM => 2 d30,1 20003ee0,1 20003ee4
-1, 0x80000020, 0xe6202f, "a "b", load, 0x1", load, 0x80001018, store, 0x80001018 => 2 80000020,0 80001018,1 80001018
-0, 0x40, 0x1, "ldr r0, [r1]", load, 0x10, vga, bank, load, 0x20, loader, r0 -> 0x00000004 => 2 40,0 10,0 20
+0, 0xd30, 0xfff9b510, "push {r4, lr}", store, 0x20003ee0, RAM, store, 0x20003ee4, RAM
+ .. => 2 d30,1 20003ee0,1 20003ee4
+1, 0x80000020, 0xe6202f, "a "b", load, 0x1", load, 0x80001018, store, 0x80001018
+ .. => 2 80000020,0 80001018,1 80001018
+0, 0x40, 0x1, "ldr r0, [r1]", load, 0x10, vga, bank, load, 0x20, loader, r0 -> 0x00000004
+ .. => 2 40,0 10,0 20
 0, 0x0, 0x0, "" => 2 0
 # vCPU, vAddr, opcode, disassembly[, load/store, memory addr, device]... =>""",
     "gem5": r"""
@@ -108,63 +115,79 @@ Format: <data address>: <data size> =>""",
 #eof =>""",
     "spike": r"""
 core   0: 3 0x80000044 (0x01053023) mem 0x80001000 0x7 => 2 80000044,1 80001000
-core  12: 0 0x0000000080000048 (0x00053783) x15 0x0000000000000007 mem 0x0000000080001000 => 2 80000048,0 80001000
+core  12: 0 0x0000000080000048 (0x00053783) x15 0x0000000000000007 mem 0x0000000080001000
+ .. => 2 80000048,0 80001000
 core1000: 1 0x80000048 (0x5378) f8  0xffffffff3f800000 c1_fflags 0x0000000000000001 => 2 80000048
 core   0: 3 0x80000048 (0x00053783) x 5 0x0000000000000007 mem 0x80001000 => 2 80000048,0 80001000
 core   0: 0x80000044 (0x01053023) mem 0x80001000 0x7 => 2 80000044,1 80001000
 3 0x80000048 (0x00053783) => 2 80000048
-core   0: 3 0x44 (0x02056407) e32 mf2 l4 v8  0x0123456789abcdef0123456789abcdef mem 0x10 mem 0x14 => 2 44,0 10,0 14
+core   0: 3 0x44 (0x02056407) e32 mf2 l4 v8  0x0123456789abcdef0123456789abcdef mem 0x10 mem 0x14
+ .. => 2 44,0 10,0 14
 core   0: 0x0000000080000048 (0xffffffffffff9002) ebreak =>
 core   0: >>>>  main =>
 core   0: Executed 3 times =>
 core   0: exception trap_illegal_instruction, epc 0x0000000080000048 =>
 core   0:           tval 0x0000000000000000 =>""",
 }
-GOOD = {form: [case.partition(" =>")[::2] for case in text.strip("\n").splitlines()] for form, text in GOOD.items()}
-NOT_HEXADECIMAL = ("", "0x", "0xg", "0x10000000000000000", "0x4g", "-1")  # a missing one, bad digits, more than 64 bits
+GOOD = {
+    form: [case.partition(" =>")[::2] for case in text.replace("\n ..", "").split("\n")[1:]]
+    for form, text in GOOD.items()
+}
+# a missing one, bad digits, more than 64 bits
+NOT_HEXADECIMAL = ("", "0x", "0xg", "0x10000000000000000", "0x4g", "-1")
 
 # Lines that are none of a format. {} stands for each of the above.
 BAD = {
     "addresses": "{}|7ffd1230 8|7ffd1230,",
-    "drmemtrace": "  7   2:  32 read         3 byte(s) @ {}|  7   2:  32 ifetch       3 byte(s) @ 0x401000,"
+    "drmemtrace": "  7   2:  32 read         3 byte(s) @ {}"
+    "|  7   2:  32 ifetch       3 byte(s) @ 0x401000,"
     "|  7   2:  32 ifetch       x byte(s) @ 0x401000|  7   2:  32 ifetched     3 byte(s) @ 0x401000"
     "|  7   2:  32 exec         3 byte(s) @ 0x401000|  7   2   32 ifetch       3 byte(s) @ 0x401000"
-    "|  7   2: ifetch       3 byte(s) @ 0x401000|  7   2:  32|  7   2:  32    00 00 4|  7   2:  32    00 00 40 and more"
-    "|ERROR: failed to initialize analyzer|             28 : instructions",
-    "execlog": '0, {}, 0x8b, "mov"|0, 0x401000, 0x8b, "mov", load, {}|0, 0x401000, 0x8b, "mov", load, 0x10, store, {}, RAM'
-    '|0, 0x401000, 0x8b, "mov", load|0, 0x401000, 0x8b, "mov|0, 0x401000, 0x8b, "mov" load, 0x10|0, 0x401000, "mov"'
+    "|  7   2: ifetch       3 byte(s) @ 0x401000|  7   2:  32|  7   2:  32    00 00 4"
+    "|  7   2:  32    00 00 40 and more|ERROR: failed to initialize analyzer"
+    "|             28 : instructions",
+    "execlog": '0, {}, 0x8b, "mov"|0, 0x401000, 0x8b, "mov", load, {}'
+    '|0, 0x401000, 0x8b, "mov", load, 0x10, store, {}, RAM|0, 0x401000, 0x8b, "mov", load'
+    '|0, 0x401000, 0x8b, "mov|0, 0x401000, 0x8b, "mov" load, 0x10|0, 0x401000, "mov"'
     '|0x401000, 0x8b, "mov"|0, 0x401000, 0x8b|0, 0x401000, 0x8b, "mov",',
-    "gem5": "r,,64,0,1|r,0x10,64,0,1|r,18446744073709551616,64,0,1|r,-1,64,0,1|w,16,,0,1|r,16,64|r,16,64,0,1,2,3"
-    "|r,16,64,0,1,|x,16,64,0,1|5,4,16,64,0,1|4,16,64,0,1|5,,16,64,0,1|rw,16,64,0,1|u,16",
-    "lackey": " L ,4| S 0x10,4| M 12345678901234567,4|I  4g,4|I04016d80,3|I  04016d80|I  04016d80,|I  04016d80,x"
-    "|I  04016d80,1234567890|I  04016d80 ,3| X 04016d80,3| =| LS 04016d80,3|0 04016d80",
-    "memtrace": "{}:  8, w|0x401000,w,8,{}|{},w,8,0x7ffd1230|0x401000,x,8,0x10|0x401000,w,,0x10|0x401000,w,8,0x10,"
-    "|0x401000,w,8|0x10:  8|0x10:  8,|0x10:  8, W|0x10:  x, w|0x10: w",
-    "pin": "0x401000: R {}|{}: R 0x10|0x401000: X 0x10|0x401000: RW 0x10|0x401000: R0x10|0x401000 R 0x10|0x401000: R 0x10, 8"
-    "|0x401000: R 0x10 x|0x401000: R 0x10 8x|0x401000: R|0x401000: R (nil",
+    "gem5": "r,,64,0,1|r,0x10,64,0,1|r,18446744073709551616,64,0,1|r,-1,64,0,1|w,16,,0,1|r,16,64"
+    "|r,16,64,0,1,2,3|r,16,64,0,1,|x,16,64,0,1|5,4,16,64,0,1|4,16,64,0,1|5,,16,64,0,1|rw,16,64,0,1"
+    "|u,16",
+    "lackey": " L ,4| S 0x10,4| M 12345678901234567,4|I  4g,4|I04016d80,3|I  04016d80|I  04016d80,"
+    "|I  04016d80,x|I  04016d80,1234567890|I  04016d80 ,3| X 04016d80,3| =| LS 04016d80,3"
+    "|0 04016d80",
+    "memtrace": "{}:  8, w|0x401000,w,8,{}|{},w,8,0x7ffd1230|0x401000,x,8,0x10|0x401000,w,,0x10"
+    "|0x401000,w,8,0x10,|0x401000,w,8|0x10:  8|0x10:  8,|0x10:  8, W|0x10:  x, w|0x10: w",
+    "pin": "0x401000: R {}|{}: R 0x10|0x401000: X 0x10|0x401000: RW 0x10|0x401000: R0x10"
+    "|0x401000 R 0x10|0x401000: R 0x10, 8|0x401000: R 0x10 x|0x401000: R 0x10 8x|0x401000: R"
+    "|0x401000: R (nil",
     "spike": "core   0: 3 {} (0x53)|core   0: 3 0x44 (0x53) mem {}|core   0: 0x44 (0x53) mem {}"
-    "|core   0: 3 0x44 (0x53) mem 0x10 0x|core   0: 3 0x44 (0x53) mem 0x10 0x7g|core   0: 3 0x44 (0x53) mem 0x10 7"
-    "|core   0: 3 0x44 (0x53) men 0x10"
-    "|core   0: 3 0x44 (0x53) x15|core   0: 3 0x44 (0x53) x15 mem 0x10|core   0: 0x44 (0x53) x15 mem 0x10"
-    "|core   0: 3 0x44 (0x53) c.ld    a5, 0(a0)|core   0: 3 0x44 (0x53|core   0: 3 0x44 ()|core   0: 3 0x44"
-    "|core   x: 3 0x44 (0x53)|core   0: 33 0x44 (0x53)|core   0: 3|(spike) ",
+    "|core   0: 3 0x44 (0x53) mem 0x10 0x|core   0: 3 0x44 (0x53) mem 0x10 0x7g"
+    "|core   0: 3 0x44 (0x53) mem 0x10 7|core   0: 3 0x44 (0x53) men 0x10"
+    "|core   0: 3 0x44 (0x53) x15|core   0: 3 0x44 (0x53) x15 mem 0x10"
+    "|core   0: 0x44 (0x53) x15 mem 0x10|core   0: 3 0x44 (0x53) c.ld    a5, 0(a0)"
+    "|core   0: 3 0x44 (0x53|core   0: 3 0x44 ()|core   0: 3 0x44|core   x: 3 0x44 (0x53)"
+    "|core   0: 33 0x44 (0x53)|core   0: 3|(spike) ",
 }
 
-# The same conversion by regular expressions: lines that are skipped, and whole lines with what their accesses come from
+# The same conversion by regular expressions: lines that are skipped, and whole lines with what
+# their accesses come from
 HEX = "(?:0[xX])?([0-9a-fA-F]{1,16})"
 CORE = r"(?:core[ \t]*\d+: [ \t]*)?(?!\d \()"
 NAME = r"(?:mf|[xfvcelm])[ \t]*\d"
 THREAD = r"[ \t]*(?:\d[\d \t]*:[ \t]*|(?=[TW.]))[\dTW.]+[ \t]+"
 PASSED = {
     "addresses": r"[ \t]*#.*",
-    "drmemtrace": rf"[ \t]*(?:<|---|Output format:|View tool |\d+[ \t]+: total ).*|{THREAD}(?:(?:<|pref|iflush |dflush ).*|"
-    rf"[0-9a-fA-F]{{2}}(?:[ \t]+[0-9a-fA-F]{{2}})*|(?:ifetch|read|write)[ \t]+\d+ byte\(s\) @ {HEX} non-fetched instruction.*)",
+    "drmemtrace": r"[ \t]*(?:<|---|Output format:|View tool |\d+[ \t]+: total ).*|"
+    rf"{THREAD}(?:(?:<|pref|iflush |dflush ).*|[0-9a-fA-F]{{2}}(?:[ \t]+[0-9a-fA-F]{{2}})*|"
+    rf"(?:ifetch|read|write)[ \t]+\d+ byte\(s\) @ {HEX} non-fetched instruction.*)",
     "execlog": "#.*",
     "gem5": r"(?:\d+,)?u(?:,\d+){3,5}",
     "lackey": "[=*-].*",
     "memtrace": "Format:.*",
     "pin": "#.*",
-    "spike": rf"core[ \t]*\d+: [ \t]*(?:>>>>|Executed |exception |tval ).*|{CORE}{HEX} \({HEX}\)[ \t]+(?!mem|{NAME})[a-z].*",
+    "spike": r"core[ \t]*\d+: [ \t]*(?:>>>>|Executed |exception |tval ).*|"
+    rf"{CORE}{HEX} \({HEX}\)[ \t]+(?!mem|{NAME})[a-z].*",
 }
 WHOLE = {
     "addresses": rf"[ \t]*{HEX}",
@@ -194,7 +217,8 @@ def gem5(command, rest):
     fields = [int(field) for field in rest.split(",")[1:]]
     if max(fields) >= 1 << 64:
         return None
-    return [(1 if command == "w" else 2 if len(fields) > 3 and fields[2] >> 8 & 1 else 0, f"{fields[0]:x}")]
+    is_fetch = len(fields) > 3 and fields[2] >> 8 & 1
+    return [(1 if command == "w" else 2 if is_fetch else 0, f"{fields[0]:x}")]
 
 
 ACCESSES = {
@@ -202,10 +226,12 @@ ACCESSES = {
     "drmemtrace": lambda kind, at: [(["read", "write", "ifetch"].index(kind), at)],
     "execlog": execlog,
     "gem5": gem5,
-    "lackey": lambda kind, at: [(label, at) for label in {"I": [2], "L": [0], "S": [1], "M": [0, 1]}[kind]],
-    "memtrace": lambda _, kind, at, first, word: [({"r": 0, "w": 1}.get(kind or word, 2), at or first)],
+    "lackey": lambda kind, at: [(label, at) for label in dict(I="2", L="0", S="1", M="01")[kind]],
+    "memtrace": lambda _, kind, at, data, word: [(dict(r=0, w=1).get(kind or word, 2), at or data)],
     "pin": lambda _, kind, at: [("RW".index(kind), at or "0")],
-    "spike": lambda at, _, rest, __: [(2, at)] + [(bool(value), data) for data, value in re.findall(f"mem {HEX}( 0x)?", rest)],
+    "spike": lambda at, _, rest, __: [
+        (2, at), *((bool(value), data) for data, value in re.findall(f"mem {HEX}( 0x)?", rest))
+    ],
 }
 
 
@@ -222,14 +248,15 @@ def slow(form, line):
 def lines_of(form):
     """Good lines of a format: those above, and those of the samples."""
     samples = [SAMPLES / sample for sample in EXPECTED if re.split("[-.]", sample)[0] == form]
-    return [line for line, _ in GOOD[form]] + [line for sample in samples for line in sample.read_text().splitlines()]
+    lines = [line for line, _ in GOOD[form]]
+    return lines + [line for sample in samples for line in sample.read_text().splitlines()]
 
 
 def mutated(chance, line):
     """A line with a few bytes more, less, or others."""
     for _ in range(chance.choice((0, 0, 1, 1, 2))):
         at = chance.randrange(len(line) + 1)
-        other = chance.choice(("", "0", "f", " ", ",", ":", "x", "\0", "\xff", "\r", "W", '"', line[at:][:9]))
+        other = chance.choice(("", *'0f ,:x\0\xff\rW"', line[at:][:9]))
         line = line[:at] + other + line[at:][chance.randrange(2):]
     return line
 
@@ -238,18 +265,22 @@ class ToDin(ToolTest):
     def din(self, form, *arguments, **given):
         return self.good(self.run_tool("to-din", form, *arguments, **given)).splitlines()
 
-    def faulty(self, ran, *texts, status=1):
-        """A run that ends with one message, and whose output ends in that, or in the line of a tool that failed."""
+    def faulty(self, words, *texts, status=1, tool=TOOLS / "to-din", **given):
+        """A run that ends with one message. Its output ends in that, or in the line of a tool that
+        failed."""
+        ran = self.run_command(tool, *words.split(), **given)
         message = ran.stderr.decode()
         self.assertEqual((ran.returncode, message.count("\n")), (status, 1), message)
-        self.assertTrue(message.startswith("to-din: ") and ran.stdout.endswith((ran.stderr, SPOILED)), (ran.stdout[-200:], message))
+        self.assertTrue(message.startswith("to-din: "), message)
+        self.assertTrue(ran.stdout.endswith((ran.stderr, SPOILED)), (ran.stdout[-200:], message))
         for text in texts:
             self.assertIn(text, message)
 
 
 class Formats(ToDin):
     def test_samples(self):
-        self.assertEqual(sorted(EXPECTED), sorted(path.name for path in SAMPLES.iterdir() if path.suffix in (".txt", ".bin")))
+        samples = [path.name for path in SAMPLES.iterdir() if path.suffix in (".txt", ".bin")]
+        self.assertEqual(sorted(EXPECTED), sorted(samples))
         for sample, expected in EXPECTED.items():
             with self.subTest(sample):
                 self.assertEqual(self.din(re.split("[-.]", sample)[0], SAMPLES / sample), expected)
@@ -257,7 +288,7 @@ class Formats(ToDin):
 
     def test_good_lines(self):
         for form, cases in GOOD.items():
-            expected = [access for _, accesses in cases for access in accesses.strip().split(",") if access]
+            expected = ",".join(accesses.strip() for _, accesses in cases if accesses).split(",")
             for end in ("\n", "\r\n", " \t\r\n\n \n"):
                 text = end.join(line for line, _ in cases)
                 self.assertEqual(self.din(form, stdin=text.encode()), expected)
@@ -265,32 +296,40 @@ class Formats(ToDin):
     def test_bad_lines(self):
         for form, cases in BAD.items():
             good = GOOD[form][0][0]
-            lines = [case.replace("{}", at) for case in cases.split("|") for at in (NOT_HEXADECIMAL if "{}" in case else [""])]
-            for line in filter(None, lines):
+            lines = {case.replace("{}", at) for case in cases.split("|") for at in NOT_HEXADECIMAL}
+            for line in sorted(lines - {""}):
                 with self.subTest(form=form, line=line):
-                    ran = self.run_tool("to-din", form, stdin=f"{good}\n\n{line}\n{good}\n".encode())
-                    self.faulty(ran, "line 3: not a line of ", line[:60].rstrip())
+                    text, told = f"{good}\n\n{line}\n{good}\n", line[:60].rstrip()
+                    self.faulty(form, "line 3: not a line of ", told, stdin=text.encode())
 
     def test_champsim(self):
         chance = random.Random(1)
         records, expected = [], []
         for _ in range(40000):
             ip = chance.getrandbits(64)
-            places = [chance.choice((0, chance.getrandbits(chance.choice((8, 40, 64))))) for _ in range(6)]
-            records.append(struct.pack("<QBB6s6Q", ip, chance.randrange(2), chance.randrange(2), chance.randbytes(6), *places))
-            expected += [f"2 {ip:x}"] + [f"0 {at:x}" for at in places[2:] if at] + [f"1 {at:x}" for at in places[:2] if at]
+            places = [chance.choice((0, chance.getrandbits(chance.choice((8, 40, 64)))))
+                      for _ in range(6)]
+            flags = chance.randrange(2), chance.randrange(2), chance.randbytes(6)
+            records.append(struct.pack("<QBB6s6Q", ip, *flags, *places))
+            data = [(0, at) for at in places[2:]] + [(1, at) for at in places[:2]]
+            expected += [f"2 {ip:x}"] + [f"{label} {at:x}" for label, at in data if at]
         self.same(self.din("champsim", stdin=b"".join(records)), expected)
         whole, third = b"".join(records[:2]), records[2]
-        for cut in (1, 63):
-            self.faulty(self.run_tool("to-din", "champsim", stdin=whole + third[:cut]), f"record 3: cut short: {cut} of 64 bytes")
-        for bad in (third[:8] + b"\2" + third[9:], third[:9] + b"\2" + third[10:]):
-            self.faulty(self.run_tool("to-din", "champsim", stdin=whole + bad), "record 3: not a record of ChampSim")
+        for bad, fault in (
+            (third[:1], "cut short: 1 of 64 bytes"),
+            (third[:63], "cut short: 63 of 64 bytes"),
+            (third[:8] + b"\2" + third[9:], "not a record of ChampSim"),
+            (third[:9] + b"\2" + third[10:], "not a record of ChampSim"),
+        ):
+            self.faulty("champsim", f"record 3: {fault}", stdin=whole + bad)
 
     def test_lackey_as_the_program_reads_it(self):
-        for trace in (EXAMPLES / "transpose.lackey", EXAMPLES / "blocks.lackey", SAMPLES / "lackey.txt"):
-            din = self.run_tool("to-din", "lackey", trace).stdout
-            for kind in (["--kind", letter] for letter in "udi"):
-                self.assertEqual(self.sweep(*SPACE, *kind, stdin=din), self.sweep(*SPACE, *kind, "--format", "l", "-t", trace))
+        for name in ("transpose.lackey", "blocks.lackey", "formats/lackey.txt"):
+            din = self.run_tool("to-din", "lackey", EXAMPLES / name).stdout
+            for kind in "udi":
+                words = *SPACE, "--kind", kind
+                table = self.sweep(*words, "--format", "l", "-t", EXAMPLES / name)
+                self.assertEqual(self.sweep(*words, stdin=din), table)
 
     def test_its_lines_are_those_of_the_example(self):
         din = (EXAMPLES / "sort.din").read_text().splitlines()
@@ -310,45 +349,50 @@ class Streams(ToDin):
             self.same(self.din(form, stdin="\r\n".join(lines).encode()), expected)
 
     def test_changed_lines(self):
-        """What random changes make of good lines, by a converter with the compiler's guards, where it has them."""
+        """What random changes make of good lines, by a converter with the compiler's guards, where
+        it has them."""
         guarded = self.folder / "guarded"
-        flags = ("-std=c11", "-Wall", "-Wextra", "-Werror", "-O1", "-o", guarded, TOOLS / "lib/to-din.c")
-        if self.run_command("cc", "-fsanitize=address,undefined", "-fno-sanitize-recover=all", *flags).returncode:
-            self.good(self.run_command("cc", *flags))
+        source, flags = TOOLS / "lib/to-din.c", "-std=c11 -Wall -Wextra -Werror -O1 -o".split()
+        guards = "-fsanitize=address,undefined", "-fno-sanitize-recover=all"
+        if self.run_command("cc", source, *guards, *flags, guarded).returncode:
+            self.good(self.run_command("cc", source, *flags, guarded))
         chance = random.Random(3)
         for form in GOOD:
             pool = lines_of(form)
             for _ in range(25):
                 lines = pool[:1] + [mutated(chance, chance.choice(pool)) for _ in range(6)]
-                told = list(takewhile(lambda accesses: accesses is not None, (slow(form, line) for line in lines)))
+                told = [slow(form, line) for line in lines]
+                told = list(takewhile(lambda accesses: accesses is not None, told))
                 ran = self.run_command(guarded, form, stdin="\n".join(lines).encode("latin-1"))
                 wrote, expected = ran.stdout.decode().splitlines(), list(chain.from_iterable(told))
-                self.assertEqual((ran.returncode, wrote[:len(expected)]), (len(told) < len(lines), expected), (lines, ran.stderr))
+                self.assertEqual(ran.returncode, len(told) < len(lines), (lines, ran.stderr))
                 if ran.returncode:
+                    wrote = wrote[:len(expected)]
                     self.assertIn(f": line {len(told) + 1}: not a line of".encode(), ran.stderr)
-                else:
-                    self.assertEqual(wrote, expected, lines)
+                self.assertEqual(wrote, expected, (lines, ran.stderr))
             ran = self.run_command(guarded, form, stdin=chance.randbytes(999))
             self.assertEqual((ran.returncode, ran.stderr.count(b"\n")), (1, 1), ran.stderr)
-        for text in (b"f" * first + b"\nffffffffffffffff" * 3999 for first in range(1, 17)):  # ends at each last byte of the buffer
-            full = self.good(self.run_command(guarded, "addresses", stdin=text))
-            self.same(full.splitlines(), ["0 " + line for line in text.decode().split()])
+        for first in range(1, 17):  # ends at each last byte of the buffer
+            text = "f" * first + "\nffffffffffffffff" * 3999
+            full = self.good(self.run_command(guarded, "addresses", stdin=text.encode()))
+            self.same(full.splitlines(), ["0 " + line for line in text.split()])
+        records = (SAMPLES / "champsim.bin").read_bytes()
         for size in range(0, 1000, 37):
-            ran = self.run_command(guarded, "champsim", stdin=(SAMPLES / "champsim.bin").read_bytes()[:size])
+            ran = self.run_command(guarded, "champsim", stdin=records[:size])
             self.assertEqual(ran.returncode, size % 64 > 0, ran.stderr)
 
     def test_long_lines(self):
-        line = '0, 0x401000, 0x8b, "{}", load, 0x7ffd1230\n'
-        long = line.format("a, b" * (1 << 20))
-        self.assertEqual(self.din("execlog", stdin=long.encode() * 2), ["2 401000", "0 7ffd1230"] * 2)
-        too_long = line.format("") + line.format("a" * (1 << 24))
-        self.faulty(self.run_tool("to-din", "execlog", stdin=too_long.encode()), "line 2: 16777216 bytes or more")
+        line = b'0, 0x401000, 0x8b, "%b", load, 0x7ffd1230\n'
+        long = line % (b"a, b" * (1 << 20))
+        self.assertEqual(self.din("execlog", stdin=long * 2), ["2 401000", "0 7ffd1230"] * 2)
+        too_long = line % b"" + line % (b"a" * (1 << 24))
+        self.faulty("execlog", "line 2: 16777216 bytes or more", stdin=too_long)
 
     def test_nothing_and_no_access(self):
         self.assertEqual(self.din("pin", os.devnull), [])
-        self.faulty(self.run_tool("to-din", "pin", stdin=b"#\n#eof\n"), "no access in lines 1 to 2")
-        disassembled = "".join(line + "\n" for line in (SAMPLES / "spike.txt").read_text().splitlines() if ": 3 " not in line)
-        self.faulty(self.run_tool("to-din", "spike", stdin=disassembled.encode()), "no access")
+        self.faulty("pin", "no access in lines 1 to 2", stdin=b"#\n#eof\n")
+        disassembled = re.sub(b"(?m)^.*: 3 .*\n", b"", (SAMPLES / "spike.txt").read_bytes())
+        self.faulty("spike", "no access", stdin=disassembled)
 
     def test_names(self):
         text = (SAMPLES / "pin.txt").read_bytes()
@@ -366,35 +410,44 @@ class Streams(ToDin):
             self.assertEqual(self.din("champsim", name), COPY)
             (self.folder / name).write_bytes(packed[:-9])
             ran = self.run_tool("to-din", "champsim", name)
-            message = f"to-din: {name} can't be unpacked\n".encode()
-            self.assertEqual((ran.returncode, ran.stderr.endswith(message), ran.stdout.endswith(SPOILED)), (1, True, True))
+            self.assertEqual(ran.returncode, 1)
+            self.assertTrue(ran.stderr.endswith(f"to-din: {name} can't be unpacked\n".encode()))
+            self.assertTrue(ran.stdout.endswith(SPOILED))
 
 
 class Faults(ToDin):
     def test_a_pipe_without_pipefail_gives_no_table(self):
         cut = gzip.compress((SAMPLES / "pin.txt").read_bytes() * 999)[:-99]
         (self.folder / "cut.gz").write_bytes(cut)
-        for arguments in ("pin", "pin cut.gz", "pin missing", "pin missing.xz", "pin .", "", "pin a b", "dinero", "dinero cut.gz"):
-            ran = self.run_command("bash", "-c", f"{TOOLS}/to-din {arguments} | {PROGRAM} sweep {' '.join(SPACE)}", stdin=b"0x401000:\n")
+        for words in ("pin", "pin cut.gz", "pin missing", "pin missing.xz", "pin .", "", "pin a b",
+                      "dinero", "dinero cut.gz"):
+            pipe = f"{TOOLS}/to-din {words} | {PROGRAM} sweep {' '.join(SPACE)}"
+            ran = self.run_command("bash", "-c", pipe, stdin=b"0x401000:\n")
             self.refused(ran, 1, "to-din: ", "cachesim: line ", ": bad label")
 
     def test_a_place_that_takes_no_more(self):
         (self.folder / "trace").write_bytes(b"0x401000: R 0x10\n" * 99999)
-        for arguments, fault in (("> /dev/full", "No space left on device"), (">&-", "Bad file descriptor")):
-            ran = self.run_command("bash", "-c", f"{TOOLS}/to-din pin trace {arguments}")
+        call = f"{TOOLS}/to-din pin trace"
+        for place, fault in ("/dev/full", "No space left on device"), ("&-", "Bad file descriptor"):
+            ran = self.run_command("bash", "-c", f"{call} > {place}")
             self.refused(ran, 1, f"to-din: write failed: {fault}")
-        for before, status, message in ("", 141, ""), ("trap '' PIPE;", 1, "to-din: write failed: Broken pipe\n"):
-            ran = self.run_command("bash", "-c", f"{before} {TOOLS}/to-din pin trace | head -n 1; echo ${{PIPESTATUS[0]}}")
-            self.assertEqual((ran.stdout.decode(), ran.stderr.decode()), (f"0 10\n{status}\n", message))
+        call += " | head -n 1; echo ${PIPESTATUS[0]}"
+        told = b"to-din: write failed: Broken pipe\n"
+        for before, wrote, told in ("", b"0 10\n141\n", b""), ("trap '' PIPE;", b"0 10\n1\n", told):
+            ran = self.run_command("bash", "-c", f"{before} {call}")
+            self.assertEqual((ran.stdout, ran.stderr), (wrote, told))
 
     def test_arguments(self):
-        for words, told in ("", "one file"), ("pin a b", "one file"), ("dinero", "to-din: dinero is no format"):
-            self.faulty(self.run_tool("to-din", *words.split()), told, "; 'to-din --help' explains the arguments\n", status=2)
+        for words, told in (
+            ("", "one file"), ("pin a b", "one file"), ("dinero", "to-din: dinero is no format")
+        ):
+            self.faulty(words, told, "; 'to-din --help' explains the arguments\n", status=2)
         for name in ("missing", "missing.gz"):
-            self.faulty(self.run_tool("to-din", "pin", name), f"{name} can't be read")
-        self.faulty(self.run_tool("to-din", "pin", "."), "line 1: read failed: Is a directory")
-        told = re.findall(r"^  ([a-z0-9]+) {2,}", self.good(self.run_tool("to-din", "--help")), re.M)
-        self.assertEqual(sorted(told), re.findall(r'^    \{"(\w+)"', (TOOLS / "lib/to-din.c").read_text(), re.M))
+            self.faulty(f"pin {name}", f"{name} can't be read")
+        self.faulty("pin .", "line 1: read failed: Is a directory")
+        told = re.findall(r"(?m)^  ([a-z0-9]+) {2,}", self.good(self.run_tool("to-din", "--help")))
+        formats = re.findall(r'(?m)^    \{"(\w+)"', (TOOLS / "lib/to-din.c").read_text())
+        self.assertEqual(sorted(told), formats)
 
     def test_missing_packages(self):
         """A copy that was not compiled yet, and a path with next to nothing."""
@@ -403,12 +456,12 @@ class Faults(ToDin):
         path.mkdir()
         for name in ("dirname", "readlink"):
             (path / name).symlink_to(shutil.which(name))
-        ran = self.run_command(self.folder / "to-din", "pin", env={"PATH": str(path)})
-        self.faulty(ran, "to-din: cc is missing: apt-get install gcc")
-        self.assertEqual(self.good(self.run_command(self.folder / "to-din", "pin", SAMPLES / "pin.txt")).splitlines(), COPY_DATA)
+        few = {"tool": self.folder / "to-din", "env": {"PATH": str(path)}}
+        self.faulty("pin", "to-din: cc is missing: apt-get install gcc", **few)
+        din = self.good(self.run_command(few["tool"], "pin", SAMPLES / "pin.txt"))
+        self.assertEqual(din.splitlines(), COPY_DATA)
         (self.folder / "trace.xz").touch()
-        ran = self.run_command(self.folder / "to-din", "pin", "trace.xz", env={"PATH": str(path)})
-        self.faulty(ran, "to-din: xz is missing: apt-get install xz-utils")
+        self.faulty("pin trace.xz", "to-din: xz is missing: apt-get install xz-utils", **few)
 
     def test_an_interrupt(self):
         pipes = {"stdin": subprocess.PIPE, "stdout": subprocess.PIPE, "stderr": subprocess.PIPE}
