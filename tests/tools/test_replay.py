@@ -1,6 +1,7 @@
 """The page that steps a trace through a cache, and its form for a terminal."""
 
 import html
+import itertools
 import json
 import re
 import subprocess
@@ -8,12 +9,15 @@ import subprocess
 from base import EXAMPLES, PROGRAM, TOOLS, TOP, ToolTest, model, needs
 
 HANDOUT = TOP / "tests/cases/inputs/handout.lackey"
-REPLAY = TOOLS / "lab/replay"
-# Two sets of two blocks of 16 bytes. The block of 10 is written in line 4, so it is dirty where 210 evicts it; the block of 110 is
-# then the one used longest ago.
+LAB = ("-s", 1, "-E", 2, "-b", 4)
+OF_HANDOUT = (*LAB, "-t", HANDOUT)
+ONE_LINE = ("-s", 1, "-E", 1, "-b", 4)
+# Two sets of two blocks of 16 bytes. The block of 10 is written in line 4, so it is dirty where 210
+# evicts it; the block of 110 is then the one used longest ago.
 HANDOUT_TEXT = """\
 handout.lackey: 2 sets of 2 lines, blocks of 16 bytes, LRU
-The last column has the lines of the set after the step: their tags, * dirty, [] evicted next, - free.
+The last column has the lines of the set after the step: their tags, * dirty, """ """\
+[] evicted next, - free.
 line  access   address  tag  set  offset  outcome              lines
    1  L             10    0    1       0  miss                 0 -
    2  M load        20    1    0       0  miss                 1 -
@@ -39,6 +43,11 @@ def start_of(example, lines):
     return "".join((EXAMPLES / example).read_text().splitlines(keepends=True)[:lines])
 
 
+def lab_words(*numbers):
+    """The options of csim for a cache: its set bits, lines and block bits."""
+    return [word for pair in zip(("-s", "-E", "-b"), numbers) for word in pair]
+
+
 class ReplayTest(ToolTest):
     def replay(self, *arguments, **given):
         return self.run_tool("lab/replay", *arguments, **given)
@@ -46,171 +55,196 @@ class ReplayTest(ToolTest):
     def page(self, *arguments, **given):
         return self.good(self.replay(*arguments, **given))
 
+    def text(self, *arguments, **given):
+        """The lines with --text."""
+        return self.page(*arguments, "--text", **given).splitlines()
+
     def data(self, *arguments, **given):
         """What the page has been given to draw."""
-        return json.loads(re.search('<script type="application/json" id="data">(.*?)</script>', self.page(*arguments, **given))[1])
+        data = '<script type="application/json" id="data">(.*?)</script>'
+        return json.loads(re.search(data, self.page(*arguments, **given))[1])
+
+    def steps(self, *arguments, **given):
+        return self.data(*arguments, **given)["steps"]
 
 
 class Replay(ReplayTest):
     def test_the_handout_by_hand(self):
-        self.assertEqual(self.good(self.replay("-s", 1, "-E", 2, "-b", 4, "-t", HANDOUT, "--text")), HANDOUT_TEXT)
-        self.assertEqual(self.good(self.replay("-s1", "-E=2", "-b4", "--text", stdin=HANDOUT.read_bytes())),
+        self.assertEqual(self.page(*OF_HANDOUT, "--text"), HANDOUT_TEXT)
+        self.assertEqual(self.page("-s1", "-E=2", "-b4", "--text", stdin=HANDOUT.read_bytes()),
                          HANDOUT_TEXT.replace("handout.lackey", "standard input"))
 
     def test_policies_and_a_flush_by_hand(self):
         for policy, lines in ORDERED.items():
-            rows = self.good(self.replay(*ONE_SET, "-l1-urepl", policy, "--text", stdin=ORDER)).split("\n")[3:-2]
+            rows = self.text(*ONE_SET, "-l1-urepl", policy, stdin=ORDER)[3:-1]
             self.assertEqual([re.split("  +", row)[-1] for row in rows], lines)
         self.assertRegex(rows[5], r"^ +6  flush +1 written back +all free$")
 
     def test_a_flush_of_several_sets(self):
         """Of three blocks in two sets two are dirty."""
-        rows = self.good(self.replay("-l1-usize", 64, "-l1-ubsize", 16, "-l1-uassoc", 2, "--text", stdin=b"1 10\n1 20\n0 40\n4 0\n4 0\n"))
-        self.assertEqual([re.split("  +", row.strip())[1:] for row in rows.split("\n")[6:8]],
-                         [["flush", "2 written back", "all free"], ["flush", "0 written back", "all free"]])
+        words = ("-l1-usize", 64, "-l1-ubsize", 16, "-l1-uassoc", 2)
+        rows = self.text(*words, stdin=b"1 10\n1 20\n0 40\n4 0\n4 0\n")
+        self.assertEqual([re.split("  +", row.strip())[1:] for row in rows[6:8]],
+                         [["flush", f"{dirty} written back", "all free"] for dirty in (2, 0)])
 
     def test_one_set(self):
-        """The steps of set 1 of the handout's trace, with the same lines and sets as in the whole."""
-        rows = HANDOUT_TEXT.split("\n")[3:-2]
-        wanted = [row for row in rows if re.split("  +", row.strip())[4] == "1"]
-        arguments = ["-s", 1, "-E", 2, "-b", 4, "-t", HANDOUT, "--set", "1"]
-        text = self.good(self.replay(*arguments, "--text")).split("\n")
-        self.assertEqual(text[0], "handout.lackey, set 1: 2 sets of 2 lines, blocks of 16 bytes, LRU")
-        self.assertEqual(text[3:-2], wanted)
+        """The steps of set 1 of the handout's trace, with the lines and sets as in the whole."""
+        first, *rows = HANDOUT_TEXT.splitlines()
+        wanted = [row for row in rows[2:-1] if re.split("  +", row.strip())[4] == "1"]
+        arguments = [*OF_HANDOUT, "--set", "1"]
+        text = self.text(*arguments)
+        self.assertEqual(text[0], first.replace(":", ", set 1:"))
+        self.assertEqual(text[3:-1], wanted)
         self.assertEqual(len(wanted), 6)
         # of these the loads of 10, 110, 210 and 12 miss
-        self.assertEqual(text[-2], "hits:2 misses:4 evictions:2")
+        self.assertEqual(text[-1], "hits:2 misses:4 evictions:2")
         data = self.data(*arguments)
         self.assertEqual((data["sets"], [step["set"] for step in data["steps"]]), ([1], [1] * 6))
-        # a flush counts the dirty blocks of both sets, and what the other set sends to memory is of no step
+        # a flush counts the dirty blocks of both sets, and what the other set sends to memory is of
+        # no step
         two = ("-l1-usize", "32", "-l1-ubsize", "16", "--set", "0")
-        data = self.data(*two, stdin=b"1 0\n1 10\n0 30\n4 0\n1 20\n")
-        self.assertEqual([step["sent"] for step in data["steps"]], [["read 0"], [], ["read 20"]])
-        self.assertIn("1 dirty block written back", data["steps"][1]["why"])
-        for number, fault in (("2", "there is no set 2: the last one is 1"), ("-1", "--set"), ("x", "'x' is no set such as 0 or 1c")):
-            self.refused(self.replay("-s", 1, "-E", 2, "-b", 4, "-t", HANDOUT, f"--set={number}"), 2, fault)
-        self.refused(self.replay("-s", 4, "-E", 2, "-b", 4, "-t", HANDOUT, "--set", "f"), 1, "no reference for set f")
+        steps = self.steps(*two, stdin=b"1 0\n1 10\n0 30\n4 0\n1 20\n")
+        self.assertEqual([step["sent"] for step in steps], [["read 0"], [], ["read 20"]])
+        self.assertIn("1 dirty block written back", steps[1]["why"])
         # more than the limit in all, but not in the set
         many = b" L 0,1\n" * 2000 + b" L 10,1\n"
-        self.assertEqual(len(self.data("-s", 1, "-E", 1, "-b", 4, "--set", "1", stdin=many)["steps"]), 1)
+        self.assertEqual(len(self.steps(*ONE_LINE, "--set", "1", stdin=many)), 1)
+        for bits, number, status, fault in (
+            (1, "2", 2, "there is no set 2: the last one is 1"),
+            (1, "-1", 2, "--set"),
+            (1, "x", 2, "'x' is no set such as 0 or 1c"),
+            (4, "f", 1, "no reference for set f"),
+        ):
+            words = lab_words(bits, 2, 4)
+            self.refused(self.replay(*words, "-t", HANDOUT, f"--set={number}"), status, fault)
 
     def test_ways_of_any_number(self):
         """What csim says of them; the example by hand, with a third line for the block of 210."""
-        rows = self.good(self.replay("-s", 1, "-E", 3, "-b", 4, "-t", HANDOUT, "--text"))
-        rows = [re.split("  +", row.strip()) for row in rows.splitlines()[2:-1]]
+        rows = self.text("-s", 1, "-E", 3, "-b", 4, "-t", HANDOUT)[2:-1]
+        rows = [re.split("  +", row.strip()) for row in rows]
         self.assertEqual([row[-1] for row in rows if row[4] == "1"],
                          ["0 - -", "0* - -", "0* 8 -", "[0*] 8 10", "0* [8] 10", "0* [8] 10"])
         cut = self.write("cut.lackey", start_of("transpose.lackey", 900))
-        for cache in ("1 9 3", "1 65 3", "3 3 6"):
-            words = [word for pair in zip(("-s", "-E", "-b"), cache.split()) for word in pair]
-            text = self.good(self.run_command(PROGRAM, "csim", *words, "-t", cut))
-            steps = self.good(self.replay(*words, "-t", cut, "--text"))
-            self.assertEqual(steps.splitlines()[-1], text.strip())
-            self.assertEqual(len(self.data(*words, "-t", cut)["steps"]), len(steps.splitlines()) - 4)
+        for cache in ((1, 9, 3), (1, 65, 3), (3, 3, 6)):
+            words = *lab_words(*cache), "-t", cut
+            text = self.text(*words)
+            self.assertEqual(text[-1], self.good(self.run_command(PROGRAM, "csim", *words)).strip())
+            self.assertEqual(len(self.steps(*words)), len(text) - 4)
 
     def test_a_trace_up_to_a_line(self):
         """Of more than 1,000 steps the last, with what the sets hold before them."""
-        words = ["-s", 1, "-E", 2, "-b", 4]
-        text = self.good(self.replay(*words, "-t", HANDOUT, "--text", "--until", 4)).splitlines()
+        text = self.text(*OF_HANDOUT, "--until", 4)
         self.assertEqual([row.split()[0] for row in text[3:-1]], ["1", "2", "2", "3", "4"])
         many = b" L 10,1\n" * 700 + b" S 30,1\n M 50,1\n" * 500
-        data = self.data(*words, "--until", 1500, stdin=many)
+        data = self.data(*LAB, "--until", 1500, stdin=many)
         self.assertEqual([len(data["steps"]), data["steps"][-1]["line"]], [1000, 1500])
-        self.assertEqual([data["steps"][0]["line"], data["steps"][0]["access"]], [834, "M store"])
+        first = data["steps"][0]
+        self.assertEqual([first["line"], first["access"]], [834, "M store"])
         self.assertEqual(data["before"], [{"set": 1, "next": 1, "lines": [
             {"tag": "2", "since": 834, "dirty": True}, {"tag": "1", "since": 833, "dirty": True}]}])
 
     def test_reasons(self):
         """In words, with the step that decides."""
-        steps = self.data(*ONE_SET, stdin=ORDER)["steps"]
-        self.assertEqual(steps[3]["why"], "Set 0 is full and does not hold tag 3. The block in line 1 (tag 2) is evicted: "
-                                          "it was last used in line 2 of the trace, the others later.")
-        self.assertEqual([step["coming"] for step in steps[:2]], ["", "Next to be evicted in set 0: line 0 (tag 1), "
-                         "last used in line 1 of the trace."])
+        steps = self.steps(*ONE_SET, stdin=ORDER)
+        self.assertEqual(
+            steps[3]["why"],
+            "Set 0 is full and does not hold tag 3. The block in line 1 (tag 2) is evicted: it was "
+            "last used in line 2 of the trace, the others later.")
+        coming = "Next to be evicted in set 0: line 0 (tag 1), "
+        self.assertEqual([step["coming"] for step in steps[:2]],
+                         ["", coming + "last used in line 1 of the trace."])
         self.assertEqual(steps[5]["why"], "A flush empties all sets. 1 dirty block written back.")
-        steps = self.data(*ONE_SET, "-l1-urepl", "f", stdin=ORDER)["steps"]
-        self.assertIn("(tag 1) is evicted: it came in line 1 of the trace, the others later.", steps[3]["why"])
-        self.assertEqual(steps[2]["coming"], "Next to be evicted in set 0: line 0 (tag 1), "
-                         "which came in line 1 of the trace.")
-        steps = self.data("-l1-dsize", 16, "-l1-dbsize", 16, "-l1-dwalloc", "n", stdin=b"1 10\n0 10\n1 10\n0 20\n")["steps"]
+        steps = self.steps(*ONE_SET, "-l1-urepl", "f", stdin=ORDER)
+        told = "(tag 1) is evicted: it came in line 1 of the trace, the others later."
+        self.assertIn(told, steps[3]["why"])
+        self.assertEqual(steps[2]["coming"], coming + "which came in line 1 of the trace.")
+        words = ("-l1-dsize", 16, "-l1-dbsize", 16, "-l1-dwalloc", "n")
+        steps = self.steps(*words, stdin=b"1 10\n0 10\n1 10\n0 20\n")
         self.assertEqual([step["why"] for step in steps], [
             "Set 0 does not hold tag 1. A write that misses brings no block in.",
             "Set 0 does not hold tag 1. Line 0 is free and takes the block.",
             "Line 0 of set 0 holds tag 1.",
-            "Set 0 is full and does not hold tag 2. The block in line 0 (tag 1) is evicted: it is the only one. "
-            "It is dirty, so it is written back.",
+            "Set 0 is full and does not hold tag 2. The block in line 0 (tag 1) is evicted: it is "
+            "the only one. It is dirty, so it is written back.",
         ])
-        self.assertEqual([step["sent"] for step in steps], [["write 10"], ["read 10"], [], ["write 10", "read 20"]])
+        self.assertEqual([step["sent"] for step in steps],
+                         [["write 10"], ["read 10"], [], ["write 10", "read 20"]])
 
     def test_outcomes_are_those_of_csim(self):
         """Each access of the model's lines with -v, of which a modify has two."""
         cut = self.write("cut.lackey", start_of("transpose.lackey", 900))
-        for trace in (HANDOUT, cut):
-            for cache in ("011", "124", "313", "245", "510", "082"):
-                words = [word for pair in zip(("-s", "-E", "-b"), cache) for word in pair]
-                written = model.run(["csim", "-v", *words, "-t", "x"], None, lambda _: (self.folder / trace).read_bytes())[0]
-                *lines, summary = written.splitlines()
-                expected = [outcome for line in lines for outcome in re.findall("hit|miss eviction|miss", line)]
-                steps = self.data(*words, "-t", trace)["steps"]
-                self.same([step["outcome"] for step in steps], expected)
-                self.assertEqual(self.good(self.replay(*words, "-t", trace, "--text")).splitlines()[-1], summary)
+        for trace, cache in itertools.product(
+            (HANDOUT, cut), ("011", "124", "313", "245", "510", "082")
+        ):
+            words = *lab_words(*cache), "-t", str(trace)
+            written = model.run(["csim", "-v", *words], None, lambda _: trace.read_bytes())[0]
+            *lines, summary = written.splitlines()
+            expected = re.findall("hit|miss eviction|miss", "\n".join(lines))
+            self.same([step["outcome"] for step in self.steps(*words)], expected)
+            self.assertEqual(self.text(*words)[-1], summary)
 
     def logged(self, place, data):
         """The lines of a log that a page's steps tell."""
         low, label = data["blockBits"] + data["setBits"], {"read": 0, "write": 1, "fetch": 2}
         for step in data["steps"]:
             if step["access"] == "flush":
-                yield re.sub(r"A flush empties all sets\. (\d+) .*", rf"{place} flush \1", step["why"])
+                dirty = re.match(r"A flush empties all sets\. (\d+) ", step["why"])[1]
+                yield f"{place} flush {dirty}"
                 continue
-            address = (int(step["tag"], 16) << low) + (step["set"] << data["blockBits"]) + int(step["offset"], 16)
+            index = step["set"] << data["blockBits"]
+            address = (int(step["tag"], 16) << low) + index + int(step["offset"], 16)
             self.assertEqual(f"{address:x}", step["address"])
-            victim = step.get("evicted")
-            left = (int(victim["tag"], 16) << low) + (step["set"] << data["blockBits"]) if victim else 0
-            said = f" {left:x}{' dirty' * victim['dirty']}" if victim else ""
+            victim, said = step.get("evicted"), ""
+            if victim:
+                left = (int(victim["tag"], 16) << low) + index
+                said = f" {left:x}{' dirty' * victim['dirty']}"
             yield f"{place} {label[step['access']]} {address:x} {step['outcome']}{said}"
-            yield from (f"memory {label[word.split()[0]]} {word.split()[1]}" for word in step["sent"])
+            for word, at in map(str.split, step["sent"]):
+                yield f"memory {label[word]} {at}"
 
     def test_steps_are_those_of_the_log(self):
-        """Victims, dirty blocks and what memory gets, by the model; fetches that a data cache does not take have no step."""
-        traces = [ORDER.decode() * 3 + "0 ffffffffffffffff\n", start_of("sort.din", 300)]
-        for trace in traces:
-            for place in ("l1-i", "l1-d", "l1-u"):
-                for policies in ("laa", "faa", "lna", "fan"):
-                    words = [f"-{place}size", "64", f"-{place}bsize", "8", f"-{place}assoc", "4"]
-                    words += [word for pair in zip((f"-{place}repl", f"-{place}walloc", f"-{place}wback"), policies) for word in pair]
-                    written = model.run(["log", *words], lambda: trace.encode(), None)[0]
-                    expected = [line for line in written.splitlines() if not line.startswith("bypassed")]
-                    self.same(list(self.logged(place, self.data(*words, stdin=trace.encode()))), expected)
+        """Victims, dirty blocks and what memory gets, by the model; fetches that a data cache does
+        not take have no step."""
+        for trace, place, policies in itertools.product(
+            (ORDER * 3 + b"0 ffffffffffffffff\n", start_of("sort.din", 300).encode()),
+            ("l1-i", "l1-d", "l1-u"), ("laa", "faa", "lna", "fan"),
+        ):
+            names = ("size", "bsize", "assoc", "repl", "walloc", "wback")
+            pairs = zip(names, ("64", "8", "4", *policies))
+            words = [word for name, value in pairs for word in (f"-{place}{name}", value)]
+            written = model.run(["log", *words], lambda: trace, None)[0].splitlines()
+            expected = [line for line in written if not line.startswith("bypassed")]
+            self.same(list(self.logged(place, self.data(*words, stdin=trace))), expected)
 
     def test_what_is_drawn(self):
         """All sets of a small cache, else those that are used; the data can't end its element."""
-        self.assertEqual(self.data("-s", 4, "-E", 4, "-b", 4, "-t", HANDOUT)["sets"], list(range(16)))
-        self.assertEqual(self.data("-s", 5, "-E", 4, "-b", 4, "-t", HANDOUT)["sets"], [1, 2, 17])
+        for bits, sets in (4, list(range(16))), (5, [1, 2, 17]):
+            self.assertEqual(self.data(*lab_words(bits, 4, 4), "-t", HANDOUT)["sets"], sets)
+        words = *lab_words(1, 1, 1), "-t"
         for encoding in ("utf-8", "latin-1"):
-            env = {"PYTHONIOENCODING": encoding}
-            self.assertIn("▶ ", self.page("-s", 1, "-E", 1, "-b", 1, "-t", HANDOUT, env=env))
+            self.assertIn("▶ ", self.page(*words, HANDOUT, env={"PYTHONIOENCODING": encoding}))
         name = self.write("<b> & \u20ac.trace", HANDOUT.read_text()).name
-        data, page = self.data("-s", 1, "-E", 1, "-b", 1, "-t", name), self.page("-s", 1, "-E", 1, "-b", 1, "-t", name)
-        self.assertEqual((data["title"], "<b>" in page), (name, False))
-        self.assertIsNone(re.search(r"(?i)https?:|src=|@import|url\(", page), "the page asks for nothing")
+        page = self.page(*words, name)
+        self.assertEqual((self.data(*words, name)["title"], "<b>" in page), (name, False))
+        self.assertNotRegex(page, r"(?i)https?:|src=|@import|url\(", "the page asks for nothing")
 
 
 class Faults(ReplayTest):
     def test_arguments(self):
-        lab, small = ("-s", 1, "-E", 1, "-b", 4), ("-l1-usize", 64, "-l1-ubsize", 16)
+        small = ("-l1-usize", 64, "-l1-ubsize", 16)
         for words, text in (
             ((), "one cache is wanted"),
-            ((*lab, *small), "one cache is wanted"),
+            ((*ONE_LINE, *small), "one cache is wanted"),
             ((*small, "-l1-dsize", 64), "one cache is wanted"),
             (("-s", 1, "-E", 1), "-s, -E and -b are needed"),
             (("-s", 21, "-E", 1, "-b", 4), "-s and -b are at most 20"),
             (("-s", 1, "-E", 0, "-b", 4), "-E is at least 1"),
-            ((*lab, "--until", 0), "--until wants a line from 1 on"),
-            ((*lab, "--until", "x"), "'x' is not a number"),
+            ((*ONE_LINE, "--until", 0), "--until wants a line from 1 on"),
+            ((*ONE_LINE, "--until", "x"), "'x' is not a number"),
             ((*small, "-l1-uassoc", 3), "must be powers of two"),
             (("-s", 1, "-E", "x", "-b", 4), "'x' is not a number"),
             (("-s", 1, "-E", 2049, "-b", 4), "at most 2,048 lines"),
-            ((*lab, "-informat", "d"), "-informat belongs to the options of din"),
+            ((*ONE_LINE, "-informat", "d"), "-informat belongs to the options of din"),
             (("-l1-usize", 64), "-l1-usize and -l1-ubsize are needed"),
             ((*small, "-l1-uassoc", 8), "a set must fit into the size"),
             ((*small, "-l1-urepl", "r"), "invalid choice: 'r'"),
@@ -221,45 +255,52 @@ class Faults(ReplayTest):
                 self.refused(self.replay(*words), 2, text)
 
     def test_traces(self):
-        lab = ("-s", 1, "-E", 1, "-b", 4)
-        self.refused(self.replay(*lab, "-t", "none"), 1, "replay: cannot open none\n")
-        self.refused(self.replay(*lab, stdin=b" L 10,1\n L x,1\n"), 1, "replay: line 2: bad address\n")
-        self.refused(self.replay(*lab, stdin=b"I  10,1\n"), 1, "no reference for the cache l1-d")
+        for words, text, fault in (
+            (("-t", "none"), b"", "replay: cannot open none\n"),
+            ((), b" L 10,1\n L x,1\n", "replay: line 2: bad address\n"),
+            ((), b"I  10,1\n", "no reference for the cache l1-d"),
+        ):
+            self.refused(self.replay(*ONE_LINE, *words, stdin=text), 1, fault)
 
     def test_limits(self):
         words = ("-s", 10, "-E", 4, "-b", 4)
         lines = [b" L %x,1\n" % (16 * at) for at in range(1, 1001)]
-        self.assertEqual(len(self.data("-s", 1, "-E", 1, "-b", 4, stdin=b"".join(lines))["steps"]), 1000)
+        trace = b"".join(lines)
+        self.assertEqual(len(self.steps(*ONE_LINE, stdin=trace)), 1000)
         for more in (1, 300000):
-            ran = self.replay("-s", 1, "-E", 1, "-b", 4, stdin=b"".join(lines) + b" S 10,1\n" * more)
+            ran = self.replay(*ONE_LINE, stdin=trace + b" S 10,1\n" * more)
             self.refused(ran, 1, "more than 1,000 steps", "--until 500")
-        self.refused(self.replay(*words, stdin=b"".join(lines)), 1, "4,000 lines", "2,048")
-        self.assertEqual(len(self.good(self.replay(*words, "--text", stdin=b"".join(lines))).splitlines()), 1004)
+        self.refused(self.replay(*words, stdin=trace), 1, "4,000 lines", "2,048")
+        self.assertEqual(len(self.text(*words, stdin=trace)), 1004)
         self.assertEqual(len(self.data(*words, stdin=b"".join(lines[:512]))["sets"]), 512)
 
     def test_a_log_that_differs(self):
-        """A stand-in for the program changes a line of the log: the step that differs is named, and there is no page."""
+        """A stand-in for the program changes a line of the log: the step that differs is named, and
+        there is no page."""
+        sets = "but by this tool's sets it is"
         for change, step, told in (
-            ("s/ 22 hit/ 22 miss/", 3, "'l1-d 0 22 miss', but by this tool's sets it is 'l1-d 0 22 hit'"),
-            ("s/eviction 10 dirty/eviction 110/", 6, "'l1-d 0 210 miss eviction 110', but by this tool's sets it is "
-                                                     "'l1-d 0 210 miss eviction 10 dirty'"),
+            ("s/ 22 hit/ 22 miss/", 3, f"'l1-d 0 22 miss', {sets} 'l1-d 0 22 hit'"),
+            ("s/eviction 10 dirty/eviction 110/", 6,
+             f"'l1-d 0 210 miss eviction 110', {sets} 'l1-d 0 210 miss eviction 10 dirty'"),
             ("s/ dirty//", 6, "'l1-d 0 210 miss eviction 10', but"),
             ("/ 18 hit/d", 4, "'l1-d 0 110 miss', but it is S"),
             ("s/ 0 12 .*/ flush 7/", 7, "'l1-d flush 7', but it is M load"),
         ):
             liar = self.executable("liar", "set -o pipefail", f'"{PROGRAM}" "$@" | sed "{change}"')
+            lies = {"env": {"CACHESIM": str(liar)}}
             for more in ((), ("--text",)):
-                ran = self.replay("-s", 1, "-E", 2, "-b", 4, "-t", HANDOUT, *more, env={"CACHESIM": str(liar)})
+                ran = self.replay(*OF_HANDOUT, *more, **lies)
                 self.refused(ran, 1, f"replay: line {step} of the trace: the log says {told}")
         liar.write_text(f'#!/bin/sh\n[ "$1" = log ] && echo l1-d 7 10 hit || "{PROGRAM}" "$@"\n')
-        ran = self.replay("-s", 1, "-E", 2, "-b", 4, "-t", HANDOUT, env={"CACHESIM": str(liar)})
+        ran = self.replay(*OF_HANDOUT, **lies)
         self.refused(ran, 1, "a line that this tool does not know: 'l1-d 7 10 hit'")
 
     def test_output(self):
-        words = ("-s", 1, "-E", 2, "-b", 4, "-t", HANDOUT)
+        words = map(str, (TOOLS / "lab/replay", *OF_HANDOUT))
         with open("/dev/full", "wb") as full:
-            ran = subprocess.run([REPLAY, *map(str, words)], stdout=full, stderr=subprocess.PIPE, **self.in_folder())
-        self.assertEqual((ran.stderr, ran.returncode), (b"replay: standard output: No space left on device\n", 1))
+            ran = subprocess.run([*words], stdout=full, stderr=subprocess.PIPE, **self.in_folder())
+        told = b"replay: standard output: No space left on device\n"
+        self.assertEqual((ran.stderr, ran.returncode), (told, 1))
 
 
 @needs("chromium")
@@ -282,7 +323,8 @@ class InABrowser(ReplayTest):
         // the set of each step, as --text writes it
         const line = (box) => {
             const words = box.innerText.split(/\\s+/);
-            const tag = words.includes("free") ? "-" : words[words.indexOf("tag") + 1] + (words.includes("dirty") ? "*" : "");
+            const mark = words.includes("dirty") ? "*" : "";
+            const tag = words.includes("free") ? "-" : words[words.indexOf("tag") + 1] + mark;
             return box.innerText.includes("evicted next") ? `[${tag}]` : tag;
         };
         const sets = steps.map((step, index) => {
@@ -301,44 +343,58 @@ class InABrowser(ReplayTest):
         parent.postMessage({shown, sets, wide, asked, title: document.title}, "*");
     </script></body>"""
     # a window of a browser can't be as narrow as a telephone
-    FRAME = """<body><iframe src="page.html%s" width="%d" height="800" style="border: 0"></iframe><script>
+    FRAME = """<body>
+    <iframe src="page.html%s" width="%d" height="800" style="border: 0"></iframe><script>
         onmessage = (event) => document.body.replaceChildren(JSON.stringify(event.data));
     </script></body>"""
     KEYS = ["Home", "ArrowLeft", "ArrowRight", "End", "ArrowRight", "ArrowLeft"]
+    # a page that asks for anything gets another title
+    POLICY = """<head><script>
+        addEventListener('securitypolicyviolation', () => { document.title = 'More'; });
+    </script>"""
+
+    def browse(self, file, *options):
+        """What chromium writes when it is shown a file of the folder."""
+        flags = ("--headless=new", "--no-sandbox", "--disable-gpu", *options)
+        address, profile = (self.folder / file).as_uri(), f"--user-data-dir={self.folder}/profile"
+        ran = self.run_command("chromium", *flags, profile, address)
+        self.assertEqual(ran.returncode, 0)
+        return ran.stdout.decode()
 
     def shown(self, page, place="", width=1280):
         """What the page shows at first, after each key, and after buttons; and its width."""
-        watch = "<head><script>addEventListener('securitypolicyviolation', () => { document.title = 'More'; });</script>"
-        self.write("page.html", page.replace("<head>", watch, 1).replace("</body>", self.WATCH % json.dumps(self.KEYS)))
+        page = page.replace("<head>", self.POLICY, 1)
+        self.write("page.html", page.replace("</body>", self.WATCH % json.dumps(self.KEYS)))
         self.write("frame.html", self.FRAME % (place, width))
-        options = ("--headless=new", "--no-sandbox", "--disable-gpu", "--virtual-time-budget=20000", "--dump-dom")
-        address = (self.folder / "frame.html").as_uri()
-        ran = self.run_command("chromium", *options, f"--user-data-dir={self.folder}/profile", address)
-        self.assertEqual(ran.returncode, 0)
-        return json.loads(html.unescape(re.search("<body>(.*)</body>", ran.stdout.decode(), re.DOTALL)[1]))
+        seen = self.browse("frame.html", "--virtual-time-budget=20000", "--dump-dom")
+        return json.loads(html.unescape(re.search("<body>(.*)</body>", seen, re.DOTALL)[1]))
 
     def test_keys_and_buttons(self):
-        seen = self.shown(self.page("-s", 1, "-E", 2, "-b", 4, "-t", HANDOUT), "#7")
+        seen = self.shown(self.page(*OF_HANDOUT), "#7")
         at_7, home, before, on, end, after, back, button, row = seen["shown"]
         self.assertEqual(seen["title"], "A cache step by step: handout.lackey")
         for text in (
-            "Step 7 of 9: line 6 of the trace, L 210, miss, eviction. So far: hits 3, misses 4, evictions 1. | ",
+            "Step 7 of 9: line 6 of the trace, L 210, miss, eviction. So far: hits 3, misses 4, "
+            "evictions 1. | ",
             "tag bits from 5 up 1 0000 hex 10 set bit 4 1 hex 1 offset bits 3 to 0 0000 hex 0 ",
-            "The block in line 0 (tag 0) is evicted: it was last used in line 4 of the trace, the others later. "
-            "It is dirty, so it is written back. Next to be evicted in set 1: line 1 (tag 8), last used in line 5 of the trace. "
-            "Sent to memory: write 10, read 210. Next in the trace: M load 12 | ",
-            "Set 0 line 0 dirty tag 1 used in trace line 3 line 1 free ▶ Set 1 line 0 tag 10 used in trace line 6 new, was 0 "
-            "line 1 tag 8 used in trace line 5 evicted next | ",
+            "The block in line 0 (tag 0) is evicted: it was last used in line 4 of the trace, the "
+            "others later. It is dirty, so it is written back. Next to be evicted in set 1: line 1 "
+            "(tag 8), last used in line 5 of the trace. Sent to memory: write 10, read 210. Next "
+            "in the trace: M load 12 | ",
+            "Set 0 line 0 dirty tag 1 used in trace line 3 line 1 free ▶ Set 1 line 0 tag 10 used "
+            "in trace line 6 new, was 0 line 1 tag 8 used in trace line 5 evicted next | ",
         ):
             self.assertIn(text, at_7)
-        self.assertTrue(at_7.endswith("5 L 110 miss 6 L 210 miss, eviction 7 M load 12 7 M store 12"), at_7)
-        for text, steps in ((home, 0), (before, 0), (on, 1), (end, 9), (after, 9), (back, 8), (button, 1), (row, 3)):
+        last = "5 L 110 miss 6 L 210 miss, eviction 7 M load 12 7 M store 12"
+        self.assertTrue(at_7.endswith(last), at_7)
+        texts = home, before, on, end, after, back, button, row
+        for text, steps in zip(texts, (0, 0, 1, 9, 9, 8, 1, 3)):
             self.assertTrue(text.startswith(f"Step {steps} of 9: "), text)
         self.assertIn("hits 4, misses 5, evictions 2.", end)
 
     def test_predictions(self):
         """The first access misses, and so does the second, where the answer is a hit."""
-        page = self.page("-s", 1, "-E", 2, "-b", 4, "-t", HANDOUT)
+        page = self.page(*OF_HANDOUT)
         asked, right, wrong = self.shown(page)["asked"]
         self.assertTrue(asked.endswith("What will L 10 do? hitmissmiss, eviction"), asked)
         self.assertIn("Right: your answer was miss. Right: 1 of 1.", right)
@@ -347,18 +403,16 @@ class InABrowser(ReplayTest):
     @needs("poppler-utils")
     def test_the_sheet_that_is_printed(self):
         """Rows to fill in, and then the same with answers."""
-        self.write("page.html", self.page("-s", 1, "-E", 2, "-b", 4, "-t", HANDOUT))
-        options = ("--headless=new", "--no-sandbox", "--disable-gpu", "--no-pdf-header-footer")
-        profile, to = f"--user-data-dir={self.folder}/profile", self.folder / "sheet.pdf"
-        address = (self.folder / "page.html").as_uri()
-        ran = self.run_command("chromium", *options, profile, f"--print-to-pdf={to}", address)
-        self.assertEqual(ran.returncode, 0)
+        self.write("page.html", self.page(*OF_HANDOUT))
+        to = self.folder / "sheet.pdf"
+        self.browse("page.html", "--no-pdf-header-footer", f"--print-to-pdf={to}")
         text = self.good(self.run_command("pdftotext", "-layout", to, "-"))
         sheet, _, answers = text.partition("\fAnswers")
         rows = [[" ".join(row.split()) for row in part.splitlines()] for part in (sheet, answers)]
         for row in ("1 L 10", "2 M store 20", "6 L 210", "7 M load 12"):
             self.assertIn(row, rows[0])
-        for row in ("1 L 10 0 1 0 miss", "2 M store 20 1 0 0 hit", "6 L 210 10 1 0 miss, eviction 0"):
+        for row in ("1 L 10 0 1 0 miss", "2 M store 20 1 0 0 hit",
+                    "6 L 210 10 1 0 miss, eviction 0"):
             self.assertIn(row, rows[1])
 
     def test_sets_of_each_step(self):
@@ -369,15 +423,15 @@ class InABrowser(ReplayTest):
             (transpose, "-s", 2, "-E", 4, "-b", 4),
             (ORDER, *ONE_SET, "-l1-urepl", "f"),
         ):
-            rows = self.good(self.replay(*words, "--text", stdin=trace)).splitlines()[3:-1]
-            self.same(self.shown(self.page(*words, stdin=trace))["sets"], [re.split("  +", row)[-1] for row in rows])
+            rows = self.text(*words, stdin=trace)[3:-1]
+            sets = self.shown(self.page(*words, stdin=trace))["sets"]
+            self.same(sets, [re.split("  +", row)[-1] for row in rows])
 
     def test_narrow_and_wide(self):
         """Nothing is wider than the window, with the longest addresses too."""
         trace = b"0 ffffffffffffffff\n1 fffffffffffffff0\n0 0\n0 1\n0 efffffffffffffff\n" * 3
-        for width in (1280, 400):
-            for ways in (1, 2, 16):
-                page = self.page("-l1-usize", 16 * ways, "-l1-ubsize", 1, "-l1-uassoc", ways, stdin=trace)
-                scrolled, inner = self.shown(page, "#9", width)["wide"]
-                self.assertEqual(inner, width)
-                self.assertLessEqual(scrolled, inner)
+        for width, ways in itertools.product((1280, 400), (1, 2, 16)):
+            words = ("-l1-usize", 16 * ways, "-l1-ubsize", 1, "-l1-uassoc", ways)
+            scrolled, inner = self.shown(self.page(*words, stdin=trace), "#9", width)["wide"]
+            self.assertEqual(inner, width)
+            self.assertLessEqual(scrolled, inner)

@@ -429,7 +429,7 @@ class Faults(ToDin):
         (self.folder / "trace").write_bytes(b"0x401000: R 0x10\n" * 99999)
         call = f"{TOOLS}/to-din pin trace"
         for place, fault in ("/dev/full", "No space left on device"), ("&-", "Bad file descriptor"):
-            ran = self.run_command("bash", "-c", f"{call} > {place}")
+            ran = self.run_command("bash", "-c", f"{call} >{place}")
             self.refused(ran, 1, f"to-din: write failed: {fault}")
         call += " | head -n 1; echo ${PIPESTATUS[0]}"
         told = b"to-din: write failed: Broken pipe\n"
