@@ -5,6 +5,7 @@ import pathlib
 import platform
 import pty
 import random
+import shlex
 import shutil
 import signal
 import subprocess
@@ -16,17 +17,19 @@ QEMU = f"qemu-{platform.machine()}"
 
 
 class StandIn(TraceTest):
-    """With tests/tools/traced/fake_qemu.c for QEMU: what the plugin is called for is told by the arguments behind the program."""
+    """With tests/tools/traced/fake_qemu.c for QEMU: what the plugin is called for is told by the
+    arguments behind the program."""
 
     def setUp(self):
         super().setUp()
-        (self.folder / "bin").mkdir()
-        os.symlink(program_of(TRACED / "fake_qemu.c", "-rdynamic"), self.folder / "bin" / QEMU)
+        self.qemu = self.folder / "bin" / QEMU
+        self.qemu.parent.mkdir()
+        self.qemu.symlink_to(program_of(TRACED / "fake_qemu.c", "-rdynamic"))
         self.program = self.folder / "a program"
         shutil.copy(shutil.which("true"), self.program)
-
         path = f"{self.folder}/bin:{PROGRAM.parent}:{os.environ['PATH']}"
-        self.told = {"PATH": path, "FAKE_VERSION": "7.2.22", "FAKE_HELP": "-plugin ..", "FAKE_START": "0", "PROGRAM": str(self.program)}
+        self.told = {"PATH": path, "PROGRAM": str(self.program), "FAKE_VERSION": "7.2.22",
+                     "FAKE_HELP": "-plugin ..", "FAKE_START": "0"}
 
     def run_command(self, *arguments, env=None, **given):
         return super().run_command(*arguments, env={**self.told, **(env or {})}, **given)
@@ -39,26 +42,34 @@ class StandIn(TraceTest):
 
     def test_addresses_of_all_lengths(self):
         chance = random.Random(1)
-        pairs = [(chance.choice("012"), chance.getrandbits(64) >> chance.randrange(64)) for _ in range(3000)]
-        pairs += [(label, at) for label in "012" for length in range(0, 64, 4) for at in ((1 << length) - 1, 1 << length)]
+        pairs = [(chance.choice("012"), chance.getrandbits(64) >> chance.randrange(64))
+                 for _ in range(3000)]
+        powers = [1 << length for length in range(0, 64, 4)]
+        pairs += [(label, at) for label in "012" for power in powers for at in (power - 1, power)]
         pairs += [("0", (1 << 64) - 1)]
         ran = self.steps(*(f"{label}:{at:x}" for label, at in pairs))
         self.assertEqual(self.good(ran), "".join(f"{label} {at:x}\n" for label, at in pairs))
 
     def test_an_access_in_both_ways_is_a_read_and_a_write(self):
-        self.assertEqual(self.good(self.steps("2:40", "3:1000", "2:44", "1:18")), "2 40\n0 1000\n1 1000\n2 44\n1 18\n")
+        text = self.good(self.steps("2:40", "3:1000", "2:44", "1:18"))
+        self.assertEqual(text, "2 40\n0 1000\n1 1000\n2 44\n1 18\n")
 
     def test_kinds(self):
         steps = ("2:40", "0:8", "2:44", "3:10", "1:18")
-        data = "0 8\n0 10\n1 10\n1 18\n"
-        for kind, lines in (("u", "2 40\n0 8\n2 44\n0 10\n1 10\n1 18\n"), ("d", data), ("i", "2 40\n2 44\n")):
+        for kind, lines in (
+            ("u", "2 40\n0 8\n2 44\n0 10\n1 10\n1 18\n"),
+            ("d", "0 8\n0 10\n1 10\n1 18\n"),
+            ("i", "2 40\n2 44\n"),
+        ):
             self.assertEqual(self.good(self.steps(*steps, options=("--kind", kind))), lines)
             ran = self.in_shell(f'trace --kind={kind} "$PROGRAM" {" ".join(steps)} | head -20')
             self.assertEqual(self.good(ran), lines + "0 0\n")
 
     def has_symbols(self, *lines, start="401000"):
-        """Has nm tell these lines of a program, and readelf where its code starts; in the run that is at 7000000000."""
-        segments = "  LOAD 0x000000 0x400000 0x400000 0x5e0 0x5e0 R   0x1000", f"  LOAD 0x001000 0x{start} 0x{start} 0x1a5 0x1a5 R E 0x1000"
+        """Has nm tell these lines of a program, and readelf where its code starts; in the run that
+        is at 7000000000."""
+        segments = ("  LOAD 0x000000 0x400000 0x400000 0x5e0 0x5e0 R   0x1000",
+                    f"  LOAD 0x001000 0x{start} 0x{start} 0x1a5 0x1a5 R E 0x1000")
         for command, text in (("nm", lines), ("readelf", segments)):
             self.executable(f"bin/{command}", "cat << END", *text, "END")
         self.told["FAKE_START"] = "7000000000"
@@ -66,11 +77,12 @@ class StandIn(TraceTest):
     def test_a_part_between_two_functions(self):
         self.has_symbols("401100 T first", "401200 t last", "401300 W never")
         first, inner, last = "2:7000000100", "2:7000000104", "2:7000000200"
-        steps = ("2:10", "0:20", first, "0:1", inner, "3:2", last, "1:3", last, "2:401100", first, "1:4", first, "0:5", last, "0:6")
-        before, one, between, two, behind = (
-            "2 10\n0 20\n", "2 7000000100\n0 1\n2 7000000104\n0 2\n1 2\n", "2 7000000200\n1 3\n2 7000000200\n2 401100\n",
-            "2 7000000100\n1 4\n2 7000000100\n0 5\n", "2 7000000200\n0 6\n"
-        )
+        steps = ("2:10", "0:20", first, "0:1", inner, "3:2", last, "1:3", last, "2:401100",
+                 first, "1:4", first, "0:5", last, "0:6")
+        before, behind = "2 10\n0 20\n", "2 7000000200\n0 6\n"
+        one = "2 7000000100\n0 1\n2 7000000104\n0 2\n1 2\n"
+        between = "2 7000000200\n1 3\n2 7000000200\n2 401100\n"
+        two = "2 7000000100\n1 4\n2 7000000100\n0 5\n"
         part = ("--from", "first", "--to", "last")
         for options, lines in (
             (part, one + two),
@@ -93,18 +105,24 @@ class StandIn(TraceTest):
             self.assertEqual(ran.stdout, b"trace: first was never called, or only inlined\n")
 
     def test_names_of_functions(self):
-        self.has_symbols("401100 T twice", "401200 t twice", "401300 T same@A", "401300 T same@@B", "401400 i chosen",
-                         "401500 W walk(int)", "401600 T a(int)", "401700 T a(char)")
+        self.has_symbols(
+            "401100 T twice", "401200 t twice", "401300 T same@A", "401300 T same@@B",
+            "401400 i chosen", "401500 W walk(int)", "401600 T a(int)", "401700 T a(char)")
         steps = ("2:7000000300", "2:7000000500", "2:7000000600")
         for name, at in (("same", 300), ("walk", 500), ("walk(int)", 500), ("a(int)", 600)):
-            self.assertEqual(self.good(self.steps(*steps, options=("--from", name, "--count", "1"))), f"2 7000000{at}\n")
+            ran = self.steps(*steps, options=("--from", name, "--count", "1"))
+            self.assertEqual(self.good(ran), f"2 7000000{at}\n")
         for name, fault in (
-            ("twice", "has 2 functions twice"), ("a", "has 2 functions a"), ("none", "has no function none: those of shared"),
-            ("chosen", "has several functions chosen, of which one is chosen when it is loaded"),
+            ("twice", "2 functions twice"),
+            ("a", "2 functions a"),
+            ("none", "no function none: those of shared"),
+            ("chosen", "several functions chosen, of which one is chosen when it is loaded"),
         ):
-            self.fault(self.steps(*steps, options=("--from", name)), 125, f"{self.program} {fault}")
+            ran = self.steps(*steps, options=("--from", name))
+            self.fault(ran, 125, f"{self.program} has {fault}")
         self.has_symbols("402100 D numbers")
-        self.fault(self.steps(*steps, options=("--to", "numbers")), 125, f"{self.program} has no function numbers: it is stripped")
+        ran = self.steps(*steps, options=("--to", "numbers"))
+        self.fault(ran, 125, f"{self.program} has no function numbers: it is stripped")
 
     def test_a_function_in_thumb(self):
         self.program.write_bytes(b"\x7fELF\1\1".ljust(18, b"\0") + b"\x28\0")
@@ -115,8 +133,8 @@ class StandIn(TraceTest):
 
     def test_more_than_all_blocks_hold(self):
         count = 64 * 4096 * 3 + 5
-        for steps, status in (((f"many:{count}",), 0), ((f"many:{count}", "kill"), 137), ((f"many:{count}", "exit:9"), 9)):
-            ran = self.steps(*steps)
+        for end, status in (((), 0), (("kill",), 137), (("exit:9",), 9)):
+            ran = self.steps(f"many:{count}", *end)
             self.assertEqual((ran.returncode, ran.stderr), (status, b""))
             self.assertEqual(ran.stdout.decode(), "".join(f"0 {at:x}\n" for at in range(count)))
 
@@ -126,28 +144,32 @@ class StandIn(TraceTest):
             end = 0 if (skip, count) in ended_by_count else 9
             ran = self.steps("many:20000", "exit:9", options=("--skip", skip, "--count", count))
             self.assertEqual((ran.returncode, ran.stderr), (end, b""))
-            self.assertEqual(ran.stdout.decode(), "".join(f"0 {at:x}\n" for at in range(20000)[skip:][:int(count)]))
+            lines = "".join(f"0 {at:x}\n" for at in range(20000)[skip:][:int(count)])
+            self.assertEqual(ran.stdout.decode(), lines)
 
     def test_nothing_is_left_by_skip(self):
         """A trace of nothing would give a table of zeros."""
-        for skip, steps in ((20000, ["many:20000"]), (999999, ["many:20000", "exit:9"]), (1, ["0:1", "kill"])):
-            ran = self.steps(*steps, options=("--skip", skip))
+        for skip, steps in (20000, "many:20000"), (999999, "many:20000 exit:9"), (1, "0:1 kill"):
+            ran = self.steps(*steps.split(), options=("--skip", skip))
             self.fault(ran, 125, "trace: --skip omits all references of the program\n")
             self.assertEqual(ran.stdout, ran.stderr)
 
     def test_count_ends_the_program(self):
         for steps in (("loop",), ("call", "wait"), ("call", "ignore", "wait")):
-            self.assertEqual(self.good(self.steps("many:5000", *steps, options=("--count", "4000"))).count("\n"), 4000)
+            ran = self.steps("many:5000", *steps, options=("--count", "4000"))
+            self.assertEqual(self.good(ran).count("\n"), 4000)
             self.no_process_is_left()
 
     def test_statuses(self):
-        for steps, status, message in (
-            (("0:1", "exit:0"), 0, ""), (("0:1", "exit:250"), 250, ""), (("0:1", "kill"), 137, ""),
-            (("0:1", "fork", "exit:4"), 4, "trace: the program forked, and what its children did is not in the trace\n"),
-            (("0:1", "exec:exit 3"), 3, "trace: the program became another by exec, and what that did is not in the trace\n"),
+        for steps, status, did in (
+            (["exit:0"], 0, ""), (["exit:250"], 250, ""), (["kill"], 137, ""),
+            (["fork", "exit:4"], 4, "forked, and what its children"),
+            (["exec:exit 3"], 3, "became another by exec, and what that"),
         ):
-            ran = self.steps(*steps)
-            self.assertEqual((ran.returncode, ran.stdout, ran.stderr.decode()), (status, b"0 1\n", message))
+            ran = self.steps("0:1", *steps)
+            message = f"trace: the program {did} did is not in the trace\n" if did else ""
+            self.assertEqual((ran.returncode, ran.stdout), (status, b"0 1\n"))
+            self.assertEqual(ran.stderr.decode(), message)
 
     def test_the_programs_own_output(self):
         steps = ("2:1", "say:own words")
@@ -157,16 +179,18 @@ class StandIn(TraceTest):
             (("--output=a trace",), "own words\n", "", {"a trace": "2 1\n"}),
             (("-o", "-trace"), "own words\n", "", {"-trace": "2 1\n"}),
             (("--program-output", "-o ut"), "2 1\n", "", {"-o ut": "own words\n"}),
-            (("--program-output=out", "--output", "t"), "", "", {"t": "2 1\n", "out": "own words\n"}),
+            (("--program-output=o", "--output", "t"), "", "", {"t": "2 1\n", "o": "own words\n"}),
         ):
             ran = self.steps(*steps, options=options)
-            self.assertEqual((ran.returncode, ran.stdout.decode(), ran.stderr.decode()), (0, out, err))
+            wrote = ran.stdout.decode(), ran.stderr.decode()
+            self.assertEqual((ran.returncode, *wrote), (0, out, err))
             for name, text in files.items():
                 self.assertEqual((self.folder / name).read_text(), text)
 
     def test_no_descriptor_is_left_to_the_program(self):
         natively = self.run_command("sh", "-c", "ls /proc/self/fd").stdout
-        ran = self.steps("2:1", "exec:ls /proc/self/fd", options=("-o", "trace", "--program-output", "out"))
+        options = ("-o", "trace", "--program-output", "out")
+        ran = self.steps("2:1", "exec:ls /proc/self/fd", options=options)
         self.assertEqual(ran.returncode, 0)
         self.assertEqual((self.folder / "out").read_bytes(), natively)
 
@@ -176,7 +200,8 @@ class StandIn(TraceTest):
         self.assertEqual(self.good(ran), table + "0 0\n")
 
     def test_no_sweep_takes_a_failed_trace_for_a_whole_one(self):
-        for line in ("trace nosuch", "trace --kind x true", "trace --nosuch 1 true", "FAKE_VERSION=1.1 trace true"):
+        for line in ("trace nosuch", "trace --kind x true", "trace --nosuch 1 true",
+                     "FAKE_VERSION=1.1 trace true"):
             ran = self.in_shell(f'{line} | cachesim sweep {" ".join(SPACE)}')
             self.assertEqual(ran.stdout.split(b" ")[-1], b"1\n", line)
             self.assertNotIn(b"bsize", ran.stdout)
@@ -189,34 +214,39 @@ class StandIn(TraceTest):
             self.no_process_is_left()
 
     def test_a_full_device(self):
-        for arguments in ('-o /dev/full "$PROGRAM" loop', '"$PROGRAM" many:10 > /dev/full', '-o /dev/full "$PROGRAM" many:10 kill'):
+        for arguments in ('-o /dev/full "$PROGRAM" loop', '"$PROGRAM" many:10 > /dev/full',
+                          '-o /dev/full "$PROGRAM" many:10 kill'):
             ran = self.in_shell("trace " + arguments)
             self.assertEqual(ran.stdout, b"125\n")
-            self.assertRegex(ran.stderr.decode(), "^trace: (/dev/full|standard output): No space left on device\n$")
+            told = b"^trace: (/dev/full|standard output): No space left on device\n$"
+            self.assertRegex(ran.stderr, told)
             self.no_process_is_left()
 
     def test_a_terminal(self):
         """It would be flooded."""
         terminal, end = pty.openpty()
-        given = {"stdout": end, "stderr": subprocess.PIPE, "timeout": 20, "check": False, "cwd": self.folder}
+        given = {"stdout": end, "stderr": subprocess.PIPE, "timeout": 20, "cwd": self.folder,
+                 "env": {**os.environ, **self.told}}
         for options in ([], ["--output", "-"], ["--program-output", "own"]):
-            ran = subprocess.run([TOOLS / "trace", *options, self.program, "0:1"], env={**os.environ, **self.told}, **given)
+            ran = subprocess.run([TOOLS / "trace", *options, self.program, "0:1"], **given)
             self.assertEqual(ran.returncode, 125)
-            self.assertRegex(ran.stderr.decode(), r"\Atrace: the trace would go to a terminal: .*\n\Z")
+            self.assertRegex(ran.stderr, rb"\Atrace: the trace would go to a terminal: .*\n\Z")
         os.close(end)
         self.assertRaises(OSError, os.read, terminal, 9)  # nothing was written
         os.close(terminal)
 
     def test_a_signal_gives_no_table_of_a_part(self):
         """Neither where the reader comes only after the tool has ended."""
-        sweep = f"cachesim sweep {' '.join(SPACE)}"
-        for signal_, reader in (("TERM", sweep), ("INT", sweep), ("HUP", sweep), ("TERM", f"{{ sleep 3; {sweep}; }}")):
-            ran = self.in_shell(f'timeout -s {signal_} 0.5 {TOOLS}/trace "$PROGRAM" loop | {reader}')
+        sweep, run = f"cachesim sweep {' '.join(SPACE)}", f'{TOOLS}/trace "$PROGRAM"'
+        for number, wait in (("TERM", 0), ("INT", 0), ("HUP", 0), ("TERM", 3)):
+            line = f"timeout -s {number} 0.5 {run} loop | {{ sleep {wait}; {sweep}; }}"
+            ran = self.in_shell(line)
             self.assertEqual(ran.stdout, b"124 1\n")
             self.assertRegex(ran.stderr, rb"cachesim: line \d+: bad (label|address)\n")
             self.no_process_is_left()
-        ran = self.in_shell(f'timeout -s USR1 1 {TOOLS}/trace "$PROGRAM" many:9 call wait | tail -n 1')
-        self.assertEqual(ran.stdout, b"trace: a signal ended it: what stands above is not all\n124 0\n")
+        ran = self.in_shell(f"timeout -s USR1 1 {run} many:9 call wait | tail -n 1")
+        last = b"trace: a signal ended it: what stands above is not all\n"
+        self.assertEqual(ran.stdout, last + b"124 0\n")
 
     def test_signals_are_passed_on(self):
         for number in (signal.SIGTERM, signal.SIGINT, signal.SIGHUP, signal.SIGUSR1):
@@ -226,8 +256,9 @@ class StandIn(TraceTest):
             self.assertEqual((self.folder / "trace.din").read_text().count("\n"), 9000)
 
     def test_a_signal_while_the_last_lines_wait_for_a_reader(self):
+        given = {"stdout": subprocess.PIPE, "bufsize": 0, "env": {**os.environ, **self.told}}
         arguments = [TOOLS / "trace", self.program, "many:30000"]
-        with subprocess.Popen(arguments, stdout=subprocess.PIPE, bufsize=0, env={**os.environ, **self.told}) as started:
+        with subprocess.Popen(arguments, **given) as started:
             started.stdout.read(1)
             self.wait_until(lambda: self.processes() == [started.pid], "the program doesn't end")
             started.terminate()
@@ -236,9 +267,10 @@ class StandIn(TraceTest):
     def test_a_signal_that_comes_with_the_programs_end(self):
         started = self.begin("many:5000", "say:begun", "loop")
         started.send_signal(signal.SIGSTOP)
-        program, = map(int, pathlib.Path(f"/proc/{started.pid}/task/{started.pid}/children").read_text().split())
+        children = pathlib.Path(f"/proc/{started.pid}/task/{started.pid}/children")
+        program, = map(int, children.read_text().split())
         stat = pathlib.Path(f"/proc/{program}/stat")
-        self.wait_until(lambda: ") S " in stat.read_text(), "the program doesn't wait for an empty block")
+        self.wait_until(lambda: ") S " in stat.read_text(), "the program waits for no empty block")
         before = (self.folder / "trace.din").read_text().count("\n")
         started.send_signal(signal.SIGINT)
         os.kill(program, signal.SIGKILL)
@@ -256,24 +288,32 @@ class StandIn(TraceTest):
         self.no_process_is_left()
 
     def test_versions_and_plugins(self):
-        for version, told in (("8.2.1", "8.2"), ("7.20.1", "7.20"), ("17.2", "17.2"), ("7", "unknown"), ("", "unknown")):
-            ran = self.steps("2:1", env={"FAKE_VERSION": version})
+        for version, told in (("8.2.1", "8.2"), ("7.20.1", "7.20"), ("17.2", "17.2"),
+                              ("7", "unknown"), ("", "unknown")):
+            env = {"FAKE_VERSION": version}
+            ran = self.steps("2:1", env=env)
             self.fault(ran, 125, QEMU, f"version {told},", "7.2", "--any-version", "--with lackey")
-            self.assertEqual(self.good(self.steps("2:1", options=["--any-version"], env={"FAKE_VERSION": version})), "2 1\n")
-        self.fault(self.steps("2:1", env={"FAKE_HELP": "-strace"}), 125, QEMU, "without plugins", "--with lackey")
+            ran = self.steps("2:1", options=["--any-version"], env=env)
+            self.assertEqual(self.good(ran), "2 1\n")
+        ran = self.steps("2:1", env={"FAKE_HELP": "-strace"})
+        self.fault(ran, 125, QEMU, "without plugins", "--with lackey")
 
     def test_a_version_that_does_not_tell_the_start_of_the_code(self):
-        (self.folder / "bin" / QEMU).unlink()
-        os.symlink(program_of(TRACED / "fake_qemu.c", "-rdynamic", "-DWITHOUT_START"), self.folder / "bin" / QEMU)
+        self.qemu.unlink()
+        older = program_of(TRACED / "fake_qemu.c", "-rdynamic", "-DWITHOUT_START")
+        self.qemu.symlink_to(older)
         self.has_symbols("401100 T main")
         self.assertEqual(self.good(self.steps("2:1")), "2 1\n")
         ran = self.steps("2:1", options=("--from", "main"))
-        self.assertEqual((ran.returncode, ran.stdout), (125, b"trace: QEMU didn't take the plugin: see its message\n"))
-        self.assertIn("trace-plugin.so: --from, --to and --during want QEMU 7.1 or later\n", ran.stderr.decode())
+        told = b"trace: QEMU didn't take the plugin: see its message\n"
+        self.assertEqual((ran.returncode, ran.stdout), (125, told))
+        told = "trace-plugin.so: --from, --to and --during want QEMU 7.1 or later\n"
+        self.assertIn(told, ran.stderr.decode())
 
     def test_a_plugin_that_is_not_taken(self):
-        (self.folder / "bin" / QEMU).unlink()
-        self.executable(f"bin/{QEMU}", "case $1 in --version) echo qemu version 7.2.0 ;; -h) echo -plugin ;; *) exit 1 ;; esac")
+        self.qemu.unlink()
+        self.executable(self.qemu, "case $1 in --version) echo qemu version 7.2.0 ;; "
+                        "-h) echo -plugin ;; *) exit 1 ;; esac")
         self.fault(self.steps(), 125, "QEMU didn't take the plugin")
 
     def test_a_folder_with_a_comma(self):
@@ -282,19 +322,20 @@ class StandIn(TraceTest):
         self.assertEqual(self.good(self.run_command(tools / "trace", self.program, "2:1")), "2 1\n")
 
     def test_what_is_missing(self):
-        bin_ = self.folder / "few"
-        bin_.mkdir()
+        few = self.folder / "few"
+        few.mkdir()
         for name in ("bash", "cat", "dirname", "od", "readlink", "sed", "uname"):
-            os.symlink(shutil.which(name), bin_ / name)
-        self.fault(self.steps(env={"PATH": str(bin_)}), 125, f"{QEMU} is missing: apt-get install qemu-user")
-        ran = self.steps(options=("--with", "lackey"), env={"PATH": str(bin_)})
+            os.symlink(shutil.which(name), few / name)
+        env = {"PATH": str(few)}
+        self.fault(self.steps(env=env), 125, f"{QEMU} is missing: apt-get install qemu-user")
+        ran = self.steps(options=("--with", "lackey"), env=env)
         self.fault(ran, 125, "valgrind is missing: apt-get install valgrind")
-        os.symlink(self.folder / "bin" / QEMU, bin_ / QEMU)
-        self.assertEqual(self.good(self.steps("2:1", env={"PATH": str(bin_)})), "2 1\n")
-        ran = self.steps(options=("--to", "main"), env={"PATH": str(bin_)})
+        os.symlink(self.qemu, few / QEMU)
+        self.assertEqual(self.good(self.steps("2:1", env=env)), "2 1\n")
+        ran = self.steps(options=("--to", "main"), env=env)
         self.fault(ran, 125, "nm is missing: apt-get install binutils")
         copy_tools(self.folder, "trace")
-        ran = self.run_command(self.folder / "trace", self.program, env={"PATH": str(bin_)})
+        ran = self.run_command(self.folder / "trace", self.program, env=env)
         self.fault(ran, 125, "cc is missing: apt-get install gcc")
 
     def test_programs_that_cannot_run(self):
@@ -307,8 +348,10 @@ class StandIn(TraceTest):
             ("./a-text", b"echo\n", 0o755, 126, "neither an ELF program nor a script"),
             ("./empty", b"", 0o755, 126, "neither an ELF program nor a script"),
             ("./cut", elf[:18], 0o755, 126, "a machine that this tool doesn't know"),
-            ("./s390", elf[:18] + b"\x16\0" + elf[20:], 0o755, 126, "a machine that this tool doesn't know"),
-            ("./script", b"#!/nosuch/sh -e\n", 0o755, 127, "/nosuch/sh, the interpreter of ./script, is not found"),
+            ("./s390", elf[:18] + b"\x16\0" + elf[20:], 0o755, 126,
+             "a machine that this tool doesn't know"),
+            ("./script", b"#!/nosuch/sh -e\n", 0o755, 127,
+             "/nosuch/sh, the interpreter of ./script, is not found"),
             ("./env", b"#!/usr/bin/env -S sh -e\n", 0o755, 126, "wants '/usr/bin/env -S sh -e'"),
             ("./itself", b"#!./itself\n", 0o755, 126, "its interpreter is a script"),
         ):
@@ -321,34 +364,40 @@ class StandIn(TraceTest):
 
     def test_an_earlier_trace_is_not_left(self):
         """Where no new one can be made: it would look like the new one."""
-        space = ["--bsize", "16", "--sets", "1", "--assoc", "1", "--size", "16"]
-        for arguments in (["./none"], ["--nosuch", "1", self.program], ["--count", "0", self.program], []):
+        space = "--bsize 16 --sets 1 --assoc 1 --size 16 -t"
+        for arguments in (["./none"], ["--nosuch", "1", self.program],
+                          ["--count", "0", self.program], []):
             (self.folder / "old").write_text("0 10\n")
             ran = self.trace("-o", "old", *arguments)
             self.assertIn(ran.returncode, (125, 127))
             self.assertEqual(ran.stdout, b"")
-            self.refused(self.run_command(PROGRAM, "sweep", *space, "-t", "old"), 1, "cachesim: line 1: bad label")
+            ran = self.run_command(PROGRAM, "sweep", *space.split(), "old")
+            self.refused(ran, 1, "cachesim: line 1: bad label")
         # who waits at a pipe learns it too, and no one is waited for
         os.mkfifo(self.folder / "pipe")
         self.assertEqual(self.trace("-o", "pipe", "./none", seconds=20).returncode, 127)
-        ran = self.in_shell(f"cachesim sweep {' '.join(space)} -t pipe & sleep 0.5; trace -o pipe ./none; wait $!", seconds=20)
+        line = f"cachesim sweep {space} pipe & sleep 0.5; trace -o pipe ./none; wait $!"
+        ran = self.in_shell(line, seconds=20)
         self.assertIn(b"cachesim: line 1: bad label", ran.stderr)
 
     def test_options(self):
         self.assertIn("trace [OPTIONS] PROGRAM", self.good(self.run_tool("trace", "--help")))
-        for arguments, text in (
-            ((), "a program is wanted"), (("-o",), "-o"), (("--nosuch", "1"), "--nosuch is no option"),
-            (("--kind", "x", "true"), "--kind"), (("--output", "", "true"), "--output"),
-            (("--skip", "-1", "true"), "--skip"), (("--count", "1k", "true"), "--count"), (("--count=", "true"), "--count"),
-            (("--count", "0", "true"), "--count takes a number above 0"), (("--count=00", "true"), "--count takes"),
-            (("--with", "pin", "true"), "--with"), (("--with", "lackey", "--libraries", "/", "true"), "for QEMU"),
-            (("--with", "lackey", "--to", "main", "true"), "for QEMU"), (("--from", "", "true"), "--from takes a function's name"),
+        for words, text in (
+            ("", "a program is wanted"), ("-o", "-o"), ("--nosuch 1", "--nosuch is no option"),
+            ("--kind x true", "--kind"), ("--output '' true", "--output"),
+            ("--skip -1 true", "--skip"), ("--count 1k true", "--count"),
+            ("--count= true", "--count"), ("--count=00 true", "--count takes"),
+            ("--count 0 true", "--count takes a number above 0"), ("--with pin true", "--with"),
+            ("--with lackey --libraries / true", "for QEMU"),
+            ("--with lackey --to main true", "for QEMU"),
+            ("--from '' true", "--from takes a function's name"),
         ):
-            ran = self.run_tool("trace", *arguments)
+            ran = self.run_tool("trace", *shlex.split(words))
             self.assertEqual(ran.returncode, 125)
             self.assertIn(text, ran.stderr.decode())
-        self.refused(self.steps("2:1", options=("-o", "nosuch/file")), 125, "nosuch/file can't be written")
-        self.fault(self.steps("2:1", options=("--program-output", "nosuch/file")), 125, "nosuch/file can't be written")
+        told = "nosuch/file can't be written"
+        self.refused(self.steps("2:1", options=("-o", "nosuch/file")), 125, told)
+        self.fault(self.steps("2:1", options=("--program-output", "nosuch/file")), 125, told)
         self.assertEqual(self.good(self.steps("2:1", options=["--"])), "2 1\n")
 
     def test_it_compiles_without_a_warning(self):
