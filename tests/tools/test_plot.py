@@ -1,5 +1,7 @@
-"""Pictures of a table: what gnuplot is told, and what is refused. None of this needs gnuplot or plotly."""
+"""Pictures of a table: what gnuplot is told, and what is refused. None of this needs gnuplot or
+plotly."""
 
+import itertools
 import math
 import os
 import re
@@ -7,9 +9,11 @@ import signal
 import subprocess
 
 import base
+from din_base import COLUMNS, POLICIES, din_rows
 from lib import table
 
-# Eight caches and 100 references, so that misses are per cent. 32 and 2 are the block size and the ways nearest to 64 and 4.
+# Eight caches and 100 references, so that misses are per cent. 32 and 2 are the block size and the
+# ways nearest to 64 and 4.
 EIGHT = base.rows_of(100, {
     (16, 2, 1): 40, (16, 2, 2): 25, (16, 4, 1): 30, (16, 4, 2): 10,
     (32, 1, 1): 50, (32, 1, 2): 28, (32, 2, 1): 32, (32, 2, 2): 8,
@@ -25,21 +29,29 @@ AXES = {"miss ratio in per cent", "cache size in bytes", "block size in bytes"}
 
 def rows_of(pairs, bsize=64):
     """A table of direct-mapped caches, given their sets and misses of 1,000 references."""
-    return "".join(f"{bsize},{sets},1,{bsize * sets},{1000 - misses},{misses},0\n" for sets, misses in pairs)
+    return "".join(f"{bsize},{sets},1,{bsize * sets},{1000 - misses},{misses},0\n"
+                   for sets, misses in pairs)
 
 
 def data_of(script):
     """The data in a script for gnuplot: for each name its runs of places and percentages."""
     found = {}
     for name, text in re.findall(r"^\$(\w+) << END\n(.*?)^END$", script, re.MULTILINE | re.DOTALL):
-        found[name] = [[tuple(map(float, line.split())) for line in run.splitlines()] for run in text.split("\n\n")]
+        found[name] = [[tuple(map(float, line.split())) for line in run.splitlines()]
+                       for run in text.split("\n\n")]
     return found
+
+
+def ways_of(ways, misses=lambda way: 1):
+    """The same of fully associative caches, given their ways and what misses with so many."""
+    return "".join(f"64,1,{way},{64 * way},{1000 - misses(way)},{misses(way)},0\n" for way in ways)
 
 
 class PlotTest(base.ToolTest):
     def no_gnuplot(self):
         """Where gnuplot is asked for at once, one that is never run."""
-        return {"PATH": f"{self.folder}/bin"} if (self.folder / "bin").exists() else self.stand_in("exit 9")
+        folder = self.folder / "bin"
+        return {"PATH": str(folder)} if folder.exists() else self.stand_in("exit 9")
 
     def setUp(self):
         super().setUp()
@@ -50,6 +62,13 @@ class PlotTest(base.ToolTest):
 
     def script(self, *arguments, **given):
         return self.good(self.plot("--script", *arguments, **given))
+
+    def data(self, *arguments, **given):
+        return data_of(self.script(*arguments, **given))
+
+    def write_din(self, name="din.csv", policies=POLICIES):
+        """Writes a table of din, given the misses of 1,000 references."""
+        self.write(name, f"{COLUMNS}\n{din_rows(policies)}")
 
     def stand_in(self, text):
         """A path with a gnuplot of our own, a script."""
@@ -77,11 +96,12 @@ class Script(PlotTest):
         self.assertEqual(sorted(every), sorted(ALL))
         self.assertEqual(labelled[0], (128, 8))
         self.assertIn("set label '32,2,2' at 128,8 right", script)
-        for text in [*TITLES, *AXES, "1 way", "2 ways", "64", "128", "cache size", "all caches", "fewest misses up to this size"]:
+        for text in [*TITLES, *AXES, "1 way", "2 ways", "64", "128", "cache size", "all caches",
+                     "fewest misses up to this size"]:
             self.assertRegex(script, f"'{text}[' ]")
 
     def test_what_is_fixed(self):
-        data = data_of(self.script("--bsize", "16", "--ways=1", "eight.csv", "-"))
+        data = self.data("--bsize", "16", "--ways=1", "eight.csv", "-")
         self.assertEqual(data["size_1"], [[(32, 40), (64, 30)]])
         self.assertEqual(data["size_2"], [[(64, 25), (128, 10)]])
         self.assertEqual(data["block_1"], [[(16, 40), (32, 50)]])
@@ -102,8 +122,9 @@ class Script(PlotTest):
 
     def test_the_nearest_by_ratio(self):
         """128 is twice 64, and 16 a quarter of it; 6 is once and a half 4, and 2 a half."""
-        shapes = ((bsize, sets, ways) for bsize in (16, 128) for sets in (1, 2) for ways in (2, 6))
-        self.write("t.csv", "".join(f"{bsize},{sets},{ways},{bsize * sets * ways},9,1,0\n" for bsize, sets, ways in shapes))
+        shapes = itertools.product((16, 128), (1, 2), (2, 6))
+        rows = (f"{','.join(map(str, shape))},{math.prod(shape)},9,1,0\n" for shape in shapes)
+        self.write("t.csv", "".join(rows))
         script = self.script("t.csv", "-")
         self.assertIn("Miss ratio by cache size: blocks of 128 bytes'", script)
         self.assertIn("Miss ratio by block size: 6 ways'", script)
@@ -115,17 +136,20 @@ class Script(PlotTest):
         self.assertEqual(self.script("-", "a.png", stdin=marked), script)
 
     def test_a_line_is_cut_where_a_size_is_missing(self):
-        # Of direct-mapped caches the one of 4 sets is missing, which there is with two ways. Nobody has 32 sets.
+        # Of direct-mapped caches the one of 4 sets is missing, which there is with two ways. Nobody
+        # has 32 sets.
         two = "64,4,2,512,500,500,0\n"
         self.write("t.csv", rows_of([(2, 900), (8, 700), (16, 600), (64, 500)]) + two)
         cut = [[(128, 90)], [(512, 70), (1024, 60), (4096, 50)]]
-        self.assertEqual(data_of(self.script("--only", "size", "t.csv", "-"))["size_1"], cut)
-        self.write("t.csv", rows_of([(8, 900)], 16) + rows_of([(2, 700)], 64) + rows_of([(1, 600)], 32))
-        self.assertEqual(data_of(self.script("--only", "block", "t.csv", "-"))["block_1"], [[(16, 90)], [(64, 70)]])
+        self.assertEqual(self.data("--only", "size", "t.csv", "-")["size_1"], cut)
+        pairs = (16, (8, 900)), (64, (2, 700)), (32, (1, 600))
+        self.write("t.csv", "".join(rows_of([pair], bsize) for bsize, pair in pairs))
+        data = self.data("--only", "block", "t.csv", "-")
+        self.assertEqual(data["block_1"], [[(16, 90)], [(64, 70)]])
 
     def test_labels_are_apart(self):
         """Of forty points in a row, each better than the one before, some have a label."""
-        rows = "".join(f"64,1,{way},{64 * way},{25 * way - 25},{1025 - 25 * way},0\n" for way in range(1, 41))
+        rows = ways_of(range(1, 41), lambda way: 1025 - 25 * way)
         script = self.script("--only", "pareto", "-", "a.svg", stdin=rows.encode())
         self.assertTrue(3 < len(re.findall(r"set label '\d+,\d+,\d+' at", script)) < 20)
 
@@ -136,46 +160,56 @@ class Script(PlotTest):
             (range(1, 513), [1, 4, 16, 64, 256, 512]),
             (range(9, 29), [9, 12, 15, 18, 21, 24, 28]),
         ):
-            self.write("t.csv", "".join(f"64,1,{way},{64 * way},9,1,0\n" for way in ways))
+            self.write("t.csv", ways_of(ways))
             named = re.findall(r"title ' (\d+) ways?'", self.script("--only", "size", "t.csv", "-"))
             self.assertEqual(list(map(int, named)), chosen)
 
     def test_axis(self):
-        """It is logarithmic where the greatest is five times the least, and has a place for 0. Ticks have their texts."""
-        for misses, is_log in (([100, 499], False), ([100, 500], True), ([1000, 1000], False), ([0, 0], False), ([1, 1000], True),
-                               ([0, 10, 900], True), ([0, 300, 900], False)):
+        """It is logarithmic where the greatest is five times the least, and has a place for 0.
+        Ticks have their texts."""
+        words = ("--only", "size", "t.csv")
+        for misses, is_log in (
+            ([100, 499], False), ([100, 500], True), ([1000, 1000], False), ([0, 0], False),
+            ([1, 1000], True), ([0, 10, 900], True), ([0, 300, 900], False),
+        ):
             self.write("t.csv", rows_of(enumerate(misses, 1)))
-            # labels of 14 pixels in a height of some 380 must not touch, nor those of a text in its rows
-            self.judge_axis(misses, is_log, self.script("--only", "size", "t.csv", "a.png"), 380, 20)
+            # labels of 14 pixels in a height of some 380 must not touch, nor those of a text in its
+            # rows
+            self.judge_axis(misses, is_log, self.script(*words, "a.png"), 380, 20)
             for lines, rows in ((16, 11), (60, 54)):
-                size = {"COLUMNS": "72", "LINES": str(lines)}
-                self.judge_axis(misses, is_log, self.script("--only", "size", "t.csv", "-", env=size), rows, 1.2)
+                script = self.script(*words, "-", env={"COLUMNS": "72", "LINES": str(lines)})
+                self.judge_axis(misses, is_log, script, rows, 1.2)
 
     def judge_axis(self, misses, is_log, script, height, closest):
         self.assertIn(f"{'set' if is_log else 'unset'} logscale y\n", script)
-        ticks = re.search(r"^set ytics \((.*)\)$", script, re.MULTILINE)[1]
+        ticks = re.search(r"(?m)^set ytics \((.*)\)$", script)[1]
         ticks = {text: float(value) for text, value in re.findall(r"'([^']+)' ([^ ,]+)", ticks)}
         foot = ticks["0"] if is_log and 0 in misses else 0
-        self.assertEqual([float(text) for text in ticks], [value if value != foot else 0 for value in ticks.values()])
-        self.assertTrue(len(ticks) > 3 and max(ticks.values()) <= 100, ticks)
-        low, high = map(float, re.search(r"^set yrange \[(.*):(.*)\]$", script, re.MULTILINE).groups())
+        for text, value in ticks.items():
+            self.assertEqual(float(text), 0 if value == foot else value)
+        values = list(ticks.values())
+        self.assertTrue(len(ticks) > 3 and max(values) <= 100, ticks)
+        low, high = map(float, re.search(r"(?m)^set yrange \[(.*):(.*)\]$", script).groups())
         places = [miss / 10 or foot for miss in misses]
         self.assertEqual([place for _, place in data_of(script)["size_1"][0]], places)
-        self.assertTrue(all(low <= place <= high for place in [*places, *ticks.values()]), script)
+        self.assertTrue(all(low <= place <= high for place in [*places, *values]), script)
         measure = math.log if is_log else float
-        heights = [height * (measure(value) - measure(low)) / (measure(high) - measure(low)) for value in ticks.values()]
-        self.assertGreater(min(above - below for below, above in zip(heights, heights[1:])), closest)
+        places = [measure(value) for value in values]
+        gap = min(above - below for below, above in zip(places, places[1:]))
+        self.assertGreater(height * gap / (measure(high) - measure(low)), closest)
 
     def test_no_references(self):
         self.write("t.csv", "64,1,1,64,0,0,0\n64,2,1,128,0,0,0\n")
         self.assertIn("'empty (no references)'", self.script("--title", "empty", "t.csv", "a.png"))
 
     def test_title_is_quoted(self):
-        self.assertIn(r"""'it''s `a` "b" \n  c'""", self.script("--title", "it's `a` \"b\" \\n \nc", "eight.csv", "a.svg"))
+        script = self.script("--title", "it's `a` \"b\" \\n \nc", "eight.csv", "a.svg")
+        self.assertIn(r"""'it''s `a` "b" \n  c'""", script)
 
     def test_names_with_blanks_and_dashes(self):
         self.write("-a table.csv", EIGHT)
-        self.assertEqual(self.script("--", "-a table.csv", "-an out.png"), self.script("eight.csv", "a.png"))
+        script = self.script("--", "-a table.csv", "-an out.png")
+        self.assertEqual(script, self.script("eight.csv", "a.png"))
 
 
 class Refused(PlotTest):
@@ -185,35 +219,40 @@ class Refused(PlotTest):
             ("line\n", "line 1: no row of a sweep's table"),
             (table.HEADER + "\n", "a table without a row"),
             (EIGHT + "16,2,1,32,60,40,38\n", "two rows for the cache 16,2,1"),
-            (EIGHT + "64,2,1,128,60,41,38\n", "100 references in the first row, 101 in that of 64,2,1"),
+            (EIGHT + "64,2,1,128,60,41,38\n",
+             "100 references in the first row, 101 in that of 64,2,1"),
             (EIGHT + "0,2,1,0,60,40,38\n", "0,2,1 is no cache of a sweep"),
         ):
             self.write("bad.csv", text)
-            self.refused(self.plot("bad.csv", "-", env=self.no_gnuplot()), 1, "plot: bad.csv: ", fault)
+            ran = self.plot("bad.csv", "-", env=self.no_gnuplot())
+            self.refused(ran, 1, "plot: bad.csv: ", fault)
 
     def test_faults_of_the_run(self):
         self.write("bin.png", "")
         (self.folder / "folder.png").mkdir()
         path = self.no_gnuplot()
-        self.write("ways.csv", "".join(f"64,1,{way},{64 * way},9,1,0\n" for way in range(1, 30)))
-        for arguments, fault in (
-            (["--ways", "99", "ways.csv", "a.png"], "ways.csv: no cache has the associativity 99; there are 1, 2, 4, 8, 16 and others\n"),
-            (["--measure", "percent", "eight.csv", "a.png"], "eight.csv: percent is no count: name the column that it is of\n"),
-            (["none.csv", "a.png"], "none.csv: No such file or directory"),
-            (["eight.csv", "none/a.png"], "none/a.png: there is no folder"),
-            (["eight.csv", "bin.png/a.png"], "bin.png/a.png: there is no folder"),
-            (["eight.csv", "folder.png"], "folder.png: is a folder"),
-            (["--bsize", "64", "eight.csv", "a.png"], "eight.csv: no cache has the block size 64; there are 16, 32"),
-            (["--ways", "4", "eight.csv", "a.png"], "eight.csv: no cache has the associativity 4; there are 1, 2"),
+        self.write("ways.csv", ways_of(range(1, 30)))
+        eight = "eight.csv: no cache has the"
+        for words, fault in (
+            ("--ways 99 ways.csv a.png", "ways.csv: no cache has the associativity 99; there are "
+             "1, 2, 4, 8, 16 and others\n"),
+            ("--measure percent eight.csv a.png",
+             "eight.csv: percent is no count: name the column that it is of\n"),
+            ("none.csv a.png", "none.csv: No such file or directory"),
+            ("eight.csv none/a.png", "none/a.png: there is no folder"),
+            ("eight.csv bin.png/a.png", "bin.png/a.png: there is no folder"),
+            ("eight.csv folder.png", "folder.png: is a folder"),
+            ("--bsize 64 eight.csv a.png", f"{eight} block size 64; there are 16, 32"),
+            ("--ways 4 eight.csv a.png", f"{eight} associativity 4; there are 1, 2"),
         ):
-            self.refused(self.plot(*arguments, env=path), 1, f"plot: {fault}")
+            self.refused(self.plot(*words.split(), env=path), 1, f"plot: {fault}")
 
     def test_wrong_arguments(self):
-        for arguments in (
-            [], ["eight.csv"], ["eight.csv", "a.gif"], ["eight.csv", "a"], ["--only", "x", "eight.csv", "-"],
-            ["--bsize", "x", "eight.csv", "-"], ["--script", "eight.csv", "a.html"], ["--bs", "16", "eight.csv", "-"],
+        for words in (
+            "", "eight.csv", "eight.csv a.gif", "eight.csv a", "--only x eight.csv -",
+            "--bsize x eight.csv -", "--script eight.csv a.html", "--bs 16 eight.csv -",
         ):
-            ran = self.plot(*arguments)
+            ran = self.plot(*words.split())
             self.refused(ran, 2, "plot: ", "'plot --help' explains the arguments\n")
             self.assertEqual(ran.stderr.count(b"\n"), 1)
 
@@ -230,21 +269,25 @@ class Refused(PlotTest):
 
     def test_a_failure_leaves_what_was_there(self):
         self.write("a.png", "as before")
-        path = self.stand_in("cat > /dev/null; echo half a picture; echo 'line 0: no such terminal' >&2; exit 1")
-        self.refused(self.plot("eight.csv", "a.png", env=path), 1, "plot: gnuplot failed: line 0: no such terminal\n")
+        fault = "line 0: no such terminal"
+        path = self.stand_in(f"cat > /dev/null; echo half a picture; echo '{fault}' >&2; exit 1")
+        ran = self.plot("eight.csv", "a.png", env=path)
+        self.refused(ran, 1, f"plot: gnuplot failed: {fault}\n")
         self.write("bin/gnuplot", "#!/bin/sh\ncat > /dev/null; head -c 100000 /dev/zero\n")
-        limited = ["bash", "-c", 'ulimit -f 50; exec "$@"', "-", base.TOOLS / "plot", "eight.csv", "a.png"]
-        self.refused(self.run_command(*limited, env=path), 1, "plot: a.png: File too large\n")
+        limited = f"ulimit -f 50; exec {base.TOOLS}/plot eight.csv a.png"
+        ran = self.run_command("bash", "-c", limited, env=path)
+        self.refused(ran, 1, "plot: a.png: File too large\n")
         self.refused(self.plot("eight.csv", "/proc/a.png", env=path), 1, "plot: /proc/a.png: ")
-        self.assertEqual((self.names(), (self.folder / "a.png").read_text()), (["a.png", "bin", "eight.csv"], "as before"))
+        self.assertEqual(self.names(), ["a.png", "bin", "eight.csv"])
+        self.assertEqual((self.folder / "a.png").read_text(), "as before")
 
     def test_a_pipe_or_a_device_is_not_replaced(self):
-        path = self.stand_in("cat > /dev/null; echo picture")
-        os.mkfifo(self.folder / "a.png")
-        with subprocess.Popen(["timeout", "20", "cat", self.folder / "a.png"], stdout=subprocess.PIPE) as reader:
+        path, pipe = self.stand_in("cat > /dev/null; echo picture"), self.folder / "a.png"
+        os.mkfifo(pipe)
+        with subprocess.Popen(["timeout", "20", "cat", pipe], stdout=subprocess.PIPE) as reader:
             self.assertEqual(self.good(self.plot("eight.csv", "a.png", env=path)), "")
             self.assertEqual(reader.communicate(timeout=20)[0], b"picture\n")
-        self.assertTrue((self.folder / "a.png").is_fifo())
+        self.assertTrue(pipe.is_fifo())
         terminal, device = os.openpty()
         (self.folder / "b.png").symlink_to(os.ttyname(device))
         self.assertEqual(self.good(self.plot("eight.csv", "b.png", env=path)), "")
@@ -254,22 +297,24 @@ class Refused(PlotTest):
         os.close(device)
 
     def test_a_warning_is_passed_on(self):
-        ran = self.plot("eight.csv", "a.png", env=self.stand_in("cat > /dev/null; echo picture; echo 'no such font' >&2"))
-        self.assertEqual((ran.returncode, ran.stdout, ran.stderr), (0, b"", b"plot: gnuplot: no such font\n"))
+        path = self.stand_in("cat > /dev/null; echo picture; echo 'no such font' >&2")
+        ran = self.plot("eight.csv", "a.png", env=path)
+        told = b"plot: gnuplot: no such font\n"
+        self.assertEqual((ran.returncode, ran.stdout, ran.stderr), (0, b"", told))
         self.assertEqual((self.folder / "a.png").read_text(), "picture\n")
 
     def test_full_device(self):
-        ran = self.run_command("bash", "-c", f'"{base.TOOLS}/plot" --script eight.csv - > /dev/full')
-        self.refused(ran, 1, "plot: standard output: No space left on device\n")
+        self.on_full_device("plot", "--script", "eight.csv", "-", told="No space left on device")
 
     def test_interrupt(self):
         began = self.folder / "began"
         path = self.stand_in(f"touch {began}; exec sleep 60")
+        given = {"cwd": self.folder, "env": {**os.environ, **path}, "stderr": subprocess.PIPE}
         for number in (signal.SIGINT, signal.SIGTERM):
-            arguments = [base.TOOLS / "plot", "eight.csv", "a.png"]
-            with subprocess.Popen(arguments, cwd=self.folder, env={**os.environ, **path}, stderr=subprocess.PIPE) as ran:
+            with subprocess.Popen([base.TOOLS / "plot", "eight.csv", "a.png"], **given) as ran:
                 self.assertTrue(base.comes(began.exists))
                 began.unlink()
                 ran.send_signal(number)
-                self.assertEqual((ran.communicate(timeout=20)[1], ran.returncode), (b"", 128 + number))
+                self.assertEqual(ran.communicate(timeout=20)[1], b"")
+                self.assertEqual(ran.returncode, 128 + number)
         self.assertEqual(self.names(), ["bin", "eight.csv"])

@@ -18,17 +18,17 @@ import base
 from base import needs
 from lib import table
 from test_plot import ALL, AXES, TITLES, PlotTest, rows_of
-from test_plot_din import COLUMNS, POLICIES, din_rows
 
 
 def png_of(data):
-    """The width and height of a PNG, and how many different bytes are in its lines, of which a blank one has very few."""
+    """The width and height of a PNG, and how many different bytes are in its lines, of which a
+    blank one has very few."""
     assert data[:8] == b"\x89PNG\r\n\x1a\n"
     at, packed = 8, b""
     while at < len(data):
         length, kind = struct.unpack(">I4s", data[at:at + 8])
         body = data[at + 8:at + 8 + length]
-        assert zlib.crc32(kind + body) == struct.unpack(">I", data[at + 8 + length:at + 12 + length])[0]
+        assert struct.pack(">I", zlib.crc32(kind + body)) == data[at + 8 + length:at + 12 + length]
         if kind == b"IHDR":
             width, height = struct.unpack(">II", body[:8])
         packed += body if kind == b"IDAT" else b""
@@ -43,8 +43,9 @@ def svg_of(data):
         if part.tag.endswith("}text"):
             texts.append("".join(part.itertext()))
         elif part.tag.endswith("}use") and part.get("transform", "").startswith("translate"):
-            place = re.match(r"translate\(([^,]+),([^)]+)\)", part.get("transform"))
-            marks.setdefault(re.sub(" +", "", part.get("color")), []).append((float(place[1]), float(place[2])))
+            place = re.match(r"translate\(([^,]+),([^)]+)\)", part.get("transform")).groups()
+            colour = re.sub(" +", "", part.get("color"))
+            marks.setdefault(colour, []).append(tuple(map(float, place)))
     return texts, marks
 
 
@@ -58,22 +59,25 @@ class Drawn(PlotTest):
         width, height, different = png_of(self.drawn("--title", "Eight", "eight.csv", "an out.png"))
         self.assertEqual((width, height), (920, 800))
         self.assertGreater(different, 100)
-        self.assertEqual(png_of(self.drawn("--only", "size", "--", "eight.csv", "-a.png"))[:2], (860, 480))
+        words = ("--only", "size", "--", "eight.csv", "-a.png")
+        self.assertEqual(png_of(self.drawn(*words))[:2], (860, 480))
         mask = os.umask(0)
         os.umask(mask)
         drawn = self.folder / "-a.png"
         self.assertEqual(drawn.stat().st_mode & 0o777, 0o666 & ~mask)
         drawn.chmod(0o600)
-        self.drawn("--only", "size", "--", "eight.csv", "-a.png")
+        self.drawn(*words)
         self.assertEqual(drawn.stat().st_mode & 0o777, 0o600)
         self.assertEqual(self.names(), ["-a.png", "an out.png", "eight.csv"])
 
     def test_svg(self):
-        texts, marks = svg_of(self.drawn("--only", "size", "--title", "<&> ]]> 'é'", "eight.csv", "a.svg"))
-        named = ["<&> ]] > 'é'", TITLES[0], "cache size in bytes", "miss ratio in per cent", "1 way", "2 ways"]
-        for text in [*named, "32", "64", "128"]:
+        words = ("--only", "size", "--title", "<&> ]]> 'é'", "eight.csv", "a.svg")
+        texts, marks = svg_of(self.drawn(*words))
+        for text in ("<&> ]] > 'é'", TITLES[0], "cache size in bytes", "miss ratio in per cent",
+                     "1 way", "2 ways", "32", "64", "128"):
             self.assertIn(text, texts)
-        # One way: 50 % at 32 bytes, 32 % at 64. Two ways: 28 % at 64, 8 % at 128. The third mark of each is that of the legend.
+        # One way: 50 % at 32 bytes, 32 % at 64. Two ways: 28 % at 64, 8 % at 128. The third mark of
+        # each is that of the legend.
         (at_50, at_32, _), (at_28, at_8, _) = marks["rgb(0,114,178)"], marks["rgb(213,94,0)"]
         self.assertEqual(at_32[0], at_28[0])
         self.assertAlmostEqual(at_32[0] - at_50[0], at_8[0] - at_28[0], delta=0.1)
@@ -81,13 +85,14 @@ class Drawn(PlotTest):
         self.assertAlmostEqual(at_32[1] - at_50[1], unit * math.log(50 / 32), delta=0.1)
         self.assertAlmostEqual(at_28[1] - at_50[1], unit * math.log(50 / 28), delta=0.1)
         texts, marks = svg_of(self.drawn("eight.csv", "a.svg"))
-        for text in [*TITLES[:2], TITLES[2] + " (block size, sets, ways)", *AXES, "cache size", "all caches", "32,2,2"]:
+        for text in [*TITLES[:2], TITLES[2] + " (block size, sets, ways)", *AXES, "cache size",
+                     "all caches", "32,2,2"]:
             self.assertIn(text, texts)
         self.assertEqual(len(marks["rgb(187,187,187)"]), len(ALL) + 1)
 
     def test_bars(self):
-        """Each goes from the least to the greatest in one piece; nothing white hides other marks."""
-        self.write("din.csv", f"{COLUMNS}\n{din_rows(POLICIES)}")
+        """Each goes from the least to the greatest in one piece; nothing white hides others."""
+        self.write_din()
         drawn = self.drawn("din.csv", "a.svg")
         self.assertNotIn("#FFFFFF", svg_of(drawn)[1])
         bars = re.search(r"d='([^']*)'", drawn.decode().split("gnuplot_plot_3a<")[1])[1]
@@ -101,10 +106,12 @@ class Drawn(PlotTest):
         for columns, lines in ((80, 24), (120, 40)):
             size = {"COLUMNS": str(columns), "LINES": str(lines)}
             drawn = self.good(self.plot("--title", "Eight", "eight.csv", "-", env=size))
-            for text in [*TITLES, *AXES, "A*** 1 way\n", "B### 2 ways\n", ". all caches", "32,2,2\n"]:
+            for text in [*TITLES, *AXES, "A*** 1 way\n", "B### 2 ways\n", ". all caches",
+                         "32,2,2\n"]:
                 self.assertIn(text, drawn)
             self.assertEqual(drawn.count("Eight"), 3)
-            alone = self.good(self.plot("--only", "block", "eight.csv", "-", env=size)).splitlines()
+            alone = self.good(self.plot("--only", "block", "eight.csv", "-", env=size))
+            alone = alone.splitlines()
             self.assertTrue(columns - 8 < max(map(len, alone)) <= columns)
             self.assertEqual(len(alone), lines - 1)
             self.assertEqual([line for line in alone if line != line.rstrip()], [])
@@ -112,9 +119,9 @@ class Drawn(PlotTest):
     def test_text_has_the_size_of_the_terminal(self):
         ours, theirs = pty.openpty()
         fcntl.ioctl(theirs, termios.TIOCSWINSZ, struct.pack("HHHH", 30, 100, 0, 0))
-        env = {name: value for name, value in os.environ.items() if name not in ("COLUMNS", "LINES")}
-        arguments = [base.TOOLS / "plot", "--only", "size", "eight.csv", "-"]
-        self.assertEqual(subprocess.run(arguments, cwd=self.folder, env=env, stdout=theirs).returncode, 0)
+        plot = f"unset COLUMNS LINES; exec {base.TOOLS}/plot --only size eight.csv -"
+        ran = subprocess.run(["bash", "-c", plot], cwd=self.folder, stdout=theirs)
+        self.assertEqual(ran.returncode, 0)
         os.close(theirs)
         lines = os.read(ours, 1 << 16).decode().splitlines()
         os.close(ours)
@@ -124,6 +131,7 @@ class Drawn(PlotTest):
     def test_odd_tables(self):
         """Whatever the table, all is drawn, and gnuplot has nothing to say."""
         (self.folder / "tables").mkdir()
+        ways = "--bsize 64 --sets 1-2 --assoc 1-2000 --size 64-1m -t".split()
         for name, text in {
             "one": "64,32,8,16384,900,100,3\n",
             "all-hit": rows_of([(1, 0), (2, 0)]),
@@ -131,7 +139,7 @@ class Drawn(PlotTest):
             "no-reference": "64,1,1,64,0,0,0\n64,2,1,128,0,0,0\n",
             "one-byte": "1,1,1,1,5,5,0\n",
             "a-million": f"1048576,4,1048576,{1 << 42},{1 << 62},1,0\n",
-            "ways": self.sweep(*"--bsize 64 --sets 1-2 --assoc 1-2000 --size 64-1m".split(), "-t", base.EXAMPLES / "sort.din"),
+            "ways": self.sweep(*ways, base.EXAMPLES / "sort.din"),
         }.items():
             self.write(f"tables/{name}", text)
             for out in ("-", "a.svg"):
@@ -142,12 +150,11 @@ class Drawn(PlotTest):
     def test_picture_of_the_documents(self):
         """It can be drawn anew, by the command beside it, as large as it is."""
         stored = base.TOP / "docs/pictures"
-        (self.folder / "docs").mkdir()
-        shutil.copytree(stored, self.folder / "docs/pictures")
-        (self.folder / "docs/pictures/sort.png").unlink()
-        command = re.search("^    tools/(plot .*)$", (stored / "README.md").read_text(), re.MULTILINE)[1]
+        copy = shutil.copytree(stored, self.folder / "docs/pictures")
+        (copy / "sort.png").unlink()
+        command = re.search("(?m)^    tools/(plot .*)$", (stored / "README.md").read_text())[1]
         self.good(self.run_command("bash", "-c", f"{base.TOOLS}/{command}"))
-        was, made = (png_of((folder / "docs/pictures/sort.png").read_bytes()) for folder in (base.TOP, self.folder))
+        was, made = (png_of((folder / "sort.png").read_bytes()) for folder in (stored, copy))
         self.assertEqual(made[:2], was[:2])
         self.assertEqual(len(table.read_table(*table.lines_of(stored / "sort.csv"))), 633)
 
@@ -162,7 +169,8 @@ class Sources(html.parser.HTMLParser):
 
     def handle_starttag(self, tag, attrs):
         self.within = tag
-        self.fetched += [value for name, value in attrs if name in ("src", "href", "srcset", "data", "action", "poster")]
+        fetching = ("src", "href", "srcset", "data", "action", "poster")
+        self.fetched += [value for name, value in attrs if name in fetching]
         if ("http-equiv", "Content-Security-Policy") in attrs:
             self.policy = dict(attrs)["content"]
 
@@ -191,7 +199,8 @@ class Page(PlotTest):
 
     def figures(self, *arguments):
         """The pictures as plotly gets them, by name and by what is chosen."""
-        return json.loads(re.search("^const figures = (.*);$", Sources(self.page(*arguments)).scripts[1], re.MULTILINE)[1])
+        script = Sources(self.page(*arguments)).scripts[1]
+        return json.loads(re.search("(?m)^const figures = (.*);$", script)[1])
 
     def test_data(self):
         figures = self.figures("eight.csv")
@@ -200,22 +209,30 @@ class Page(PlotTest):
         one, two = figures["size"]["16"]["data"]
         self.assertEqual((one["name"], one["x"], one["y"]), ("1 way", [32, 64], [40, 30]))
         self.assertEqual((two["name"], two["x"], two["y"]), ("2 ways", [64, 128], [25, 10]))
-        self.assertEqual(two["customdata"], [[16, 2, 2, 64, 75, 25, 21, 25], [16, 4, 2, 128, 90, 10, 2, 10]])
-        blocks = {ways: {line["name"]: line["y"] for line in figures["block"][ways]["data"]} for ways in "12"}
-        self.assertEqual(blocks, {"1": {"32": [40, 50], "64": [30, 32]}, "2": {"64": [25, 28], "128": [10, 8]}})
+        self.assertEqual(two["customdata"],
+                         [[16, 2, 2, 64, 75, 25, 21, 25], [16, 4, 2, 128, 90, 10, 2, 10]])
+        for ways, lines in (
+            ("1", {"32": [40, 50], "64": [30, 32]}), ("2", {"64": [25, 28], "128": [10, 8]})
+        ):
+            data = figures["block"][ways]["data"]
+            self.assertEqual({line["name"]: line["y"] for line in data}, lines)
         every, steps, front = figures["pareto"]["0"]["data"]
         self.assertEqual(sorted(zip(every["x"], every["y"])), sorted(ALL))
-        self.assertEqual((steps["x"], steps["y"], steps["line"]["shape"]), ([32, 64, 128, 128], [40, 25, 8, 8], "hv"))
+        self.assertEqual((steps["x"], steps["y"]), ([32, 64, 128, 128], [40, 25, 8, 8]))
+        self.assertEqual(steps["line"]["shape"], "hv")
         self.assertEqual(list(zip(front["x"], front["y"])), [(32, 40), (64, 25), (128, 8)])
 
     def test_counts_of_the_table(self):
         page = self.page("--measure", "evictions", "eight.csv")
         self.assertIn("<h1>Evictions</h1>\n<p>8 caches, 100 references. ", page)
-        self.write("din.csv", f"{COLUMNS}\n" + din_rows(POLICIES).replace(",0\n", ",30\n"))
-        self.assertIn("<p>18 runs, 1,030 references. ", self.page("din.csv"), "also those that no cache takes")
+        self.write_din()
+        self.write("din.csv", (self.folder / "din.csv").read_text().replace(",0\n", ",30\n"))
+        # also those that no cache takes
+        self.assertIn("<p>18 runs, 1,030 references. ", self.page("din.csv"))
 
     def test_a_line_that_is_cut(self):
-        """There is nothing between the points where it is cut, and what is told of the others stays with them."""
+        """There is nothing between the points where it is cut, and what is told of the others stays
+        with them."""
         self.write("t.csv", rows_of([(2, 900), (8, 700), (16, 600)]) + "64,4,2,512,500,500,0\n")
         line = self.figures("--only", "size", "t.csv")["size"]["64"]["data"][0]
         self.assertEqual((line["x"], line["y"]), ([128, None, 512, 1024], [90, None, 70, 60]))
@@ -223,24 +240,27 @@ class Page(PlotTest):
                          [[64, 2, 1, 128], None, [64, 8, 1, 512], [64, 16, 1, 1024]])
 
     def test_axes(self):
-        """Plotly takes the ends of a logarithmic axis as powers of ten. A tick's text is its value."""
+        """Plotly takes the ends of a logarithmic axis as powers of ten. A tick's text is its
+        value."""
         figure = self.figures("eight.csv")["size"]["32"]
         for axis, least, greatest in (("xaxis", 32, 128), ("yaxis", 8, 50)):
             self.assertEqual(figure["layout"][axis]["type"], "log")
             low, high = (10 ** end for end in figure["layout"][axis]["range"])
-            self.assertTrue(least / 2 < low < least and greatest < high < 2 * greatest, (axis, low, high))
+            self.assertTrue(least / 2 < low < least, (axis, low))
+            self.assertTrue(greatest < high < 2 * greatest, (axis, high))
         up = figure["layout"]["yaxis"]
         for values, texts in (figure["few"], figure["many"], (up["tickvals"], up["ticktext"])):
             self.assertEqual((len(values) > 1, list(map(float, texts))), (True, values))
 
     def test_data_of_din(self):
         """The mean over three seeds, 3.5, is 0.5 above the least and 0.7 below the greatest."""
-        self.write("din.csv", f"{COLUMNS}\n{din_rows(POLICIES)}")
+        self.write_din()
         first, _, line = self.figures("din.csv")["size"]["0"]["data"]
-        self.assertEqual((first["name"], first["x"], first["y"], "error_y" in first), ("LRU", [64, 128], [10, 2], False))
+        self.assertEqual((first["name"], first["x"], first["y"]), ("LRU", [64, 128], [10, 2]))
+        self.assertNotIn("error_y", first)
         self.assertEqual((line["name"], line["x"], line["y"]), ("random", [64, 128], [15, 3.5]))
-        self.assertEqual([round(length, 9) for length in line["error_y"]["array"]], [3, 0.7])
-        self.assertEqual([round(length, 9) for length in line["error_y"]["arrayminus"]], [3, 0.5])
+        for name, bars in ("array", [3, 0.7]), ("arrayminus", [3, 0.5]):
+            self.assertEqual([round(length, 9) for length in line["error_y"][name]], bars)
         self.assertEqual(line["customdata"][1], ["128", "16", "2", "r", 128, "3.5 (3 to 4.2)"])
         names = "l1-usize", "l1-ubsize", "l1-uassoc", "l1-urepl", "size", "l1-u-percent"
         told = "<br>".join(f"{name} %{{customdata[{at}]}}" for at, name in enumerate(names))
@@ -248,9 +268,12 @@ class Page(PlotTest):
 
     @needs("chromium")
     def test_in_a_browser(self):
-        """The choice behind '#', one from a menu, what is told of a point, and that nothing else is asked for."""
+        """The choice behind '#', one from a menu, what is told of a point, and that nothing else is
+        asked for."""
         page = self.page("--title", "Eight", "eight.csv")
-        watch = "<head><script>addEventListener('securitypolicyviolation', () => { document.title = 'More'; });</script>"
+        watch = """<head><script>
+            addEventListener('securitypolicyviolation', () => { document.title = 'More'; });
+        </script>"""
         choose = """<script>
             const menu = document.querySelector("select[name=ways]");
             menu.value = "1";
@@ -260,15 +283,18 @@ class Page(PlotTest):
         </script></body>"""
         self.write("watched.html", page.replace("<head>", watch, 1).replace("</body>", choose))
         address = (self.folder / "watched.html").as_uri() + "#bsize=16"
-        options = ("--headless", "--no-sandbox", "--disable-gpu", "--virtual-time-budget=20000", "--dump-dom")
-        ran = self.run_command("chromium", *options, f"--user-data-dir={self.folder}/profile", address)
+        options = "--headless --no-sandbox --disable-gpu --virtual-time-budget=20000 --dump-dom"
+        profile = f"--user-data-dir={self.folder}/profile"
+        ran = self.run_command("chromium", *options.split(), profile, address)
         shown = re.sub("<script.*?</script>", "", ran.stdout.decode(), flags=re.DOTALL)
         self.assertEqual(ran.returncode, 0)
-        for text in ("Miss ratio by cache size: blocks of 16 bytes", "Miss ratio by block size: 1 way", TITLES[2], "Eight</h1>"):
+        for text in (
+            "Miss ratio by cache size: blocks of 16 bytes", "Miss ratio by block size: 1 way",
+            TITLES[2], "Eight</h1>", "<title>Eight</title>", 'data-hash="#bsize=16&amp;ways=1"',
+            "64 bytes: block 32, sets 2, ways 1", "hits 68, misses 32, evictions 30",
+            "miss ratio 32 %",
+        ):
             self.assertIn(text, shown)
-        for text in ("64 bytes: block 32, sets 2, ways 1", "hits 68, misses 32, evictions 30", "miss ratio 32 %"):
-            self.assertIn(text, shown)
-        self.assertIn('data-hash="#bsize=16&amp;ways=1"', shown)
-        self.assertEqual(len(re.findall('<div id="?(size|block|pareto)"?[^>]*class="[^"]*js-plotly-plot', shown)), 3)
+        picture = '<div id="?(size|block|pareto)"?[^>]*class="[^"]*js-plotly-plot'
+        self.assertEqual(len(re.findall(picture, shown)), 3)
         self.assertGreaterEqual(shown.count('class="main-svg"'), 3)
-        self.assertIn("<title>Eight</title>", shown)

@@ -1,4 +1,5 @@
-"""How pictures look: on paper, in few columns, without colour, and in a browser that is narrow or dark."""
+"""How pictures look: on paper, in few columns, without colour, and in a browser that is narrow or
+dark."""
 
 import json
 import re
@@ -6,7 +7,6 @@ import re
 import base
 from base import needs
 from test_plot import PlotTest, data_of, rows_of
-from test_plot_din import COLUMNS, POLICIES, din_rows
 from test_plot_drawn import png_of
 
 # Where each text of a page stands, and whether one is cut or two of one axis or legend touch
@@ -14,14 +14,16 @@ LOOK = """<script>
 addEventListener("load", () => setTimeout(() => {
     const found = [];
     const box = node => node.getBoundingClientRect();
-    const touch = (one, other) =>
-        one.left < other.right && other.left < one.right && one.top < other.bottom && other.top < one.bottom;
+    const touch = (one, other) => one.left < other.right && other.left < one.right
+        && one.top < other.bottom && other.top < one.bottom;
+    const named = ".xtick text, .ytick text, .legendtext, .legendtitletext, .xtitle, .ytitle";
     for (const plot of document.querySelectorAll(".js-plotly-plot")) {
-        const texts = [...plot.querySelectorAll(".xtick text, .ytick text, .legendtext, .legendtitletext, .xtitle, .ytitle")];
+        const texts = [...plot.querySelectorAll(named)], all = box(plot);
         texts.forEach((text, at) => {
-            if (box(text).right > box(plot).right + 1 || box(text).left < box(plot).left - 1) found.push("cut: " + text.textContent);
+            const place = box(text), told = text.textContent;
+            if (place.right > all.right + 1 || place.left < all.left - 1) found.push("cut: " + told);
             for (const other of texts.slice(at + 1)) {
-                if (touch(box(text), box(other))) found.push(text.textContent + " touches " + other.textContent);
+                if (touch(place, box(other))) found.push(told + " touches " + other.textContent);
             }
         });
     }
@@ -29,7 +31,8 @@ addEventListener("load", () => setTimeout(() => {
     parent.postMessage(JSON.stringify({
         found, width: innerWidth, wide: document.documentElement.scrollWidth,
         background: getComputedStyle(document.body).backgroundColor,
-        tick: colour(document.querySelector(".xtick text")), line: document.querySelector(".js-line").style.stroke,
+        tick: colour(document.querySelector(".xtick text")),
+        line: document.querySelector(".js-line").style.stroke,
         ticks: [...document.querySelectorAll("#size .ytick text")].map(text => text.textContent),
     }), "*");
 }, 500));
@@ -42,7 +45,7 @@ FRAME = """<body><script>onmessage = event => { document.body.dataset.look = eve
 class LooksTest(PlotTest):
     def setUp(self):
         super().setUp()
-        self.write("din.csv", f"{COLUMNS}\n{din_rows(POLICIES)}")
+        self.write_din()
         self.sort = base.TOP / "docs/pictures/sort.csv"
 
 
@@ -52,12 +55,13 @@ class Script(LooksTest):
         script = self.script("--mono", "--only", "size", self.sort, "a.svg")
         looks = re.findall(r"linecolor rgb '(#\w+)' dashtype (\S+) pointtype (\d+)", script)
         self.assertEqual(({colour for colour, _, _ in looks}, len(looks)), ({"#000000"}, 5))
-        self.assertEqual((len({dash for _, dash, _ in looks}), len({mark for _, _, mark in looks})), (5, 5))
+        self.assertEqual([len(set(look)) for look in zip(*looks)], [1, 5, 5])
         whole = self.script("--mono", self.sort, "a.svg")
         colours = set(re.findall("rgb '#([0-9a-f]{6})'", whole))
         self.assertTrue(all(colour[:2] == colour[2:4] == colour[4:] for colour in colours), colours)
         self.assertNotIn("dashtype", self.script(self.sort, "a.svg"))
-        bars = re.findall(r"_ends using .* with vectors (.*) notitle", self.script("--mono", "din.csv", "a.svg"))
+        script = self.script("--mono", "din.csv", "a.svg")
+        bars = re.findall(r"_ends using .* with vectors (.*) notitle", script)
         self.assertTrue(len(bars) == 1 and "dashtype solid" in bars[0], bars)
 
     def test_sizes(self):
@@ -74,47 +78,56 @@ class Script(LooksTest):
             ("10x6in --scale 2.5", "pdf", "pdfcairo size 10in,6in font 'DejaVu Sans,20'"),
             ("860 --scale 0.5", "svg", "svg size 860,482 font 'DejaVu Sans,Verdana,sans-serif,7'"),
         ):
-            ran = self.plot("--script", "--only", "block", "--size", *size.split(), "eight.csv", f"a.{ending}")
+            words = ("--only", "block", "--size", *size.split(), "eight.csv", f"a.{ending}")
+            ran = self.plot("--script", *words)
             if wanted:
                 self.assertIn(f"set terminal {wanted}", self.good(ran))
             else:
-                self.refused(ran, 2, f"plot: '{size}' is no size such as 3.3in, 80x60mm or 800x600; ")
+                fault = f"plot: '{size}' is no size such as 3.3in, 80x60mm or 800x600; "
+                self.refused(ran, 2, fault)
         script = self.script("--only", "size", "--scale", "2", "eight.csv", "a.png")
         self.assertIn("pngcairo size 1720,960 font 'Sans,21'", script)
 
     def test_refused(self):
-        for size, out, fault in (
-            ("1in", "a.pdf", "--size is too small for 1 picture with type that can be read"),
-            ("3.3x0.5in", "a.pdf", "--size is too small for 1 picture with type that can be read"),
-            ("3in", "-", "--size is for .png, .svg and .pdf"),
-            ("0", "a.png", "too small"), ("x", "a.png", "'x' is no size"), ("3ft", "a.png", "'3ft' is no size"),
-            ("999999", "a.png", "'999999' is no size"),
+        small = "--size is too small for 1 picture with type that can be read"
+        for words, out, fault in (
+            ("--script --only size --size 1in", "a.pdf", small),
+            ("--script --only size --size 3.3x0.5in", "a.pdf", small),
+            ("--script --only size --size 3in", "-", "--size is for .png, .svg and .pdf"),
+            ("--script --only size --size 0", "a.png", "too small"),
+            ("--script --only size --size x", "a.png", "'x' is no size"),
+            ("--script --only size --size 3ft", "a.png", "'3ft' is no size"),
+            ("--script --only size --size 999999", "a.png", "'999999' is no size"),
+            ("--size 3in", "a.html", "--size is for .png, .svg and .pdf"),
+            ("--scale 2", "a.html", "--scale is for .png, .svg and .pdf"),
+            ("--scale 0.1", "a.png", "'0.1' is no scale from"),
+            ("--scale x", "a.png", "'x' is no scale from"),
+            ("--scale 9 --size 3in", "a.png", "--size is too small for 3 pictures"),
         ):
-            self.refused(self.plot("--script", "--only", "size", "--size", size, "eight.csv", out), 2, "plot: ", fault)
-        for option, value in (("size", "3in"), ("scale", "2")):
-            ran = self.plot(f"--{option}", value, "eight.csv", "a.html")
-            self.refused(ran, 2, f"plot: --{option} is for .png, .svg and .pdf")
-        for arguments, fault in ((["0.1"], "'0.1' is no scale from"), (["x"], "'x' is no scale from"),
-                                 (["9", "--size", "3in"], "--size is too small for 3 pictures")):
-            self.refused(self.plot("--scale", *arguments, "eight.csv", "a.png"), 2, f"plot: {fault}")
+            self.refused(self.plot(*words.split(), "eight.csv", out), 2, "plot: ", fault)
+
+    def margins(self, script):
+        """Where the left, right, bottom and top of each picture are."""
+        return [list(map(float, re.findall(f"set {side}margin at screen (.*)", script)))
+                for side in "lrbt"]
 
     def test_narrow_pictures_stand_in_a_column(self):
-        script = self.script("--size", "3.3in", self.sort, "a.pdf")
-        margins = [[float(place) for place in re.findall(f"set {side}margin at screen (.*)", script)] for side in "lrbt"]
+        margins = self.margins(self.script("--size", "3.3in", self.sort, "a.pdf"))
         left, right, bottom, top = margins
         self.assertTrue(max(left) - min(left) < 0.001 and min(right) > 0.9, margins)
         self.assertTrue(top[1] < bottom[0] and top[2] < bottom[1], margins)
 
     def test_one_block_size(self):
-        """No picture by block size: its points would be a column. The other two are side by side. Of one cache one is left."""
+        """No picture by block size: its points would be a column. The other two are side by side.
+        Of one cache one is left."""
         self.write("t.csv", rows_of([(1, 500), (2, 300), (4, 100)]))
         script = self.script("t.csv", "a.svg")
         self.assertEqual({name.split("_")[0] for name in data_of(script)}, {"size", "pareto"})
-        left, right = ([float(place) for place in re.findall(f"set {side}margin at screen (.*)", script)] for side in "lr")
+        left, right, _, _ = self.margins(script)
         self.assertTrue(right[0] < 0.5 < left[1] and "svg size 920,420 " in script, script)
         self.write("one.csv", "64,32,8,16384,900,100,3\n")
-        self.assertEqual(list(data_of(self.script("one.csv", "-"))), ["size_1"])
-        self.assertEqual(list(data_of(self.script("--only", "block", "one.csv", "-"))), ["block_1"])
+        self.assertEqual(list(self.data("one.csv", "-")), ["size_1"])
+        self.assertEqual(list(self.data("--only", "block", "one.csv", "-")), ["block_1"])
 
 
 @needs("gnuplot-nox")
@@ -122,12 +135,17 @@ class Drawn(LooksTest):
     @needs("poppler-utils")
     def test_pdf(self):
         """As large as asked, with its fonts within, and all texts on the page."""
-        self.good(self.plot("--size", "3.3x2.4in", "--mono", "--title", "Eight", "--only", "size", "eight.csv", "a.pdf"))
-        self.assertRegex(self.good(self.run_command("pdfinfo", "a.pdf")), r"Page size: +23[78](\.\d+)? x 17[23](\.\d+)? pts")
+        words = "--size 3.3x2.4in --mono --title Eight --only size eight.csv a.pdf"
+        self.good(self.plot(*words.split()))
+        for command, told in (
+            ("pdfinfo", r"Page size: +23[78](\.\d+)? x 17[23](\.\d+)? pts"),
+            ("pdffonts", r"DejaVuSans +TrueType +\w+ +yes yes"),
+        ):
+            self.assertRegex(self.good(self.run_command(command, "a.pdf")), told)
         text = self.good(self.run_command("pdftotext", "a.pdf", "-"))
-        for words in ("Eight", "Miss ratio by cache size: blocks of 32 bytes", "miss ratio in per cent", "1 way", "2 ways", "128"):
+        for words in ("Eight", "Miss ratio by cache size: blocks of 32 bytes",
+                      "miss ratio in per cent", "1 way", "2 ways", "128"):
             self.assertIn(words, text)
-        self.assertRegex(self.good(self.run_command("pdffonts", "a.pdf")), r"DejaVuSans +TrueType +\w+ +yes yes")
         boxes = self.good(self.run_command("pdftotext", "-bbox", "a.pdf", "-"))
         places = re.findall(r'xMin="(.*)" yMin="(.*)" xMax="(.*)" yMax="(.*)">', boxes)
         for left, top, right, bottom in (map(float, place) for place in places):
@@ -146,11 +164,15 @@ class Drawn(LooksTest):
         """All of a text picture is within, and no text runs into another."""
         for columns in (40, 50, 71):
             env = {"COLUMNS": str(columns), "LINES": "30"}
-            for arguments, named in (
-                (["--only", "size", self.sort], ["***A*** 1 way", "@@@E@@@ 16 ways", "blocks of 64 bytes", "Miss ratio by cache size"]),
-                (["--only", "block", self.sort], ["cache size\n", "***A*** 1K", "&&&F&&& 1M", "Miss ratio by block size: 4 ways\n"]),
-                (["--only", "pareto", self.sort], ["The smallest caches that miss least", ". all caches\n", "o fewest misses up to this"]),
-                (["din.csv"], ["***A*** LRU", "###B### FIFO", "$$$C$$$ random", "Miss ratio by cache size\n"]),
+            for arguments, *named in (
+                (["--only", "size", self.sort], "***A*** 1 way", "@@@E@@@ 16 ways",
+                 "blocks of 64 bytes", "Miss ratio by cache size"),
+                (["--only", "block", self.sort], "cache size\n", "***A*** 1K", "&&&F&&& 1M",
+                 "Miss ratio by block size: 4 ways\n"),
+                (["--only", "pareto", self.sort], "The smallest caches that miss least",
+                 ". all caches\n", "o fewest misses up to this"),
+                (["din.csv"], "***A*** LRU", "###B### FIFO", "$$$C$$$ random",
+                 "Miss ratio by cache size\n"),
             ):
                 drawn = self.good(self.plot(*arguments, "-", env=env))
                 self.assertTrue(columns - 8 < max(map(len, drawn.splitlines())) <= columns, drawn)
@@ -165,21 +187,25 @@ class Page(LooksTest):
         self.good(self.plot(*arguments, "a.html"))
         self.write("look.html", (self.folder / "a.html").read_text().replace("</body>", LOOK))
         self.write("frame.html", FRAME % width)
-        options = ["--headless=new", "--no-sandbox", "--disable-gpu", "--virtual-time-budget=20000", "--dump-dom"]
-        options += ["--window-size=1400,1600", f"--user-data-dir={self.folder}/profile"]
-        options += ["--blink-settings=preferredColorScheme=0"] * dark
-        shown = self.run_command("chromium", *options, (self.folder / "frame.html").as_uri()).stdout.decode()
-        return json.loads(re.search('data-look="([^"]*)"', shown)[1].replace("&quot;", '"'))
+        options = ["--headless=new", "--no-sandbox", "--disable-gpu", "--dump-dom",
+                   "--virtual-time-budget=20000", "--window-size=1400,1600",
+                   f"--user-data-dir={self.folder}/profile",
+                   *["--blink-settings=preferredColorScheme=0"] * dark]
+        ran = self.run_command("chromium", *options, (self.folder / "frame.html").as_uri())
+        look = re.search('data-look="([^"]*)"', ran.stdout.decode())[1]
+        return json.loads(look.replace("&quot;", '"'))
 
     def test_narrow_and_wide(self):
-        for width, dark in ((400, True), (1280, False)):
+        for width, dark, *colours in (
+            (400, True, "24, 26, 27", "92, 179, 236", "228, 228, 228"),
+            (1280, False, "255, 255, 255", "0, 114, 178", "34, 34, 34"),
+        ):
             look = self.look(self.sort, width=width, dark=dark)
             self.assertEqual(look["found"], [])
             self.assertLessEqual(look["wide"], look["width"])
-            self.assertEqual(look["background"], "rgb(24, 26, 27)" if dark else "rgb(255, 255, 255)")
-            self.assertEqual(look["line"], "rgb(92, 179, 236)" if dark else "rgb(0, 114, 178)")
-            self.assertEqual(look["tick"], "rgb(228, 228, 228)" if dark else "rgb(34, 34, 34)")
-            self.assertEqual(look["ticks"], ["0.05", "0.1", "0.2", "0.5", "1", "2", "5", "10", "20"])
+            for part, colour in zip(("background", "line", "tick"), colours):
+                self.assertEqual(look[part], f"rgb({colour})")
+            self.assertEqual(look["ticks"], "0.05 0.1 0.2 0.5 1 2 5 10 20".split())
 
     def test_din(self):
         look = self.look("--mono", "din.csv", width=400)
