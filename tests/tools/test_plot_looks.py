@@ -20,10 +20,10 @@ addEventListener("load", () => setTimeout(() => {
     for (const plot of document.querySelectorAll(".js-plotly-plot")) {
         const texts = [...plot.querySelectorAll(named)], all = box(plot);
         texts.forEach((text, at) => {
-            const place = box(text), told = text.textContent;
-            if (place.right > all.right + 1 || place.left < all.left - 1) found.push("cut: " + told);
+            const its = box(text), told = text.textContent;
+            if (its.right > all.right + 1 || its.left < all.left - 1) found.push("cut: " + told);
             for (const other of texts.slice(at + 1)) {
-                if (touch(place, box(other))) found.push(told + " touches " + other.textContent);
+                if (touch(its, box(other))) found.push(told + " touches " + other.textContent);
             }
         });
     }

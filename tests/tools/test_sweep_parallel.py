@@ -40,7 +40,8 @@ def cost(pairs):
 
 
 def dearest_page(pairs, most):
-    """The cost of the dearest page, where pairs are cut into at most so many pages so that it is least: by dynamic programming."""
+    """The cost of the dearest page, where pairs are cut into at most so many pages so that it is
+    least: by dynamic programming."""
     ends = range(1, len(pairs) + 1)
     costs = {(cut, end): cost(pairs[cut:end]) for end in ends for cut in range(end)}
     least = [0] + [math.inf] * len(pairs)
@@ -61,20 +62,26 @@ class Pages(ParallelTest):
         arguments = " ".join(THREE)
         self.assertEqual(self.pages(1, *THREE), [f"{arguments} --rows 3"])
         for most in (2, 3, 99):
-            self.assertEqual(self.pages(most, *THREE), [f"{arguments} --rows 1", f"{arguments} --after 16,2,2 --rows 2"])
+            self.assertEqual(self.pages(most, *THREE),
+                             [f"{arguments} --rows 1", f"{arguments} --after 16,2,2 --rows 2"])
 
     def test_parts_of_a_table(self):
         arguments = " ".join(THREE)
-        self.assertEqual(self.pages(2, *THREE, "--rows", 2), [f"{arguments} --rows 1", f"{arguments} --after 16,2,2 --rows 1"])
-        self.assertEqual(self.pages(2, *THREE, "--after", "16,2,2"), [f"{arguments} --after 16,2,2 --rows 2"])
+        behind = f"{arguments} --after 16,2,2"
+        self.assertEqual(self.pages(2, *THREE, "--rows", 2),
+                         [f"{arguments} --rows 1", f"{behind} --rows 1"])
+        self.assertEqual(self.pages(2, *THREE, "--after", "16,2,2"), [f"{behind} --rows 2"])
         last = self.pages(2, "--rows=07", "--pow2", *THREE, "--after=16,4,1", "--")
         self.assertEqual(last, [f"--pow2 {arguments} --after 16,4,1 --rows 1"])
+        none = *THREE[:-1], "5-6"
+        self.assertEqual(self.pages(4, *none), [f"{' '.join(none)} --rows 0"])
         for nothing in (("--rows", 0), ("--after", "32,0,0")):
-            self.assertEqual([line.split()[-2:] for line in self.pages(4, *THREE, *nothing)], [["--rows", "0"]])
-        self.assertEqual(self.pages(4, *THREE[:-1], "5-6"), [f"{' '.join(THREE[:-1])} 5-6 --rows 0"])
+            page, = self.pages(4, *THREE, *nothing)
+            self.assertEqual(page.split()[-2:], ["--rows", "0"])
 
     def test_cuts(self):
-        """Pages are cut between pairs, make up the table, and the dearest costs no more than it must."""
+        """Pages are cut between pairs, make up the table, and the dearest costs no more than it
+        must."""
         for space, most in itertools.product(SPACES, (1, 2, 3, 4, 7, 16, 500)):
             table = self.sweep(*space, "-t", "/dev/null").splitlines()[1:]
             deepest = {pair(row): int(row.split(",")[2]) for row in table}
@@ -83,43 +90,52 @@ class Pages(ParallelTest):
             for page in pages:
                 rows = int(page.split()[-1])
                 self.assertEqual(page, f"{' '.join(space)}{after} --rows {rows}")
-                after = " --after " + ",".join(table[len(table) - len(taken) + rows - 1].split(",")[:3])
+                last = table[rows - 1 - len(taken)]
+                after = " --after " + ",".join(last.split(",")[:3])
                 here, taken = taken[:rows], taken[rows:]
                 self.assertNotEqual(here[-1], taken[0] if taken else None, page)
-                dearest = max(dearest, cost([(*name, deepest[name]) for name in dict.fromkeys(here)]))
+                costs = cost([(*name, deepest[name]) for name in dict.fromkeys(here)])
+                dearest = max(dearest, costs)
             self.assertEqual(taken, [])
             self.assertLessEqual(len(pages), most)
-            self.assertAlmostEqual(dearest, dearest_page([(*name, deepest[name]) for name in deepest], min(most, len(deepest))))
+            pairs = [(*name, assoc) for name, assoc in deepest.items()]
+            self.assertAlmostEqual(dearest, dearest_page(pairs, min(most, len(pairs))))
         self.assertEqual(len(self.pages("auto", *SPACE)), min(49, len(os.sched_getaffinity(0))))
         # the processors that it may use, and not all that are there
         one = ("taskset", "-c", min(os.sched_getaffinity(0)))
-        self.assertEqual(self.good(self.run_command(*one, TOOLS / "pages", "auto", *SPACE)).count("\n"), 1)
+        pages = self.good(self.run_command(*one, TOOLS / "pages", "auto", *SPACE))
+        self.assertEqual(pages.count("\n"), 1)
         noted = self.program('echo "$after" >> pages')
         self.good(self.run_command(*one, TOOLS / "sweep-parallel", "auto", DIN, *SPACE, env=noted))
         self.assertEqual((self.folder / "pages").read_text().count("\n"), 1)
 
     def test_refused(self):
-        self.refused(self.run_tool("pages", 4, "--bsize", "24", *SPACE[2:]), 2, "cachesim: bsize: not a power of two")
-        self.refused(self.run_tool("pages", 4, *SPACE[2:]), 2, "cachesim: error: ", "--bsize <RANGE>")
+        ran = self.run_tool("pages", 4, "--bsize", "24", *SPACE[2:])
+        self.refused(ran, 2, "cachesim: bsize: not a power of two")
+        ran = self.run_tool("pages", 4, *SPACE[2:])
+        self.refused(ran, 2, "cachesim: error: ", "--bsize <RANGE>")
         for word in ("-t", "-tx", "-t=x"):
             self.refused(self.run_tool("pages", 4, *SPACE, word, "x"), 2, "pages: ", "leave out -t")
         for most in ("0", "-1", "x", "", "4 4"):
-            self.refused(self.run_tool("pages", most, *SPACE), 2, f"pages: {most} is no number of jobs")
+            ran = self.run_tool("pages", most, *SPACE)
+            self.refused(ran, 2, f"pages: {most} is no number of jobs")
         self.refused(self.run_tool("pages"), 2, "pages: the number of jobs is missing")
 
     @needs("parallel")
     def test_by_gnu_parallel(self):
         """As the help shows it."""
         shown = self.good(self.run_tool("pages", "--help"))
-        script = f'pages() {{ "{TOOLS}/pages" "$@"; }}; set -e; HOME=$PWD; pages 4 ' + shown.split("\n    pages 4 ")[1]
-        self.good(self.run_command("bash", "-c", script.replace("trace.din", shlex.quote(str(DIN)))))
+        script = f'pages() {{ "{TOOLS}/pages" "$@"; }}; set -e; HOME=$PWD; pages 4 '
+        script += shown.split("\n    pages 4 ")[1].replace("trace.din", shlex.quote(str(DIN)))
+        self.good(self.run_command("bash", "-c", script))
         self.assertEqual((self.folder / "table.csv").read_text(), self.sweep(*SPACE, "-t", DIN))
 
 
 class SameBytes(ParallelTest):
     def same(self, most, trace, *arguments, single=None, **given):
         wanted = self.sweep("-t", single or trace, *arguments)
-        self.assertEqual(self.good(self.run_tool("sweep-parallel", most, trace, *arguments, **given)), wanted)
+        told = self.good(self.run_tool("sweep-parallel", most, trace, *arguments, **given))
+        self.assertEqual(told, wanted)
         return wanted
 
     def test_by_hand(self):
@@ -136,10 +152,11 @@ class SameBytes(ParallelTest):
             self.same(most, DIN, *SMALL)
 
     def test_options(self):
-        parts = ("--rows 0", "--rows 7", "--after 16,16,4", "--after=9,9,9 --rows=5", "--after 99,1,1 --pow2")
-        for options in ("--kind d", "--kind=i", "--pow2", *parts, "--"):
-            for trace in ("-", DIN):
-                self.same(3, trace, *SMALL, *options.split(), single=DIN, stdin=DIN.read_bytes())
+        for options, trace in itertools.product(
+            ("--kind d", "--kind=i", "--pow2", "--rows 0", "--rows 7", "--after 16,16,4",
+             "--after=9,9,9 --rows=5", "--after 99,1,1 --pow2", "--"), ("-", DIN)
+        ):
+            self.same(3, trace, *SMALL, *options.split(), single=DIN, stdin=DIN.read_bytes())
         for kind in "udi":
             self.same(4, LACKEY, *SPACE, "--format", "l", "--kind", kind)
 
@@ -153,36 +170,41 @@ class SameBytes(ParallelTest):
         text = LACKEY.read_bytes()
         options = (*SPACE, "--format", "l")
         self.same(4, "-", *options, single=LACKEY, stdin=text)
-        wanted = self.sweep(*options, "-t", self.write("rest", text[text.index(b"\n") + 1:]))
-        run = f'"{TOOLS}/sweep-parallel" 4 - {" ".join(options)}'
-        self.assertEqual(self.good(self.run_command("bash", "-c", f'{{ read -r line; {run}; }} < "$1"', "-", LACKEY)), wanted)
+        rest = self.sweep(*options, "-t", self.write("rest", text[text.index(b"\n") + 1:]))
         os.mkfifo(self.folder / "pipe")
-        of_pipe, of_process, of_file = (run.replace(" - ", f" {trace} ") for trace in ("pipe", "<(cat -- $1)", "/dev/stdin"))
-        script = f'cat -- "$1" > pipe & {of_pipe}; {of_process}; {of_file} < "$1"'
-        self.assertEqual(self.good(self.run_command("bash", "-c", script, "-", LACKEY)), 3 * self.sweep(*options, "-t", LACKEY))
+        words = " ".join(options)
+        run = f'run() {{ "{TOOLS}/sweep-parallel" 4 "$1" {words}; }}'
+        for script, wanted in (
+            ('{ read -r line; run -; } < "$1"', rest),
+            ('cat -- "$1" > pipe & run pipe; run <(cat -- $1); run /dev/stdin < "$1"',
+             3 * self.sweep(*options, "-t", LACKEY)),
+        ):
+            told = self.good(self.run_command("bash", "-c", f"{run}; {script}", "-", LACKEY))
+            self.assertEqual(told, wanted)
 
     def test_progress(self):
         """On a terminal, what is read is told each second; elsewhere nothing is."""
         # a page is not done before it is told
-        env = {**os.environ, **self.program('[[ $* != *" slow"* ]] || until [ -e go ]; do sleep 0.01; done')}
-        told_of = {"-": rb"\rsweep-parallel: 0 MB of the trace read", "slow": rb"\rsweep-parallel: \d+ % of the trace read"}
-        for trace, shown in told_of.items():
+        slow = self.program('[[ $* != *" slow"* ]] || until [ -e go ]; do sleep 0.01; done')
+        given = {"cwd": self.folder, "env": {**os.environ, **slow},
+                 "stdin": subprocess.PIPE, "stdout": subprocess.PIPE}
+        for trace, shown in ("-", rb"0 MB"), ("slow", rb"\d+ %"):
+            shown = rb"\rsweep-parallel: " + shown + b" of the trace read"
             self.write("slow", DIN.read_bytes())
             (self.folder / "go").unlink(missing_ok=True)
             master, terminal = pty.openpty()
             arguments = [TOOLS / "sweep-parallel", "2", trace, *SMALL]
-            pipes = {"stdin": subprocess.PIPE, "stdout": subprocess.PIPE, "stderr": terminal}
-            with ended(subprocess.Popen(arguments, **pipes, cwd=self.folder, env=env)) as ran:
+            with ended(subprocess.Popen(arguments, stderr=terminal, **given)) as ran:
                 os.close(terminal)
                 told = self.read_until(master, shown)
                 self.write("go", b"")
-                self.assertEqual(ran.communicate(DIN.read_bytes(), 60)[0].decode(), self.sweep(*SMALL, "-t", DIN))
-                self.assertEqual(ran.returncode, 0)
+                table = ran.communicate(DIN.read_bytes(), 60)[0].decode()
+                self.assertEqual((table, ran.returncode), (self.sweep(*SMALL, "-t", DIN), 0))
             told += self.read_until(master, rb"\r\033\[K\Z", told)
             os.close(master)
             self.assertRegex(told, shown)
             self.assertTrue(told.endswith(b"\r\033[K"))
-        self.same(2, "slow", *SMALL, single=DIN, env=env)
+        self.same(2, "slow", *SMALL, single=DIN, env=slow)
 
     def read_until(self, terminal, shown, told=b""):
         """What more a terminal shows, until all that it has shown has this."""
@@ -206,12 +228,14 @@ class Faults(reading_base.ReadingForMany, ParallelTest):
     def test_bad_line_without_a_row(self):
         (self.folder / "bad").write_bytes(self.BAD)
         for trace, most in itertools.product(("bad", "-"), self.JOBS):
-            self.failed(self.tool(most, trace, *SPACE, "--rows", 0, stdin=self.BAD), 1, "cachesim: line 3: bad address\n")
+            ran = self.tool(most, trace, *SPACE, "--rows", 0, stdin=self.BAD)
+            self.failed(ran, 1, "cachesim: line 3: bad address\n")
 
     def test_bad_line_of_a_long_trace(self):
-        many = self.write("many", b"0 10\n" * 300_000 + b"0 x\n" + b"0 10\n" * 300_000)
-        self.failed(self.tool(4, many, *SPACE), 1, "cachesim: line 300001: bad address\n")
-        self.failed(self.tool(4, "-", *SPACE, stdin=many.read_bytes()), 1, "cachesim: line 300001: bad address\n")
+        text = b"0 10\n" * 300_000 + b"0 x\n" + b"0 10\n" * 300_000
+        for trace in (self.write("many", text), "-"):
+            ran = self.tool(4, trace, *SPACE, stdin=text)
+            self.failed(ran, 1, "cachesim: line 300001: bad address\n")
 
     def test_what_can_not_be_read(self):
         for repeated in range(10):
@@ -222,15 +246,19 @@ class Faults(reading_base.ReadingForMany, ParallelTest):
 
     def test_flags_of_a_later_program(self):
         """A word that no value follows is one."""
-        words = ["--new", "--bsize", "16", "--after", "1,1,1", "--sets=1", "--rows", "2", "--last"]
-        self.assertEqual(paging.split(words), (["--new", "--bsize", "16", "--sets", "1", "--last"], "1,1,1"))
+        words = "--new --bsize 16 --after 1,1,1 --sets=1 --rows 2 --last".split()
+        kept = "--new --bsize 16 --sets 1 --last".split()
+        self.assertEqual(paging.split(words), (kept, "1,1,1"))
 
     def test_arguments(self):
-        self.refused(self.tool(4, "none", "--bsize", "24", *SPACE[2:]), 2, "cachesim: bsize: not a power of two\n")
-        self.refused(self.tool(4, "-", *SPACE[2:]), 2, "cachesim: error: ")
-        self.refused(self.tool(4, DIN, *SPACE, "-t", DIN), 2, "sweep-parallel: ", "leave out -t")
-        self.refused(self.tool("four", DIN, *SPACE), 2, "sweep-parallel: four is no number of jobs")
-        self.refused(self.tool(4), 2, "sweep-parallel: ", "missing")
+        for words, *faults in (
+            ((4, "none", "--bsize", "24", *SPACE[2:]), "cachesim: bsize: not a power of two\n"),
+            ((4, "-", *SPACE[2:]), "cachesim: error: "),
+            ((4, DIN, *SPACE, "-t", DIN), "sweep-parallel: ", "leave out -t"),
+            (("four", DIN, *SPACE), "sweep-parallel: four is no number of jobs"),
+            ((4,), "sweep-parallel: ", "missing"),
+        ):
+            self.refused(self.tool(*words), 2, *faults)
 
     def test_missing_package(self):
         bin = self.folder / "bin"
@@ -240,35 +268,45 @@ class Faults(reading_base.ReadingForMany, ParallelTest):
         environment = {"PATH": str(bin)}
         self.good(self.tool(2, DIN, *SMALL, env=environment))
         for suffix, package in (("zst", "zstd"), ("xz", "xz-utils")):
-            self.refused(self.tool(2, f"x.{suffix}", *SMALL, env=environment), 1, f"is missing: apt-get install {package}\n")
+            ran = self.tool(2, f"x.{suffix}", *SMALL, env=environment)
+            self.refused(ran, 1, f"is missing: apt-get install {package}\n")
 
     def test_a_page_fails(self):
         """The others, which would run on, are ended, also where nothing comes from a live trace."""
-        killed = "sweep-parallel: page 2 of 2 ended with signal 9\n"
-        ends = (("kill -KILL $$", 1, killed), ("echo x: no >&2; exit 1", 1, "x: no\n"), ("echo 2 >&2; exit 2", 2, "2\n"))
-        for body, status, message in ends:
+        for body, status, message in (
+            ("kill -KILL $$", 1, "sweep-parallel: page 2 of 2 ended with signal 9\n"),
+            ("echo x: no >&2; exit 1", 1, "x: no\n"),
+            ("echo 2 >&2; exit 2", 2, "2\n"),
+        ):
+            env = self.program(f"[ $after != 16,2,2 ] && exec sleep 60 || {{ {body}; }}")
+            given = {"env": {**os.environ, **env}, "capture_output": True, "timeout": 30}
             for trace in (DIN, "-"):
                 read, write = os.pipe()
-                env = {**os.environ, **self.program(f"[ $after != 16,2,2 ] && exec sleep 60 || {{ {body}; }}")}
                 began = time.monotonic()
-                ran = subprocess.run([TOOLS / "sweep-parallel", "2", trace, *THREE], stdin=read, capture_output=True, env=env, timeout=30)
+                arguments = [TOOLS / "sweep-parallel", "2", trace, *THREE]
+                ran = subprocess.run(arguments, stdin=read, **given)
                 os.close(read)
                 os.close(write)
                 self.failed(ran, status, message)
                 self.assertLess(time.monotonic() - began, 20)
 
     def test_a_parent_that_ignores_ends_of_processes(self):
-        """The end of a process can't be waited for where this signal is ignored, as some who start the tool leave it."""
-        ignoring = ("env", "--ignore-signal=CHLD")
-        self.assertEqual(self.good(self.run_command(*ignoring, TOOLS / "sweep-parallel", 2, DIN, *SMALL)), self.sweep(*SMALL, "-t", DIN))
-        self.assertEqual(self.good(self.run_command(*ignoring, TOOLS / "pages", 1, *THREE)), f"{' '.join(THREE)} --rows 3\n")
+        """The end of a process can't be waited for where this signal is ignored, as some who start
+        the tool leave it."""
+        for tool, words, wanted in (
+            ("sweep-parallel", (2, DIN, *SMALL), self.sweep(*SMALL, "-t", DIN)),
+            ("pages", (1, *THREE), f"{' '.join(THREE)} --rows 3\n"),
+        ):
+            ran = self.run_command("env", "--ignore-signal=CHLD", TOOLS / tool, *words)
+            self.assertEqual(self.good(ran), wanted)
 
     def test_an_output_that_takes_a_part(self):
         """A pipe that is not waited for takes its first 64 KiB in one call, and then nothing."""
         read, write = os.pipe()
         os.set_blocking(write, False)
-        arguments = [TOOLS / "sweep-parallel", "1", DIN, *"--bsize 16 --sets 1 --assoc 1-4k --size 0-64k".split()]
-        ran = subprocess.run(arguments, stdout=write, stderr=subprocess.PIPE, timeout=60, check=False, **self.in_folder())
+        space = "--bsize 16 --sets 1 --assoc 1-4k --size 0-64k".split()
+        given = {"stderr": subprocess.PIPE, "timeout": 60, **self.in_folder()}
+        ran = subprocess.run([TOOLS / "sweep-parallel", "1", DIN, *space], stdout=write, **given)
         os.close(write)
         os.close(read)
         self.assertEqual((ran.returncode, ran.stderr), (1, b"sweep-parallel: write failed\n"))
