@@ -11,6 +11,9 @@ import base
 import reading_base
 
 HEADER = "bsize,sets,assoc,size,hits,misses,evictions,compulsory,capacity,conflict\n"
+SORT = base.EXAMPLES / "sort.din"
+# a cache with more lines than a set may have ways
+LARGE = "--bsize 1 --sets 128k --assoc 1 --size 128k"
 
 
 def misses(events, bsize, sets, assoc):
@@ -36,133 +39,153 @@ def random_trace(lines, flushes=False):
     drawn = random.Random(7)
     text = []
     for number in range(lines):
-        place = drawn.choice((number % 300 * 16, drawn.randrange(64) * 512, 0x9000 + drawn.randrange(40)))
+        places = number % 300 * 16, drawn.randrange(64) * 512, 0x9000 + drawn.randrange(40)
+        place = drawn.choice(places)
         text.append(f"{drawn.choice('0012')} {place:x}")
         if flushes and drawn.random() < 0.003:
             text.append("4 0")
     return "\n".join(text).encode() + b"\n"
 
 
+def walk(blocks, first=0):
+    """A trace of each of so many bytes once."""
+    return "".join(f"0 {place:x}\n" for place in range(first, first + blocks))
+
+
 class ThreeC(reading_base.Reading, base.ToolTest):
     TOOL = "three-c"
     OPTIONS = "--bsize 16 --sets 1-4 --assoc 1-2 --size 64".split()
 
-    def judge(self, text, arguments, trace, format="d", kind="u", stdin=b""):
-        """Compares each row with simulations of a cache, of a fully associative one, and with a count of first references."""
-        answer = self.good(self.run_tool("three-c", trace, *arguments, stdin=stdin))
+    def table(self, options, trace="-", **given):
+        return self.good(self.run_tool("three-c", trace, *options.split(), **given))
+
+    def judge(self, text, options, trace, format="d", kind="u", stdin=b""):
+        """Compares each row with simulations of a cache, of a fully associative one, and with a
+        count of first references."""
+        answer = self.table(options, trace=trace, stdin=stdin)
         events = base.references(text, format, kind)
-        rows = [{name: int(value) for name, value in row.items()} for row in csv.DictReader(answer.splitlines())]
+        rows = [{name: int(value) for name, value in row.items()}
+                for row in csv.DictReader(answer.splitlines())]
         for row in rows:
-            cache = row["bsize"], row["sets"], row["assoc"]
-            first, all_misses = first_references(events, row["bsize"]), misses(events, *cache)
-            unshared = misses(events, row["bsize"], 1, row["sets"] * row["assoc"])
+            bsize, sets, assoc = row["bsize"], row["sets"], row["assoc"]
+            first, all_misses = first_references(events, bsize), misses(events, bsize, sets, assoc)
+            unshared = misses(events, bsize, 1, sets * assoc)
             counted = row["misses"], row["compulsory"], row["capacity"], row["conflict"]
-            self.assertEqual(counted, (all_misses, first, unshared - first, all_misses - unshared), cache)
+            wanted = all_misses, first, unshared - first, all_misses - unshared
+            self.assertEqual(counted, wanted, row)
         return rows
 
+    def judge_rows(self, options, text, *rows):
+        """Compares the whole table of a trace."""
+        wanted = HEADER + "".join(f"{row}\n" for row in rows)
+        self.assertEqual(self.table(options, stdin=text.encode()), wanted, len(text))
+
     def test_examples(self):
-        space = ["--bsize", "16-64", "--sets", "1-16", "--assoc", "1-3", "--size", "256-1k"]
-        for name, format, kind in (
-            ("transpose.lackey", "l", "d"),
-            ("blocks.lackey", "l", "d"),
-            ("sort.din", "d", "u"),
-            ("sort.din", "d", "i"),
+        space = "--bsize 16-64 --sets 1-16 --assoc 1-3 --size 256-1k"
+        for name, format, kind, words in (
+            ("transpose.lackey", "l", "d", "--format {} --kind={}"),
+            ("blocks.lackey", "l", "d", "--format {} --kind={}"),
+            ("sort.din", "d", "u", "--format={} --kind {}"),
+            ("sort.din", "d", "i", "--format={} --kind {}"),
         ):
-            trace = base.EXAMPLES / name
-            arguments = ["--format", format, f"--kind={kind}"] if format == "l" else [f"--format={format}", "--kind", kind]
-            rows = self.judge(trace.read_bytes(), [*space, *arguments], trace, format, kind)
+            trace, options = base.EXAMPLES / name, f"{space} {words.format(format, kind)}"
+            rows = self.judge(trace.read_bytes(), options, trace, format, kind)
             self.assertEqual({row["bsize"] for row in rows}, {16, 32, 64})
             self.assertTrue(any(row["conflict"] > 0 for row in rows))
 
     def test_less_than_nothing(self):
-        # three blocks in turn: one set of two lines always misses, and of two sets with a line each one holds its only block
-        arguments = "--bsize 1 --sets 1-2 --assoc 1-2 --size 2".split()
-        answer = self.good(self.run_tool("three-c", "-", *arguments, stdin=b"0 0\n0 1\n0 2\n" * 4))
-        self.assertEqual(answer, HEADER + "1,1,2,2,0,12,10,3,9,0\n1,2,1,2,3,9,7,3,9,-3\n")
+        # three blocks in turn: one set of two lines always misses, and of two sets with a line each
+        # one holds its only block
+        self.judge_rows("--bsize 1 --sets 1-2 --assoc 1-2 --size 2", "0 0\n0 1\n0 2\n" * 4,
+                        "1,1,2,2,0,12,10,3,9,0", "1,2,1,2,3,9,7,3,9,-3")
 
     def test_random_traces(self):
-        arguments = ["--bsize", "8-64", "--sets", "1-32", "--assoc", "1-4", "--size", "512-2k", "--pow2"]
+        space = "--bsize 8-64 --sets 1-32 --assoc 1-4 --size 512-2k --pow2"
         for flushes in (False, True):
             text = random_trace(4000, flushes)
-            rows = self.judge(text, arguments, "-", stdin=text)
+            rows = self.judge(text, space, "-", stdin=text)
             self.assertTrue(any(row["capacity"] > 0 and row["conflict"] > 0 for row in rows))
 
     def test_it_asks_for_no_more_rows_than_it_needs(self):
-        """Of powers of two alone, where the table has no others: each row of a fully associative cache is dear."""
-        program = self.executable("cachesim", f"set -o pipefail\n'{base.PROGRAM}' \"$@\" | tee '{self.folder}/rows'$$")
-        arguments = ["--bsize", "8", "--sets", "1-32", "--assoc", "1-4", "--size", "512-2k", "--pow2"]
-        table = self.good(self.run_tool("three-c", base.EXAMPLES / "sort.din", *arguments, env={"CACHESIM": str(program)}))
+        """Of powers of two alone, where the table has no others: each row of a fully associative
+        cache is dear."""
+        program = self.executable("cachesim", "set -o pipefail",
+                                  f"'{base.PROGRAM}' \"$@\" | tee '{self.folder}/rows'$$")
+        space = "--bsize 8 --sets 1-32 --assoc 1-4 --size 512-2k --pow2"
+        table = self.table(space, trace=SORT, env={"CACHESIM": str(program)})
         asked = sum(path.read_text().count("\n") - 1 for path in self.folder.glob("rows*"))
-        # the row by which the program is known; the three rows of an empty trace, and of this one; fully associative caches of two
-        # sizes; and one for first references
+        # the row by which the program is known; the three rows of an empty trace, and of this one;
+        # fully associative caches of two sizes; and one for first references
         self.assertEqual((table.count("\n") - 1, asked), (3, 1 + 3 + 3 + 2 + 1))
 
     def test_a_flush_begins_anew(self):
-        arguments = "--bsize 1 --sets 2 --assoc 1 --size 2".split()
-        answer = self.good(self.run_tool("three-c", "-", *arguments, stdin=b"0 0\n0 1\n4 0\n0 0\n0 0\n"))
-        self.assertEqual(answer, HEADER + "1,2,1,2,1,3,0,3,0,0\n")
+        self.judge_rows("--bsize 1 --sets 2 --assoc 1 --size 2", "0 0\n0 1\n4 0\n0 0\n0 0\n",
+                        "1,2,1,2,1,3,0,3,0,0")
 
     def test_more_lines_than_a_set_has(self):
-        arguments = "--bsize 1 --sets 128k --assoc 1 --size 128k".split()
-        # 131,072 lines hold the three blocks; two of them share a set, so one of the four misses is conflict
-        answer = self.good(self.run_tool("three-c", "-", *arguments, stdin=b"0 0\n0 20000\n0 1\n0 0\n"))
-        self.assertEqual(answer, HEADER + "1,131072,1,131072,0,4,2,3,0,1\n")
+        # 131,072 lines hold the three blocks; two of them share a set, so one of the four misses is
+        # conflict
+        self.judge_rows(LARGE, "0 0\n0 20000\n0 1\n0 0\n", "1,131072,1,131072,0,4,2,3,0,1")
         # as many blocks as lines, and one more
-        text = "".join(f"0 {block:x}\n" for block in range(131072)).encode()
-        answer = self.good(self.run_tool("three-c", "-", *arguments, stdin=text))
-        self.assertEqual(answer, HEADER + "1,131072,1,131072,0,131072,0,131072,0,0\n")
-        answer = self.good(self.run_tool("three-c", "-", *arguments, stdin=text + b"0 20000\n"))
-        self.assertEqual(answer, HEADER + "1,131072,1,131072,0,131073,1,131073,,\n")
+        text = walk(131072)
+        self.judge_rows(LARGE, text, "1,131072,1,131072,0,131072,0,131072,0,0")
+        self.judge_rows(LARGE, text + "0 20000\n", "1,131072,1,131072,0,131073,1,131073,,")
 
     def test_more_lines_than_a_set_has_and_flushes(self):
-        """Where the parts between flushes have no more different blocks than the cache has lines, none is a capacity miss."""
-        arguments = "--bsize 1 --sets 128k --assoc 1 --size 128k".split()
-        for blocks, parts, capacity in ((50000, 3, "0,0"), (100000, 3, "0,0"), (131072, 2, "0,0"), (131073, 1, ","), (131073, 2, ",")):
+        """Where the parts between flushes have no more different blocks than the cache has lines,
+        none is a capacity miss."""
+        for blocks, parts, capacity in (
+            (50000, 3, "0,0"), (100000, 3, "0,0"), (131072, 2, "0,0"),
+            (131073, 1, ","), (131073, 2, ","),
+        ):
             for step in (0, blocks):  # the same blocks in each part, or different ones
-                lines = [[f"0 {place + step * part:x}\n" for place in range(blocks)] for part in range(parts)]
-                text = "4 0\n \t4\t7 note\r\n".join(map("".join, lines)).encode()
-                answer = self.good(self.run_tool("three-c", "-", *arguments, stdin=text))
-                misses, evictions = blocks * parts, (blocks - 131072) * parts if blocks > 131072 else 0
-                row = f"1,131072,1,131072,0,{misses},{evictions},{misses},{capacity}\n"
-                self.assertEqual(answer, HEADER + row, (blocks, parts, step))
+                lines = [walk(blocks, step * part) for part in range(parts)]
+                misses, evictions = blocks * parts, max(blocks - 131072, 0) * parts
+                self.judge_rows(LARGE, "4 0\n \t4\t7 note\r\n".join(lines),
+                                f"1,131072,1,131072,0,{misses},{evictions},{misses},{capacity}")
 
     def test_more_lines_than_a_set_has_and_parts_that_differ(self):
-        """The part with the most different blocks decides, whichever it is: with more of them than lines, capacity is not known."""
-        arguments = "--bsize 1 --sets 128k --assoc 1 --size 128k".split()
-        for parts, evictions, capacity in (((131073, 70000), 1, ","), ((70000, 131073), 1, ","), ((131072, 70000), 0, "0,0")):
-            text = " \t4\t7 note\r\n".join("".join(f"0 {place:x}\n" for place in range(blocks)) for blocks in parts).encode()
-            answer = self.good(self.run_tool("three-c", "-", *arguments, stdin=text))
-            self.assertEqual(answer, HEADER + f"1,131072,1,131072,0,{sum(parts)},{evictions},{sum(parts)},{capacity}\n", parts)
+        """The part with the most different blocks decides, whichever it is: with more of them than
+        lines, capacity is not known."""
+        for parts, evictions, capacity in (
+            ((131073, 70000), 1, ","), ((70000, 131073), 1, ","), ((131072, 70000), 0, "0,0")
+        ):
+            misses = sum(parts)
+            self.judge_rows(LARGE, " \t4\t7 note\r\n".join(map(walk, parts)),
+                            f"1,131072,1,131072,0,{misses},{evictions},{misses},{capacity}")
 
     def test_too_many_blocks(self):
         # 16,385 blocks that are alike in their lowest 8 bits
-        text = "".join(f"0 {block * 256:x}\n" for block in range(16385)).encode()
-        arguments = "--bsize 1-2 --sets 1 --assoc 1 --size 1-2".split()
-        self.refused(self.run_tool("three-c", "-", *arguments, stdin=text), 1, "three-c: -: too many different blocks of 1 bytes")
-        answer = self.good(self.run_tool("three-c", "-", *arguments, stdin=text.partition(b"\n")[2]))
-        self.assertEqual(answer, HEADER + "1,1,1,1,0,16384,16383,16384,0,0\n2,1,1,2,0,16384,16383,16384,0,0\n")
+        text = "".join(f"0 {block * 256:x}\n" for block in range(16385))
+        space = "--bsize 1-2 --sets 1 --assoc 1 --size 1-2"
+        ran = self.run_tool("three-c", "-", *space.split(), stdin=text.encode())
+        self.refused(ran, 1, "three-c: -: too many different blocks of 1 bytes")
+        self.judge_rows(space, text.partition("\n")[2], "1,1,1,1,0,16384,16383,16384,0,0",
+                        "2,1,1,2,0,16384,16383,16384,0,0")
 
     def test_empty(self):
-        arguments = "--bsize 16 --sets 1 --assoc 1 --size".split()
-        self.assertEqual(self.good(self.run_tool("three-c", "-", *arguments, "16")), HEADER + "16,1,1,16,0,0,0,0,0,0\n")
-        self.assertEqual(self.good(self.run_tool("three-c", "-", *arguments, "1")), HEADER)
+        self.judge_rows("--bsize 16 --sets 1 --assoc 1 --size 16", "", "16,1,1,16,0,0,0,0,0,0")
+        self.judge_rows("--bsize 16 --sets 1 --assoc 1 --size 1", "")
 
     def test_pages(self):
-        arguments = "--bsize 16-32 --sets 1-4 --assoc 1-2 --size 16-1k".split()
-        trace = base.EXAMPLES / "sort.din"
-        whole = self.good(self.run_tool("three-c", trace, *arguments))
-        first = self.good(self.run_tool("three-c", trace, *arguments, "--rows", "5"))
+        space = "--bsize 16-32 --sets 1-4 --assoc 1-2 --size 16-1k"
+        first = self.table(f"{space} --rows 5", trace=SORT)
         last_row = ",".join(first.split("\n")[5].split(",")[:3])
-        self.assertEqual(first + self.good(self.run_tool("three-c", trace, *arguments, "--after", last_row)), whole)
+        rest = self.table(f"{space} --after {last_row}", trace=SORT)
+        self.assertEqual(first + rest, self.table(space, trace=SORT))
 
     def test_a_sweep_of_a_part_that_fails(self):
         """Whatever the program's path is; its parent is sh or awk."""
         given = "-", "--bsize", 16, "--sets", 65536, "--assoc", 2, "--size", "2m"
-        for end, status in (("", 0), ("case $(< /proc/$PPID/comm) in sh | *awk) cat > /dev/null; exit 3 ;; esac", 1)):
+        fails = "case $(< /proc/$PPID/comm) in sh | *awk) cat > /dev/null; exit 3 ;; esac"
+        for end, status, rows in (
+            ("", 0, ["16,65536,2,2097152,69999,2,0,2,0,0"]), (fails, 1, [])
+        ):
             program = self.executable("it's $a program", end, f"exec '{base.PROGRAM}' \"$@\"")
-            ran = self.run_tool("three-c", *given, stdin=70000 * b"0 10\n" + b"4 0\n0 10\n", env={"CACHESIM": str(program)})
+            text, env = 70000 * b"0 10\n" + b"4 0\n0 10\n", {"CACHESIM": str(program)}
+            ran = self.run_tool("three-c", *given, stdin=text, env=env)
             self.assertEqual(ran.returncode, status, ran.stderr)
-            self.assertEqual(ran.stdout.decode().splitlines()[1:], ["16,65536,2,2097152,69999,2,0,2,0,0"] * (not status))
+            self.assertEqual(ran.stdout.decode().splitlines()[1:], rows)
 
     def test_faults_of_arguments(self):
         for given, fault in (
@@ -183,7 +206,8 @@ class ThreeC(reading_base.Reading, base.ToolTest):
     def test_a_reader_that_fails(self):
         """Those who wait for it are ended."""
         env = self.stand_in("tee", "echo 'tee: failed' >&2; exit 1")
-        self.refused(self.run_tool("three-c", base.EXAMPLES / "sort.din", *self.OPTIONS, env=env, seconds=20), 1, "tee: failed\n")
+        ran = self.run_tool("three-c", SORT, *self.OPTIONS, env=env, seconds=20)
+        self.refused(ran, 1, "tee: failed\n")
 
     def test_interrupt(self):
         """However far it is, it ends at once without a word, and nothing is left."""
