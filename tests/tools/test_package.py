@@ -17,55 +17,62 @@ SPACE = ["--bsize", "16-32", "--sets", "1-8", "--assoc", "1-2", "--size", "64-25
 
 def run(*arguments, **given):
     """Runs a command; what it writes is text."""
-    given = {"timeout": 120, "check": False, "text": True, "capture_output": True, "stdin": subprocess.DEVNULL, **given}
-    return subprocess.run([str(word) for word in arguments], **given)
+    given = {"timeout": 120, "text": True, "stdin": subprocess.DEVNULL, **given}
+    return subprocess.run([str(word) for word in arguments], capture_output=True, **given)
+
+
+def crates():
+    """The crates of crates.txt, and all that it names for them."""
+    lines = (line.partition("#")[0] for line in (TOP / "crates.txt").read_text().splitlines())
+    ours, _, used = zip(*(line.partition(":") for line in lines if ":" in line))
+    return {crate.strip() for crate in ours}, set(" ".join(used).split())
 
 
 class Version(ToolTest):
     def test_the_program_and_the_changes_name_the_same(self):
         version = self.good(self.run_command(PACKAGING / "version")).strip()
         self.assertRegex(version, r"^\d+\.\d+\.\d+$")
-        helped = self.good(self.run_command(PROGRAM, "--help")).splitlines()
-        self.assertEqual([line for line in helped if re.fullmatch(r"cachesim [\d.]+", line)], [f"cachesim {version}"])
+        helped = self.good(self.run_command(PROGRAM, "--help"))
+        self.assertEqual(re.findall(r"(?m)^cachesim [\d.]+$", helped), [f"cachesim {version}"])
 
     def test_the_top_entry_counts(self):
         top = self.folder / "copy"
         (top / "package").mkdir(parents=True)
         copy_tools(top / "tools")
         shutil.copy(PACKAGING / "version", top / "package")
-        changes = top / "CHANGELOG.md"
+        changes, tool = top / "CHANGELOG.md", top / "package/version"
+        older = "## 1.0.0 (2026-11-23)\n"
         for text, version, date in (
-            ("# Changes\n\n## 1.2.3 (2027-01-31)\n\n- x\n\n## 1.0.0 (2026-11-23)\n", "1.2.3\n", "2027-01-31\n"),
+            (f"# Changes\n\n## 1.2.3 (2027-01-31)\n\n- x\n\n{older}", "1.2.3\n", "2027-01-31\n"),
             ("## 10.0.0 (2027-12-01)\n", "10.0.0\n", "2027-12-01\n"),
         ):
             changes.write_text(text)
-            self.assertEqual(self.good(self.run_command(top / "package/version")), version)
-            self.assertEqual(self.good(self.run_command(top / "package/version", "--date")), date)
-        for text in ("# Changes\n", "## Unreleased\n\n## 1.0.0 (2026-11-23)\n", "## 1.0 (2026-11-23)\n", "## 1.0.0\n"):
+            self.assertEqual(self.good(self.run_command(tool)), version)
+            self.assertEqual(self.good(self.run_command(tool, "--date")), date)
+        for text in ("# Changes\n", f"## Unreleased\n\n{older}", "## 1.0 (2026-11-23)\n",
+                     "## 1.0.0\n"):
             changes.write_text(text)
-            self.refused(self.run_command(top / "package/version"), 1, "version: ", "CHANGELOG.md")
+            self.refused(self.run_command(tool), 1, "version: ", "CHANGELOG.md")
 
     def test_each_change_is_in_the_packages_history(self):
         entries = (TOP / "CHANGELOG.md").read_text().partition("\n## ")[2].split("\n")
-        points = [line for line, before in zip(entries[1:], entries) if line[:2] == "- " or line and not before and line[0] != "#"]
+        points = [line for line, before in zip(entries[1:], entries)
+                  if line[:2] == "- " or line and not before and line[0] != "#"]
         text = self.good(self.run_command(PACKAGING / "changelog", "A Name <name@example.org>"))
         self.assertEqual(text.count("\n  * "), len(points))
 
     def test_copyright_names_what_is_linked(self):
-        """Of the kit's ports those whose code the program has, and those that crates.txt names, are all."""
-        ours = {line.split(":")[0] for line in (TOP / "crates.txt").read_text().splitlines()}
-        used = {name for line in (TOP / "crates.txt").read_text().splitlines() for name in line.partition(":")[2].split()}
+        """Of the kit's ports it names those whose code the program has, and those of crates.txt."""
+        ours, used = crates()
         linked = set(re.findall(r" [tT] (\w+)::", run("nm", "-C", PROGRAM).stdout))
-        kits_own = {name for name in linked if name in ("core", "io", "libc", "os") or name.startswith("std")}
-        named = set(re.findall(r"(?m)^    ([a-z]\w+)  +(?:Copyright|\(no)", (PACKAGING / "debian/copyright").read_text()))
+        kits_own = {name for name in linked if re.fullmatch("core|io|libc|os|std.*", name)}
+        text = (PACKAGING / "debian/copyright").read_text()
+        named = set(re.findall(r"(?m)^    ([a-z]\w+)  +(?:Copyright|\(no)", text))
         self.assertIn("strsim", linked)
         self.assertEqual(named, (used | linked) - ours - kits_own)
 
     def test_copyright_names_each_library_of_the_kit(self):
-        ours = {line.split()[0].rstrip(":") for line in (TOP / "crates.txt").read_text().splitlines() if ":" in line}
-        used = set()
-        for line in (TOP / "crates.txt").read_text().splitlines():
-            used |= set(line.partition("#")[0].partition(":")[2].split())
+        ours, used = crates()
         text = (PACKAGING / "debian/copyright").read_text()
         self.assertIn("clap", used - ours)
         for library in used - ours:
@@ -75,14 +82,14 @@ class Version(ToolTest):
 class Missing(MakeTest):
     def test_a_missing_package_is_named(self):
         path = self.path_without("dh")
-        told = "deb: dh is missing: apt-get install debhelper\n"
-        self.refused(self.run_command(self.top / "package/deb", env={"PATH": path}), 1, told)
+        ran = self.run_command(self.top / "package/deb", env={"PATH": path})
+        self.refused(ran, 1, "deb: dh is missing: apt-get install debhelper\n")
         self.assertFalse((self.top / "out").exists())
 
 
 @needs("debhelper", "lowdown", "man-db")
 class Package(unittest.TestCase):
-    """The Debian package, made from a copy of the repository, and installed into a folder of its own."""
+    """The Debian package, made from a copy of the repository, and installed into its own folder."""
 
     maxDiff = 4000
 
@@ -99,11 +106,13 @@ class Package(unittest.TestCase):
 
     @classmethod
     def make(cls, to):
-        env = {**os.environ, "SOURCE_DATE_EPOCH": "1795388123", "DEBFULLNAME": "A Tester", "DEBEMAIL": "tester@example.org"}
-        return run(cls.top / "package/deb", cls.top / to, env=env)
+        own = {"SOURCE_DATE_EPOCH": "1795388123", "DEBFULLNAME": "A Tester",
+               "DEBEMAIL": "tester@example.org"}
+        return run(cls.top / "package/deb", cls.top / to, env={**os.environ, **own})
 
     def setUp(self):
-        self.assertEqual((self.made.returncode, self.made.stdout), (0, f"made: {self.package}\n"), self.made.stderr)
+        told = f"made: {self.package}\n"
+        self.assertEqual((self.made.returncode, self.made.stdout), (0, told), self.made.stderr)
 
     def field(self, name):
         return run("dpkg-deb", "-f", self.package, name).stdout.strip()
@@ -114,7 +123,8 @@ class Package(unittest.TestCase):
         self.assertEqual(self.field("Maintainer"), "A Tester <tester@example.org>")
         # 2.34 has the newest symbol that the program needs, __libc_start_main
         self.assertIn("libc6 (>= 2.34)", self.field("Depends"))
-        self.assertEqual(self.field("Recommends"), "gnuplot-nox | gnuplot, llvm, python3, qemu-user, valgrind")
+        recommended = "gnuplot-nox | gnuplot, llvm, python3, qemu-user, valgrind"
+        self.assertEqual(self.field("Recommends"), recommended)
         self.assertIn("parallel", self.field("Suggests"))
         suggested = self.field("Suggests").split(", ")
         self.assertEqual(suggested, sorted(set(suggested)))
@@ -122,15 +132,17 @@ class Package(unittest.TestCase):
 
     def test_what_the_tools_name_is_suggested(self):
         """And nothing else, but what runs the list that cachesim-pages writes."""
-        named = {"parallel"}
+        named, package = {"parallel"}, r"([a-z][\w+.-]*\w)"
         for path in TOOLS.rglob("[!.]*"):
             if path.is_file() and path.suffix not in (".c", ".h", ".md"):
                 text = path.read_text(errors="replace")
-                named |= set(re.findall(r"apt-get install ([a-z][\w+.-]*\w)", text))
-                named |= set(re.findall(r"^[^#\n]*\bneeds \S+ ([a-z][\w+.-]*\w)(?: *&&| *;| *$)", text, re.MULTILINE))
-        there = set(re.findall(r"[a-z][\w+.-]*", self.field("Recommends") + ", " + self.field("Suggests")))
+                named |= set(re.findall(f"apt-get install {package}", text))
+                needs_it = rf"(?m)^[^#\n]*\bneeds \S+ {package}(?: *&&| *;| *$)"
+                named |= set(re.findall(needs_it, text))
+        suggested = self.field("Suggests")
+        there = set(re.findall(r"[a-z][\w+.-]*", f"{self.field('Recommends')}, {suggested}"))
         self.assertEqual(named - there, set())
-        self.assertEqual(set(self.field("Suggests").split(", ")) - named, set())
+        self.assertEqual(set(suggested.split(", ")) - named, set())
         self.assertEqual({"gnuplot-nox", "qemu-user", "valgrind"} - named, set())
 
     def test_names_owners_and_modes(self):
@@ -144,25 +156,30 @@ class Package(unittest.TestCase):
         self.assertEqual(modes["./usr/lib/cachesim/lib/lib.bash"], "-rw-r--r--")
         documents = [f"docs/{path.name}" for path in (TOP / "docs").glob("*.md")]
         self.assertIn("docs/cookbook.md", documents)
-        for name in ("copyright", "CHANGELOG.md", "README.md", "tools/README.md", "examples/sort.din", *documents):
-            self.assertEqual(modes[f"./usr/share/doc/cachesim/{name}"], "-rw-r--r--")
-        for name in "bash-completion/completions/cachesim zsh/vendor-completions/_cachesim".split():
+        documents += "copyright CHANGELOG.md README.md tools/README.md examples/sort.din".split()
+        for name in (
+            *(f"doc/cachesim/{name}" for name in documents),
+            "bash-completion/completions/cachesim", "zsh/vendor-completions/_cachesim",
+            "man/man1/cachesim.1.gz", "man/man1/cachesim-best.1.gz",
+            "fish/vendor_completions.d/cachesim.fish",
+        ):
             self.assertEqual(modes[f"./usr/share/{name}"], "-rw-r--r--")
-        for name in "man/man1/cachesim.1.gz man/man1/cachesim-best.1.gz fish/vendor_completions.d/cachesim.fish".split():
-            self.assertEqual(modes[f"./usr/share/{name}"], "-rw-r--r--")
-        self.assertEqual(set(modes.values()) - {"drwxr-xr-x", "-rw-r--r--", "-rwxr-xr-x", "lrwxrwxrwx"}, set())
+        known = {"drwxr-xr-x", "-rw-r--r--", "-rwxr-xr-x", "lrwxrwxrwx"}
+        self.assertEqual(set(modes.values()) - known, set())
 
     def test_each_file_has_its_sum(self):
         run("dpkg-deb", "-R", self.package, self.folder / "raw")
         listed = (self.folder / "raw/DEBIAN/md5sums").read_text().splitlines()
         ran = run("md5sum", "--quiet", "-c", "DEBIAN/md5sums", cwd=self.folder / "raw")
         self.assertEqual((ran.returncode, ran.stdout), (0, ""))
-        files = [path for path in (self.folder / "raw/usr").rglob("*") if path.is_file() and not path.is_symlink()]
+        files = [path for path in (self.folder / "raw/usr").rglob("*")
+                 if path.is_file() and not path.is_symlink()]
         self.assertEqual(len(listed), len(files))
 
     def test_the_same_files_make_the_same_package(self):
         self.assertEqual(self.make("again").returncode, 0)
-        self.assertEqual((self.top / "again" / self.package.name).read_bytes(), self.package.read_bytes())
+        again = self.top / "again" / self.package.name
+        self.assertEqual(again.read_bytes(), self.package.read_bytes())
 
     @needs("lintian")
     def test_lintian_finds_nothing(self):
@@ -177,7 +194,8 @@ class Package(unittest.TestCase):
         (root / "var/lib/dpkg/status").touch()
         as_root = [] if os.geteuid() == 0 else ["unshare", "--map-root-user"]
         env = {**os.environ, "PATH": f"{os.environ['PATH']}:/usr/sbin:/sbin"}
-        ran = run(*as_root, "dpkg", f"--root={root}", "--force-depends", "--path-include=/usr/share/*", *arguments, env=env)
+        words = (f"--root={root}", "--force-depends", "--path-include=/usr/share/*", *arguments)
+        ran = run(*as_root, "dpkg", *words, env=env)
         self.assertEqual(ran.returncode, 0, ran.stdout + ran.stderr)
 
     def test_installed_run_and_removed(self):
@@ -190,10 +208,12 @@ class Package(unittest.TestCase):
     def works(self, usr):
         """What is installed does what it should, without the checkout."""
         env = {"PATH": f"{usr}/bin:/usr/bin:/bin", "HOME": str(self.folder), "LC_ALL": "C.UTF-8"}
-        self.assertIn(f"\ncachesim {self.version}\n", run(usr / "bin/cachesim", "--help", env=env).stdout)
-        self.assertEqual((usr / "bin/cachesim").read_bytes(), PROGRAM.read_bytes())
-        ran = run(usr / "bin/cachesim", "sweep", *SPACE, "-t", usr / "share/doc/cachesim/examples/sort.din", env=env)
-        self.assertEqual(ran.stdout, run(PROGRAM, "sweep", *SPACE, "-t", EXAMPLES / "sort.din").stdout)
+        program, examples = usr / "bin/cachesim", usr / "share/doc/cachesim/examples"
+        self.assertIn(f"\ncachesim {self.version}\n", run(program, "--help", env=env).stdout)
+        self.assertEqual(program.read_bytes(), PROGRAM.read_bytes())
+        ran = run(program, "sweep", *SPACE, "-t", examples / "sort.din", env=env)
+        wanted = run(PROGRAM, "sweep", *SPACE, "-t", EXAMPLES / "sort.din")
+        self.assertEqual(ran.stdout, wanted.stdout)
         table = self.folder / "table.csv"
         table.write_text(ran.stdout)
         best = run(usr / "bin/cachesim-best", table, env=env)
@@ -201,9 +221,11 @@ class Package(unittest.TestCase):
         self.assertIn("percent", best.stdout)
         lackey = "I  04016d80,3\n L 1ffeffe7e,1\n S 1ffeffe80,8\n"
         ran = run(usr / "bin/cachesim-to-din", "lackey", env=env, input=lackey, stdin=None)
-        self.assertEqual((ran.stdout.split(), ran.returncode), ("2 4016d80 0 1ffeffe7e 1 1ffeffe80".split(), 0), ran.stderr)
-        pages = run("man", "-M", usr / "share/man", "-w", "cachesim", "cachesim-best", env=env).stdout
-        self.assertEqual(pages, "".join(f"{usr}/share/man/man1/{name}.1.gz\n" for name in ("cachesim", "cachesim-best")))
+        din = "2 4016d80\n0 1ffeffe7e\n1 1ffeffe80\n"
+        self.assertEqual((ran.stdout, ran.returncode), (din, 0), ran.stderr)
+        manual, names = usr / "share/man", ("cachesim", "cachesim-best")
+        pages = run("man", "-M", manual, "-w", *names, env=env).stdout
+        self.assertEqual(pages, "".join(f"{manual}/man1/{name}.1.gz\n" for name in names))
         completion = usr / "share/bash-completion/completions/cachesim"
         loaded = run("bash", "-c", f". '{completion}' && complete -p cachesim", env=env)
         self.assertEqual(loaded.stdout, "complete -F _cachesim cachesim\n")
@@ -217,17 +239,16 @@ class Package(unittest.TestCase):
             self.assertTrue(os.readlink(link).startswith("../lib/cachesim/"))
             ran = run(link, "--help", env={"PATH": f"{link.parent}:/usr/bin:/bin"})
             self.assertEqual(ran.returncode, 0, ran.stderr)
-            page = tree / "usr/share/man/man1" / f"{link.name}.1.gz"
-            self.assertIn(link.name.replace("-", "\\-"), gzip.decompress(page.read_bytes()).decode())
+            packed = (tree / f"usr/share/man/man1/{link.name}.1.gz").read_bytes()
+            self.assertIn(link.name.replace("-", "\\-"), gzip.decompress(packed).decode())
 
     def test_nothing_of_the_kit_is_needed(self):
-        needed = re.findall(r"^\s*(?:/\S*/)?([\w.-]+?)(?:\.so\S*)", run("ldd", PROGRAM).stdout, re.M)
+        needed = re.findall(r"(?m)^\s*(?:/\S*/)?([\w.-]+?)(?:\.so\S*)", run("ldd", PROGRAM).stdout)
         self.assertEqual(set(needed), {"linux-vdso", "libc", "ld-linux-x86-64"})
 
     @needs("qemu-user")
     def test_the_processor_that_it_needs(self):
-        ran = run("qemu-x86_64", "-cpu", "Nehalem", PROGRAM, "--help")
-        self.assertEqual(ran.returncode, 0, ran.stderr)
-        ran = run("qemu-x86_64", "-cpu", "qemu64", PROGRAM, "--help")
-        self.assertEqual(ran.returncode, 127)
+        for processor, status in ("Nehalem", 0), ("qemu64", 127):
+            ran = run("qemu-x86_64", "-cpu", processor, PROGRAM, "--help")
+            self.assertEqual(ran.returncode, status, ran.stderr)
         self.assertIn("x86-64-v2", ran.stdout + ran.stderr)
