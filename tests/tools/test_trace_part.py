@@ -29,8 +29,9 @@ class Parts(TraceTest):
     def same_as_cut(self, program, base=0, **given):
         """Parts of a run have the lines that are cut from its whole trace."""
         whole, _ = self.traced_to_file(program, **given)
-        for begin, end in (("main", None), ("enter", "leave"), (None, "leave"), ("leave", "enter"), ("leave", "leave")):
-            options = [f"--{name}={function}" for name, function in (("from", begin), ("to", end)) if function]
+        for begin, end in (("main", None), ("enter", "leave"), (None, "leave"), ("leave", "enter"),
+                           ("leave", "leave")):
+            options = [f"--from={begin}"] * bool(begin) + [f"--to={end}"] * bool(end)
             lines, _ = self.traced_to_file(*options, program, **given)
             expected = cut(whole, self.place(program, begin, base), self.place(program, end, base))
             self.assertGreater(len(expected), 150)
@@ -39,7 +40,8 @@ class Parts(TraceTest):
     def base_of(self, program, **given):
         """Where QEMU loads a position-independent program."""
         self.traced_to_file("--map", "map", program, **given)
-        return int(re.search(rf"^(\w+)-\w+ \S+ 0+ .*{re.escape(str(program))}$", (self.folder / "map").read_text(), re.M)[1], 16)
+        first = rf"(?m)^(\w+)-\w+ \S+ 0+ .*{re.escape(str(program))}$"
+        return int(re.search(first, (self.folder / "map").read_text())[1], 16)
 
     def test_a_static_program(self):
         self.same_as_cut(traced("parts"))
@@ -53,9 +55,10 @@ class Parts(TraceTest):
             self.same_as_cut(program, self.base_of(program))
 
     def test_programs_that_qemu_has_moved(self):
-        for program in (traced("parts"), program_of(TRACED / "parts.c", "-fpie", "-pie")):
-            given = {"env": {"QEMU_GUEST_BASE": "0x100000000000"}}
-            self.same_as_cut(program, self.base_of(program, **given) if "-pie" in program.name else 0, **given)
+        given = {"env": {"QEMU_GUEST_BASE": "0x100000000000"}}
+        self.same_as_cut(traced("parts"), **given)
+        program = program_of(TRACED / "parts.c", "-fpie", "-pie")
+        self.same_as_cut(program, self.base_of(program, **given), **given)
 
     @needs("gcc-aarch64-linux-gnu")
     def test_another_machine(self):
@@ -67,31 +70,37 @@ class Parts(TraceTest):
     def test_kinds_skip_and_count(self):
         program, part = traced("parts"), ("--from", "enter", "--to", "leave")
         lines, _ = self.traced_to_file(*part, program)
-        data, fetches = ([line for line in lines if (line[0] == "2") == is_fetch] for is_fetch in (False, True))
-        for kind, expected in (("u", lines), ("d", data), ("i", fetches)):
+        for kind, labels in (("u", "012"), ("d", "01"), ("i", "2")):
+            expected = [line for line in lines if line[0] in labels]
             self.same(self.traced_to_file(*part, "--kind", kind, program)[0], expected)
-            self.same(self.traced_to_file(*part, f"--kind={kind}", "--skip=70", "--count=80", program)[0], expected[70:150])
+            some = (*part, f"--kind={kind}", "--skip=70", "--count=80")
+            self.same(self.traced_to_file(*some, program)[0], expected[70:150])
 
     def test_the_calls_of_one_thread_count_for_all(self):
-        program = traced("parts")
-        lines, _ = self.traced_to_file("--kind", "d", "--from", "enter", "--to", "leave", program, "threads")
-        self.assertEqual(self.own_data(lines, program, "inside", "outside"), [("1", "inside", 4 * at) for at in range(3 * 50)])
+        program, part = traced("parts"), ("--from", "enter", "--to", "leave")
+        lines, _ = self.traced_to_file("--kind", "d", *part, program, "threads")
+        self.assertEqual(self.own_data(lines, program, "inside", "outside"),
+                         [("1", "inside", 4 * at) for at in range(3 * 50)])
 
     def test_what_is_not_called(self):
         program = traced("parts")
-        self.same(self.traced_to_file("--to", "not_called", program)[0], self.traced_to_file(program)[0])
-        self.fault(self.trace("--from", "not_called", "--to", "main", program), 125, "not_called was never called, or only inlined")
-        self.fault(self.trace("--from", "enter", program, "fork"), 125, "enter was never called, or only inlined")
+        lines, _ = self.traced_to_file("--to", "not_called", program)
+        self.same(lines, self.traced_to_file(program)[0])
+        for name, *words in (("not_called", "--to", "main", program), ("enter", program, "fork")):
+            ran = self.trace("--from", name, *words)
+            self.fault(ran, 125, f"{name} was never called, or only inlined")
 
     def test_a_map(self):
         """It is that of the whole run, with the stack."""
         program = program_of(TRACED / "parts.c", "-fpie", "-pie")
-        self.traced_to_file("--map", "whole", program)
+        self.traced_to_file("--map", "map", program)
+        whole = (self.folder / "map").read_text()
+        part = ("--from", "enter", "--to", "leave")
         for kind in "udi":
-            lines, _ = self.traced_to_file("--map", "map", "--kind", kind, "--from", "enter", "--to", "leave", program)
+            lines, _ = self.traced_to_file("--map", "part", "--kind", kind, *part, program)
             self.assertGreater(len(lines), 150)
-            self.assertEqual((self.folder / "map").read_text(), (self.folder / "whole").read_text())
-        self.assertEqual((self.folder / "map").read_text().count("[stack]\n"), 1)
+            self.assertEqual((self.folder / "part").read_text(), whole)
+        self.assertEqual(whole.count("[stack]\n"), 1)
 
     def test_an_interpreter(self):
         script = self.write("script", f"#!{shutil.copy(traced('parts'), self.folder / 'parts')}\n")
@@ -108,15 +117,18 @@ class Parts(TraceTest):
         for name in ("Tree::walk", "Tree::walk(int)", "_ZN4Tree4walkEi"):
             lines, _ = self.traced_to_file("--from", name, program)
             self.assertEqual(lines[0], ("2", self.place(program, "_ZN4Tree4walkEi")))
-        self.fault(self.trace("--from", "walk", program), 125, f"{program} has no function walk: ", "; there is Tree::walk(int)\n")
+        ran = self.trace("--from", "walk", program)
+        self.fault(ran, 125, f"{program} has no function walk: ", "; there is Tree::walk(int)\n")
 
     def test_names_that_are_refused(self):
         program = program_of(TRACED / "parts.c", "-fpie", "-pie")
         for name in ("exit", "inside", "ente", "nter", "enter()", ".*"):
             ran = self.trace("--from", "main", "--to", name, program)
-            self.fault(ran, 125, f"{program} has no function {name}: those of shared libraries can't be named")
+            told = f"{program} has no function {name}: those of shared libraries can't be named"
+            self.fault(ran, 125, told)
         subprocess.run(["strip", "-o", self.folder / "stripped", program], check=True)
-        self.fault(self.trace("--from", "main", "./stripped"), 125, "./stripped has no function main: it is stripped")
+        ran = self.trace("--from", "main", "./stripped")
+        self.fault(ran, 125, "./stripped has no function main: it is stripped")
 
     def test_without_symbols_but_those_for_libraries(self):
         program = program_of(TRACED / "parts.c", "-fpie", "-pie", "-rdynamic")
@@ -125,9 +137,10 @@ class Parts(TraceTest):
         self.assertEqual(lines, [("2", self.place(program, "enter", self.base_of(program)))])
 
     def test_with_lackey(self):
+        told = "--from, --to, --during, --libraries, --any-version and --map are for QEMU"
         for option in ("--from", "--to", "--during"):
             ran = self.run_tool("trace", "--with", "lackey", option, "main", traced("parts"))
-            self.fault(ran, 125, "--from, --to, --during, --libraries, --any-version and --map are for QEMU")
+            self.fault(ran, 125, told)
 
 
 @needs("qemu-user", "binutils")
@@ -135,33 +148,38 @@ class During(TraceTest):
     """Tracing the calls of one function."""
 
     CALLS = "-fno-optimize-sibling-calls"
+    WRITTEN = [0, 10, 1, 0, 10, 11, 2, 1, 0, 10, 11, 12]
 
     def written(self, *arguments, program=None):
-        """What the traced part writes, as places in `inside`, and `outside` before those in the other array."""
-        lines, _ = self.traced_to_file("--during", "f", program or traced("during"), *arguments)
-        found = self.own_data(lines, program or traced("during"), "inside", "outside")
-        return [at // 4 if name == "inside" else (name, at // 4) for label, name, at in found if label == "1"], lines
+        """What the traced part writes, as places in `inside`, and `outside` before those in the
+        other array."""
+        program = program or traced("during")
+        lines, _ = self.traced_to_file("--during", "f", program, *arguments)
+        found = self.own_data(lines, program, "inside", "outside")
+        return [at // 4 if name == "inside" else (name, at // 4)
+                for label, name, at in found if label == "1"], lines
 
     def test_calls(self):
         """From several places, with what they call; one within another belongs to the outermost."""
-        programs = [program_of(TRACED / "during.c", "-static", self.CALLS), program_of(TRACED / "during.c", self.CALLS)]
-        for program in programs:
+        for flags in (["-static"], []):
+            program = program_of(TRACED / "during.c", *flags, self.CALLS)
             found, lines = self.written(program=program)
-            self.assertEqual(found, [0, 10, 1, 0, 10, 11, 2, 1, 0, 10, 11, 12])
+            self.assertEqual(found, self.WRITTEN)
             whole, _ = self.traced_to_file(program)
             first = whole.index(("2", symbols_of(program)["f"][0]))
             # the first call does not go deeper: it is all up to its second return
             ends = [at for at, line in enumerate(lines) if line == lines[0]][1]
             self.assertEqual(lines[:ends], whole[first:first + ends])
             self.assertNotEqual(whole[first + ends], lines[ends])
-            for kind in "di":
+            for kind, labels in ("d", "01"), ("i", "2"):
                 other, _ = self.traced_to_file("--during", "f", "--kind", kind, program)
-                self.assertEqual(other, [line for line in lines if (line[0] == "2") == (kind == "i")])
+                self.assertEqual(other, [line for line in lines if line[0] in labels])
 
     @needs("gcc-aarch64-linux-gnu")
     def test_another_machine(self):
-        program = program_of(TRACED / "during.c", "-static", self.CALLS, compiler="aarch64-linux-gnu-gcc")
-        self.assertEqual(self.written(program=program)[0], [0, 10, 1, 0, 10, 11, 2, 1, 0, 10, 11, 12])
+        given = {"compiler": "aarch64-linux-gnu-gcc"}
+        program = program_of(TRACED / "during.c", "-static", self.CALLS, **given)
+        self.assertEqual(self.written(program=program)[0], self.WRITTEN)
 
     def test_a_thread(self):
         self.assertEqual(self.written("thread")[0], [1, 0, 10, 11])
@@ -172,7 +190,10 @@ class During(TraceTest):
 
     def test_faults(self):
         jumping = program_of(TRACED / "during.c", "-static", "-foptimize-sibling-calls")
-        self.fault(self.trace("--during", "f", jumping), 125, "a jump led to f, not a call: -fno-optimize-sibling-calls makes them calls")
-        self.fault(self.trace("--during", "f", jumping, "never"), 125, "f was never called, or only inlined")
-        for option in ("--from", "--to"):
-            self.fault(self.trace("--during", "f", option, "main", jumping), 125, "--during goes without --from and --to")
+        without = "--during goes without --from and --to"
+        for words, fault in (
+            ([jumping], f"a jump led to f, not a call: {self.CALLS} makes them calls"),
+            ([jumping, "never"], "f was never called, or only inlined"),
+            (["--from", "main", jumping], without), (["--to", "main", jumping], without),
+        ):
+            self.fault(self.trace("--during", "f", *words), 125, fault)

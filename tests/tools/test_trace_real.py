@@ -1,6 +1,7 @@
 """Tracing programs by QEMU and by lackey."""
 
 import fcntl
+import itertools
 import os
 import pty
 import shutil
@@ -12,59 +13,68 @@ from base import EXAMPLES, copy_tools, needs
 from trace_base import SPACE, TRACED, TraceTest, program_of, symbols_of, traced, within
 
 
+def places(kind, name, count, size=4):
+    """The accesses of one kind to the things of an array, one by one."""
+    return [(kind, name, size * at) for at in range(count)]
+
+
 class Both:
     """What is the same with each tracer."""
+
+    def of_data(self, program, *names, arguments=(), **given):
+        """The data references of a whole run to things of a program."""
+        lines, _ = self.traced_to_file("--kind", "d", program, *arguments, **given)
+        return self.own_data(lines, program, *names)
 
     def test_exactly_the_accesses_of_a_known_program(self):
         self.known(traced("known"))
 
     def known(self, program, *options):
         lines, _ = self.traced_to_file(*options, program)
-        places = ("numbers", "longs", "bytes")
-        expected = [("1", "numbers", 4 * at) for at in range(1000)] + [("0", "numbers", 4 * at) for at in range(999, -1, -3)]
-        expected += [(label, "longs", 8 * at) for at in range(10) for label in "01"] + [("0", "bytes", 0), ("1", "bytes", 2)]
-        self.assertEqual(self.own_data(lines, program, *places), expected)
+        names = ("numbers", "longs", "bytes")
+        expected = places("1", "numbers", 1000) + places("0", "numbers", 1000)[::-3]
+        expected += [(label, "longs", 8 * at) for at in range(10) for label in "01"]
+        expected += [("0", "bytes", 0), ("1", "bytes", 2)]
+        self.assertEqual(self.own_data(lines, program, *names), expected)
 
         main = symbols_of(program)["main"]
-        before = None  # each access follows the fetch of its instruction, or another access of the same
+        # each access follows the fetch of its instruction, or another access of the same
+        before = None
         for label, at in lines:
-            if label != "2" and any(within(symbols_of(program)[name], at) for name in places):
+            if label != "2" and any(within(symbols_of(program)[name], at) for name in names):
                 self.assertTrue(within(main, before), f"{label} {at:x} behind {before:x}")
             before = at if label == "2" else before
 
         fetches = [at for label, at in lines if label == "2" and within(main, at)]
         data, _ = self.traced_to_file(*options, "--kind", "d", program)
         self.assertEqual({label for label, _ in data}, {"0", "1"})
-        self.assertEqual(self.own_data(data, program, *places), expected)
+        self.assertEqual(self.own_data(data, program, *names), expected)
         only_fetches, _ = self.traced_to_file(*options, "--kind", "i", program)
         self.assertEqual({label for label, _ in only_fetches}, {"2"})
         self.assertEqual([at for _, at in only_fetches if within(main, at)], fetches)
 
     def test_a_transposed_matrix(self):
         program = program_of(EXAMPLES / "transpose.c", "-static")
+        corners = list(itertools.product(range(0, 32, 8), repeat=2))
         order = {
-            (): [(i, j) for i in range(32) for j in range(32)],
-            ("blocks",): [(r + i, c + j) for r in range(0, 32, 8) for c in range(0, 32, 8) for i in range(8) for j in range(8)],
+            (): itertools.product(range(32), repeat=2),
+            ("blocks",): [(r + i, c + j) for r, c in corners for i in range(8) for j in range(8)],
         }
         for arguments, pairs in order.items():
-            lines, _ = self.traced_to_file("--kind", "d", program, *arguments)
-            expected = [access for i, j in pairs for access in (("0", "a", 4 * (32 * i + j)), ("1", "b", 4 * (32 * j + i)))]
-            self.assertEqual(self.own_data(lines, program, "a", "b"), expected)
+            expected = [access for i, j in pairs
+                        for access in (("0", "a", 4 * (32 * i + j)), ("1", "b", 4 * (32 * j + i)))]
+            self.assertEqual(self.of_data(program, "a", "b", arguments=arguments), expected)
 
     def test_four_threads(self):
-        program = traced("threads")
-        lines, _ = self.traced_to_file("--kind", "d", program)
         rows = [[], [], [], []]
-        for label, _, offset in self.own_data(lines, program, "rows"):
+        for label, _, offset in self.of_data(traced("threads"), "rows"):
             self.assertEqual(label, "1")
             rows[offset // 80000].append(offset % 80000 // 4)
         for row in rows:
             self.assertEqual(row, list(range(20000)))
 
     def test_threads_that_take_turns(self):
-        program = traced("turns")
-        lines, _ = self.traced_to_file("--kind", "d", program)
-        self.assertEqual(self.own_data(lines, program, "rows"), [("1", "rows", 4 * at) for at in range(1000)])
+        self.assertEqual(self.of_data(traced("turns"), "rows"), places("1", "rows", 1000))
 
     def test_ways_to_end(self):
         program = traced("ends")
@@ -75,39 +85,40 @@ class Both:
             self.assertEqual(ran.returncode, status, way)
             exec_is_told = b"trace: the program became another by exec" in ran.stderr
             self.assertEqual(exec_is_told, way == "exec" and self.with_ == "qemu")
-            written = self.own_data(self.lines((self.folder / "trace.din").read_text()), program, "numbers")
-            self.assertEqual(written, [("1", "numbers", 4 * at) for at in range(10007)], way)
+            self.all_numbers_are_there(way)
 
     def test_children_are_left_out(self):
         program = traced("forks")
-        message = "trace: the program forked, and what its children did is not in the trace\n" if self.with_ == "qemu" else ""
+        message = "trace: the program forked, and what its children did is not in the trace\n"
+        message *= self.with_ == "qemu"
         lines, out = self.traced_to_file("--kind", "d", program, status=5, message=message)
         self.assertEqual(out, "child\nanother\n")
         written = self.own_data(lines, program, "parents", "childs")
-        self.assertEqual(written, [("1", "parents", 4 * at) for at in range(27003)])
+        self.assertEqual(written, places("1", "parents", 27003))
 
     def test_a_program_that_closes_what_it_does_not_know(self):
-        program = traced("closes")
-        lines, _ = self.traced_to_file("--kind", "d", program, "own file")
-        self.assertEqual(self.own_data(lines, program, "numbers"), [("1", "numbers", 4 * at) for at in range(20000)])
+        written = self.of_data(traced("closes"), "numbers", arguments=["own file"])
+        self.assertEqual(written, places("1", "numbers", 20000))
         self.assertEqual((self.folder / "own file").read_text(), "own\n" * 37)
 
     def test_input_and_output(self):
         lines, out = self.traced_to_file("cat", stdin=b"some words\n")
         self.assertEqual(out, "some words\n")
         ran = self.trace("cat", "-", "nosuch", stdin=b"some words\n")
-        self.assertEqual((ran.returncode, ran.stderr), (1, b"some words\ncat: nosuch: No such file or directory\n"))
+        told = b"some words\ncat: nosuch: No such file or directory\n"
+        self.assertEqual((ran.returncode, ran.stderr), (1, told))
         self.assertGreater(len(self.lines(ran.stdout.decode())), 10000)
 
     def test_a_pipe_into_a_sweep(self):
-        program = traced("known")
-        ran = self.in_shell(f'trace --kind d "{program}" | tee trace.din | cachesim sweep {" ".join(SPACE)}')
-        self.assertEqual(self.good(ran), self.sweep(*SPACE, stdin=(self.folder / "trace.din").read_bytes()) + "0 0 0\n")
+        tracing = f'trace --kind d "{traced("known")}" | tee trace.din'
+        ran = self.in_shell(f"{tracing} | cachesim sweep {' '.join(SPACE)}")
+        wanted = self.sweep(*SPACE, stdin=(self.folder / "trace.din").read_bytes())
+        self.assertEqual(self.good(ran), wanted + "0 0 0\n")
 
     def test_skip_and_count(self):
         program = traced("known")
         lines, _ = self.traced_to_file("--kind", "d", program)
-        first = next(at for at, line in enumerate(lines) if line == ("1", symbols_of(program)["numbers"][0]))
+        first = lines.index(("1", symbols_of(program)["numbers"][0]))
         part, _ = self.traced_to_file("--kind", "d", f"--skip={first}", "--count=1000", program)
         self.assertEqual(self.own_data(part, program, "numbers")[0], ("1", "numbers", 0))
         self.assertEqual(part, lines[first:first + 1000])
@@ -132,8 +143,9 @@ class Both:
 
     def test_an_interrupt_at_the_terminal(self):
         terminal, end = pty.openpty()
-        ends = {"stdin": end, "stdout": end, "stderr": end}
-        started = self.begin(traced("ends"), "spin", **ends, preexec_fn=lambda: fcntl.ioctl(0, termios.TIOCSCTTY, 0))
+        given = {"stdin": end, "stdout": end, "stderr": end,
+                 "preexec_fn": lambda: fcntl.ioctl(0, termios.TIOCSCTTY, 0)}
+        started = self.begin(traced("ends"), "spin", **given)
         os.close(end)
         self.assertEqual(os.read(terminal, 100), b"spins\r\n")
         os.write(terminal, b"\x03")
@@ -141,19 +153,23 @@ class Both:
         os.close(terminal)
         self.all_numbers_are_there()
 
-    def all_numbers_are_there(self):
-        written = self.own_data(self.lines((self.folder / "trace.din").read_text()), traced("ends"), "numbers")
-        self.assertEqual(written, [("1", "numbers", 4 * at) for at in range(10007)])
+    def all_numbers_are_there(self, way=""):
+        """Those that the program `ends` writes."""
+        lines = self.lines((self.folder / "trace.din").read_text())
+        written = self.own_data(lines, traced("ends"), "numbers")
+        self.assertEqual(written, places("1", "numbers", 10007), way)
 
     def test_scripts(self):
         (self.folder / "bin").mkdir()
-        path = f"{self.folder}/bin:{os.environ['PATH']}"
-        for called, first in (("bin/plain", "#!/bin/sh"), ("-o ption", "#! /bin/sh -e"), ("by env", "#!/usr/bin/env sh")):
+        env = {"PATH": f"{self.folder}/bin:{os.environ['PATH']}"}
+        for called, first in (("bin/plain", "#!/bin/sh"), ("-o ption", "#! /bin/sh -e"),
+                              ("by env", "#!/usr/bin/env sh")):
             script = self.folder / "bin" / called.removeprefix("bin/")
             script.write_text(f'{first}\necho "$0" "$#" "$@"; false; exit 4\n')
             script.chmod(0o755)
-            natively = self.run_command("bash", "-c", '"$0" "$@"', called, "a b", "-c", env={"PATH": path})
-            lines, out = self.traced_to_file("--", called, "a b", "-c", status=natively.returncode, env={"PATH": path})
+            call = (called, "a b", "-c")
+            natively = self.run_command("bash", "-c", '"$0" "$@"', *call, env=env)
+            lines, out = self.traced_to_file("--", *call, status=natively.returncode, env=env)
             self.assertEqual(out, natively.stdout.decode())
             self.assertGreater(len(lines), 10000)
 
@@ -171,23 +187,26 @@ class ByQemu(Both, TraceTest):
         lines, out = self.traced_to_file(program)
         rounds, ticks, faults = map(int, out.split())
         self.assertEqual(faults, -(-20000 * 4 // 4096))
-        self.assertEqual(self.own_data(lines, program, "numbers"), [("1", "numbers", 4 * at) for at in range(20000)] * rounds)
-        self.assertEqual(self.own_data(lines, program, "ticks").count(("1", "ticks", 0)), ticks)
-        self.assertEqual(self.own_data(lines, program, "faults").count(("1", "faults", 0)), faults)
-        storing = next(line for line, after in zip(lines, lines[1:]) if after == ("1", symbols_of(program)["numbers"][0]))
-        self.assertEqual(lines.count(storing), rounds * 20000 + faults)  # what faults is fetched again
+        written = self.own_data(lines, program, "numbers")
+        self.assertEqual(written, places("1", "numbers", 20000) * rounds)
+        for name, count in ("ticks", ticks), ("faults", faults):
+            self.assertEqual(self.own_data(lines, program, name).count(("1", name, 0)), count)
+        storing = lines[lines.index(("1", symbols_of(program)["numbers"][0])) - 1]
+        # what faults is fetched again
+        self.assertEqual(lines.count(storing), rounds * 20000 + faults)
 
     def test_many_blocks(self):
-        """A block of references is handed over at each system call: more of them than 16 bits count. An endless trace is cut."""
+        """A block of references is handed over at each system call: more of them than 16 bits
+        count. An endless trace is cut."""
         program = traced("calls")
         lines, _ = self.traced_to_file("--kind", "d", "--count", 2_000_000, program)
-        self.assertEqual(self.own_data(lines, program, "numbers"), [("1", "numbers", at) for at in range(70000)])
+        written = self.own_data(lines, program, "numbers")
+        self.assertEqual(written, places("1", "numbers", 70000, 1))
 
     def test_atomic_instructions(self):
-        program = traced("threads")
-        lines, _ = self.traced_to_file("--kind", "d", program)
-        added = [label for label, _, _ in self.own_data(lines, program, "sum")]
-        self.assertEqual((added.count("0"), added.count("1")), (80001, 80000))  # main reads it once more
+        added = [label for label, _, _ in self.of_data(traced("threads"), "sum")]
+        # main reads it once more
+        self.assertEqual((added.count("0"), added.count("1")), (80001, 80000))
 
     @needs("gcc-aarch64-linux-gnu")
     def test_another_machine(self):
@@ -197,7 +216,8 @@ class ByQemu(Both, TraceTest):
         self.known(dynamic)
         self.known(dynamic, "--libraries", "/usr/aarch64-linux-gnu")
         ran = self.trace("--libraries", "/nosuch", dynamic)
-        self.assertEqual((ran.returncode, ran.stdout), (126, b"trace: the program can't be run: see the message of its tracer\n"))
+        told = b"trace: the program can't be run: see the message of its tracer\n"
+        self.assertEqual((ran.returncode, ran.stdout), (126, told))
         self.assertIn(b"ld-linux-aarch64", ran.stderr)
         ran = self.trace(dynamic, env={"QEMU_LD_PREFIX": "/nosuch"})
         self.assertEqual(ran.returncode, 126)
@@ -209,10 +229,11 @@ class ByLackey(Both, TraceTest):
 
     def test_lines_that_cannot_be_converted(self):
         copy_tools(self.folder, "trace")
-        for way, status in (("exit 1", 125), ("kill -9 $$", 125)):
+        words = ("--with", "lackey", "--program-output", "own", traced("ends"), "spin")
+        for way in ("exit 1", "kill -9 $$"):
             self.executable("to-din", "head -n 1 > /dev/null", "echo 2 401000", way)
-            ran = self.run_command(self.folder / "trace", "--with", "lackey", "--program-output", "own", traced("ends"), "spin")
-            self.fault(ran, status, "the tracer's lines can't be converted")
+            ran = self.run_command(self.folder / "trace", *words)
+            self.fault(ran, 125, "the tracer's lines can't be converted")
             self.assertTrue(ran.stdout.startswith(b"2 401000\n"))
 
 
