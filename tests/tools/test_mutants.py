@@ -26,8 +26,9 @@ FALSE = (
     f"note: src/lib.rt:6:5: {NOT_PROVED} (`returns-clause-small`);"
     " the facts known there allow values at which this goal is false\n"
 )
-IN_ANSWER = "./proofs/lib/Half/of/Answers.antt:7:3: error: `invariant_of-self-in-New-2`: types differ\n"
-GONE = "./proofs/lib/Half/of/Answers.antt:9:3: error: `returns-clause-value`: record has no field `x`\n"
+STORED = "./proofs/lib/Half/of/Answers.antt"
+IN_ANSWER = f"{STORED}:7:3: error: `invariant_of-self-in-New-2`: types differ\n"
+GONE = f"{STORED}:9:3: error: `returns-clause-value`: record has no field `x`\n"
 REFUSED, PROVED = "logic=not-proved\n", "logic=proved functions=1\n"
 # What is said of a source that has the mutant in it, and of the others
 RT = """\
@@ -44,7 +45,7 @@ class AllMutants(ToolTest):
     def test_each_can_be_tried(self):
         """Each changes code that is there, and names a goal that is a promise."""
         ran = self.run_command(TOP / "tests/try-mutants", "--list")
-        self.assertEqual([line for line in ran.stdout.decode().splitlines() if "FAILED" in line], [])
+        self.assertEqual(re.findall("(?m)^.*FAILED.*$", ran.stdout.decode()), [])
         self.assertEqual((ran.stderr, ran.returncode), (b"", 0))
 
 
@@ -53,13 +54,16 @@ class TheTable(ToolTest):
 
     def setUp(self):
         super().setUp()
-        text = (TOP / "docs/proofs.md").read_text().partition("\nWrong body | ")[2].partition("\n\n")[0]
-        self.rows = [line.split(" | ") for line in text.splitlines()[2:]]
+        text = (TOP / "docs/proofs.md").read_text().partition("\nWrong body | ")[2]
+        lines = text.partition("\n\n")[0].splitlines()[2:]
+        self.rows = [line.split(" | ") for line in lines]
 
     def test_each_edit_has_its_row(self):
         """No edit is lost without its row, no row without its edit, and both name one goal."""
-        edits = [f"`{path.parts[-3]}/{path.stem}` | `{goal_of(path)}`" for path in TOP.glob("crates/*/must-fail/*.edit")]
-        self.assertEqual(sorted(" | ".join(row[1:]) for row in self.rows if "/" in row[1].split(",")[0]), sorted(edits))
+        edits = [f"`{path.parts[-3]}/{path.stem}` | `{goal_of(path)}`"
+                 for path in TOP.glob("crates/*/must-fail/*.edit")]
+        rows = [" | ".join(row[1:]) for row in self.rows if "/" in row[1].split(",")[0]]
+        self.assertEqual(sorted(rows), sorted(edits))
         self.assertEqual([row for row in self.rows if len(row) != 3], [])
 
     def test_each_test_is_there(self):
@@ -108,7 +112,8 @@ class Mutants(ToolTest):
         """The last two lines, and the status, where the prover says this of the mutant."""
         (self.folder / "mutant").write_text(said)
         stand_in = {"RT": str(self.folder / "rt"), "STAND_IN": str(self.folder)}
-        ran = self.run_command(self.top / "tests/try-mutants", "--jobs", "1", *arguments, env=stand_in)
+        words = ("--jobs", "1", *arguments)
+        ran = self.run_command(self.top / "tests/try-mutants", *words, env=stand_in)
         self.assertEqual(ran.stderr, b"")
         return ran.stdout.decode().splitlines()[-2:], ran.returncode
 
@@ -117,29 +122,35 @@ class Mutants(ToolTest):
         self.assertRegex(lines[0], rf"^FAILED low a_third \(\d+ s\): {text}")
         self.assertEqual((lines[1], status), ("0 passed, 1 failed", 1))
 
+    def passes(self, said, place):
+        lines, status = self.tried(said)
+        self.assertRegex(lines[0], rf"^ok low a_third \(\d+ s\) at {place}$")
+        self.assertEqual((lines[1], status), ("1 passed, 0 failed", 0))
+
     def test_at_its_goal(self):
         for said in (IN_CODE, FALSE + IN_CODE, IN_ANSWER + GONE + IN_CODE):
-            lines, status = self.tried(said + REFUSED)
-            self.assertRegex(lines[0], r"^ok low a_third \(\d+ s\) at Half::of value$")
-            self.assertEqual((lines[1], status), ("1 passed, 0 failed", 0))
+            self.passes(said + REFUSED, "Half::of value")
 
     def test_elsewhere_or_not_at_all(self):
         self.refused(FALSE + REFUSED, "not at Half::of value, but at Half::of small")
         (self.folder / "alone").write_text(GONE + REFUSED)
-        self.refused(GONE + REFUSED, "by its stored proof alone, and without it: only a stored proof no longer fits: .*has no field")
+        self.refused(GONE + REFUSED, "by its stored proof alone, and without it: only a stored "
+                     "proof no longer fits: .*has no field")
         self.refused(PROVED, "it is proved")
-        self.refused("error: a mismatched type\n", "it did not reach the prover: error: a mismatched")
-        self.refused("src/lib.rt:6:5: error: no such word\n" + REFUSED, "it did not reach the prover")
+        before = "it did not reach the prover"
+        self.refused("error: a mismatched type\n", f"{before}: error: a mismatched")
+        self.refused("src/lib.rt:6:5: error: no such word\n" + REFUSED, before)
         self.mutant.write_text(EDIT.replace("number / 2", "number / 4"))
         self.refused(IN_CODE + REFUSED, "an 'old:' text is in src/lib.rt 0 times, and not once")
 
     def test_a_goal_that_is_no_promise(self):
         """It fails untried."""
-        goals = ("index-old-requires", "overflow_sub-result", "nonzero_div-self-inside", "push-requires-clause-room", "ilog2-requires")
-        for goal in goals:
+        for goal in ("index-old-requires", "overflow_sub-result", "nonzero_div-self-inside",
+                     "push-requires-clause-room", "ilog2-requires"):
             self.mutant.write_text(f"goal: Half::of {goal}\n{EDIT}")
             lines, status = self.tried(IN_CODE + REFUSED)
-            told = f"its goal is no promise: Half::of {goal}. Name the clause that it breaks, or change what it changes"
+            told = (f"its goal is no promise: Half::of {goal}. "
+                    "Name the clause that it breaks, or change what it changes")
             self.assertEqual(lines, [f"FAILED low a_third: {told}", "0 passed, 1 failed"])
             self.assertEqual((status, (self.folder / "calls").exists()), (1, False))
             lines, status = self.tried("", "--list")
@@ -151,19 +162,21 @@ class Mutants(ToolTest):
 
     def test_a_goal_with_a_stored_proof(self):
         """It is tried again without that proof."""
-        self.mutant.write_text(f"goal: Half::of invariant_of-self\n{EDIT}")
-        own = self.folder / "alone"
-        own.write_text(IN_CODE.replace("returns-in-Some-clause-value", "invariant_of-self") + REFUSED)
-        lines, _ = self.tried(IN_ANSWER + REFUSED)
-        self.assertRegex(lines[0], r"^ok low a_third \(\d+ s\) at Half::of invariant_of-self, without its stored proof too$")
-        for said, told in ((PROVED, "it is proved"), (IN_CODE + REFUSED, "not at Half::of invariant_of-self, but at Half::of value")):
+        name, own = "invariant_of-self", self.folder / "alone"
+        goal = f"Half::of {name}"
+        self.mutant.write_text(f"goal: {goal}\n{EDIT}")
+        own.write_text(IN_CODE.replace("returns-in-Some-clause-value", name) + REFUSED)
+        self.passes(IN_ANSWER + REFUSED, f"{goal}, without its stored proof too")
+        for said, told in (
+            (PROVED, "it is proved"), (IN_CODE + REFUSED, f"not at {goal}, but at Half::of value")
+        ):
             own.write_text(said)
             self.refused(IN_ANSWER + REFUSED, f"by its stored proof alone, and without it: {told}")
-        # where a lemma beside the stored proof is what no longer holds, and where the stored proof names what is gone
+        # where a lemma beside the stored proof is what no longer holds, and where the stored proof
+        # names what is gone
         self.mutant.write_text(f"goal: Half::of value\n{EDIT}")
         for said in (IN_ANSWER, GONE):
-            lines, _ = self.tried(said + REFUSED)
-            self.assertRegex(lines[0], r"^ok low a_third \(\d+ s\) at Half::of value, without its stored proof too$")
+            self.passes(said + REFUSED, "Half::of value, without its stored proof too")
 
     def test_a_crate_that_is_not_proved(self):
         (self.folder / "whole").write_text(IN_CODE + REFUSED)
@@ -172,7 +185,8 @@ class Mutants(ToolTest):
         self.assertEqual(status, 1)
 
     def test_goals_are_written(self):
-        for said, goal in ((IN_CODE, "value"), (IN_CODE + FALSE, "small"), (IN_ANSWER, "invariant_of-self")):
+        for said, goal in ((IN_CODE, "value"), (IN_CODE + FALSE, "small"),
+                           (IN_ANSWER, "invariant_of-self")):
             self.mutant.write_text(EDIT)
             (self.folder / "alone").write_text(said + REFUSED)
             self.tried(said + REFUSED)
@@ -183,7 +197,8 @@ class Mutants(ToolTest):
     def test_code_that_is_gone(self):
         self.mutant.write_text(EDIT.replace("number / 2", "number / 4"))
         lines, status = self.tried("", "--list")
-        self.assertRegex(lines[-1], r"\(FAILED: an 'old:' text is in src/lib.rt 0 times, and not once\)$")
+        told = r"\(FAILED: an 'old:' text is in src/lib.rt 0 times, and not once\)$"
+        self.assertRegex(lines[-1], told)
         self.assertEqual(status, 1)
 
     def test_names_and_list(self):

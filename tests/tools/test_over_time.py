@@ -14,14 +14,16 @@ class OverTime(log_base.Filtering, base.ToolTest):
     OWN = "--each", "50"
 
     def judge(self, text, each, *options, cache=None):
-        """Compares with the machines of the model: what comes to a cache, or else to the first level."""
-        counts = [missed for place, _, missed in log_base.arrivals(text, options) if place.startswith(cache or "l1")]
+        """Compares with the machines of the model: what comes to a cache, or to the first level."""
+        counts = [missed for place, _, missed in log_base.arrivals(text, options)
+                  if place.startswith(cache or "l1")]
         rows = []
         for first in range(0, len(counts), each):
             step = counts[first : first + each]
-            rows.append(f"{first + 1},{first + len(step)},{sum(step)},{100 * sum(step) / len(step):.3f}\n")
-        named = [f"--cache={cache}"] if cache else []
-        answer = self.good(self.run_tool("over-time", "-", *named, *options, "--each", each, stdin=text))
+            share = 100 * sum(step) / len(step)
+            rows.append(f"{first + 1},{first + len(step)},{sum(step)},{share:.3f}\n")
+        words = [*[f"--cache={cache}"] * bool(cache), *options, "--each", each]
+        answer = self.good(self.run_tool("over-time", "-", *words, stdin=text))
         self.assertEqual(answer, HEADER + "".join(rows), (options, cache))
 
     def test_steps(self):
@@ -34,7 +36,8 @@ class OverTime(log_base.Filtering, base.ToolTest):
         self.judge(TRANSPOSE, 100, *shape("l1-d", 32, 8, 2), "-informat", "l")
 
     def test_random(self):
-        """Caches of all shapes, policies and write modes, in one level and two; traces with flushes; each cache."""
+        """Caches of all shapes, policies and write modes, in one level and two; traces with
+        flushes; each cache."""
         drawn = random.Random(3)
         for text, options, names in log_base.cases(4, 2):
             for cache in (None, *names):
@@ -42,12 +45,12 @@ class OverTime(log_base.Filtering, base.ToolTest):
 
     def test_by_hand(self):
         text = b"0 0\n0 10\n0 0\n0 10\n2 0\n0 20\n0 20\n"
-        options = shape("l1-d", 16, 1, 2)
-        answer = self.good(self.run_tool("over-time", "-", *options, "--each=4", stdin=text))
-        self.assertEqual(answer, HEADER + "1,4,2,50.000\n5,6,1,50.000\n")
         # empty after a flush, which is no reference
-        answer = self.good(self.run_tool("over-time", "-", *options, "--each=4", stdin=text.replace(b"2 0", b"4 0") + b"0 0\n"))
-        self.assertEqual(answer, HEADER + "1,4,2,50.000\n5,7,2,66.667\n")
+        flushed = text.replace(b"2 0", b"4 0") + b"0 0\n"
+        for trace, last in (text, "5,6,1,50.000\n"), (flushed, "5,7,2,66.667\n"):
+            words = ("-", *shape("l1-d", 16, 1, 2), "--each=4")
+            answer = self.good(self.run_tool("over-time", *words, stdin=trace))
+            self.assertEqual(answer, HEADER + "1,4,2,50.000\n" + last)
 
     def test_nothing(self):
         for text in (b"", b"3 0\n\n4 0\n", b"2 10\n"):
@@ -55,7 +58,8 @@ class OverTime(log_base.Filtering, base.ToolTest):
 
     def test_own_options(self):
         for words, fault in (
-            ([], "--each must be a number of references above 0; 'over-time --help' explains the arguments\n"),
+            ([], "--each must be a number of references above 0; 'over-time --help' explains the "
+             "arguments\n"),
             (["--each"], "--each must be"),
             (["--each", "0"], "--each must be"),
             (["--each=1k"], "--each must be"),
@@ -63,4 +67,5 @@ class OverTime(log_base.Filtering, base.ToolTest):
             (["--each=1", "--cache"], "--cache is "),
             (["--each=1", "--cache=l2-u"], "no option is of l2-u; "),
         ):
-            self.refused(self.run_tool("over-time", "-", *self.CACHE, *words), 2, f"over-time: {fault}")
+            ran = self.run_tool("over-time", "-", *self.CACHE, *words)
+            self.refused(ran, 2, f"over-time: {fault}")

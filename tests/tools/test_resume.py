@@ -18,7 +18,8 @@ class Resumed(ParallelTest):
     TABLE = HEADER + "16,1,1,16,3,6,5\n16,1,2,32,4,5,3\n16,2,1,32,4,5,3\n16,2,2,64,4,5,2\n"
 
     def resume(self, *options, trace=NINE, name="t.csv", **given):
-        return self.run_tool("sweep-parallel", "--resume", name, 2, trace, *(options or self.FOUR), **given)
+        words = ("--resume", name, 2, trace, *(options or self.FOUR))
+        return self.run_tool("sweep-parallel", *words, **given)
 
     def table(self):
         return (self.folder / "t.csv").read_text()
@@ -27,27 +28,32 @@ class Resumed(ParallelTest):
         """Whatever the first run has left, from no file on."""
         self.good(self.run_tool("sweep-parallel", "--resume=t.csv", "auto", self.NINE, *self.FOUR))
         self.assertEqual(self.table(), self.TABLE)
-        for left in (*range(0, len(self.TABLE), 7), len(HEADER) - 1, len(HEADER), len(self.TABLE) - 1, len(self.TABLE)):
+        first, all_of_it = len(HEADER), len(self.TABLE)
+        for left in (*range(0, all_of_it, 7), first - 1, first, all_of_it - 1, all_of_it):
             self.write("t.csv", self.TABLE[:left])
             self.assertEqual((self.good(self.resume()), self.table()), ("", self.TABLE), left)
 
     def test_pages(self):
         """Of more pages than rounds, with any trace, and as a part of a table."""
-        packed, parts = self.write("t.gz", gzip.compress(DIN.read_bytes())), ("--after=16,32,4", "--rows 9 --after 16,8,8")
-        for options in (SMALL, *([*SMALL, *part.split()] for part in parts)):
+        traces = DIN, self.write("t.gz", gzip.compress(DIN.read_bytes())), "-", "/dev/stdin"
+        for part in ("", "--after=16,32,4", "--rows 9 --after 16,8,8"):
+            options = [*SMALL, *part.split()]
             wanted = self.sweep(*options, "-t", DIN)
-            for trace, left in itertools.product((DIN, packed, "-", "/dev/stdin"), (0, 100, len(wanted))):
+            for trace, left in itertools.product(traces, (0, 100, len(wanted))):
                 self.write("t.csv", wanted[:left])
                 self.good(self.resume(*options, trace=trace, stdin=DIN.read_bytes()))
                 self.assertEqual(self.table(), wanted)
 
     def test_what_is_no_beginning_of_the_table(self):
         """It is left as it is."""
-        other_sets, other_trace = self.TABLE.replace("16,2,1,32", "16,4,1,64"), self.TABLE.replace("3,6,5", "3,7,6")
-        behind = (self.TABLE + more for more in ("16,2,2,64,4,5,2\n", "16", "\n", "\0"))
-        for text, line in (("hello", 1), ("hello\n", 1), (HEADER + "16,1,2", 2), (HEADER + "16,1,1,16,x", 2), (HEADER[1:], 1),
-                           (self.TABLE[len(HEADER):], 1), (other_sets, 4), (other_trace, 3), (self.TABLE.replace(",5\n", "\n"), 2),
-                           *((text, 6) for text in behind)):
+        table = self.TABLE
+        for text, line in (
+            ("hello", 1), ("hello\n", 1), (HEADER[1:], 1), (table[len(HEADER):], 1),
+            (HEADER + "16,1,2", 2), (HEADER + "16,1,1,16,x", 2), (table.replace(",5\n", "\n"), 2),
+            (table.replace("3,6,5", "3,7,6"), 3),  # of another trace
+            (table.replace("16,2,1,32", "16,4,1,64"), 4),  # of other sets
+            *((table + behind, 6) for behind in ("16,2,2,64,4,5,2\n", "16", "\n", "\0")),
+        ):
             self.write("t.csv", text)
             told = f"sweep-parallel: t.csv is not the beginning of this table: see line {line}\n"
             self.assertEqual((self.resume().stderr.decode(), self.table()), (told, text))
@@ -58,16 +64,20 @@ class Resumed(ParallelTest):
         for trace, options in ((DIN, self.FOUR), (self.NINE, [*self.FOUR, "--kind", "i"])):
             self.write("t.csv", begun)
             ran = self.resume(*options, trace=trace)
-            self.refused(ran, 1, "sweep-parallel: t.csv is of another trace or of other options: see line 3\n")
+            told = "t.csv is of another trace or of other options: see line 3\n"
+            self.refused(ran, 1, f"sweep-parallel: {told}")
             self.assertEqual(self.table(), begun[:len(HEADER) + 16])
 
     def test_faults(self):
         (self.folder / "folder").mkdir()
-        for name, fault in (("folder", "Is a directory"), ("none/x", "No such file or directory"), ("", "No such file or directory")):
-            self.refused(self.resume(name=name), 1, f"sweep-parallel: {name}: {fault}\n")
-        for name in ("/dev/full", "/dev/zero"):
-            self.refused(self.resume(name=name), 1, f"sweep-parallel: {name} is not a regular file\n")
-        self.refused(self.resume("--bsize", "24", *self.FOUR[2:]), 2, "cachesim: bsize: not a power of two\n")
+        for name, fault in (
+            ("folder", ": Is a directory"),
+            ("none/x", ": No such file or directory"), ("", ": No such file or directory"),
+            ("/dev/full", " is not a regular file"), ("/dev/zero", " is not a regular file"),
+        ):
+            self.refused(self.resume(name=name), 1, f"sweep-parallel: {name}{fault}\n")
+        ran = self.resume("--bsize", "24", *self.FOUR[2:])
+        self.refused(ran, 2, "cachesim: bsize: not a power of two\n")
         self.refused(self.run_tool("sweep-parallel", "--resume", "t.csv"), 2, "are missing")
         self.assertFalse((self.folder / "t.csv").exists())
         self.refused(self.resume(trace="none"), 1, "cachesim: cannot open none\n")
@@ -85,20 +95,24 @@ class Resumed(ParallelTest):
         self.assertEqual(self.table(), wanted)
 
     def test_stopped(self):
-        """By each signal, while a second run can't begin; the parts that were done are not made again."""
+        """By each signal, while a second run can't begin; the parts that were done are not made
+        again."""
         wanted, left = self.sweep(*SPACE, "-t", DIN), ""
+        # the first two pages are let pass, and then all wait
+        waits = 'echo "$after" >> begun\n[[ $(wc -l < begun) -lt 3 ]] || exec sleep 60'
+        given = {**self.in_folder(**self.program(waits)), "start_new_session": True}
+        arguments = [TOOLS / "sweep-parallel", "--resume", "t.csv", "2", DIN, *SPACE]
+        begun = self.folder / "begun"
         for sent in (signal.SIGINT, signal.SIGTERM, signal.SIGKILL):
-            # the first two pages are let pass, and then all wait
-            env = {**os.environ, **self.program('echo "$after" >> begun\n[[ $(wc -l < begun) -lt 3 ]] || exec sleep 60')}
-            (self.folder / "begun").unlink(missing_ok=True)
-            arguments = [TOOLS / "sweep-parallel", "--resume", "t.csv", "2", DIN, *SPACE]
-            ran = subprocess.Popen(arguments, cwd=self.folder, env=env, start_new_session=True)
-            with ended(ran):
-                self.assertTrue(comes(lambda: (self.folder / "begun").exists() and (self.folder / "begun").read_text().count("\n") >= 4))
-                self.refused(self.resume(*SPACE, trace=DIN), 1, "sweep-parallel: t.csv: another run adds to it\n")
+            begun.write_text("")
+            with ended(subprocess.Popen(arguments, **given)) as ran:
+                self.assertTrue(comes(lambda: begun.read_text().count("\n") >= 4))
+                second = self.resume(*SPACE, trace=DIN)
+                self.refused(second, 1, "sweep-parallel: t.csv: another run adds to it\n")
                 os.killpg(ran.pid, sent)
                 self.assertIn(ran.wait(), (-sent, 128 + sent))
-            self.assertTrue(wanted.startswith(self.table()) and len(self.table()) > len(left), self.table())
+            self.assertTrue(wanted.startswith(self.table()), self.table())
+            self.assertGreater(len(self.table()), len(left))
             left = self.table()
         self.good(self.resume(*SPACE, trace=DIN))
         self.assertEqual(self.table(), wanted)

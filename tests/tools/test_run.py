@@ -1,4 +1,5 @@
-"""The runners of cases and of tests, tests/run and tests/test-tools: what they must fail, and what pass."""
+"""The runners of cases and of tests, tests/run and tests/test-tools: what they must fail, and what
+pass."""
 
 import re
 import sys
@@ -9,45 +10,53 @@ EMPTY = "$ cachesim sweep --bsize 16 --sets 1 --assoc 1 --size 16\n"
 HEADER, ROW = "> bsize,sets,assoc,size,hits,misses,evictions\n", "> 16,1,1,16,0,0,0\n"
 FAULT = "$ cachesim sweep --bsize 16 --sets 1 --assoc 1 --size x\n"
 PASS = {
-    "whole": EMPTY + HEADER + ROW, "beginning": EMPTY + ">^ bsize,\n", "line": EMPTY + ">~ ,0,0,0\n",
-    "fault": FAULT + "! cachesim: --size: bad value\n? 2\n",
+    "whole": EMPTY + HEADER + ROW, "beginning": EMPTY + ">^ bsize,\n",
+    "line": EMPTY + ">~ ,0,0,0\n", "fault": FAULT + "! cachesim: --size: bad value\n? 2\n",
 }
 FAIL = {
-    "row-is-missing": EMPTY + HEADER, "row-too-many": EMPTY + HEADER + ROW + ROW, "other-beginning": EMPTY + ">^ sets,\n",
-    "no-such-line": EMPTY + ">~ 0,0,0,0,0\n", "output-not-mentioned": EMPTY, "status": FAULT + "! cachesim: --size: bad value\n",
-    "fault-not-mentioned": FAULT + "? 2\n", "whole-beside-a-line": EMPTY + ">~ ,0,0,0\n" + HEADER, "no-command": "> x\n",
-    "no-such-mark": EMPTY + "% x\n", "text-for-a-folder": EMPTY + HEADER + ROW + "@ folder/\n< x\n",
+    "row-is-missing": EMPTY + HEADER, "row-too-many": EMPTY + HEADER + ROW + ROW,
+    "other-beginning": EMPTY + ">^ sets,\n", "no-such-line": EMPTY + ">~ 0,0,0,0,0\n",
+    "output-not-mentioned": EMPTY, "status": FAULT + "! cachesim: --size: bad value\n",
+    "fault-not-mentioned": FAULT + "? 2\n", "whole-beside-a-line": EMPTY + ">~ ,0,0,0\n" + HEADER,
+    "no-command": "> x\n", "no-such-mark": EMPTY + "% x\n",
+    "text-for-a-folder": EMPTY + HEADER + ROW + "@ folder/\n< x\n",
 }
 
 
 class Missing(ToolTest):
     def test_packages_are_named(self):
-        (self.folder / "python3").symlink_to(sys.executable)
-        for script, commands in (("against_c", ["cc"]), ("against_cachegrind", ["cc", "valgrind"]), ("devices", ["cc"])):
+        for script, *commands in (("against_c", "cc"), ("against_cachegrind", "cc", "valgrind"),
+                                  ("devices", "cc")):
+            few = self.folder / script
+            few.mkdir()
+            (few / "python3").symlink_to(sys.executable)
+            words = (TOP / "tests" / script, "--program", PROGRAM)
             for command in commands:
-                ran = self.run_command(TOP / "tests" / script, "--program", PROGRAM, env={"PATH": str(self.folder)})
+                ran = self.run_command(*words, env={"PATH": str(few)})
                 package = "gcc" if command == "cc" else command
                 told = f"{command} is missing: apt-get install {package}\n0 passed, 1 failed\n"
                 self.assertEqual((ran.stdout.decode(), ran.returncode), (told, 1))
-                (self.folder / command).symlink_to("/bin/true")
-            for command in commands:
-                (self.folder / command).unlink()
+                (few / command).symlink_to("/bin/true")
 
 
 class Run(ToolTest):
-    def test_what_fails_and_what_passes(self):
+    def run_cases(self, program, text):
         (self.folder / "cases").mkdir()
-        (self.folder / "cases/a.cases").write_text("".join(f"== {name}\n{case}" for name, case in {**PASS, **FAIL}.items()))
-        ran = self.run_command(TOP / "tests/run", "--program", PROGRAM, "--cases", "cases")
+        self.write("cases/a.cases", text)
+        return self.run_command(TOP / "tests/run", "--program", program, "--cases", "cases")
+
+    def test_what_fails_and_what_passes(self):
+        cases = (f"== {name}\n{case}" for name, case in {**PASS, **FAIL}.items())
+        ran = self.run_cases(PROGRAM, "".join(cases))
         told = ran.stdout.decode()
-        self.assertEqual((re.findall(r"(?m)^FAILED (\S+)", told), ran.returncode), (list(FAIL), 1), told)
+        failed = re.findall(r"(?m)^FAILED (\S+)", told)
+        self.assertEqual((failed, ran.returncode), (list(FAIL), 1), told)
         self.assertTrue(told.endswith(f"\n{len(PASS)} passed, {len(FAIL)} failed\n"), told)
 
     def test_what_the_model_lacks(self):
-        (self.folder / "cases").mkdir()
-        lacking = "$ cachesim sweep --x\n!~ cachesim: error: x\n? 2\n"
-        (self.folder / "cases/a.cases").write_text(f"== taken\n{EMPTY}{HEADER}{ROW}== lacking\n{lacking}")
-        ran = self.run_command(TOP / "tests/run", "--program", TOP / "tests/model.py", "--cases", "cases")
+        taken = f"== taken\n{EMPTY}{HEADER}{ROW}"
+        lacking = "== lacking\n$ cachesim sweep --x\n!~ cachesim: error: x\n? 2\n"
+        ran = self.run_cases(TOP / "tests/model.py", taken + lacking)
         self.assertEqual(ran.returncode, 0, ran.stdout)
         self.assertRegex(ran.stdout.decode(), r"^1 cases? .*left out.*\n1 passed, 0 failed\n$")
 

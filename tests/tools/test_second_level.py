@@ -1,5 +1,6 @@
 """What caches send to the next level."""
 
+import itertools
 import re
 import shutil
 
@@ -30,11 +31,12 @@ class SecondLevel(log_base.Filtering, base.ToolTest):
     def test_examples(self):
         for text, format in ((SORT, "d"), (TRANSPOSE, "l"), (MODIFIES, "l")):
             for mode in "an":
-                answer = self.judge(text, *shape("l1-u", 16, 4, 2), "-l1-uwback", mode, "-informat", format)
+                options = (*shape("l1-u", 16, 4, 2), "-l1-uwback", mode, "-informat", format)
+                answer = self.judge(text, *options)
                 self.assertEqual("\n1 " in answer, mode == "n" or text != MODIFIES)
 
     def test_random(self):
-        """Caches of all shapes, policies and write modes, in one level and two; traces with flushes."""
+        """Caches of all shapes, policies and write modes, in one level and two, and flushes."""
         for text, options, _ in log_base.cases(5):
             self.judge(text, *options)
 
@@ -46,26 +48,32 @@ class SecondLevel(log_base.Filtering, base.ToolTest):
             self.assertEqual(self.judge(text, *options).count("4 0\n"), 3)
 
     def compare(self, text, first, second, *more):
-        """Compares sweeps of the second level with `cachesim din` with both levels, in all that a sweep counts."""
+        """Compares sweeps of the second level with `cachesim din` with both levels, in all that a
+        sweep counts."""
         stream = self.good(self.run_on("-", *first, *more, stdin=text))
         bsize, sets, ways = second
         space = ["--bsize", bsize, "--sets", sets, "--assoc", ways, "--size", bsize * sets * ways]
         row = self.sweep(*space, stdin=stream.encode()).split("\n")[1].split(",")
-        report = self.good(self.run_command(base.PROGRAM, "din", *first, *shape("l2-u", *second), *more, stdin=text))
-        counted = dict(re.findall(r"(\S+)=(\d+)", report.split("l2-u")[1].split("\n")[0]))
-        references = sum(int(counted[word]) for word in ("fetches", "reads", "writes"))
-        misses = sum(int(counted[word]) for word in ("fetch-misses", "read-misses", "write-misses"))
-        self.assertEqual(row[4:], [str(references - misses), str(misses), counted["evictions"]], (first, second))
+        words = ("din", *first, *shape("l2-u", *second), *more)
+        report = self.good(self.run_command(base.PROGRAM, *words, stdin=text))
+        counted = re.findall(r"(\S+)=(\d+)", report.split("l2-u")[1].split("\n")[0])
+        counted = {name: int(count) for name, count in counted}
+        references = sum(counted[word] for word in ("fetches", "reads", "writes"))
+        misses = sum(counted[word] for word in ("fetch-misses", "read-misses", "write-misses"))
+        wanted = [references - misses, misses, counted["evictions"]]
+        self.assertEqual(list(map(int, row[4:])), wanted, (first, second))
         return misses
 
     def test_both_levels(self):
-        lines = SORT.splitlines(keepends=True)
-        flushed = b"".join(line + b"4 0\n" * (number % 900 == 0) for number, line in enumerate(lines))
-        policies = [], ["-l1-dwback", "n"], ["-l1-drepl", "f", "-l1-dwalloc", "n"], ["-l1-drepl", "r", "--seed", 7]
-        for text, format in ((SORT, "d"), (flushed, "d"), (TRANSPOSE, "l")):
-            for more in policies:
-                for second in ((16, 16, 2), (32, 4, 4), (64, 1, 8)):
-                    self.assertGreater(self.compare(text, SPLIT, second, *more, "-informat", format), 0)
+        flushed = b"".join(line + b"4 0\n" * (number % 900 == 0)
+                           for number, line in enumerate(SORT.splitlines(keepends=True)))
+        for (text, format), more, second in itertools.product(
+            ((SORT, "d"), (flushed, "d"), (TRANSPOSE, "l")),
+            ("", "-l1-dwback n", "-l1-drepl f -l1-dwalloc n", "-l1-drepl r --seed 7"),
+            ((16, 16, 2), (32, 4, 4), (64, 1, 8)),
+        ):
+            words = (*more.split(), "-informat", format)
+            self.assertGreater(self.compare(text, SPLIT, second, *words), 0)
 
     @base.needs("valgrind")
     def test_a_program(self):
@@ -82,21 +90,24 @@ class SecondLevel(log_base.Filtering, base.ToolTest):
         return self.executable("wrong", f"[ $1 = log ] || exec '{base.PROGRAM}' \"$@\"", body)
 
     def test_no_table_of_a_part(self):
-        """A sweep at the other end of the pipe fails too, also if the program ends in the middle of a line."""
-        (self.folder / "bad").write_bytes(SORT + b"7 10\n")
-        (self.folder / "trace").write_bytes(SORT)
+        """A sweep at the other end of the pipe fails too, also if the program ends in the middle of
+        a line."""
+        self.write("bad", SORT + b"7 10\n")
+        self.write("trace", SORT)
+        space = "--bsize 16 --sets 1 --assoc 1 --size 16".split()
         program = self.wrong(f"'{base.PROGRAM}' \"$@\" | head -c 70001\nexit 1")
         for trace, env in (("bad", {}), ("trace", {"CACHESIM": str(program)})):
             ran = self.run_on(trace, *SPLIT, env=env)
             self.assertEqual((ran.returncode, ran.stdout.endswith(b"\n" + LAST)), (1, True))
             self.assertGreater(ran.stdout.count(b"\n"), 100)
-            swept = self.run_command(base.PROGRAM, *"sweep --bsize 16 --sets 1 --assoc 1 --size 16".split(), stdin=ran.stdout)
+            swept = self.run_command(base.PROGRAM, "sweep", *space, stdin=ran.stdout)
             self.refused(swept, 1, "bad label")
 
     def test_what_is_no_log(self):
-        ran = self.run_on("-", *SPLIT, env={"CACHESIM": str(self.wrong("head -c 200000 /dev/zero"))})
+        wrong = self.wrong("head -c 200000 /dev/zero")
+        ran = self.run_on("-", *SPLIT, env={"CACHESIM": str(wrong)})
         self.assertEqual((ran.returncode, ran.stdout), (1, LAST))
-        self.assertTrue(ran.stderr.startswith(b"second-level: what cachesim writes is not a log\n"), ran.stderr)
+        self.assertRegex(ran.stderr, rb"\Asecond-level: what cachesim writes is not a log\n")
 
     def test_nothing(self):
         for text in (b"", b"3 1\n\n", b"2 10\n"):
@@ -109,13 +120,15 @@ class SecondLevel(log_base.Filtering, base.ToolTest):
         for command in "cat dirname grep mkdir mktemp readlink rm".split():
             (commands / command).symlink_to(shutil.which(command))
         arguments = [copy / "second-level", "-", *self.CACHE]
-        ran = self.run_command(*arguments, env={"PATH": str(commands)})
-        self.assertEqual((ran.returncode, ran.stdout, ran.stderr), (1, LAST, b"second-level: cc is missing: apt-get install gcc\n"))
+        given = {"stdin": b"0 18\n", "env": {"PATH": str(commands)}}
+        ran = self.run_command(*arguments, **given)
+        told = b"second-level: cc is missing: apt-get install gcc\n"
+        self.assertEqual((ran.returncode, ran.stdout, ran.stderr), (1, LAST, told))
         self.assertEqual(self.good(self.run_command(copy / "second-level", "--build")), "")
         self.assertEqual([path.name for path in (copy / "out").iterdir()], ["second-level"])
         # what is installed has no C file, and needs no compiler
         (copy / "lib/second-level.c").unlink()
-        self.assertEqual(self.good(self.run_command(*arguments, stdin=b"0 18\n", env={"PATH": str(commands)})), "0 10\n")
+        self.assertEqual(self.good(self.run_command(*arguments, **given)), "0 10\n")
 
     def test_a_reader_that_goes(self):
         (self.folder / "long").write_bytes(SORT * 100)

@@ -1,4 +1,4 @@
-"""What is asked of every tool: help, small files, and what the linters say."""
+"""What is asked of every tool: help, lines that are not too long, and what the linters say."""
 
 import os
 import pathlib
@@ -28,7 +28,8 @@ def first_line(path):
 
 
 def written_in(word):
-    return [path for path in scripts() if first_line(path).startswith(b"#!") and word in first_line(path)]
+    firsts = {path: first_line(path) for path in scripts()}
+    return [path for path, first in firsts.items() if first.startswith(b"#!") and word in first]
 
 
 def tools():
@@ -55,7 +56,8 @@ class Tools(base.ToolTest):
                 ran = self.run_command(tool, "--no-such-option")
                 name, path = os.path.basename(tool), os.path.relpath(tool, base.TOOLS)
                 self.assertEqual(ran.returncode, WRONG_ARGUMENTS.get(path, 2))
-                fault = FAULTS_OF_THE_PROGRAM.get(path, rf"{name}: .*; '{name} --help' explains the arguments\n")
+                fault = rf"{name}: .*; '{name} --help' explains the arguments\n"
+                fault = FAULTS_OF_THE_PROGRAM.get(path, fault)
                 self.assertRegex(ran.stderr.decode(), rf"\A{fault}\Z")
                 # what writes a trace ends it in a line that no simulator takes
                 self.assertRegex(ran.stdout.decode(), rf"\A({name}( failed)?: .*\n)?\Z")
@@ -68,13 +70,6 @@ class Tools(base.ToolTest):
                 self.assertIn(f"| `{tool.name}", (tool.parent / "README.md").read_text())
                 if tool.parent not in (base.TOOLS, base.PACKAGING):
                     self.assertIn(f"| `{tool.parent.name}/`", text)
-
-    def test_small_files(self):
-        for folder, most in ((base.TOOLS, 420), (base.PACKAGING, 420), (base.TOP / "tests/tools", 420)):
-            for path in scripts():
-                if path.startswith(f"{folder}/"):
-                    with open(path, "rb") as file:
-                        self.assertLessEqual(sum(1 for _ in file), most, path)
 
 
 class Scripts(base.ToolTest):
@@ -89,29 +84,33 @@ class Scripts(base.ToolTest):
 
 
 class Widths(unittest.TestCase):
-    """The longest lines: in characters, of code, contracts and comments, by their place."""
+    """The longest lines: in characters, of code, contracts, texts and comments."""
+
+    OF_SUFFIX = {**dict.fromkeys((".rt", ".py", ".bash", ".c", ".h", ".html"), 100),
+                 ".md": 140, ".antt": 160}
 
     def width(self, path):
         """The most characters of a line in a file; none for data."""
-        if path.suffix == ".rt":
-            return 100
-        is_script = path.suffix in (".py", ".bash", ".c", ".h", ".md") or first_line(path).startswith(b"#!")
-        return 160 if path.suffix == ".antt" else 140 if is_script else None
+        is_code = path.name == "Makefile" or first_line(path).startswith(b"#!")
+        return self.OF_SUFFIX.get(path.suffix, 100 if is_code else None)
 
-    def longer(self, paths):
-        """The lines that are too long, but for rows of tables, which can't be broken."""
+    def judge(self, paths):
+        """No line is too long, but for rows of tables, which can't be broken."""
+        longer = []
         for path in paths:
             if most := self.width(path):
                 for number, line in enumerate(path.read_text().split("\n"), 1):
                     if len(line) > most and not (path.suffix == ".md" and " | " in line):
-                        yield f"{path.relative_to(base.TOP)}:{number}: {len(line)} characters, and at most {most}"
+                        place = f"{path.relative_to(base.TOP)}:{number}"
+                        longer.append(f"{place}: {len(line)} characters, and at most {most}")
+        self.assertEqual(longer, [])
 
     def test_crates(self):
         paths = sorted((base.TOP / "crates").glob("*/[!o]*/**/*"))
-        self.assertEqual(list(self.longer(path for path in paths if path.suffix in (".rt", ".antt"))), [])
+        self.judge(path for path in paths if path.suffix in (".rt", ".antt"))
 
     def test_others(self):
-        self.assertEqual(list(self.longer(path for path in map(pathlib.Path, scripts()) if ".edit" != path.suffix)), [])
+        self.judge(path for path in map(pathlib.Path, scripts()) if path.suffix != ".edit")
 
 
 class Linters(unittest.TestCase):
@@ -121,7 +120,8 @@ class Linters(unittest.TestCase):
 
     @base.needs("shellcheck")
     def test_shell(self):
-        paths = written_in(b"bash") + written_in(b"/sh") + [str(path) for path in (base.TOOLS / "lib").glob("*.bash")]
+        paths = written_in(b"bash") + written_in(b"/sh")
+        paths += [str(path) for path in (base.TOOLS / "lib").glob("*.bash")]
         self.assertGreater(len(paths), 5)
         self.clean("shellcheck", *paths)
 
@@ -129,7 +129,8 @@ class Linters(unittest.TestCase):
     def test_python(self):
         paths = written_in(b"python") + [path for path in scripts() if path.endswith(".py")]
         self.assertGreater(len(paths), 20)
-        self.clean("flake8", "--isolated", "--max-line-length", "140", "--extend-ignore", "E203", *sorted(set(paths)))
+        options = ("--isolated", "--max-line-length", "100", "--extend-ignore", "E203")
+        self.clean("flake8", *options, *sorted(set(paths)))
 
     @base.needs("gcc")
     def test_c(self):

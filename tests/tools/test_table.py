@@ -6,30 +6,33 @@ import unittest
 
 from lib import table
 
+LINE, ROW = "16,1,2,32,4,5,3", table.Row(16, 1, 2, 32, 4, 5, 3)
+
 
 class Reading(unittest.TestCase):
     def test_rows(self):
-        rows = table.read_table([table.HEADER + "\n", "16,1,2,32,4,5,3\n"], "t")
-        self.assertEqual(rows, [table.Row(16, 1, 2, 32, 4, 5, 3)])
-        self.assertEqual((rows[0].references, rows[0].share, rows[0].cache), (9, fractions.Fraction(500, 9), (16, 1, 2)))
+        row, = table.read_table([f"{table.HEADER}\n", f"{LINE}\n"], "t")
+        self.assertEqual(row, ROW)
+        told = row.references, row.share, row.cache
+        self.assertEqual(told, (9, fractions.Fraction(500, 9), (16, 1, 2)))
 
     def test_a_page_has_no_header(self):
-        self.assertEqual(len(table.read_table(["16,1,2,32,4,5,3\n", "16,2,1,32,4,5,3\n"], "t")), 2)
+        self.assertEqual(len(table.read_table([f"{LINE}\n", "16,2,1,32,4,5,3\n"], "t")), 2)
 
     def test_lines_that_end_in_cr_lf(self):
-        text = [table.HEADER + "\r\n", "16,1,2,32,4,5,3\r\n"]
-        self.assertEqual(table.read_table(text, "t"), [table.Row(16, 1, 2, 32, 4, 5, 3)])
+        text = [f"{table.HEADER}\r\n", f"{LINE}\r\n"]
+        self.assertEqual(table.read_table(text, "t"), [ROW])
 
     def test_a_byte_order_mark(self):
         """As spreadsheets write one."""
         with tempfile.NamedTemporaryFile("w", encoding="utf-8-sig", suffix=".csv") as file:
-            file.write(f"{table.HEADER}\n16,1,2,32,4,5,3\n")
+            file.write(f"{table.HEADER}\n{LINE}\n")
             file.flush()
-            self.assertEqual(table.read_table(*table.lines_of(file.name)), [table.Row(16, 1, 2, 32, 4, 5, 3)])
+            self.assertEqual(table.read_table(*table.lines_of(file.name)), [ROW])
 
     def test_further_columns(self):
-        text = [table.HEADER + ",percent,note\n", "16,1,2,32,4,5,3,55.556,\n"]
-        self.assertEqual(table.read_table(text, "t"), [table.Row(16, 1, 2, 32, 4, 5, 3)])
+        text = [f"{table.HEADER},percent,note\n", f"{LINE},55.556,\n"]
+        self.assertEqual(table.read_table(text, "t"), [ROW])
 
     def test_what_is_no_table(self):
         for text, fault in (
@@ -49,9 +52,10 @@ class Reading(unittest.TestCase):
 
 class Pareto(unittest.TestCase):
     def test_front(self):
-        # 64 bytes miss 9 times at best. Of the two caches of 128 bytes that miss 7 times the direct-mapped one stays. 256 bytes
-        # do no better than 128. Of the three caches of 512 bytes that miss 5 times that of one way with the smaller blocks stays; of
-        # those of 1,024 bytes the one of one way, though its blocks are larger.
+        # 64 bytes miss 9 times at best. Of the two caches of 128 bytes that miss 7 times the
+        # direct-mapped one stays. 256 bytes do no better than 128. Of the three caches of 512 bytes
+        # that miss 5 times that of one way with the smaller blocks stays; of those of 1,024 bytes
+        # the one of one way, though its blocks are larger.
         rows = [
             table.Row(16, 1, 4, 64, 1, 9, 5),
             table.Row(16, 2, 2, 64, 0, 10, 6),
@@ -70,4 +74,4 @@ class Pareto(unittest.TestCase):
         self.assertEqual([row.cache for row in table.pareto(rows[::-1])], front)
 
     def test_one_row(self):
-        self.assertEqual(table.pareto([table.Row(16, 1, 2, 32, 4, 5, 3)]), [table.Row(16, 1, 2, 32, 4, 5, 3)])
+        self.assertEqual(table.pareto([ROW]), [ROW])

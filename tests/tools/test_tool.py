@@ -13,7 +13,7 @@ from lib import tool
 
 class Sizes(unittest.TestCase):
     def test_sizes(self):
-        for text, size in (("0", 0), ("512", 512), ("32k", 32768), ("1M", 1 << 20), ("3g", 3 << 30)):
+        for text, size in ("0", 0), ("512", 512), ("32k", 32768), ("1M", 1 << 20), ("3g", 3 << 30):
             self.assertEqual(tool.size_of(text), size)
 
     def test_what_is_no_size(self):
@@ -22,7 +22,8 @@ class Sizes(unittest.TestCase):
                 tool.size_of(text)
 
     def test_texts(self):
-        self.assertEqual([tool.size_text(size) for size in (0, 100, 1024, 1536, 1 << 20, 3 << 30)], ["0", "100", "1k", "1536", "1m", "3g"])
+        sizes = {0: "0", 100: "100", 1024: "1k", 1536: "1536", 1 << 20: "1m", 3 << 30: "3g"}
+        self.assertEqual([tool.size_text(size) for size in sizes], list(sizes.values()))
 
 
 class Several(unittest.TestCase):
@@ -65,6 +66,8 @@ class Compiling(ToolTest):
         path = self.stand_in("cc", f'"{shutil.which("cc")}" "$@" && echo >> "$0.done" && {waits}')
         given = {**self.in_folder(**path), "stderr": subprocess.PIPE}
         both = [subprocess.Popen([self.folder / "to-din", "--build"], **given) for _ in range(2)]
-        self.assertEqual([(each.communicate(timeout=60)[1], each.returncode) for each in both], [(b"", 0)] * 2)
+        ends = [(each.communicate(timeout=60)[1], each.returncode) for each in both]
+        self.assertEqual(ends, [(b"", 0)] * 2)
         self.assertEqual([path.name for path in (self.folder / "out").iterdir()], ["to-din"])
-        self.assertEqual(self.good(self.run_command(self.folder / "to-din", "addresses", stdin=b"10\n")), "0 10\n")
+        ran = self.run_command(self.folder / "to-din", "addresses", stdin=b"10\n")
+        self.assertEqual(self.good(ran), "0 10\n")

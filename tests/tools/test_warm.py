@@ -7,6 +7,7 @@ import base
 import reading_base
 from lib import table
 
+SORT = base.EXAMPLES / "sort.din"
 SPACE = "--bsize 8-32 --sets 1-8 --assoc 1-3 --size 64-512".split()
 LACKEY = b"""==7== Lackey, a Valgrind tool
 I  04016d80,3
@@ -45,14 +46,15 @@ class Warm(reading_base.Reading, base.ToolTest):
         self.assertEqual(answer.split("\n")[0], table.HEADER)
         self.assertGreater(len(rows), 5)
         events = base.references(text, format, kind)
-        first = len(base.references(b"".join(text.splitlines(keepends=True)[:lines]), format, kind))
+        before = b"".join(text.splitlines(keepends=True)[:lines])
+        first = len(base.references(before, format, kind))
         for row in rows:
             cache = int(row["bsize"]), int(row["sets"]), int(row["assoc"])
             counted = int(row["hits"]), int(row["misses"]), int(row["evictions"])
             self.assertEqual(counted, counts(events, first, cache), (lines, cache))
 
     def test_din(self):
-        text = (base.EXAMPLES / "sort.din").read_bytes()
+        text = SORT.read_bytes()
         for lines in (0, 1, 2500, 5845):
             self.judge(text, lines)
         self.judge(text, 1000, kind="d")
@@ -68,7 +70,8 @@ class Warm(reading_base.Reading, base.ToolTest):
     def test_lines_that_are_no_references(self):
         drawn = random.Random(3)
         ends = ["\n", " note\n", "\r\n"]
-        text = "".join(f"{drawn.choice('00112334')} {drawn.randrange(600):x}{drawn.choice(ends)}" for _ in range(400))
+        text = "".join(f"{drawn.choice('00112334')} {drawn.randrange(600):x}{drawn.choice(ends)}"
+                       for _ in range(400))
         text += "\n\n0 10"
         self.assertGreater(text.count("\n4 "), 20)
         for lines in (0, 57, 200, 399, 402):
@@ -92,17 +95,18 @@ class Warm(reading_base.Reading, base.ToolTest):
                 ran = self.run_tool("warm", lines, "-", *SPACE, *more, f"--kind={kind}", stdin=text)
                 self.refused(ran, 1, f"warm: -: no reference behind the first {lines} lines\n")
 
+    def table(self, lines, *words):
+        return self.good(self.run_tool("warm", lines, SORT, *words))
+
     def test_pages(self):
-        trace = base.EXAMPLES / "sort.din"
-        whole = self.good(self.run_tool("warm", 700, trace, *SPACE))
-        first = self.good(self.run_tool("warm", 700, trace, *SPACE, "--rows", "4"))
+        first = self.table(700, *SPACE, "--rows", "4")
         last_row = ",".join(first.split("\n")[4].split(",")[:3])
-        self.assertEqual(first + self.good(self.run_tool("warm", 700, trace, *SPACE, "--after", last_row)), whole)
-        self.assertEqual(self.good(self.run_tool("warm", 700, trace, *SPACE[:-1], "1")), table.HEADER + "\n")
+        rest = self.table(700, *SPACE, "--after", last_row)
+        self.assertEqual(first + rest, self.table(700, *SPACE))
+        self.assertEqual(self.table(700, *SPACE[:-1], "1"), table.HEADER + "\n")
 
     def test_a_number_that_begins_with_0(self):
-        trace = base.EXAMPLES / "sort.din"
-        self.assertEqual(self.good(self.run_tool("warm", "0700", trace, *SPACE)), self.good(self.run_tool("warm", 700, trace, *SPACE)))
+        self.assertEqual(self.table("0700", *SPACE), self.table(700, *SPACE))
 
     def test_faults(self):
         for stdin, arguments, status, fault in (
@@ -110,7 +114,8 @@ class Warm(reading_base.Reading, base.ToolTest):
             (b"0 10\n7 10\n0 10\n", ["2", "-", *SPACE], 1, "cachesim: line 2: bad label\n"),
             (b"", ["x", "-", *SPACE], 2, "warm: 'x' is no number of lines"),
             (b"", ["-1", "-", *SPACE], 2, "warm: '-1' is no number of lines"),
-            (b"", ["1", "-"], 2, "warm: a number of lines, a trace and the options of a sweep are needed"),
+            (b"", ["1", "-"], 2,
+             "warm: a number of lines, a trace and the options of a sweep are needed"),
             (b"", ["1", "-", *SPACE, "-tx"], 2, "warm: the trace is the second argument"),
             (b"", ["1", "-", *SPACE[:-2]], 2, "error: "),
         ):

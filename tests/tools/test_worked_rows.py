@@ -1,4 +1,5 @@
-"""No worked row compares a thing with itself, is always true, or asks for a bound: it passes whatever the definition or the code says."""
+"""No worked row compares a thing with itself, is always true, or asks for a bound: it passes
+whatever the definition or the code says."""
 
 import re
 import unittest
@@ -47,7 +48,8 @@ def loose(text):
 
 class WorkedRows(unittest.TestCase):
     def test_of_definitions(self):
-        files = [path for path in base.TOP.glob("crates/*/proofs/*.antt") if re.search("Tables|Examples|Rows", path.stem)]
+        files = [path for path in base.TOP.glob("crates/*/proofs/*.antt")
+                 if re.search("Tables|Examples|Rows", path.stem)]
         self.assertGreater(len(files), 8)
         for path in files:
             self.assertEqual(in_rows(path.read_text()), [], path)
@@ -60,20 +62,28 @@ class WorkedRows(unittest.TestCase):
             self.assertEqual(loose(path.read_text()), [], path)
 
     def test_what_is_found(self):
-        rows = "good : (f 7 ≡ Some 7) × (f 8 ≡ None)\ngood = (refl, refl)\nbad : (f 7 ≡ Some 7)\n    × (f 8 ≡ f  8)\nbad = (refl, refl)\n"
+        rows = ("good : (f 7 ≡ Some 7) × (f 8 ≡ None)\ngood = (refl, refl)\n"
+                "bad : (f 7 ≡ Some 7)\n    × (f 8 ≡ f  8)\nbad = (refl, refl)\n")
         self.assertEqual(in_rows(rows), ["bad"])
-        self.assertEqual(in_code("assert!(rt; found == wanted, \"row {i}\"); let is_so = a.counts(2) == b.counts(2);"), [])
-        self.assertEqual(in_code("assert!(rt; cache.counts(2) == cache.counts(2));"), ["cache.counts(2)"])
-        self.assertEqual(in_code("assert!(rt;\n    ok && found == found,\n    \"row {i}\");"), ["found"])
-        self.assertEqual(in_code('assert!(rt; true, "row {i}");'), ["true"])
-        self.assertEqual(in_code("assert!(rt; is_true || a == b); assert!(rt; a == true, \"true\");"), [])
-        self.assertEqual(in_code("assert!(rt; a == 2 || true);"), ["a == 2 || true"])
+        for code, *found in (
+            ('assert!(rt; found == wanted, "row {i}"); let is_so = a.counts(2) == b.counts(2);',),
+            ("assert!(rt; cache.counts(2) == cache.counts(2));", "cache.counts(2)"),
+            ('assert!(rt;\n    ok && found == found,\n    "row {i}");', "found"),
+            ('assert!(rt; true, "row {i}");', "true"),
+            ('assert!(rt; is_true || a == b); assert!(rt; a == true, "true");',),
+            ("assert!(rt; a == 2 || true);", "a == 2 || true"),
+        ):
+            self.assertEqual(in_code(code), found)
 
     def test_what_is_loose(self):
         """A bound where a value is known: a wrong value can meet it."""
-        self.assertEqual(loose("assert!(rt; a.len() == 2); assert!(rt; a < b);"), [])
-        self.assertEqual(loose("assert!(rt; a.len() >= 2);"), ["a.len() >= 2"])
-        self.assertEqual(loose('assert!(rt; a != 2, "row {i}"); assert!(rt;\n    a == 1 || a == 2);'), ["a != 2", "a == 1 || a == 2"])
+        for code, *found in (
+            ("assert!(rt; a.len() == 2); assert!(rt; a < b);",),
+            ("assert!(rt; a.len() >= 2);", "a.len() >= 2"),
+            ('assert!(rt; a != 2, "row {i}"); assert!(rt;\n    a == 1 || a == 2);',
+             "a != 2", "a == 1 || a == 2"),
+        ):
+            self.assertEqual(loose(code), found)
 
 
 if __name__ == "__main__":

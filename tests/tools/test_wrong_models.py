@@ -1,7 +1,8 @@
-"""The cases tell a wrong program from the right one: each mistake of a colleague, put into the model, is seen by a case.
+"""The cases tell a wrong program from the right one: each mistake of a colleague, put into the
+model, is seen by a case.
 
-So a case that alone shows a mistake can't be deleted unseen. Most mistakes are in which of two faults is told, which the
-definitions and the code can have alike.
+So a case that alone shows a mistake can't be deleted unseen. Most mistakes are in which of two
+faults is told, which the definitions and the code can have alike.
 """
 
 import types
@@ -12,10 +13,12 @@ import base
 # a part of the model and what a mistake has there, with the cases that are run
 MISTAKES = {
     "sizes are judged before associativities": (
-        "sweep-words", '("assoc", 1, 65536), ("size", 0, 2**64)', '("size", 0, 2**64), ("assoc", 1, 65536)'
+        "sweep-words", '("assoc", 1, 65536), ("size", 0, 2**64)',
+        '("size", 0, 2**64), ("assoc", 1, 65536)',
     ),
     "set counts are judged before block sizes": (
-        "sweep-words", '("bsize", 1, 2**20), ("sets", 1, 2**20)', '("sets", 1, 2**20), ("bsize", 1, 2**20)'
+        "sweep-words", '("bsize", 1, 2**20), ("sets", 1, 2**20)',
+        '("sets", 1, 2**20), ("bsize", 1, 2**20)',
     ),
     "--rows is read before --after": (
         "sweep-words", 'Option("--after", triple)]\n    + [Option("--rows", number), ',
@@ -26,7 +29,8 @@ MISTAKES = {
         'Option("--format", one_of("dl")), Option("--kind", one_of("udi"))',
     ),
     "a range that is no power of two and reversed is told as reversed": (
-        "sweep-words", 'if name in ("bsize", "sets") and not', 'if low <= high and name in ("bsize", "sets") and not'
+        "sweep-words", 'if name in ("bsize", "sets") and not',
+        'if low <= high and name in ("bsize", "sets") and not',
     ),
     "--seed is read before -informat": (
         "din", 'Option("-informat", one_of("dl")), Option("--seed", number), FILE',
@@ -47,14 +51,21 @@ MISTAKES = {
         '            raise Fault("l2-u: block size smaller than in the first level", 2)\n',
     ),
     "-informat= is respelled": ("din", 'or word == "-informat"', 'or word.startswith("-informat")'),
-    "two prefixes are passed": ("lines-din", "(?:0[xX])?([0-9a-fA-F]{1,16})", "(?:0[xX]){0,2}([0-9a-fA-F]{1,16})"),
-    "a return in front is a blank": ("lines-din", 'line.rstrip(b" \\t\\r"))', 'line.strip(b" \\t\\r"))'),
+    "two prefixes are passed": (
+        "lines-din", "(?:0[xX])?([0-9a-fA-F]{1,16})", "(?:0[xX]){0,2}([0-9a-fA-F]{1,16})"
+    ),
+    "a return in front is a blank": (
+        "lines-din", 'line.rstrip(b" \\t\\r"))', 'line.strip(b" \\t\\r"))'
+    ),
     "a size is judged before its address": (
         "lines-lackey", '    if not re.fullmatch(rb"[0-9a-fA-F]{1,16}", address)',
-        '    if re.fullmatch(rb"[0-9]{1,9}", size) is None and address:\n        raise Fault("bad size")\n'
+        '    if re.fullmatch(rb"[0-9]{1,9}", size) is None and address:\n'
+        '        raise Fault("bad size")\n'
         '    if not re.fullmatch(rb"[0-9a-fA-F]{1,16}", address)',
     ),
-    "a message behind a blank is skipped": ("lines-lackey", 'line[:1] in (b"=", b"-", b"*")', 'line.strip()[:1] in (b"=", b"-", b"*")'),
+    "a message behind a blank is skipped": (
+        "lines-lackey", 'line[:1] in (b"=", b"-", b"*")', 'line.strip()[:1] in (b"=", b"-", b"*")'
+    ),
 }
 
 
@@ -73,14 +84,17 @@ class WrongModels(unittest.TestCase):
         return made
 
     def failed(self, model, files):
-        """The names of the cases of some files of which a model makes something else. Of the texts that it lacks only the
-        status is compared."""
+        """The names of the cases of some files of which a model makes something else. Of the texts
+        that it lacks only the status is compared."""
         failed = []
         for case in self.script.chosen(self.found, files)[0]:
             if not case.files:
                 given = {"/dev/stdin": case.stdin}
-                out, err, status = model.run(case.arguments, lambda: case.stdin, lambda name: given.get(name) or model.file_text(name))
-                wrong = [case.streams[name].differs(name, text.encode()) for name, text in (("stdout", out), ("stderr", err))]
+                out, err, status = model.run(
+                    case.arguments, lambda: case.stdin,
+                    lambda name: given.get(name) or model.file_text(name))
+                wrong = [case.streams[name].differs(name, text.encode())
+                         for name, text in (("stdout", out), ("stderr", err))]
                 if status != case.status or any(wrong) and not case.is_beyond_the_model:
                     failed.append(case.name)
         return failed
@@ -92,7 +106,8 @@ class WrongModels(unittest.TestCase):
     def test_each_mistake_is_seen(self):
         for name, (file, old, new) in MISTAKES.items():
             with self.subTest(name):
-                self.assertNotEqual(self.failed(self.model(old, new), [file]), [], "no case tells this model from the right one")
+                failed = self.failed(self.model(old, new), [file])
+                self.assertNotEqual(failed, [], "no case tells this model from the right one")
 
 
 if __name__ == "__main__":
