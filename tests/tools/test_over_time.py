@@ -36,8 +36,7 @@ class OverTime(log_base.Filtering, base.ToolTest):
         self.judge(TRANSPOSE, 100, *shape("l1-d", 32, 8, 2), "-informat", "l")
 
     def test_random(self):
-        """Caches of all shapes, policies and write modes, in one level and two; traces with
-        flushes; each cache."""
+        """Caches of all shapes, policies and write modes, in both levels; flushes; each cache."""
         drawn = random.Random(3)
         for text, options, names in log_base.cases(4, 2):
             for cache in (None, *names):

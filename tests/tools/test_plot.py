@@ -1,5 +1,4 @@
-"""Pictures of a table: what gnuplot is told, and what is refused. None of this needs gnuplot or
-plotly."""
+"""Pictures of a table: what gnuplot is told, and what is refused, without gnuplot and plotly."""
 
 import itertools
 import math
@@ -136,8 +135,7 @@ class Script(PlotTest):
         self.assertEqual(self.script("-", "a.png", stdin=marked), script)
 
     def test_a_line_is_cut_where_a_size_is_missing(self):
-        # Of direct-mapped caches the one of 4 sets is missing, which there is with two ways. Nobody
-        # has 32 sets.
+        # no direct-mapped cache has 4 sets, but one of two ways has; none at all has 32
         two = "64,4,2,512,500,500,0\n"
         self.write("t.csv", rows_of([(2, 900), (8, 700), (16, 600), (64, 500)]) + two)
         cut = [[(128, 90)], [(512, 70), (1024, 60), (4096, 50)]]
@@ -165,16 +163,14 @@ class Script(PlotTest):
             self.assertEqual(list(map(int, named)), chosen)
 
     def test_axis(self):
-        """It is logarithmic where the greatest is five times the least, and has a place for 0.
-        Ticks have their texts."""
+        """Logarithmic where the greatest is five times the least, with a place for 0 and ticks."""
         words = ("--only", "size", "t.csv")
         for misses, is_log in (
             ([100, 499], False), ([100, 500], True), ([1000, 1000], False), ([0, 0], False),
             ([1, 1000], True), ([0, 10, 900], True), ([0, 300, 900], False),
         ):
             self.write("t.csv", rows_of(enumerate(misses, 1)))
-            # labels of 14 pixels in a height of some 380 must not touch, nor those of a text in its
-            # rows
+            # labels of 14 pixels in a height of some 380 must not touch, nor texts in its rows
             self.judge_axis(misses, is_log, self.script(*words, "a.png"), 380, 20)
             for lines, rows in ((16, 11), (60, 54)):
                 script = self.script(*words, "-", env={"COLUMNS": "72", "LINES": str(lines)})

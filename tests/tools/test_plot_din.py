@@ -1,5 +1,4 @@
-"""Curves over all ways, pictures of tables of din, and other measures: what gnuplot is told, and
-what is refused."""
+"""Curves over all ways, pictures of tables of din, and other measures: as gnuplot is told them."""
 
 import itertools
 import re
@@ -25,8 +24,7 @@ class Curve(PlotTest):
         )
 
     def test_one_set(self):
-        """A line without marks over all ways, which is the first of three pictures too; no legend
-        where it is alone."""
+        """A line without marks over all ways, also in the first of three pictures; no legend."""
         self.write("t.csv", self.curve())
         script = self.script("--curve", "t.csv", "a.svg")
         points = [(64 * way, 10 - way / 10) for way in range(1, 41)]
@@ -77,8 +75,7 @@ class Measure(PlotTest):
         self.assertIn("set ylabel 'evictions in per cent of references'", script)
 
     def test_a_further_column(self):
-        """One that counts references is in per cent of them, any other in its own unit, with ticks
-        above 100 too."""
+        """One that counts references is in per cent of them, any other in its own unit."""
         rows = "64,1,1,64,100,100,49,14,580\n64,2,1,128,120,80,38,0,302.5\n"
         self.write("t.csv", f"{table.HEADER},conflict,cost\n{rows}")
         conflict = self.data("--measure", "conflict", "--only", "size", "t.csv", "-")
@@ -203,8 +200,7 @@ class Din(PlotTest):
             self.assertEqual(len(names_of(script)), lines)
 
     def test_second_levels(self):
-        """The miss ratio is that of the cache on the axis, and a line's name says whose value it
-        is."""
+        """The miss ratio is that of the cache on the axis, and a line's name says whose it is."""
         header = "l1-dsize,l2-usize,l2-urepl,l1-d-references,l1-d-misses,l1-d-percent,"
         header += "l2-u-references,l2-u-misses,l2-u-percent,bypassed"
         second = (256, "l", 10), (256, "f", 20), (512, "l", 5), (512, "f", 6)

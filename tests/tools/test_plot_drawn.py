@@ -21,8 +21,7 @@ from test_plot import ALL, AXES, TITLES, PlotTest, rows_of
 
 
 def png_of(data):
-    """The width and height of a PNG, and how many different bytes are in its lines, of which a
-    blank one has very few."""
+    """The size of a PNG, and how many different bytes are in its lines: in a blank one very few."""
     assert data[:8] == b"\x89PNG\r\n\x1a\n"
     at, packed = 8, b""
     while at < len(data):
@@ -231,8 +230,7 @@ class Page(PlotTest):
         self.assertIn("<p>18 runs, 1,030 references. ", self.page("din.csv"))
 
     def test_a_line_that_is_cut(self):
-        """There is nothing between the points where it is cut, and what is told of the others stays
-        with them."""
+        """Nothing is between the points where it is cut, and each keeps what is told of it."""
         self.write("t.csv", rows_of([(2, 900), (8, 700), (16, 600)]) + "64,4,2,512,500,500,0\n")
         line = self.figures("--only", "size", "t.csv")["size"]["64"]["data"][0]
         self.assertEqual((line["x"], line["y"]), ([128, None, 512, 1024], [90, None, 70, 60]))
@@ -240,8 +238,7 @@ class Page(PlotTest):
                          [[64, 2, 1, 128], None, [64, 8, 1, 512], [64, 16, 1, 1024]])
 
     def test_axes(self):
-        """Plotly takes the ends of a logarithmic axis as powers of ten. A tick's text is its
-        value."""
+        """Plotly takes the ends of a logarithmic axis as powers of ten. Ticks' texts are values."""
         figure = self.figures("eight.csv")["size"]["32"]
         for axis, least, greatest in (("xaxis", 32, 128), ("yaxis", 8, 50)):
             self.assertEqual(figure["layout"][axis]["type"], "log")
@@ -268,8 +265,7 @@ class Page(PlotTest):
 
     @needs("chromium")
     def test_in_a_browser(self):
-        """The choice behind '#', one from a menu, what is told of a point, and that nothing else is
-        asked for."""
+        """The choice behind '#', one from a menu, what is told of a point, and no other request."""
         page = self.page("--title", "Eight", "eight.csv")
         watch = """<head><script>
             addEventListener('securitypolicyviolation', () => { document.title = 'More'; });

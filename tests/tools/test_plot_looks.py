@@ -1,5 +1,4 @@
-"""How pictures look: on paper, in few columns, without colour, and in a browser that is narrow or
-dark."""
+"""How pictures look: on paper, in few columns, without colour, and in a narrow or dark browser."""
 
 import json
 import re
@@ -157,8 +156,9 @@ class Drawn(LooksTest):
         self.assertEqual(png_of((self.folder / "a.png").read_bytes())[:2], (990, 750))
 
     def test_no_warning_where_the_language_is_c(self):
+        env = {"LC_ALL": "C", "LANG": "C"}
         for out in ("a.png", "a.svg", "a.pdf", "-"):
-            self.good(self.plot("--title", "é", "eight.csv", out, env={"LC_ALL": "C", "LANG": "C"}))
+            self.good(self.plot("--title", "é", "eight.csv", out, env=env))
 
     def test_forty_columns(self):
         """All of a text picture is within, and no text runs into another."""

@@ -100,8 +100,7 @@ class Replay(ReplayTest):
         self.assertEqual(text[-1], "hits:2 misses:4 evictions:2")
         data = self.data(*arguments)
         self.assertEqual((data["sets"], [step["set"] for step in data["steps"]]), ([1], [1] * 6))
-        # a flush counts the dirty blocks of both sets, and what the other set sends to memory is of
-        # no step
+        # a flush counts the dirty blocks of both sets; what the other set sends is of no step
         two = ("-l1-usize", "32", "-l1-ubsize", "16", "--set", "0")
         steps = self.steps(*two, stdin=b"1 0\n1 10\n0 30\n4 0\n1 20\n")
         self.assertEqual([step["sent"] for step in steps], [["read 0"], [], ["read 20"]])
@@ -203,8 +202,7 @@ class Replay(ReplayTest):
                 yield f"memory {label[word]} {at}"
 
     def test_steps_are_those_of_the_log(self):
-        """Victims, dirty blocks and what memory gets, by the model; fetches that a data cache does
-        not take have no step."""
+        """Victims, dirty blocks and what memory gets, by the model; what is bypassed is no step."""
         for trace, place, policies in itertools.product(
             (ORDER * 3 + b"0 ffffffffffffffff\n", start_of("sort.din", 300).encode()),
             ("l1-i", "l1-d", "l1-u"), ("laa", "faa", "lna", "fan"),
@@ -275,8 +273,7 @@ class Faults(ReplayTest):
         self.assertEqual(len(self.data(*words, stdin=b"".join(lines[:512]))["sets"]), 512)
 
     def test_a_log_that_differs(self):
-        """A stand-in for the program changes a line of the log: the step that differs is named, and
-        there is no page."""
+        """A stand-in for the program changes a line of the log: the step that differs is named."""
         sets = "but by this tool's sets it is"
         for change, step, told in (
             ("s/ 22 hit/ 22 miss/", 3, f"'l1-d 0 22 miss', {sets} 'l1-d 0 22 hit'"),
@@ -381,8 +378,8 @@ class InABrowser(ReplayTest):
             "others later. It is dirty, so it is written back. Next to be evicted in set 1: line 1 "
             "(tag 8), last used in line 5 of the trace. Sent to memory: write 10, read 210. Next "
             "in the trace: M load 12 | ",
-            "Set 0 line 0 dirty tag 1 used in trace line 3 line 1 free ▶ Set 1 line 0 tag 10 used "
-            "in trace line 6 new, was 0 line 1 tag 8 used in trace line 5 evicted next | ",
+            "Set 0 line 0 dirty tag 1 used in trace line 3 line 1 free ▶ Set 1 line 0 tag 10 "
+            "used in trace line 6 new, was 0 line 1 tag 8 used in trace line 5 evicted next | ",
         ):
             self.assertIn(text, at_7)
         last = "5 L 110 miss 6 L 210 miss, eviction 7 M load 12 7 M store 12"

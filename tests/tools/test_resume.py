@@ -95,8 +95,7 @@ class Resumed(ParallelTest):
         self.assertEqual(self.table(), wanted)
 
     def test_stopped(self):
-        """By each signal, while a second run can't begin; the parts that were done are not made
-        again."""
+        """By each signal, while a second run can't begin; what was done is not made again."""
         wanted, left = self.sweep(*SPACE, "-t", DIN), ""
         # the first two pages are let pass, and then all wait
         waits = 'echo "$after" >> begun\n[[ $(wc -l < begun) -lt 3 ]] || exec sleep 60'

@@ -1,5 +1,4 @@
-"""The runners of cases and of tests, tests/run and tests/test-tools: what they must fail, and what
-pass."""
+"""The runners of cases and of tests, tests/run and tests/test-tools: what fails and what passes."""
 
 import re
 import sys

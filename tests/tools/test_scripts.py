@@ -56,8 +56,7 @@ class Tried(base.ToolTest):
         self.assertLessEqual(set(others.split()), set(runs))
 
     def test_devices(self):
-        """Reads and writes fail in runs of each command; those that write early have a run with a
-        bad line too."""
+        """Reads and writes fail in runs of each command; what writes early has a bad line too."""
         failed = base.script("devices").FAILED
         names = {name for runs in failed.values() for name, _ in runs}
         self.assertEqual(names, COMMANDS | {"csim -v", "csim -v, a bad line", "log, a bad line"})

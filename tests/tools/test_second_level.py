@@ -48,8 +48,7 @@ class SecondLevel(log_base.Filtering, base.ToolTest):
             self.assertEqual(self.judge(text, *options).count("4 0\n"), 3)
 
     def compare(self, text, first, second, *more):
-        """Compares sweeps of the second level with `cachesim din` with both levels, in all that a
-        sweep counts."""
+        """Compares a sweep of the second level with `cachesim din` of both, in all its counts."""
         stream = self.good(self.run_on("-", *first, *more, stdin=text))
         bsize, sets, ways = second
         space = ["--bsize", bsize, "--sets", sets, "--assoc", ways, "--size", bsize * sets * ways]
@@ -90,8 +89,7 @@ class SecondLevel(log_base.Filtering, base.ToolTest):
         return self.executable("wrong", f"[ $1 = log ] || exec '{base.PROGRAM}' \"$@\"", body)
 
     def test_no_table_of_a_part(self):
-        """A sweep at the other end of the pipe fails too, also if the program ends in the middle of
-        a line."""
+        """A sweep behind the pipe fails too, also if the program ends in the middle of a line."""
         self.write("bad", SORT + b"7 10\n")
         self.write("trace", SORT)
         space = "--bsize 16 --sets 1 --assoc 1 --size 16".split()

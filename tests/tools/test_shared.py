@@ -1,5 +1,4 @@
-"""What the tools share in lib.bash and tool.py: signals, packed traces, the program, and traces
-that must not look whole."""
+"""What the tools share in lib.bash and tool.py: signals, packed traces, the program, cut traces."""
 
 import gzip
 import itertools
@@ -95,8 +94,7 @@ class Signals(Shared):
                 if mark in environment.split(b"\0")]
 
     def test_an_idle_input(self):
-        """A tool ends at once where no line comes, without a word, and leaves neither a file nor a
-        process."""
+        """Where no line comes, a tool ends at once without a word, and no file or process stays."""
         given = {"stdout": subprocess.DEVNULL, "stderr": subprocess.PIPE,
                  "env": self.in_folder(TMPDIR=str(self.folder))["env"]}
         for tool, number in itertools.product(BASH, (signal.SIGTERM, signal.SIGHUP)):

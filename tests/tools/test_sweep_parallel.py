@@ -40,8 +40,7 @@ def cost(pairs):
 
 
 def dearest_page(pairs, most):
-    """The cost of the dearest page, where pairs are cut into at most so many pages so that it is
-    least: by dynamic programming."""
+    """The cost of the dearest of so many pages, where it is least: by dynamic programming."""
     ends = range(1, len(pairs) + 1)
     costs = {(cut, end): cost(pairs[cut:end]) for end in ends for cut in range(end)}
     least = [0] + [math.inf] * len(pairs)
@@ -80,8 +79,7 @@ class Pages(ParallelTest):
             self.assertEqual(page.split()[-2:], ["--rows", "0"])
 
     def test_cuts(self):
-        """Pages are cut between pairs, make up the table, and the dearest costs no more than it
-        must."""
+        """Cut between pairs, pages make up the table, the dearest no dearer than it must be."""
         for space, most in itertools.product(SPACES, (1, 2, 3, 4, 7, 16, 500)):
             table = self.sweep(*space, "-t", "/dev/null").splitlines()[1:]
             deepest = {pair(row): int(row.split(",")[2]) for row in table}

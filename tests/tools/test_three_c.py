@@ -60,8 +60,7 @@ class ThreeC(reading_base.Reading, base.ToolTest):
         return self.good(self.run_tool("three-c", trace, *options.split(), **given))
 
     def judge(self, text, options, trace, format="d", kind="u", stdin=b""):
-        """Compares each row with simulations of a cache, of a fully associative one, and with a
-        count of first references."""
+        """Compares rows with simulations of two caches, and with a count of first references."""
         answer = self.table(options, trace=trace, stdin=stdin)
         events = base.references(text, format, kind)
         rows = [{name: int(value) for name, value in row.items()}
@@ -94,8 +93,7 @@ class ThreeC(reading_base.Reading, base.ToolTest):
             self.assertTrue(any(row["conflict"] > 0 for row in rows))
 
     def test_less_than_nothing(self):
-        # three blocks in turn: one set of two lines always misses, and of two sets with a line each
-        # one holds its only block
+        # three blocks in turn: two lines of a set always miss; of two sets one holds its only block
         self.judge_rows("--bsize 1 --sets 1-2 --assoc 1-2 --size 2", "0 0\n0 1\n0 2\n" * 4,
                         "1,1,2,2,0,12,10,3,9,0", "1,2,1,2,3,9,7,3,9,-3")
 
@@ -123,8 +121,7 @@ class ThreeC(reading_base.Reading, base.ToolTest):
                         "1,2,1,2,1,3,0,3,0,0")
 
     def test_more_lines_than_a_set_has(self):
-        # 131,072 lines hold the three blocks; two of them share a set, so one of the four misses is
-        # conflict
+        # two of three blocks share a set of 131,072 lines, so one of four misses is conflict
         self.judge_rows(LARGE, "0 0\n0 20000\n0 1\n0 0\n", "1,131072,1,131072,0,4,2,3,0,1")
         # as many blocks as lines, and one more
         text = walk(131072)
@@ -132,8 +129,7 @@ class ThreeC(reading_base.Reading, base.ToolTest):
         self.judge_rows(LARGE, text + "0 20000\n", "1,131072,1,131072,0,131073,1,131073,,")
 
     def test_more_lines_than_a_set_has_and_flushes(self):
-        """Where the parts between flushes have no more different blocks than the cache has lines,
-        none is a capacity miss."""
+        """With no more different blocks between flushes than lines, none is a capacity miss."""
         for blocks, parts, capacity in (
             (50000, 3, "0,0"), (100000, 3, "0,0"), (131072, 2, "0,0"),
             (131073, 1, ","), (131073, 2, ","),
@@ -145,8 +141,7 @@ class ThreeC(reading_base.Reading, base.ToolTest):
                                 f"1,131072,1,131072,0,{misses},{evictions},{misses},{capacity}")
 
     def test_more_lines_than_a_set_has_and_parts_that_differ(self):
-        """The part with the most different blocks decides, whichever it is: with more of them than
-        lines, capacity is not known."""
+        """The part with the most blocks decides: with more than lines, capacity is not known."""
         for parts, evictions, capacity in (
             ((131073, 70000), 1, ","), ((70000, 131073), 1, ","), ((131072, 70000), 0, "0,0")
         ):

@@ -266,8 +266,7 @@ class ToDin(ToolTest):
         return self.good(self.run_tool("to-din", form, *arguments, **given)).splitlines()
 
     def faulty(self, words, *texts, status=1, tool=TOOLS / "to-din", **given):
-        """A run that ends with one message. Its output ends in that, or in the line of a tool that
-        failed."""
+        """A run with one message. Its output ends in that, or in the line of a tool that failed."""
         ran = self.run_command(tool, *words.split(), **given)
         message = ran.stderr.decode()
         self.assertEqual((ran.returncode, message.count("\n")), (status, 1), message)
@@ -349,8 +348,7 @@ class Streams(ToDin):
             self.same(self.din(form, stdin="\r\n".join(lines).encode()), expected)
 
     def test_changed_lines(self):
-        """What random changes make of good lines, by a converter with the compiler's guards, where
-        it has them."""
+        """What random changes make of good lines, with the compiler's guards where it has them."""
         guarded = self.folder / "guarded"
         source, flags = TOOLS / "lib/to-din.c", "-std=c11 -Wall -Wextra -Werror -O1 -o".split()
         guards = "-fsanitize=address,undefined", "-fno-sanitize-recover=all"

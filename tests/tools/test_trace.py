@@ -17,8 +17,7 @@ QEMU = f"qemu-{platform.machine()}"
 
 
 class StandIn(TraceTest):
-    """With tests/tools/traced/fake_qemu.c for QEMU: what the plugin is called for is told by the
-    arguments behind the program."""
+    """With traced/fake_qemu.c for QEMU: what the plugin is called for stands behind the program."""
 
     def setUp(self):
         super().setUp()

@@ -151,8 +151,7 @@ class During(TraceTest):
     WRITTEN = [0, 10, 1, 0, 10, 11, 2, 1, 0, 10, 11, 12]
 
     def written(self, *arguments, program=None):
-        """What the traced part writes, as places in `inside`, and `outside` before those in the
-        other array."""
+        """What the traced part writes, as places in `inside`, or with the name of `outside`."""
         program = program or traced("during")
         lines, _ = self.traced_to_file("--during", "f", program, *arguments)
         found = self.own_data(lines, program, "inside", "outside")

@@ -196,8 +196,7 @@ class ByQemu(Both, TraceTest):
         self.assertEqual(lines.count(storing), rounds * 20000 + faults)
 
     def test_many_blocks(self):
-        """A block of references is handed over at each system call: more of them than 16 bits
-        count. An endless trace is cut."""
+        """A block for each system call, more than 16 bits count. An endless trace is cut."""
         program = traced("calls")
         lines, _ = self.traced_to_file("--kind", "d", "--count", 2_000_000, program)
         written = self.own_data(lines, program, "numbers")
