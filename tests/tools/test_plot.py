@@ -73,6 +73,14 @@ class PlotTest(base.ToolTest):
         """A path with a gnuplot of our own, a script."""
         return {"PATH": f"{self.executable('bin/gnuplot', text).parent}:{os.environ['PATH']}"}
 
+    def browsed(self, file, *options, place=""):
+        """What chromium shows of a file."""
+        flags = "--headless=new --no-sandbox --disable-gpu --virtual-time-budget=20000 --dump-dom"
+        words = [*flags.split(), *options, f"--user-data-dir={self.folder}/profile"]
+        ran = self.run_command("chromium", *words, (self.folder / file).as_uri() + place)
+        self.assertEqual(ran.returncode, 0)
+        return ran.stdout.decode()
+
     def names(self):
         return sorted(path.name for path in self.folder.iterdir())
 

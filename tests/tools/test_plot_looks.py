@@ -187,12 +187,8 @@ class Page(LooksTest):
         self.good(self.plot(*arguments, "a.html"))
         self.write("look.html", (self.folder / "a.html").read_text().replace("</body>", LOOK))
         self.write("frame.html", FRAME % width)
-        options = ["--headless=new", "--no-sandbox", "--disable-gpu", "--dump-dom",
-                   "--virtual-time-budget=20000", "--window-size=1400,1600",
-                   f"--user-data-dir={self.folder}/profile",
-                   *["--blink-settings=preferredColorScheme=0"] * dark]
-        ran = self.run_command("chromium", *options, (self.folder / "frame.html").as_uri())
-        look = re.search('data-look="([^"]*)"', ran.stdout.decode())[1]
+        options = ["--window-size=1400,1600", *["--blink-settings=preferredColorScheme=0"] * dark]
+        look = re.search('data-look="([^"]*)"', self.browsed("frame.html", *options))[1]
         return json.loads(look.replace("&quot;", '"'))
 
     def test_narrow_and_wide(self):

@@ -314,13 +314,12 @@ class Formats(ToDin):
             expected += [f"2 {ip:x}"] + [f"{label} {at:x}" for label, at in data if at]
         self.same(self.din("champsim", stdin=b"".join(records)), expected)
         whole, third = b"".join(records[:2]), records[2]
-        for bad, fault in (
-            (third[:1], "cut short: 1 of 64 bytes"),
-            (third[:63], "cut short: 63 of 64 bytes"),
-            (third[:8] + b"\2" + third[9:], "not a record of ChampSim"),
-            (third[:9] + b"\2" + third[10:], "not a record of ChampSim"),
-        ):
-            self.faulty("champsim", f"record 3: {fault}", stdin=whole + bad)
+        for cut in (1, 63):
+            told = f"record 3: cut short: {cut} of 64 bytes"
+            self.faulty("champsim", told, stdin=whole + third[:cut])
+        for at in (8, 9):
+            bad = third[:at] + b"\2" + third[at + 1:]
+            self.faulty("champsim", "record 3: not a record of ChampSim", stdin=whole + bad)
 
     def test_lackey_as_the_program_reads_it(self):
         for name in ("transpose.lackey", "blocks.lackey", "formats/lackey.txt"):
@@ -404,13 +403,12 @@ class Streams(ToDin):
         for packer, ending in (("xz", ".xz"), ("zstd", ".zst")):
             name = f"-a trace{ending}"
             packed = self.run_command(packer, "-c", SAMPLES / "champsim.bin").stdout
-            (self.folder / name).write_bytes(packed)
+            self.write(name, packed)
             self.assertEqual(self.din("champsim", name), COPY)
-            (self.folder / name).write_bytes(packed[:-9])
+            self.write(name, packed[:-9])
             ran = self.run_tool("to-din", "champsim", name)
-            self.assertEqual(ran.returncode, 1)
             self.assertTrue(ran.stderr.endswith(f"to-din: {name} can't be unpacked\n".encode()))
-            self.assertTrue(ran.stdout.endswith(SPOILED))
+            self.assertEqual((ran.returncode, ran.stdout.endswith(SPOILED)), (1, True))
 
 
 class Faults(ToDin):
@@ -430,16 +428,17 @@ class Faults(ToDin):
             ran = self.run_command("bash", "-c", f"{call} >{place}")
             self.refused(ran, 1, f"to-din: write failed: {fault}")
         call += " | head -n 1; echo ${PIPESTATUS[0]}"
-        told = b"to-din: write failed: Broken pipe\n"
-        for before, wrote, told in ("", b"0 10\n141\n", b""), ("trap '' PIPE;", b"0 10\n1\n", told):
+        for before, status, told in (
+            ("", b"141", b""), ("trap '' PIPE;", b"1", b"to-din: write failed: Broken pipe\n")
+        ):
             ran = self.run_command("bash", "-c", f"{before} {call}")
-            self.assertEqual((ran.stdout, ran.stderr), (wrote, told))
+            self.assertEqual((ran.stdout, ran.stderr), (b"0 10\n%b\n" % status, told))
 
     def test_arguments(self):
-        for words, told in (
-            ("", "one file"), ("pin a b", "one file"), ("dinero", "to-din: dinero is no format")
-        ):
-            self.faulty(words, told, "; 'to-din --help' explains the arguments\n", status=2)
+        see = "; 'to-din --help' explains the arguments\n"
+        for words in ("", "pin a b"):
+            self.faulty(words, "one file", see, status=2)
+        self.faulty("dinero", "to-din: dinero is no format", see, status=2)
         for name in ("missing", "missing.gz"):
             self.faulty(f"pin {name}", f"{name} can't be read")
         self.faulty("pin .", "line 1: read failed: Is a directory")
@@ -462,7 +461,7 @@ class Faults(ToDin):
         self.faulty("pin trace.xz", "to-din: xz is missing: apt-get install xz-utils", **few)
 
     def test_an_interrupt(self):
-        pipes = {"stdin": subprocess.PIPE, "stdout": subprocess.PIPE, "stderr": subprocess.PIPE}
+        pipes = dict.fromkeys(("stdin", "stdout", "stderr"), subprocess.PIPE)
         with subprocess.Popen([TOOLS / "to-din", "pin"], **pipes) as run:
             run.stdin.write(b"0x401000: R 0x10\n" * 9999)
             run.stdin.flush()
