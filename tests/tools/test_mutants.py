@@ -55,8 +55,7 @@ class TheTable(ToolTest):
     def setUp(self):
         super().setUp()
         text = (TOP / "docs/proofs.md").read_text().partition("\nWrong body | ")[2]
-        lines = text.partition("\n\n")[0].splitlines()[2:]
-        self.rows = [line.split(" | ") for line in lines]
+        self.rows = [line.split(" | ") for line in text.partition("\n\n")[0].splitlines()[2:]]
 
     def test_each_edit_has_its_row(self):
         """No edit is lost without its row, no row without its edit, and both name one goal."""
@@ -167,9 +166,8 @@ class Mutants(ToolTest):
         self.mutant.write_text(f"goal: {goal}\n{EDIT}")
         own.write_text(IN_CODE.replace("returns-in-Some-clause-value", name) + REFUSED)
         self.passes(IN_ANSWER + REFUSED, f"{goal}, without its stored proof too")
-        for said, told in (
-            (PROVED, "it is proved"), (IN_CODE + REFUSED, f"not at {goal}, but at Half::of value")
-        ):
+        for said, told in ((PROVED, "it is proved"),
+                           (IN_CODE + REFUSED, f"not at {goal}, but at Half::of value")):
             own.write_text(said)
             self.refused(IN_ANSWER + REFUSED, f"by its stored proof alone, and without it: {told}")
         # where a lemma beside the stored proof is what no longer holds, and where the stored proof

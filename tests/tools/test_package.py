@@ -81,8 +81,7 @@ class Version(ToolTest):
 
 class Missing(MakeTest):
     def test_a_missing_package_is_named(self):
-        path = self.path_without("dh")
-        ran = self.run_command(self.top / "package/deb", env={"PATH": path})
+        ran = self.run_command(self.top / "package/deb", env={"PATH": self.path_without("dh")})
         self.refused(ran, 1, "deb: dh is missing: apt-get install debhelper\n")
         self.assertFalse((self.top / "out").exists())
 

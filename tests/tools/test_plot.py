@@ -173,9 +173,9 @@ class Script(PlotTest):
     def test_axis(self):
         """Logarithmic where the greatest is five times the least, with a place for 0 and ticks."""
         words = ("--only", "size", "t.csv")
-        for misses, is_log in (
-            ([100, 499], False), ([100, 500], True), ([1000, 1000], False), ([0, 0], False),
-            ([1, 1000], True), ([0, 10, 900], True), ([0, 300, 900], False),
+        for *misses, is_log in (
+            (100, 499, False), (100, 500, True), (1000, 1000, False), (0, 0, False),
+            (1, 1000, True), (0, 10, 900, True), (0, 300, 900, False),
         ):
             self.write("t.csv", rows_of(enumerate(misses, 1)))
             # labels of 14 pixels in a height of some 380 must not touch, nor texts in its rows
@@ -252,10 +252,8 @@ class Refused(PlotTest):
             self.refused(self.plot(*words.split(), env=path), 1, f"plot: {fault}")
 
     def test_wrong_arguments(self):
-        for words in (
-            "", "eight.csv", "eight.csv a.gif", "eight.csv a", "--only x eight.csv -",
-            "--bsize x eight.csv -", "--script eight.csv a.html", "--bs 16 eight.csv -",
-        ):
+        for words in ("", "eight.csv", "eight.csv a.gif", "eight.csv a", "--only x eight.csv -",
+                      "--bsize x eight.csv -", "--script eight.csv a.html", "--bs 16 eight.csv -"):
             ran = self.plot(*words.split())
             self.refused(ran, 2, "plot: ", "'plot --help' explains the arguments\n")
             self.assertEqual(ran.stderr.count(b"\n"), 1)

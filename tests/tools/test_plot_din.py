@@ -163,9 +163,8 @@ class Din(PlotTest):
         for words, ways in ((), 2), (("--ways", "8"), 8), (("--ways", "2"), 2):
             title = f"'Miss ratio by cache size: {ways} ways'"
             self.assertIn(title, self.script(*words, "t.csv", "a.svg"))
-        for option, absent in (
-            ("--ways=4", "assoc 4; there are 1, 2, 8"), ("--bsize=32", "bsize 32; there are 16")
-        ):
+        for option, absent in (("--ways=4", "assoc 4; there are 1, 2, 8"),
+                               ("--bsize=32", "bsize 32; there are 16")):
             self.refused(self.plot(option, "t.csv", "-"), 1, f"t.csv: no run has l1-u{absent}\n")
 
     def test_some_of_many_policies(self):
@@ -242,11 +241,9 @@ class Din(PlotTest):
         ):
             self.write("t.csv", text)
             self.refused(self.plot("t.csv", "-", env=self.no_gnuplot()), 1, "plot: t.csv: ", fault)
-        for words, fault in (
-            ("--only=block", "a table of din has the pictures size and pareto\n"),
-            ("--measure=x", "no column x; there are l1-usize, "),
-        ):
-            self.refused(self.plot(words, "din.csv", "-"), 1, f"plot: din.csv: {fault}")
+        for word, fault in (("--only=block", "a table of din has the pictures size and pareto\n"),
+                            ("--measure=x", "no column x; there are l1-usize, ")):
+            self.refused(self.plot(word, "din.csv", "-"), 1, f"plot: din.csv: {fault}")
 
     def test_a_real_table(self):
         """What din-table writes is taken by plot and best."""

@@ -210,9 +210,8 @@ class Page(PlotTest):
         self.assertEqual((two["name"], two["x"], two["y"]), ("2 ways", [64, 128], [25, 10]))
         self.assertEqual(two["customdata"],
                          [[16, 2, 2, 64, 75, 25, 21, 25], [16, 4, 2, 128, 90, 10, 2, 10]])
-        for ways, lines in (
-            ("1", {"32": [40, 50], "64": [30, 32]}), ("2", {"64": [25, 28], "128": [10, 8]})
-        ):
+        for ways, lines in (("1", {"32": [40, 50], "64": [30, 32]}),
+                            ("2", {"64": [25, 28], "128": [10, 8]})):
             data = figures["block"][ways]["data"]
             self.assertEqual({line["name"]: line["y"] for line in data}, lines)
         every, steps, front = figures["pareto"]["0"]["data"]

@@ -136,10 +136,8 @@ class Drawn(LooksTest):
         """As large as asked, with its fonts within, and all texts on the page."""
         words = "--size 3.3x2.4in --mono --title Eight --only size eight.csv a.pdf"
         self.good(self.plot(*words.split()))
-        for command, told in (
-            ("pdfinfo", r"Page size: +23[78](\.\d+)? x 17[23](\.\d+)? pts"),
-            ("pdffonts", r"DejaVuSans +TrueType +\w+ +yes yes"),
-        ):
+        for command, told in (("pdfinfo", r"Page size: +23[78](\.\d+)? x 17[23](\.\d+)? pts"),
+                              ("pdffonts", r"DejaVuSans +TrueType +\w+ +yes yes")):
             self.assertRegex(self.good(self.run_command(command, "a.pdf")), told)
         text = self.good(self.run_command("pdftotext", "a.pdf", "-"))
         for words in ("Eight", "Miss ratio by cache size: blocks of 32 bytes",
@@ -192,10 +190,8 @@ class Page(LooksTest):
         return json.loads(look.replace("&quot;", '"'))
 
     def test_narrow_and_wide(self):
-        for width, dark, *colours in (
-            (400, True, "24, 26, 27", "92, 179, 236", "228, 228, 228"),
-            (1280, False, "255, 255, 255", "0, 114, 178", "34, 34, 34"),
-        ):
+        for width, dark, *colours in ((400, True, "24, 26, 27", "92, 179, 236", "228, 228, 228"),
+                                      (1280, False, "255, 255, 255", "0, 114, 178", "34, 34, 34")):
             look = self.look(self.sort, width=width, dark=dark)
             self.assertEqual(look["found"], [])
             self.assertLessEqual(look["wide"], look["width"])

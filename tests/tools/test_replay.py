@@ -172,9 +172,8 @@ class Replay(ReplayTest):
     def test_outcomes_are_those_of_csim(self):
         """Each access of the model's lines with -v, of which a modify has two."""
         cut = self.write("cut.lackey", start_of("transpose.lackey", 900))
-        for trace, cache in itertools.product(
-            (HANDOUT, cut), ("011", "124", "313", "245", "510", "082")
-        ):
+        caches = ("011", "124", "313", "245", "510", "082")
+        for trace, cache in itertools.product((HANDOUT, cut), caches):
             words = *lab_words(*cache), "-t", str(trace)
             written = model.run(["csim", "-v", *words], None, lambda _: trace.read_bytes())[0]
             *lines, summary = written.splitlines()
@@ -203,11 +202,11 @@ class Replay(ReplayTest):
 
     def test_steps_are_those_of_the_log(self):
         """Victims, dirty blocks and what memory gets, by the model; what is bypassed is no step."""
+        traces = ORDER * 3 + b"0 ffffffffffffffff\n", start_of("sort.din", 300).encode()
+        names = ("size", "bsize", "assoc", "repl", "walloc", "wback")
         for trace, place, policies in itertools.product(
-            (ORDER * 3 + b"0 ffffffffffffffff\n", start_of("sort.din", 300).encode()),
-            ("l1-i", "l1-d", "l1-u"), ("laa", "faa", "lna", "fan"),
+            traces, ("l1-i", "l1-d", "l1-u"), ("laa", "faa", "lna", "fan")
         ):
-            names = ("size", "bsize", "assoc", "repl", "walloc", "wback")
             pairs = zip(names, ("64", "8", "4", *policies))
             words = [word for name, value in pairs for word in (f"-{place}{name}", value)]
             written = model.run(["log", *words], lambda: trace, None)[0].splitlines()
@@ -253,12 +252,10 @@ class Faults(ReplayTest):
                 self.refused(self.replay(*words), 2, text)
 
     def test_traces(self):
-        for words, text, fault in (
-            (("-t", "none"), b"", "replay: cannot open none\n"),
-            ((), b" L 10,1\n L x,1\n", "replay: line 2: bad address\n"),
-            ((), b"I  10,1\n", "no reference for the cache l1-d"),
-        ):
-            self.refused(self.replay(*ONE_LINE, *words, stdin=text), 1, fault)
+        self.refused(self.replay(*ONE_LINE, "-t", "none"), 1, "replay: cannot open none\n")
+        for text, fault in ((b" L 10,1\n L x,1\n", "replay: line 2: bad address\n"),
+                            (b"I  10,1\n", "no reference for the cache l1-d")):
+            self.refused(self.replay(*ONE_LINE, stdin=text), 1, fault)
 
     def test_limits(self):
         words = ("-s", 10, "-E", 4, "-b", 4)
@@ -391,8 +388,7 @@ class InABrowser(ReplayTest):
 
     def test_predictions(self):
         """The first access misses, and so does the second, where the answer is a hit."""
-        page = self.page(*OF_HANDOUT)
-        asked, right, wrong = self.shown(page)["asked"]
+        asked, right, wrong = self.shown(self.page(*OF_HANDOUT))["asked"]
         self.assertTrue(asked.endswith("What will L 10 do? hitmissmiss, eviction"), asked)
         self.assertIn("Right: your answer was miss. Right: 1 of 1.", right)
         self.assertIn("Wrong: your answer was hit. Right: 1 of 2.", wrong)
@@ -415,11 +411,8 @@ class InABrowser(ReplayTest):
     def test_sets_of_each_step(self):
         """They are those of --text."""
         handout, transpose = HANDOUT.read_bytes(), start_of("transpose.lackey", 100).encode()
-        for trace, *words in (
-            (handout, "-s", 0, "-E", 2, "-b", 4),
-            (transpose, "-s", 2, "-E", 4, "-b", 4),
-            (ORDER, *ONE_SET, "-l1-urepl", "f"),
-        ):
+        for trace, *words in ((handout, *lab_words(0, 2, 4)), (transpose, *lab_words(2, 4, 4)),
+                              (ORDER, *ONE_SET, "-l1-urepl", "f")):
             rows = self.text(*words, stdin=trace)[3:-1]
             sets = self.shown(self.page(*words, stdin=trace))["sets"]
             self.same(sets, [re.split("  +", row)[-1] for row in rows])

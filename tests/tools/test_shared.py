@@ -140,8 +140,7 @@ class PackedTraces(Shared):
         """A fault of the trace, in each tool."""
         lines = b"ff0\n" * 99
         for tool in READERS:
-            packed = gzip.compress(lines if tool == "to-din" else LINES)
-            self.write("t.gz", packed + b"more")
+            self.write("t.gz", gzip.compress(lines if tool == "to-din" else LINES) + b"more")
             ran = self.read_by(tool, "t.gz")
             self.assertEqual(ran.returncode, 1, (tool, ran.stderr))
             self.assertRegex(ran.stderr, rb"trailing garbage|can't be unpacked")
@@ -210,10 +209,9 @@ class Compiling(Shared):
 
 class Streams(ToolTest):
     def test_help_on_a_full_device(self):
-        for tool, told, status in (
-            ("warm", "write failed", 1), ("trace", "write failed", 125),
-            ("best", "No space left on device", 1), ("pages", "No space left on device", 1),
-        ):
+        full = "No space left on device"
+        for tool, told, status in (("warm", "write failed", 1), ("trace", "write failed", 125),
+                                   ("best", full, 1), ("pages", full, 1)):
             ran = self.run_command("bash", "-c", f"{TOOLS}/{tool} --help > /dev/full", seconds=20)
             told = f"{tool}: standard output: {told}\n"
             self.assertEqual((ran.stderr.decode(), ran.returncode), (told, status))

@@ -82,7 +82,7 @@ class Pages(ParallelTest):
         """Cut between pairs, pages make up the table, the dearest no dearer than it must be."""
         for space, most in itertools.product(SPACES, (1, 2, 3, 4, 7, 16, 500)):
             table = self.sweep(*space, "-t", "/dev/null").splitlines()[1:]
-            deepest = {pair(row): int(row.split(",")[2]) for row in table}
+            pairs = {pair(row): tuple(map(int, row.split(",")[:3])) for row in table}
             taken = [pair(row) for row in table]
             pages, dearest, after = self.pages(most, *space), 0, ""
             for page in pages:
@@ -92,12 +92,11 @@ class Pages(ParallelTest):
                 after = " --after " + ",".join(last.split(",")[:3])
                 here, taken = taken[:rows], taken[rows:]
                 self.assertNotEqual(here[-1], taken[0] if taken else None, page)
-                costs = cost([(*name, deepest[name]) for name in dict.fromkeys(here)])
-                dearest = max(dearest, costs)
+                dearest = max(dearest, cost([pairs[name] for name in dict.fromkeys(here)]))
             self.assertEqual(taken, [])
             self.assertLessEqual(len(pages), most)
-            pairs = [(*name, assoc) for name, assoc in deepest.items()]
-            self.assertAlmostEqual(dearest, dearest_page(pairs, min(most, len(pairs))))
+            least = dearest_page(list(pairs.values()), min(most, len(pairs)))
+            self.assertAlmostEqual(dearest, least)
         self.assertEqual(len(self.pages("auto", *SPACE)), min(49, len(os.sched_getaffinity(0))))
         # the processors that it may use, and not all that are there
         one = ("taskset", "-c", min(os.sched_getaffinity(0)))
@@ -170,8 +169,7 @@ class SameBytes(ParallelTest):
         self.same(4, "-", *options, single=LACKEY, stdin=text)
         rest = self.sweep(*options, "-t", self.write("rest", text[text.index(b"\n") + 1:]))
         os.mkfifo(self.folder / "pipe")
-        words = " ".join(options)
-        run = f'run() {{ "{TOOLS}/sweep-parallel" 4 "$1" {words}; }}'
+        run = f'run() {{ "{TOOLS}/sweep-parallel" 4 "$1" {" ".join(options)}; }}'
         for script, wanted in (
             ('{ read -r line; run -; } < "$1"', rest),
             ('cat -- "$1" > pipe & run pipe; run <(cat -- $1); run /dev/stdin < "$1"',
@@ -245,8 +243,7 @@ class Faults(reading_base.ReadingForMany, ParallelTest):
     def test_flags_of_a_later_program(self):
         """A word that no value follows is one."""
         words = "--new --bsize 16 --after 1,1,1 --sets=1 --rows 2 --last".split()
-        kept = "--new --bsize 16 --sets 1 --last".split()
-        self.assertEqual(paging.split(words), (kept, "1,1,1"))
+        self.assertEqual(paging.split(words), ("--new --bsize 16 --sets 1 --last".split(), "1,1,1"))
 
     def test_arguments(self):
         for words, *faults in (

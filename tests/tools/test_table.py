@@ -20,8 +20,7 @@ class Reading(unittest.TestCase):
         self.assertEqual(len(table.read_table([f"{LINE}\n", "16,2,1,32,4,5,3\n"], "t")), 2)
 
     def test_lines_that_end_in_cr_lf(self):
-        text = [f"{table.HEADER}\r\n", f"{LINE}\r\n"]
-        self.assertEqual(table.read_table(text, "t"), [ROW])
+        self.assertEqual(table.read_table([f"{table.HEADER}\r\n", f"{LINE}\r\n"], "t"), [ROW])
 
     def test_a_byte_order_mark(self):
         """As spreadsheets write one."""

@@ -130,10 +130,8 @@ class ThreeC(reading_base.Reading, base.ToolTest):
 
     def test_more_lines_than_a_set_has_and_flushes(self):
         """With no more different blocks between flushes than lines, none is a capacity miss."""
-        for blocks, parts, capacity in (
-            (50000, 3, "0,0"), (100000, 3, "0,0"), (131072, 2, "0,0"),
-            (131073, 1, ","), (131073, 2, ","),
-        ):
+        for blocks, parts, capacity in ((50000, 3, "0,0"), (100000, 3, "0,0"), (131072, 2, "0,0"),
+                                        (131073, 1, ","), (131073, 2, ",")):
             for step in (0, blocks):  # the same blocks in each part, or different ones
                 lines = [walk(blocks, step * part) for part in range(parts)]
                 misses, evictions = blocks * parts, max(blocks - 131072, 0) * parts
@@ -142,8 +140,8 @@ class ThreeC(reading_base.Reading, base.ToolTest):
 
     def test_more_lines_than_a_set_has_and_parts_that_differ(self):
         """The part with the most blocks decides: with more than lines, capacity is not known."""
-        for parts, evictions, capacity in (
-            ((131073, 70000), 1, ","), ((70000, 131073), 1, ","), ((131072, 70000), 0, "0,0")
+        for *parts, evictions, capacity in (
+            (131073, 70000, 1, ","), (70000, 131073, 1, ","), (131072, 70000, 0, "0,0")
         ):
             misses = sum(parts)
             self.judge_rows(LARGE, " \t4\t7 note\r\n".join(map(walk, parts)),
@@ -173,9 +171,7 @@ class ThreeC(reading_base.Reading, base.ToolTest):
         """Whatever the program's path is; its parent is sh or awk."""
         given = "-", "--bsize", 16, "--sets", 65536, "--assoc", 2, "--size", "2m"
         fails = "case $(< /proc/$PPID/comm) in sh | *awk) cat > /dev/null; exit 3 ;; esac"
-        for end, status, rows in (
-            ("", 0, ["16,65536,2,2097152,69999,2,0,2,0,0"]), (fails, 1, [])
-        ):
+        for end, status, *rows in ("", 0, "16,65536,2,2097152,69999,2,0,2,0,0"), (fails, 1):
             program = self.executable("it's $a program", end, f"exec '{base.PROGRAM}' \"$@\"")
             text, env = 70000 * b"0 10\n" + b"4 0\n0 10\n", {"CACHESIM": str(program)}
             ran = self.run_tool("three-c", *given, stdin=text, env=env)

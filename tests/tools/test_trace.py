@@ -296,8 +296,7 @@ class StandIn(TraceTest):
 
     def test_a_version_that_does_not_tell_the_start_of_the_code(self):
         self.qemu.unlink()
-        older = program_of(TRACED / "fake_qemu.c", "-rdynamic", "-DWITHOUT_START")
-        self.qemu.symlink_to(older)
+        self.qemu.symlink_to(program_of(TRACED / "fake_qemu.c", "-rdynamic", "-DWITHOUT_START"))
         self.has_symbols("401100 T main")
         self.writes("2 1\n", "2:1")
         ran = self.steps("2:1", options=("--from", "main"))

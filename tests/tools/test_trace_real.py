@@ -199,8 +199,7 @@ class ByQemu(Both, TraceTest):
         """A block for each system call, more than 16 bits count. An endless trace is cut."""
         program = traced("calls")
         lines, _ = self.traced_to_file("--kind", "d", "--count", 2_000_000, program)
-        written = self.own_data(lines, program, "numbers")
-        self.assertEqual(written, places("1", "numbers", 70000, 1))
+        self.assertEqual(self.own_data(lines, program, "numbers"), places("1", "numbers", 70000, 1))
 
     def test_atomic_instructions(self):
         added = [label for label, _, _ in self.of_data(traced("threads"), "sum")]

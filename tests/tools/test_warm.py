@@ -46,8 +46,7 @@ class Warm(reading_base.Reading, base.ToolTest):
         self.assertEqual(answer.split("\n")[0], table.HEADER)
         self.assertGreater(len(rows), 5)
         events = base.references(text, format, kind)
-        before = b"".join(text.splitlines(keepends=True)[:lines])
-        first = len(base.references(before, format, kind))
+        first = len(base.references(b"".join(text.splitlines(keepends=True)[:lines]), format, kind))
         for row in rows:
             cache = int(row["bsize"]), int(row["sets"]), int(row["assoc"])
             counted = int(row["hits"]), int(row["misses"]), int(row["evictions"])
@@ -60,8 +59,7 @@ class Warm(reading_base.Reading, base.ToolTest):
         self.judge(text, 1000, kind="d")
 
     def test_lackey(self):
-        text = (base.EXAMPLES / "transpose.lackey").read_bytes()
-        self.judge(text, 3000, "l", "d")
+        self.judge((base.EXAMPLES / "transpose.lackey").read_bytes(), 3000, "l", "d")
         # lines that are no references count, and a modify is never cut in two
         for lines in range(10):
             for kind in "ud":
