@@ -145,10 +145,9 @@ class Replay(ReplayTest):
     def test_reasons(self):
         """In words, with the step that decides."""
         steps = self.steps(*ONE_SET, stdin=ORDER)
-        self.assertEqual(
-            steps[3]["why"],
-            "Set 0 is full and does not hold tag 3. The block in line 1 (tag 2) is evicted: it was "
-            "last used in line 2 of the trace, the others later.")
+        why = ("Set 0 is full and does not hold tag 3. The block in line 1 (tag 2) is evicted: "
+               "it was last used in line 2 of the trace, the others later.")
+        self.assertEqual(steps[3]["why"], why)
         coming = "Next to be evicted in set 0: line 0 (tag 1), "
         self.assertEqual([step["coming"] for step in steps[:2]],
                          ["", coming + "last used in line 1 of the trace."])

@@ -88,8 +88,7 @@ class Pages(ParallelTest):
             for page in pages:
                 rows = int(page.split()[-1])
                 self.assertEqual(page, f"{' '.join(space)}{after} --rows {rows}")
-                last = table[rows - 1 - len(taken)]
-                after = " --after " + ",".join(last.split(",")[:3])
+                after = " --after " + ",".join(table[rows - 1 - len(taken)].split(",")[:3])
                 here, taken = taken[:rows], taken[rows:]
                 self.assertNotEqual(here[-1], taken[0] if taken else None, page)
                 dearest = max(dearest, cost([pairs[name] for name in dict.fromkeys(here)]))

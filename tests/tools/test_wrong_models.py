@@ -10,62 +10,50 @@ import unittest
 
 import base
 
+
+def swapped(file, first, second, between=", "):
+    """Two parts of the model that stand in the other order."""
+    return file, first + between + second, second + between + first
+
+
 # a part of the model and what a mistake has there, with the cases that are run
 MISTAKES = {
-    "sizes are judged before associativities": (
-        "sweep-words", '("assoc", 1, 65536), ("size", 0, 2**64)',
-        '("size", 0, 2**64), ("assoc", 1, 65536)',
-    ),
-    "set counts are judged before block sizes": (
-        "sweep-words", '("bsize", 1, 2**20), ("sets", 1, 2**20)',
-        '("sets", 1, 2**20), ("bsize", 1, 2**20)',
-    ),
-    "--rows is read before --after": (
-        "sweep-words", 'Option("--after", triple)]\n    + [Option("--rows", number), ',
-        'Option("--rows", number)]\n    + [Option("--after", triple), ',
-    ),
-    "--format is read before --kind": (
-        "sweep-words", 'Option("--kind", one_of("udi")), Option("--format", one_of("dl"))',
-        'Option("--format", one_of("dl")), Option("--kind", one_of("udi"))',
-    ),
+    "sizes are judged before associativities": swapped(
+        "sweep-words", '("assoc", 1, 65536)', '("size", 0, 2**64)'),
+    "set counts are judged before block sizes": swapped(
+        "sweep-words", '("bsize", 1, 2**20)', '("sets", 1, 2**20)'),
+    "--rows is read before --after": swapped(
+        "sweep-words", 'Option("--after", triple)', 'Option("--rows", number)', "]\n    + ["),
+    "--format is read before --kind": swapped(
+        "sweep-words", 'Option("--kind", one_of("udi"))', 'Option("--format", one_of("dl"))'),
     "a range that is no power of two and reversed is told as reversed": (
         "sweep-words", 'if name in ("bsize", "sets") and not',
-        'if low <= high and name in ("bsize", "sets") and not',
-    ),
-    "--seed is read before -informat": (
-        "din", 'Option("-informat", one_of("dl")), Option("--seed", number), FILE',
-        'Option("--seed", number), Option("-informat", one_of("dl")), FILE',
-    ),
+        'if low <= high and name in ("bsize", "sets") and not'),
+    "--seed is read before -informat": swapped(
+        "din", 'Option("-informat", one_of("dl"))', 'Option("--seed", number)'),
     "write-back alone is no option of a cache": (
         "din", "if any(value is not None for value in own.values())",
-        'if any(value is not None for word, value in own.items() if word != "wback")',
-    ),
+        'if any(value is not None for word, value in own.items() if word != "wback")'),
     "a mixed first level is judged after the geometries": (
         "din", 'if "l1-u" in caches and (',
-        'if all(it["size"] >= it["bsize"] for it in caches.values()) and "l1-u" in caches and (',
-    ),
+        'if all(it["size"] >= it["bsize"] for it in caches.values()) and "l1-u" in caches and ('),
     "smaller blocks below are judged before the geometries": (
         "din", "    machines = {}\n    for name, cache in caches.items():\n",
         "    machines = {}\n    for name, cache in caches.items():\n"
         '        if "l2-u" in caches and caches["l2-u"]["bsize"] < cache["bsize"]:\n'
-        '            raise Fault("l2-u: block size smaller than in the first level", 2)\n',
-    ),
+        '            raise Fault("l2-u: block size smaller than in the first level", 2)\n'),
     "-informat= is respelled": ("din", 'or word == "-informat"', 'or word.startswith("-informat")'),
     "two prefixes are passed": (
-        "lines-din", "(?:0[xX])?([0-9a-fA-F]{1,16})", "(?:0[xX]){0,2}([0-9a-fA-F]{1,16})"
-    ),
+        "lines-din", "(?:0[xX])?([0-9a-fA-F]{1,16})", "(?:0[xX]){0,2}([0-9a-fA-F]{1,16})"),
     "a return in front is a blank": (
-        "lines-din", 'line.rstrip(b" \\t\\r"))', 'line.strip(b" \\t\\r"))'
-    ),
+        "lines-din", 'line.rstrip(b" \\t\\r"))', 'line.strip(b" \\t\\r"))'),
     "a size is judged before its address": (
         "lines-lackey", '    if not re.fullmatch(rb"[0-9a-fA-F]{1,16}", address)',
         '    if re.fullmatch(rb"[0-9]{1,9}", size) is None and address:\n'
         '        raise Fault("bad size")\n'
-        '    if not re.fullmatch(rb"[0-9a-fA-F]{1,16}", address)',
-    ),
+        '    if not re.fullmatch(rb"[0-9a-fA-F]{1,16}", address)'),
     "a message behind a blank is skipped": (
-        "lines-lackey", 'line[:1] in (b"=", b"-", b"*")', 'line.strip()[:1] in (b"=", b"-", b"*")'
-    ),
+        "lines-lackey", 'line[:1] in (b"=", b"-", b"*")', 'line.strip()[:1] in (b"=", b"-", b"*")'),
 }
 
 
