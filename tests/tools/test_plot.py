@@ -148,8 +148,8 @@ class Script(PlotTest):
         self.write("t.csv", rows_of([(2, 900), (8, 700), (16, 600), (64, 500)]) + two)
         cut = [[(128, 90)], [(512, 70), (1024, 60), (4096, 50)]]
         self.assertEqual(self.data("--only", "size", "t.csv", "-")["size_1"], cut)
-        pairs = (16, (8, 900)), (64, (2, 700)), (32, (1, 600))
-        self.write("t.csv", "".join(rows_of([pair], bsize) for bsize, pair in pairs))
+        rows = rows_of([(8, 900)], 16) + rows_of([(2, 700)], 64) + rows_of([(1, 600)], 32)
+        self.write("t.csv", rows)
         data = self.data("--only", "block", "t.csv", "-")
         self.assertEqual(data["block_1"], [[(16, 90)], [(64, 70)]])
 

@@ -108,14 +108,11 @@ class Replay(ReplayTest):
         # more than the limit in all, but not in the set
         many = b" L 0,1\n" * 2000 + b" L 10,1\n"
         self.assertEqual(len(self.steps(*ONE_LINE, "--set", "1", stdin=many)), 1)
-        for bits, number, status, fault in (
-            (1, "2", 2, "there is no set 2: the last one is 1"),
-            (1, "-1", 2, "--set"),
-            (1, "x", 2, "'x' is no set such as 0 or 1c"),
-            (4, "f", 1, "no reference for set f"),
-        ):
-            words = lab_words(bits, 2, 4)
-            self.refused(self.replay(*words, "-t", HANDOUT, f"--set={number}"), status, fault)
+        for number, fault in (("2", "there is no set 2: the last one is 1"), ("-1", "--set"),
+                              ("x", "'x' is no set such as 0 or 1c")):
+            self.refused(self.replay(*OF_HANDOUT, f"--set={number}"), 2, fault)
+        ran = self.replay(*lab_words(4, 2, 4), "-t", HANDOUT, "--set", "f")
+        self.refused(ran, 1, "no reference for set f")
 
     def test_ways_of_any_number(self):
         """What csim says of them; the example by hand, with a third line for the block of 210."""
@@ -227,28 +224,24 @@ class Replay(ReplayTest):
 
 class Faults(ReplayTest):
     def test_arguments(self):
-        small = ("-l1-usize", 64, "-l1-ubsize", 16)
+        lab, small, one = "-s 1 -E 1 -b 4", "-l1-usize 64 -l1-ubsize 16", "one cache is wanted"
         for words, text in (
-            ((), "one cache is wanted"),
-            ((*ONE_LINE, *small), "one cache is wanted"),
-            ((*small, "-l1-dsize", 64), "one cache is wanted"),
-            (("-s", 1, "-E", 1), "-s, -E and -b are needed"),
-            (("-s", 21, "-E", 1, "-b", 4), "-s and -b are at most 20"),
-            (("-s", 1, "-E", 0, "-b", 4), "-E is at least 1"),
-            ((*ONE_LINE, "--until", 0), "--until wants a line from 1 on"),
-            ((*ONE_LINE, "--until", "x"), "'x' is not a number"),
-            ((*small, "-l1-uassoc", 3), "must be powers of two"),
-            (("-s", 1, "-E", "x", "-b", 4), "'x' is not a number"),
-            (("-s", 1, "-E", 2049, "-b", 4), "at most 2,048 lines"),
-            ((*ONE_LINE, "-informat", "d"), "-informat belongs to the options of din"),
-            (("-l1-usize", 64), "-l1-usize and -l1-ubsize are needed"),
-            ((*small, "-l1-uassoc", 8), "a set must fit into the size"),
-            ((*small, "-l1-urepl", "r"), "invalid choice: 'r'"),
-            ((*small, "-l2-usize", 64), "unrecognized arguments"),
-            (("-l1-usize", "1g", "-l1-ubsize", "2m"), "bad geometry"),
+            ("", one), (f"{lab} {small}", one), (f"{small} -l1-dsize 64", one),
+            ("-s 1 -E 1", "-s, -E and -b are needed"),
+            ("-s 21 -E 1 -b 4", "-s and -b are at most 20"), ("-s 1 -E 0 -b 4", "-E is at least 1"),
+            (f"{lab} --until 0", "--until wants a line from 1 on"),
+            (f"{lab} --until x", "'x' is not a number"), ("-s 1 -E x -b 4", "'x' is not a number"),
+            (f"{small} -l1-uassoc 3", "must be powers of two"),
+            ("-s 1 -E 2049 -b 4", "at most 2,048 lines"),
+            (f"{lab} -informat d", "-informat belongs to the options of din"),
+            ("-l1-usize 64", "-l1-usize and -l1-ubsize are needed"),
+            (f"{small} -l1-uassoc 8", "a set must fit into the size"),
+            (f"{small} -l1-urepl r", "invalid choice: 'r'"),
+            (f"{small} -l2-usize 64", "unrecognized arguments"),
+            ("-l1-usize 1g -l1-ubsize 2m", "bad geometry"),
         ):
             with self.subTest(words):
-                self.refused(self.replay(*words), 2, text)
+                self.refused(self.replay(*words.split()), 2, text)
 
     def test_traces(self):
         self.refused(self.replay(*ONE_LINE, "-t", "none"), 1, "replay: cannot open none\n")

@@ -413,8 +413,7 @@ class Streams(ToDin):
 
 class Faults(ToDin):
     def test_a_pipe_without_pipefail_gives_no_table(self):
-        cut = gzip.compress((SAMPLES / "pin.txt").read_bytes() * 999)[:-99]
-        (self.folder / "cut.gz").write_bytes(cut)
+        self.write("cut.gz", gzip.compress((SAMPLES / "pin.txt").read_bytes() * 999)[:-99])
         for words in ("pin", "pin cut.gz", "pin missing", "pin missing.xz", "pin .", "", "pin a b",
                       "dinero", "dinero cut.gz"):
             pipe = f"{TOOLS}/to-din {words} | {PROGRAM} sweep {' '.join(SPACE)}"
