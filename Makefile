@@ -29,7 +29,8 @@
 PREFIX ?= /usr/local
 PROGRAM := crates/cachesim/out/cachesim
 
-.PHONY: build demo tools test test-tools strain refusals mutants install uninstall deb clean help kit
+.PHONY: build demo tools test test-tools strain refusals mutants
+.PHONY: install uninstall deb clean help kit
 
 build:
 	@package/build
