@@ -1,4 +1,4 @@
-"""What the tests of the tools share: a folder for each test, runs of a tool, and the packages that a test needs."""
+"""What the tests of the tools share: folders, runs of a tool, and the packages that are needed."""
 
 import collections
 import contextlib
@@ -82,7 +82,7 @@ def comes(condition, seconds=20):
 
 
 def all_processes(*names):
-    """Of each process its number, and what some files of /proc/NUMBER hold. One that has just ended is left out."""
+    """Of each process its number, and some files of /proc/NUMBER; none of one that just ended."""
     for path in pathlib.Path("/proc").glob("[0-9]*"):
         with contextlib.suppress(OSError):
             yield int(path.name), *((path / name).read_bytes() for name in names)
@@ -92,12 +92,12 @@ def processes(group):
     """What runs in a group of processes."""
     parted = (stat.decode().rpartition(")") for _, stat in all_processes("stat"))
     states = ((name, *rest.split()[:3]) for name, _, rest in parted)
-    return [name for name, state, _, its_group in states if its_group == str(group) and state != "Z"]
+    return [name for name, state, _, its in states if its == str(group) and state != "Z"]
 
 
 @contextlib.contextmanager
 def ended(process):
-    """A process that is ended at the end, whatever has happened; nobody waits for what it started."""
+    """A process that is ended in any case at the end; nobody waits for what it started."""
     try:
         yield process
     finally:
@@ -109,7 +109,7 @@ def ended(process):
 
 
 def references(text, format="d", kind="u"):
-    """The references of a trace's text, with model.FLUSH for each flush, as the model reads them."""
+    """The references of a trace's text, with model.FLUSH for each flush, as the model reads it."""
     entries, fault = model.read(format, text)
     if fault:
         raise fault
@@ -117,15 +117,18 @@ def references(text, format="d", kind="u"):
 
 
 def rows_of(references, misses):
-    """Rows of a table: of caches that are full at the end, by block size, sets and ways how many references miss."""
+    """Rows of a table, for caches that are full at the end: how many references miss, by block
+    size, sets and ways."""
     return "".join(
-        f"{bsize},{sets},{ways},{bsize * sets * ways},{references - missed},{missed},{missed - sets * ways}\n"
+        f"{bsize},{sets},{ways},{bsize * sets * ways},{references - missed},{missed},"
+        f"{missed - sets * ways}\n"
         for (bsize, sets, ways), missed in misses.items()
     )
 
 
 class Lru:
-    """A cache that replaces the block least recently used, as plainly as can be: each set is a list, the block used last behind."""
+    """A cache that replaces the block least recently used, as plainly as can be: each set is a
+    list, the block used last behind."""
 
     def __init__(self, bsize, sets, assoc):
         self.bsize, self.assoc = bsize, assoc
@@ -154,11 +157,12 @@ class Lru:
     @property
     def counts(self):
         """Hits, misses and evictions, as in a row of a table."""
-        return self.went["hit"], self.went["miss"] + self.went["miss eviction"], self.went["miss eviction"]
+        evictions = self.went["miss eviction"]
+        return self.went["hit"], self.went["miss"] + evictions, evictions
 
 
 def copy_tools(to, *tools):
-    """Copies tools to another folder, with the parts of all tools, but nothing that was compiled."""
+    """Copies tools to another folder, with the parts of all tools, but nothing compiled."""
     shutil.copytree(TOOLS / "lib", to / "lib", ignore=shutil.ignore_patterns("__pycache__"))
     for tool in tools:
         shutil.copy(TOOLS / tool, to)
@@ -172,7 +176,8 @@ def is_there(package):
 
 
 def needs(*packages):
-    """Marks a test, or a class of tests, that needs Debian's packages: left out of the plain tests, and else a failure that names them."""
+    """Marks a test, or a class of tests, that needs Debian's packages: left out of the plain tests,
+    and else a failure that names them."""
 
     def marked(test):
         missing = [package for package in packages if not is_there(package)]
@@ -206,7 +211,8 @@ class ToolTest(unittest.TestCase):
     def in_folder(self, **more):
         """Where a command runs and what it knows: the program is on its path."""
         path = f"{PROGRAM.parent}:{os.environ['PATH']}"
-        return {"cwd": self.folder, "env": {**os.environ, "CACHESIM": str(PROGRAM), "PATH": path, **more}}
+        env = {**os.environ, "CACHESIM": str(PROGRAM), "PATH": path, **more}
+        return {"cwd": self.folder, "env": env}
 
     def run_command(self, *arguments, stdin=b"", env=None, seconds=120):
         """Runs a command with the program on its path. What it wrote comes as bytes."""
@@ -222,7 +228,8 @@ class ToolTest(unittest.TestCase):
         given = {"stderr": subprocess.PIPE, "timeout": 120, **self.in_folder()}
         with open("/dev/full", "wb") as full:
             ran = subprocess.run([TOOLS / tool, *arguments], stdout=full, **given)
-        self.assertEqual((ran.stderr.decode(), ran.returncode), (f"{tool}: standard output: {told}\n", 1))
+        told = f"{tool}: standard output: {told}\n"
+        self.assertEqual((ran.stderr.decode(), ran.returncode), (told, 1))
 
     def to_a_reader_that_goes(self, tool, *arguments, reads=10):
         """Runs a tool whose reader goes away behind so many bytes: it ends without a word."""
@@ -235,7 +242,8 @@ class ToolTest(unittest.TestCase):
         self.assertEqual((running.communicate(timeout=20)[1], running.returncode), (b"", 141))
 
     def end_of(self, running):
-        """What a process with a group of its own has written. One that goes on is a failure, and is ended with its group."""
+        """What a process with a group of its own has written. One that goes on is a failure, and
+        is ended with its group."""
         try:
             return running.communicate(timeout=20)
         except subprocess.TimeoutExpired:
@@ -256,7 +264,7 @@ class ToolTest(unittest.TestCase):
         return path
 
     def stand_in(self, command, *lines):
-        """Puts a script for bash into a folder of its own, to be found in place of a command. Returns the path to be searched."""
+        """Puts a script for bash in place of a command. Returns the path to be searched."""
         folder = self.executable(f"stand-ins/{command}", *lines).parent
         return {"PATH": f"{folder}:{PROGRAM.parent}:{os.environ['PATH']}"}
 
@@ -267,15 +275,22 @@ class ToolTest(unittest.TestCase):
         return "t.xz", "t.zst"
 
     def good(self, ran):
-        """What a run wrote to standard output, as text; it must have ended well and without a message."""
+        """What a run wrote to standard output, as text; it ended well and without a message."""
         self.assertEqual((ran.stderr.decode(errors="replace"), ran.returncode), ("", 0))
         return ran.stdout.decode()
 
     def same(self, got, expected):
-        """Compares long lists, and shows the first difference alone: to find all of them could take minutes."""
+        """Compares long lists, and shows the first difference alone: all could take minutes."""
         if got != expected:
-            at = next((at for at, (one, other) in enumerate(zip(got, expected)) if one != other), min(len(got), len(expected)))
-            self.fail(f"{len(got)} lines for {len(expected)}; from {at + 1} on {got[at:at + 3]}, wanted {expected[at:at + 3]}")
+            pairs, least = enumerate(zip(got, expected)), min(len(got), len(expected))
+            at = next((at for at, (one, other) in pairs if one != other), least)
+            has, wanted, lines = got[at:at + 3], expected[at:at + 3], len(expected)
+            self.fail(f"{len(got)} lines for {lines}; from {at + 1} on {has}, wanted {wanted}")
+
+    def ends(self, ran, status, message, output=""):
+        """A run that must end with this status, this message and this output."""
+        got = ran.returncode, ran.stderr.decode(), ran.stdout.decode()
+        self.assertEqual(got, (status, message, output))
 
     def refused(self, ran, status, *texts):
         """A run that must end with this status, one message that has these texts, and no output."""

@@ -34,8 +34,10 @@ class LabTest(ToolTest):
         self.private.mkdir()
 
     def leaves_nothing(self, *arguments, stdin=b""):
-        """Runs a tool, and interrupts it as the keyboard does once it has begun to write. Its files are removed."""
-        given = {"env": {**os.environ, "TMPDIR": str(self.private)}, "cwd": self.folder, "start_new_session": True}
+        """Runs a tool, and interrupts it as the keyboard does once it has begun to write. Its
+        files are removed."""
+        env = {**os.environ, "TMPDIR": str(self.private)}
+        given = {"env": env, "cwd": self.folder, "start_new_session": True}
         pipes = {"stdin": subprocess.PIPE, "stdout": subprocess.PIPE, "stderr": subprocess.DEVNULL}
         for number in (signal.SIGINT, signal.SIGTERM):
             tool = subprocess.Popen(arguments, **given, **pipes)
@@ -56,7 +58,8 @@ class LabTest(ToolTest):
         """The message and the status of a tool whose output goes to a pipe that nobody reads."""
         reader, writer = os.pipe()
         os.close(reader)
-        ran = subprocess.run(arguments, stdout=writer, stderr=subprocess.PIPE, cwd=self.folder, text=True, timeout=60)
+        given = {"stderr": subprocess.PIPE, "cwd": self.folder, "text": True, "timeout": 60}
+        ran = subprocess.run(arguments, stdout=writer, **given)
         os.close(writer)
         return ran.stderr, ran.returncode
 
@@ -73,6 +76,6 @@ class StudentTest(LabTest):
         """A student's program with these mistakes, compiled once."""
         program = self.programs / ("-".join(mistakes) or "right")
         if not program.exists():
-            flags = ["-O1", "-Wall", "-Wextra", "-Werror", *(f"-D{mistake}" for mistake in mistakes)]
+            flags = ["-O1", "-Wall", "-Wextra", "-Werror", *(f"-D{name}" for name in mistakes)]
             subprocess.run(["cc", *flags, "-o", program, STUDENTS / source], check=True)
         return program

@@ -1,4 +1,5 @@
-"""What the tests of the tools that filter the log share: caches, what comes to them by the model, traces, and faults."""
+"""What the tests of the tools that filter the log share: caches, what comes to them by the model,
+traces, and faults."""
 
 import random
 
@@ -9,11 +10,13 @@ from reading_base import SORT
 LABELS = {"read": 0, "write": 1, "fetch": 2}
 TRANSPOSE = (base.EXAMPLES / "transpose.lackey").read_bytes()
 MODIFIES = b" M 20,4\n L 40,1\n M 20,4\nI  20,4\n M 60,8\n S 61,1\n L 20,4\n"
-PLANS = ("l1-u",), ("l1-d",), ("l1-i",), ("l1-i", "l1-d"), ("l1-u", "l2-u"), ("l1-d", "l2-u"), ("l1-i", "l1-d", "l2-u")
+PLANS = [tuple(plan.split()) for plan in (
+    "l1-u", "l1-d", "l1-i", "l1-i l1-d", "l1-u l2-u", "l1-d l2-u", "l1-i l1-d l2-u")]
 
 
 def arrivals(text, options):
-    """What comes to each cache and to memory, by the machines of the model: the place, the reference, and whether it misses.
+    """What comes to each cache and to memory, by the machines of the model: the place, the
+    reference, and whether it misses.
 
     The options are those of din. A flush, which empties all caches, has no place."""
     job = base.model.parse(["din", *map(str, options)])[1]
@@ -24,7 +27,8 @@ def arrivals(text, options):
                 cache.flush()
             yield "", event, False
             continue
-        first = [name for name in ("l1-u", "l1-i" if event.access == "fetch" else "l1-d") if name in caches]
+        first = "l1-u", "l1-i" if event.access == "fetch" else "l1-d"
+        first = [name for name in first if name in caches]
         came = [event] if first else []
         for name in [*first, *(["l2-u"] if "l2-u" in caches else [])]:
             sent = []
@@ -49,17 +53,20 @@ def random_options(drawn, names):
         least = max(least, bsize) if names[-1] == "l2-u" else 1
         words = shape(name, bsize, drawn.choice((1, 2, 8, 64)), drawn.choice((1, 2, 4, 8)))
         options += list(zip(words[::2], words[1::2]))
-        options += [(f"-{name}{word}", drawn.choice(of)) for word, of in (("repl", "lfr"), ("walloc", "an"), ("wback", "an"))]
+        for word, values in (("repl", "lfr"), ("walloc", "an"), ("wback", "an")):
+            options.append((f"-{name}{word}", drawn.choice(values)))
     drawn.shuffle(options)
     seed = ["--seed", drawn.randrange(9)] * drawn.randrange(2)
-    return [*seed, *(word for name, value in options for word in drawn.choice(((name, value), (f"-{name}={value}",))))]
+    spelt = (drawn.choice(((name, value), (f"-{name}={value}",))) for name, value in options)
+    return [*seed, *(word for words in spelt for word in words)]
 
 
 def random_trace(drawn, length=600):
     """References, flushes and skipped lines, at addresses of all lengths."""
     lines = []
     for _ in range(length):
-        place = drawn.choice((0, 0x123, 0x8FFF7, 0xFFFFFF00, 0xFFFF800000000000)) + drawn.randrange(1 << drawn.choice((4, 8, 12, 16)))
+        place = drawn.choice((0, 0x123, 0x8FFF7, 0xFFFFFF00, 0xFFFF800000000000))
+        place += drawn.randrange(1 << drawn.choice((4, 8, 12, 16)))
         lines.append(f"{drawn.choice('0000111222' * 9 + '34')} {place:x}\n")
     return "".join(lines).encode()
 
@@ -83,29 +90,35 @@ class Filtering(reading_base.Reading):
         self.run_on("-", *self.CACHE, stdin=SORT)  # which compiles what there is
         for most in range(4, 12):
             words = " ".join(map(str, [self.TOOL, "-", *self.OWN, *self.CACHE]))
-            self.run_command("bash", "-c", f"ulimit -n {most} && exec {base.TOOLS}/{words}", stdin=SORT, env={"TMPDIR": str(place)})
+            line = f"ulimit -n {most} && exec {base.TOOLS}/{words}"
+            self.run_command("bash", "-c", line, stdin=SORT, env={"TMPDIR": str(place)})
             self.assertEqual(list(place.iterdir()), [], most)
 
     def test_format(self):
         expected = self.good(self.run_on("-", *self.CACHE, "-informat", "l", stdin=TRANSPOSE))
         for words in (["--informat=l"], ["--informat", "l"], ["--format", "l"], ["--format=l"]):
-            self.assertEqual(self.good(self.run_on("-", *words, *self.CACHE, stdin=TRANSPOSE)), expected)
+            got = self.good(self.run_on("-", *words, *self.CACHE, stdin=TRANSPOSE))
+            self.assertEqual(got, expected)
 
     def test_faults_of_arguments(self):
         """They are told before a line of the trace is read."""
-        cache = self.CACHE
+        tool, own, cache = self.TOOL, ["-", *self.OWN], ["-", *self.OWN, *self.CACHE]
+        needed = f"{tool}: a trace and the options of 'cachesim din' are needed; '{tool} --help'"
+        first = f"{tool}: the trace is the first argument, and not given by -t; "
+        size = "cachesim: -l1-dsize: bad value\n"
         for arguments, status, fault in (
-            ([], 2, f"{self.TOOL}: a trace and the options of 'cachesim din' are needed; '{self.TOOL} --help' explains"),
-            ([*cache, "-"], 2, f"{self.TOOL}: a trace and the options"),
-            (["-", *self.OWN, *cache, "-t", "x"], 2, f"{self.TOOL}: the trace is the first argument, and not given by -t; "),
-            (["-", *self.OWN], 2, "cachesim: no first-level cache\n"),
-            (["-", *self.OWN, *cache, "-l1-dassoc", "3"], 2, "cachesim: error: "),
-            (["-", *self.OWN, "-l1-dsize", "48k", "-l1-dbsize", "64"], 2, "cachesim: -l1-dsize: bad value\n"),
-            (["-", *self.OWN, *cache, "--unified", "16,1,1"], 2, "cachesim: error: "),
-            (["-", *self.OWN, *cache, "-"], 2, "cachesim: error: "),
+            ([], 2, f"{needed} explains"),
+            ([*self.CACHE, "-"], 2, f"{tool}: a trace and the options"),
+            ([*cache, "-t", "x"], 2, first),
+            (own, 2, "cachesim: no first-level cache\n"),
+            ([*cache, "-l1-dassoc", "3"], 2, "cachesim: error: "),
+            ([*own, "-l1-dsize", "48k", "-l1-dbsize", "64"], 2, size),
+            ([*cache, "--unified", "16,1,1"], 2, "cachesim: error: "),
+            ([*cache, "-"], 2, "cachesim: error: "),
         ):
-            ran = self.run_tool(self.TOOL, *arguments)
-            self.assertEqual((ran.returncode, ran.stdout), (status, self.MARK), (arguments, ran.stderr))
+            ran = self.run_tool(tool, *arguments)
+            got = ran.returncode, ran.stdout
+            self.assertEqual(got, (status, self.MARK), (arguments, ran.stderr))
             self.assertTrue(ran.stderr.decode().startswith(fault), (arguments, ran.stderr))
 
     def test_help(self):
@@ -116,9 +129,11 @@ class Filtering(reading_base.Reading):
 
 
 def cases(seed, count=3):
-    """Traces in both formats with their format, and options for them: each plan with random caches, and by turns all formats."""
+    """Traces in both formats with their format, and options for them: each plan with random
+    caches, and by turns all formats."""
     drawn = random.Random(seed)
     for names in PLANS * count:
         options = random_options(drawn, names)
-        text, format = drawn.choice(((random_trace(drawn), "d"), (SORT, "d"), (TRANSPOSE, "l"), (MODIFIES, "l")))
+        texts = ((random_trace(drawn), "d"), (SORT, "d"), (TRANSPOSE, "l"), (MODIFIES, "l"))
+        text, format = drawn.choice(texts)
         yield text, [*options, "-informat", format], names

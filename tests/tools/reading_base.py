@@ -1,4 +1,5 @@
-"""What the tests of all tools that read a trace share: files, pipes, packed traces, faults of the trace, and a full device."""
+"""What the tests of all tools that read a trace share: files, pipes, packed traces, faults of the
+trace, and a full device."""
 
 import gzip
 import itertools
@@ -13,8 +14,8 @@ SORT = (base.EXAMPLES / "sort.din").read_bytes()
 
 
 class Reading:
-    """Tests of any of these tools: TOOL is called with words BEFORE the trace and OPTIONS behind it. After a fault MARK is the last that
-    it writes."""
+    """Tests of any of these tools: TOOL is called with words BEFORE the trace and OPTIONS behind
+    it. After a fault MARK is the last that it writes."""
 
     BEFORE = OPTIONS = ()
     MARK = b""
@@ -47,10 +48,12 @@ class Reading:
         for trace in ("none", "."):
             ran = self.read(trace)
             told = f"{self.TOOL}: {trace}: no file that can be read\n"
-            self.assertEqual((ran.returncode, ran.stdout, ran.stderr.decode()), (1, self.MARK, told))
+            got = ran.returncode, ran.stdout, ran.stderr.decode()
+            self.assertEqual(got, (1, self.MARK, told))
 
     def test_faults_of_the_trace(self):
-        """After a line that is bad, or the end of a packed trace that was cut off or has something behind it."""
+        """After a line that is bad, or the end of a packed trace that was cut off or has something
+        behind it."""
         bad, whole = SORT + b"4 10\n0 10 \n7 10\n0 0", gzip.compress(SORT)
         for name, text, fault in (
             ("bad", bad, b"cachesim: line 5849: bad label\n"),
@@ -63,12 +66,14 @@ class Reading:
             if name != "-":
                 (self.folder / name).write_bytes(text)
             ran = self.read(name, stdin=text if name == "-" else b"")
-            self.assertEqual((ran.returncode, len(ran.stderr.splitlines()) <= 2), (1, True), ran.stderr)
+            told = len(ran.stderr.splitlines())
+            self.assertEqual((ran.returncode, told <= 2), (1, True), ran.stderr)
             self.assertTrue(ran.stderr.endswith(fault), ran.stderr)
             self.assertTrue(ran.stdout.endswith(self.MARK) if self.MARK else not ran.stdout)
 
     def test_no_program(self):
-        for program, fault in (("/none", "/none is no program that can be run"), ("/bin/true", "/bin/true is not cachesim: ")):
+        none, other = "/none is no program that can be run", "/bin/true is not cachesim: "
+        for program, fault in (("/none", none), ("/bin/true", other)):
             ran = self.read("-", env={"CACHESIM": program})
             self.assertEqual((ran.returncode, ran.stdout), (1, self.MARK))
             self.assertTrue(ran.stderr.decode().startswith(f"{self.TOOL}: {fault}"), ran.stderr)
@@ -84,8 +89,8 @@ class Many:
     """For tests of a tool that reads a trace for several runs of the program."""
 
     def program(self, body):
-        """A program in place of cachesim that does what the body says for a run, and else is cachesim. In the body "$after" is the
-        value of --after."""
+        """A program in place of cachesim that does what the body says for a run, and else is
+        cachesim. In the body "$after" is the value of --after."""
         after = "after=$* after=${after#*--after } after=${after%% *}"
         script = f'[[ $* == *"-t /dev/null"* ]] || {{ {after}\n{body}\n}}\nexec {base.PROGRAM} "$@"'
         return {"CACHESIM": str(self.executable("the program", script))}
@@ -102,7 +107,8 @@ class ReadingForMany(Many):
     def test_names(self):
         """Also of the tool, by a link from elsewhere."""
         wanted = self.table(base.EXAMPLES / "sort.din")
-        for name in ("a b.din", "-x.din", "./-", "./-h", "it's \"$HOME\" `x`\\n.din", "line\nfeed", "é"):
+        hard = "it's \"$HOME\" `x`\\n.din", "line\nfeed", "é"
+        for name in ("a b.din", "-x.din", "./-", "./-h", *hard):
             self.write(name, SORT)
             self.write(f"{name}.gz", gzip.compress(SORT))
             self.assertEqual((self.table(name), self.table(f"{name}.gz")), (wanted, wanted), name)
@@ -110,7 +116,8 @@ class ReadingForMany(Many):
         link.symlink_to(base.TOOLS / self.TOOL)
         arguments = (link, 2, base.EXAMPLES / "sort.din", *self.OPTIONS)
         self.assertEqual(self.good(self.run_command(*arguments, env={"CACHESIM": ""})), wanted)
-        self.refused(self.run_command(*arguments, env={"CACHESIM": "./none"}), 1, "another name: ./none is no program")
+        ran = self.run_command(*arguments, env={"CACHESIM": "./none"})
+        self.refused(ran, 1, "another name: ./none is no program")
 
     @base.needs("xz-utils", "zstd")
     def test_packed(self):
@@ -118,9 +125,10 @@ class ReadingForMany(Many):
             self.assertEqual(self.table(name), self.table(base.EXAMPLES / "sort.din"))
 
     def test_cut_short(self):
-        """A compressed trace that ends too early, also behind a whole line: no run may take what was read for the whole."""
+        """A compressed trace that ends too early, also behind a whole line: no run may take what
+        was read for the whole."""
         pressed = gzip.compress(SORT)
-        bad = (pressed[:-4], pressed[:-8], pressed[:1000], pressed[:-8] + b"8 bytes!", b"", b"0 10\n")
+        bad = *(pressed[:end] for end in (-4, -8, 1000)), pressed[:-8] + b"8 bytes!", b"", b"0 10\n"
         for repeated, text in itertools.product(range(3), bad):
             self.write("cut.gz", text)
             ran = self.run_tool(self.TOOL, 2, "cut.gz", *self.OPTIONS, seconds=60)
@@ -132,10 +140,11 @@ class ReadingForMany(Many):
         rooms = self.folder / "room"
         rooms.mkdir()
         signals = (signal.SIGINT, signal.SIGTERM, signal.SIGHUP)
-        for sent, trace, is_late in itertools.product(signals, ("-", base.EXAMPLES / "sort.din", "long.gz"), (False, True)):
+        traces = ("-", base.EXAMPLES / "sort.din", "long.gz")
+        for sent, trace, is_late in itertools.product(signals, traces, (False, True)):
             begun = self.folder / f"{sent} {os.path.basename(trace)} {is_late}"
-            body = f"touch '{begun}'; exec sleep 60"
-            given = {**self.in_folder(**self.program(body), TMPDIR=str(rooms)), "start_new_session": True}
+            program = self.program(f"touch '{begun}'; exec sleep 60")
+            given = {**self.in_folder(**program, TMPDIR=str(rooms)), "start_new_session": True}
             given.update(dict.fromkeys(("stdin", "stdout", "stderr"), subprocess.PIPE))
             ran = subprocess.Popen([base.TOOLS / self.TOOL, "2", trace, *self.OPTIONS], **given)
             time.sleep(0.03)
@@ -149,7 +158,7 @@ class ReadingForMany(Many):
             self.assertTrue(base.comes(lambda: not base.processes(ran.pid)), begun.name)
 
     def failed(self, ran, status, message):
-        self.assertEqual((ran.returncode, ran.stdout, ran.stderr.decode()), (status, b"", message))
+        self.ends(ran, status, message)
 
     def script(self, trace, more=""):
         """A call of the tool as a line for bash."""
@@ -164,17 +173,20 @@ class ReadingForMany(Many):
 
     def test_bad_line_of_an_endless_trace(self):
         """The fault of a live trace ends the run, and so its writer."""
-        writer = 'printf "0 10\\n2 1g\\n"; while echo 0 20; do :; done 2> writer; echo ended >> writer'
+        writer = "while echo 0 20; do :; done 2> writer; echo ended >> writer"
+        writer = f'printf "0 10\\n2 1g\\n"; {writer}'
         ran = self.run_command("bash", "-c", f"{{ {writer}; }} | {self.script('-')}", seconds=30)
         self.failed(ran, 1, "cachesim: line 2: bad address\n")
 
     def test_no_trace(self):
-        self.failed(self.run_tool(self.TOOL, 4, "none", *self.OPTIONS), 1, "cachesim: cannot open none\n")
+        ran = self.run_tool(self.TOOL, 4, "none", *self.OPTIONS)
+        self.failed(ran, 1, "cachesim: cannot open none\n")
         ran = self.run_tool(self.TOOL, 4, "none.gz", *self.OPTIONS)
         self.refused(ran, 1, f"{self.TOOL}: none.gz can't be read: gzip: ", "No such file")
 
     def test_no_output(self):
         failed, trace = f"{self.TOOL}: write failed\n", base.EXAMPLES / "sort.din"
-        for place, status, told in (("> /dev/full", 1, failed), (">&-", 1, failed), ("| true", 141, "")):
-            call = self.script('"$1"', place)
-            self.failed(self.run_command("bash", "-c", f"set -o pipefail; {call}", "-", trace), status, told)
+        places = ("> /dev/full", 1, failed), (">&-", 1, failed), ("| true", 141, "")
+        for place, status, told in places:
+            call = "set -o pipefail; " + self.script('"$1"', place)
+            self.failed(self.run_command("bash", "-c", call, "-", trace), status, told)

@@ -26,10 +26,10 @@ def built():
 
 @functools.cache
 def program_of(source, *flags, compiler="cc"):
-    """A program without position independence, so that the addresses of its own data are those of nm."""
+    """A program without position independence: the addresses of its own data are those of nm."""
     target = built() / f"{source.stem} {compiler}{''.join(flags)}"
-    arguments = [compiler, "-O1", "-Wall", "-Wextra", "-Werror", "-no-pie", "-pthread", *flags, "-o", target, source]
-    subprocess.run(arguments, check=True)
+    flags = ["-O1", "-Wall", "-Wextra", "-Werror", "-no-pie", "-pthread", *flags]
+    subprocess.run([compiler, *flags, "-o", target, source], check=True)
     return target
 
 
@@ -40,8 +40,9 @@ def traced(name, **given):
 @functools.cache
 def symbols_of(program):
     """Of each thing in a program its address and its size."""
-    lines = subprocess.run(["nm", "-S", program], capture_output=True, text=True, check=True).stdout.splitlines()
-    return {fields[3]: (int(fields[0], 16), int(fields[1], 16)) for fields in map(str.split, lines) if len(fields) == 4}
+    ran = subprocess.run(["nm", "-S", program], capture_output=True, text=True, check=True)
+    rows = (fields for line in ran.stdout.splitlines() if len(fields := line.split()) == 4)
+    return {name: (int(address, 16), int(size, 16)) for address, size, _, name in rows}
 
 
 def within(place, address):
@@ -71,24 +72,29 @@ class TraceTest(ToolTest):
         """The data references to things of a program, as label, name and offset."""
         places = [(name, symbols_of(program)[name]) for name in names]
         data = [(label, at) for label, at in lines if label != "2"]
-        return [(label, name, at - place[0]) for label, at in data for name, place in places if within(place, at)]
+        return [(label, name, at - place[0]) for label, at in data
+                for name, place in places if within(place, at)]
 
     def fault(self, ran, status, *texts):
         """A fault of the tool: one message, and a trace whose last line is not a valid one."""
         message = ran.stderr.decode()
         self.assertEqual((ran.returncode, message.count("\n")), (status, 1), message)
-        self.assertTrue(ran.stdout.splitlines()[-1].startswith((b"trace: ", b"trace failed: ")), ran.stdout)
+        last = ran.stdout.splitlines()[-1]
+        self.assertTrue(last.startswith((b"trace: ", b"trace failed: ")), ran.stdout)
         for text in ("trace: ", *texts):
             self.assertIn(text, message)
 
     def in_shell(self, line, **given):
-        """Runs a line of bash in which `trace` is the tool with its tracer. Its last line has the statuses of the pipe."""
-        arguments = f"trace() {{ {TOOLS}/trace --with {self.with_} \"$@\"; }}; {line}; echo \"${{PIPESTATUS[@]}}\""
+        """Runs a line of bash in which `trace` is the tool with its tracer. Its last line has the
+        statuses of the pipe."""
+        tool = f"trace() {{ {TOOLS}/trace --with {self.with_} \"$@\"; }}"
+        arguments = f"{tool}; {line}; echo \"${{PIPESTATUS[@]}}\""
         return self.run_command("bash", "-c", arguments, **given)
 
     def begin(self, program, *arguments, **given):
         """Starts a trace to a file, and waits until the program writes a line."""
-        arguments = [TOOLS / "trace", "--with", self.with_, "--kind", "d", "-o", self.folder / "trace.din", program, *arguments]
+        options = "--with", self.with_, "--kind", "d", "-o", self.folder / "trace.din"
+        arguments = [TOOLS / "trace", *options, program, *arguments]
         given = {"stdout": subprocess.PIPE, "start_new_session": True, **given}
         started = subprocess.Popen([str(word) for word in arguments], cwd=self.folder, **given)
         self.addCleanup(started.wait)
@@ -107,7 +113,8 @@ class TraceTest(ToolTest):
 
     def processes(self):
         """Those whose arguments name a file of this test's folder."""
-        return [number for number, words in all_processes("cmdline") if str(self.folder).encode() in words]
+        folder = str(self.folder).encode()
+        return [number for number, words in all_processes("cmdline") if folder in words]
 
     def no_process_is_left(self):
         self.wait_until(lambda: not self.processes(), "the program still runs")
