@@ -161,6 +161,11 @@ class Lru:
         return self.went["hit"], self.went["miss"] + evictions, evictions
 
 
+def cache(size, bsize, *more, place="l1-d"):
+    """Options of din for a cache."""
+    return f"-{place}size", size, f"-{place}bsize", bsize, *more
+
+
 def copy_tools(to, *tools):
     """Copies tools to another folder, with the parts of all tools, but nothing compiled."""
     shutil.copytree(TOOLS / "lib", to / "lib", ignore=shutil.ignore_patterns("__pycache__"))

@@ -2,6 +2,7 @@
 
 import atexit
 import functools
+import os
 import pathlib
 import re
 import shutil
@@ -40,9 +41,18 @@ def traced(name, **given):
 @functools.cache
 def symbols_of(program):
     """Of each thing in a program its address and its size."""
-    ran = subprocess.run(["nm", "-S", program], capture_output=True, text=True, check=True)
-    rows = (fields for line in ran.stdout.splitlines() if len(fields := line.split()) == 4)
-    return {name: (int(address, 16), int(size, 16)) for address, size, _, name in rows}
+    rows = map(str.split, subprocess.check_output(["nm", "-S", program], text=True).splitlines())
+    return {row[3]: (int(row[0], 16), int(row[1], 16)) for row in rows if len(row) == 4}
+
+
+@functools.cache
+def lines_of(program, addresses):
+    """Of addresses in a program the file's name and the line; '?' where there is none."""
+    asked = ["addr2line", "-e", program, *map(hex, addresses)]
+    lines = subprocess.check_output(asked, text=True).splitlines()
+    names = (os.path.basename(line.partition(" ")[0]) for line in lines)
+    lines = (name if re.fullmatch(r"\S+:[1-9]\d*", name) else "?" for name in names)
+    return dict(zip(addresses, lines))
 
 
 def within(place, address):
