@@ -1,4 +1,5 @@
-"""A class judged by grade-class, and the traces by which it judges: planted mistakes are found, and programs in other styles pass."""
+"""A class judged by grade-class, and the traces by which it judges: planted mistakes are found, and
+programs in other styles pass."""
 
 import csv
 import os
@@ -10,19 +11,22 @@ import subprocess
 from base import EXAMPLES, PROGRAM, TOOLS, Lru, copy_tools, needs
 from lab_base import LAB, STUDENTS, StudentTest, comes, is_running
 
-CACHES = "1,1,1 4,2,4 2,1,4 2,1,3 2,2,3 2,4,3 5,1,5 4,1,4 0,1,0 0,2,4 3,3,6 6,8,6 14,2,2 1,9,3 1,65,3".split()
+CACHES = ("1,1,1 4,2,4 2,1,4 2,1,3 2,2,3 2,4,3 5,1,5 4,1,4 0,1,0 0,2,4 3,3,6 6,8,6 14,2,2 1,9,3 "
+          "1,65,3").split()
 TRACES = "order mixed wide rows blocks long".split()
 # Mistakes of student.c, by a trace that must find them
 MISTAKES = {
-    "order": "FIFO MRU LFU FIRST_WAY AT_RANDOM NEW_IS_OLD STORES_NO_USE ONE_WAY NO_VALID EVICTS_ALWAYS EVICTION_HITS EVICTION_NO_MISS "
-    "FIRST_LOST LAST_LOST LAST_TWICE COUNTS SWAPS_COUNTS",
+    "order": "FIFO MRU LFU FIRST_WAY AT_RANDOM NEW_IS_OLD STORES_NO_USE ONE_WAY NO_VALID "
+    "EVICTS_ALWAYS EVICTION_HITS EVICTION_NO_MISS FIRST_LOST LAST_LOST LAST_TWICE COUNTS "
+    "SWAPS_COUNTS",
     "mixed": "FORGETS_STORE STORES_PASS FETCHES TWICE_SETS OFFSET_KEPT SWAPS_BITS CROSSES",
     "wide": "NARROW NARROW_TAG SIGNED_ADDRESS SHORT_LINES",
     "rows": "HIGH_SETS FEW_SETS",
-    "blocks": "CRASHES CRASHES_LATE STATUS SILENT FLUSHES_LATE NEEDS_VERBOSE OWN_WORDS TO_STDERR RESULTS RESULTS_PIPE CALLS_CACHESIM",
+    "blocks": "CRASHES CRASHES_LATE STATUS SILENT FLUSHES_LATE NEEDS_VERBOSE OWN_WORDS TO_STDERR "
+    "RESULTS RESULTS_PIPE CALLS_CACHESIM",
     "long": "SHORT_CLOCK SHORT_COUNTS FEW_LINES",
 }
-RIGHT = {"stamps": "", "list": "STYLE=LIST", "ages": "STYLE=AGES", "shift": "STYLE=SHIFT", "python": "csim.py"}
+RIGHT = ["stamps", "list", "ages", "shift", "python"]  # styles of programs
 BLOCKS = EXAMPLES / "blocks.lackey"
 FIRST, FINE = "wrong: -s 1 -E 1 -b 1 -t blocks.trace", "with -v the line of each access is right"
 HEADER = "name,right,of,points,reason"
@@ -39,7 +43,8 @@ class ClassTest(StudentTest):
         return folder
 
     def grade_class(self, *arguments, env=None, seconds=600):
-        return self.run_tool("lab/grade-class", *arguments, env={"TMPDIR": str(self.private), **(env or {})}, seconds=seconds)
+        env = {"TMPDIR": str(self.private), **(env or {})}
+        return self.run_tool("lab/grade-class", *arguments, env=env, seconds=seconds)
 
     def table(self, ran):
         """The rows of a table, by name."""
@@ -64,14 +69,13 @@ class Planted(ClassTest):
         self.good(self.run_tool("lab/hard-traces", "."))
 
     def judged(self, mistakes, *traces):
-        """The rows of programs with these mistakes, by these traces, or else by those of grade-class."""
+        """Rows of programs with these mistakes, by these traces, or by those of grade-class."""
         for mistake in mistakes:
             if not (self.folder / "students" / mistake).exists():
                 self.enrol(mistake, self.student(mistake))
         named = [word for trace in traces for word in ("--trace", f"{trace}.trace")]
-        env = {"PATH": f"{PROGRAM.parent}:{os.environ['PATH']}"}
         folders = [f"students/{mistake}" for mistake in mistakes]
-        return self.table(self.grade_class(*named, *folders, env=env))
+        return self.table(self.grade_class(*named, *folders))
 
     def test_each_mistake_is_found_by_its_trace(self):
         self.assertEqual(sorted(MISTAKES), sorted(TRACES))
@@ -91,7 +95,8 @@ class Planted(ClassTest):
 
     def figures(self, rows):
         """What some mistakes cost, by hand."""
-        always, late = ([rows[name][key] for key in ("right", "points")] for name in ("EVICTS_ALWAYS", "CRASHES_LATE"))
+        names = "EVICTS_ALWAYS", "CRASHES_LATE"
+        always, late = ([rows[name][key] for key in ("right", "points")] for name in names)
         self.assertEqual(always, ["0", "30"], "two numbers of three are right")
         self.assertEqual(late, ["0", "0"])
         self.assertEqual(rows["STATUS"]["reason"], f"{FIRST}; ended with status 3; {FINE}")
@@ -104,16 +109,17 @@ class Planted(ClassTest):
 
     def test_each_style_is_right(self):
         """And a mistake by all traces."""
-        for name, given in RIGHT.items():
-            source = "styles.c" if "STYLE" in given else "student.c"
-            self.enrol(name, STUDENTS / given if given == "csim.py" else self.student(*given.split(), source=source))
+        self.enrol("stamps", self.student())
+        self.enrol("python", STUDENTS / "csim.py")
+        for name in ("list", "ages", "shift"):
+            self.enrol(name, self.student(f"STYLE={name.upper()}", source="styles.c"))
         rows = self.judged([*RIGHT, "FIFO"])
         wrong = rows.pop("FIFO")
         for name, row in rows.items():
             values = [name, "90", "90", "270", *["15"] * 6, ""]
             self.assertEqual(row, dict(zip(HARD.split(","), values)))
-        self.assertEqual(wrong["order.trace"], "8", "those of six caches of one way, of 6,8,6 and 1,65,3")
-        self.assertEqual(list(rows), list(RIGHT))
+        self.assertEqual(wrong["order.trace"], "8", "those of six of one way, of 6,8,6 and 1,65,3")
+        self.assertEqual(list(rows), RIGHT)
         self.assertEqual(self.traces_in("FIFO"), set(TRACES))
         self.assertGreaterEqual(int(wrong["right"]), 36, "six caches of fifteen have one way")
 
@@ -121,7 +127,8 @@ class Planted(ClassTest):
 class HardTraces(StudentTest):
     def setUp(self):
         super().setUp()
-        self.assertEqual(self.good(self.run_tool("lab/hard-traces", "new/hard")).split(), [f"{name}.trace" for name in TRACES])
+        written = self.good(self.run_tool("lab/hard-traces", "new/hard")).split()
+        self.assertEqual(written, [f"{name}.trace" for name in TRACES])
         self.hard = self.folder / "new/hard"
 
     def test_they_are_the_same_again_and_of_the_labs_form(self):
@@ -136,33 +143,37 @@ class HardTraces(StudentTest):
 
     def test_what_the_help_says_of_them(self):
         """How many accesses; and which have fetches between them, or addresses above 32 bits."""
-        counts = {"order": 24, "mixed": 600, "wide": 300, "rows": 2048, "blocks": 2048, "long": 70000}
-        for name, count in counts.items():
+        for name, count in zip(TRACES, (24, 600, 300, 2048, 2048, 70000)):
+            is_wide, has_fetches = name == "wide", name in ("mixed", "wide", "long")
             lines = (self.hard / f"{name}.trace").read_text().splitlines()
             data = [int(line[3:].split(",")[0], 16) for line in lines if line[0] == " "]
             self.assertEqual(len(data), count, name)
-            self.assertEqual((len(lines) > count, max(data) >= 1 << 32), (name in ("mixed", "wide", "long"), name == "wide"), name)
-            if name == "wide":
+            got = len(lines) > count, max(data) >= 1 << 32
+            self.assertEqual(got, (has_fetches, is_wide), name)
+            if is_wide:
                 below = [place % (1 << 32) for place in data]
-                self.assertGreater(len({place // 64 for place in data}), len({place // 64 for place in below}))
-                self.assertLess(max(below) - min(below), 1 << 16, "they are near each other but for what is above")
+                blocks, folded = ({at // 64 for at in places} for places in (data, below))
+                self.assertGreater(len(blocks), len(folded))
+                self.assertLess(max(below) - min(below), 1 << 16, "near but for what is above")
 
     def test_two_are_those_of_the_examples(self):
-        self.assertEqual((self.hard / "blocks.trace").read_text(), (EXAMPLES / "blocks.lackey").read_text())
-        data = [line for line in (EXAMPLES / "transpose.lackey").read_text().splitlines() if line[0] == " "]
+        self.assertEqual((self.hard / "blocks.trace").read_text(), BLOCKS.read_text())
+        lines = (EXAMPLES / "transpose.lackey").read_text().splitlines()
+        data = [line for line in lines if line[0] == " "]
         self.assertEqual((self.hard / "rows.trace").read_text().splitlines(), data)
 
     def test_the_numbers_that_are_wanted(self):
-        """Those of a simulator that is as plain as can be; for each cache a trace has hits, misses and evictions."""
+        """Those of a plain simulator; for each cache a trace has hits, misses and evictions."""
         for cache in CACHES:
             set_bits, ways, block_bits = map(int, cache.split(","))
             is_tried = False
             for name in TRACES:
+                trace = self.hard / f"{name}.trace"
                 plain = Lru(1 << block_bits, 1 << set_bits, ways)
-                for kind, operand in map(str.split, (self.hard / f"{name}.trace").read_text().splitlines()):
+                for kind, operand in map(str.split, trace.read_text().splitlines()):
                     for _ in range("ILM".find(kind) if kind != "S" else 1):
                         plain.access(int(operand.partition(",")[0], 16))
-                options = ["-s", set_bits, "-E", ways, "-b", block_bits, "-t", self.hard / f"{name}.trace"]
+                options = ["-s", set_bits, "-E", ways, "-b", block_bits, "-t", trace]
                 wanted = "hits:{} misses:{} evictions:{}\n".format(*plain.counts)
                 self.assertEqual(self.good(self.run_command(PROGRAM, "csim", *options)), wanted)
                 is_tried |= min(plain.counts) > 0
@@ -170,45 +181,52 @@ class HardTraces(StudentTest):
 
     def test_a_place_that_cannot_be_written(self):
         (self.folder / "file").touch()
-        self.refused(self.run_tool("lab/hard-traces", "file"), 1, "hard-traces: file: File exists\n")
-        self.refused(self.run_tool("lab/hard-traces"), 2, "hard-traces: the following arguments are required: FOLDER; ")
+        ran = self.run_tool("lab/hard-traces", "file")
+        self.refused(ran, 1, "hard-traces: file: File exists\n")
+        needed = "hard-traces: the following arguments are required: FOLDER; "
+        self.refused(self.run_tool("lab/hard-traces"), 2, needed)
 
 
 class GradeClass(ClassTest):
     SHORT = ["--geometry", "4,1,4"]
+    ONE = [*SHORT, "--trace", BLOCKS]
 
     def test_names_order_and_texts(self):
-        """Names are without what is common; the order is that of the folders; what stands in place of a text is not followed."""
-        folders = [self.enrol("zoe/lab", self.student()), self.enrol("ann/lab", self.student("COUNTS"))]
+        """Names are without what is common; the order is that of the folders; what stands in place
+        of a text is not followed."""
+        zoe = self.enrol("zoe/lab", self.student())
+        ann = self.enrol("ann/lab", self.student("COUNTS"))
         (self.folder / "mine").write_text("kept\n")
-        (folders[0] / "grade.txt").symlink_to(self.folder / "mine")
-        ran = self.grade_class(*self.SHORT, "--trace", BLOCKS, *folders, f"{folders[0]}/", "--jobs", 1)
+        (zoe / "grade.txt").symlink_to(self.folder / "mine")
+        ran = self.grade_class(*self.ONE, zoe, ann, f"{zoe}/", "--jobs", 1)
         said = "wanted hits:720 misses:1328 evictions:1312; got hits:721 misses:1328 evictions:1312"
-        why = ("why: the result is that of a program in which the last line of the trace counts twice (while !feof), "
-               "or of one in which hits are one too many")
-        row = f'ann/lab,0,1,2,0,"wrong: -s 4 -E 1 -b 4 -t {EXAMPLES}/blocks.lackey; {said}; {FINE}; {why}"'
-        header = f"name,right,of,points,{EXAMPLES}/blocks.lackey,reason"
+        why = ("why: the result is that of a program in which the last line of the trace counts "
+               "twice (while !feof), or of one in which hits are one too many")
+        row = f'ann/lab,0,1,2,0,"wrong: -s 4 -E 1 -b 4 -t {BLOCKS}; {said}; {FINE}; {why}"'
+        header = f"name,right,of,points,{BLOCKS},reason"
         self.assertEqual(self.good(ran), f"{header}\nzoe/lab,1,1,3,1,\n{row}\n")
         self.assertEqual((self.folder / "mine").read_text(), "kept\n")
         self.assertEqual(self.text_of("zoe/lab"), "1 of 1 right, 3 of 3 points\n")
         self.assertIn("\n0 of 1 right, 2 of 3 points\n", self.text_of("ann/lab"))
-        self.assertEqual(sorted(path.name for path in folders[0].iterdir()), ["csim", "grade.txt"])
+        self.assertEqual(sorted(path.name for path in zoe.iterdir()), ["csim", "grade.txt"])
 
     def test_points(self):
-        """One for each number that is right, in .csim_results too, where hits and evictions are exchanged; none where a run fails."""
-        folders = [self.enrol(name, self.student(*[name] * (name != "right"))) for name in ("right", "COUNTS", "RESULTS", "STATUS")]
-        rows = self.table(self.grade_class(*self.SHORT, "--trace", BLOCKS, *folders))
-        self.assertEqual({name: row["points"] for name, row in rows.items()}, {"right": "3", "COUNTS": "2", "RESULTS": "1", "STATUS": "0"})
+        """One for each number that is right, in .csim_results too, where hits and evictions are
+        exchanged; none where a run fails."""
+        wanted = {"right": "3", "COUNTS": "2", "RESULTS": "1", "STATUS": "0"}
+        folders = [self.enrol(name, self.student(*{name} - {"right"})) for name in wanted]
+        rows = self.table(self.grade_class(*self.ONE, *folders))
+        self.assertEqual({name: row["points"] for name, row in rows.items()}, wanted)
 
     def test_programs_that_cannot_be_run(self):
-        for name, text, mode in (("none", None, 0), ("plain", "#!/bin/sh\n", 0o644), ("text", "no program\n", 0o755)):
-            folder = self.folder / "students" / name
+        said = {"none": "csim: no such file", "plain": "csim: Permission denied",
+                "text": "csim: Exec format error"}
+        folders = [self.folder / "students" / name for name in said]
+        for folder in folders:
             folder.mkdir(parents=True)
-            if text:
-                (folder / "csim").write_text(text)
-                (folder / "csim").chmod(mode)
-        rows = self.table(self.grade_class(*self.SHORT, *sorted((self.folder / "students").iterdir())))
-        said = {"none": "csim: no such file", "plain": "csim: Permission denied", "text": "csim: Exec format error"}
+        self.write("students/plain/csim", "#!/bin/sh\n").chmod(0o644)
+        self.write("students/text/csim", "no program\n").chmod(0o755)
+        rows = self.table(self.grade_class(*self.SHORT, *folders))
         for name, reason in said.items():
             self.assertEqual(list(rows[name].values()), [name, "0", "6", "0", *["0"] * 6, reason])
             self.assertEqual(self.text_of(name), f"{reason}\n")
@@ -219,13 +237,15 @@ class GradeClass(ClassTest):
         self.enrol("bob", self.student("COUNTS", "LOOPS_VERBOSE"))
         self.good(self.run_tool("lab/hard-traces", "."))
         traces = [word for name in TRACES[:3] for word in ("--trace", f"{name}.trace")]
-        rows = self.table(self.grade_class("--seconds", 2.5, *traces, "students/ann", "students/bob"))
+        students = "students/ann", "students/bob"
+        rows = self.table(self.grade_class("--seconds", 2.5, *traces, *students))
         self.assertEqual(self.text_of("bob").count("with -v it writes no line for an access"), 1)
         text = self.text_of("ann")
         self.assertEqual((rows["ann"]["right"], rows["ann"]["points"]), ("0", "0"))
         said = [text.count(f"no end within {seconds} s") for seconds in ("2.5", "1")]
         self.assertEqual((said, text.count("not run: ")), ([1, 2], 1), "alike ones come once")
-        self.assertIn("line 3 with -v is the first that is wrong; line 3 of the trace is ' S 00000010,4'", text)
+        at = "line 3 of the trace is ' S 00000010,4'"
+        self.assertIn(f"line 3 with -v is the first that is wrong; {at}", text)
 
     def test_nobody_can_be_judged(self):
         self.enrol("ann", self.student())
@@ -234,15 +254,17 @@ class GradeClass(ClassTest):
         bare.mkdir()
         for name in ("python3", "stdbuf"):
             (bare / name).symlink_to(shutil.which(name))
+        label = "-s 1 -E 1 -b 1 -t bad.trace: line 1: bad label\n"
+        no_bwrap = "bwrap is missing: apt-get install bubblewrap\n"
         for arguments, env, message in (
-            (["--trace", "bad.trace"], {}, "grade-class: -s 1 -E 1 -b 1 -t bad.trace: line 1: bad label\n"),
+            (["--trace", "bad.trace"], {}, f"grade-class: {label}"),
             (["--trace", "absent"], {}, "grade-class: absent: no such file\n"),
             (["absent"], {}, "grade-class: absent: no such folder\n"),
             (["bad.trace", "absent"], {}, "grade-class: absent: no such folder\n"),
             (["--geometry", "21,1,1"], {}, "bad geometry\n"),
             (["--jobs", "0"], {}, "grade-class: argument --jobs: invalid jobs value: '0'; "),
             ([], {"CACHESIM": "/absent"}, "grade-class: /absent is no program that can be run\n"),
-            (["--confine"], {"PATH": str(bare)}, "grade-class: bwrap is missing: apt-get install bubblewrap\n"),
+            (["--confine"], {"PATH": str(bare)}, f"grade-class: {no_bwrap}"),
         ):
             self.refused(self.grade_class("students/ann", *arguments, env=env), 2, message)
         self.assertFalse((self.folder / "students/ann/grade.txt").exists())
@@ -256,74 +278,84 @@ class GradeClass(ClassTest):
         ran = self.grade_class(*self.SHORT, *sorted([*students, *files]))
         message = "".join(f"grade-class: {file}: left out, as it is no folder\n" for file in files)
         rows = "ann,6,6,18,1,1,1,1,1,1,\nzoe,6,6,18,1,1,1,1,1,1,\n"
-        self.assertEqual((ran.stdout.decode(), ran.stderr.decode(), ran.returncode), (f"{HARD}\n{rows}", message, 1))
+        self.ends(ran, 1, message, f"{HARD}\n{rows}")
         self.refused(self.grade_class(*files), 2, f"grade-class: {files[0]}: no folder\n")
 
     def test_a_text_that_cannot_be_written(self):
-        (self.enrol("ann", self.student()) / "grade.txt").mkdir()
+        ann = self.enrol("ann", self.student())
+        (ann / "grade.txt").mkdir()
+        message = f"grade-class: {ann}: grade.txt can't be written: Is a directory\n"
         ran = self.grade_class(*self.SHORT, "students/ann")
-        message = f"grade-class: {self.folder}/students/ann: grade.txt can't be written: Is a directory\n"
-        self.assertEqual((ran.stdout.decode(), ran.stderr.decode(), ran.returncode), (f"{HARD}\nann,6,6,18,1,1,1,1,1,1,\n", message, 1))
+        self.ends(ran, 1, message, f"{HARD}\nann,6,6,18,1,1,1,1,1,1,\n")
 
     def test_outputs_that_fail(self):
         self.enrol("ann", self.student())
         command = f"'{LAB}/grade-class' --geometry 4,1,4 students/ann"
-        for place, message, status in (("> /dev/full", "grade-class: standard output: No space left on device\n", 2), ("| true", "", 141)):
+        full = "grade-class: standard output: No space left on device\n"
+        for place, message, status in (("> /dev/full", full, 2), ("| true", "", 141)):
             ran = self.run_command("bash", "-c", f"set -o pipefail; {command} {place}")
             self.assertEqual((ran.stderr.decode(), ran.returncode), (message, status))
 
     def test_an_interrupt(self):
         """Nothing goes on, and no file is left."""
         folders = [self.enrol(name, self.student("LOOPS")) for name in ("ann", "bob", "eve")]
-        env, quiet = {**os.environ, "TMPDIR": str(self.private)}, {"stdout": subprocess.DEVNULL}
+        programs = [folder / "csim" for folder in folders]
+        command = [LAB / "grade-class", "--seconds", "60", "--jobs", "2", *folders]
+        given = {"env": {**os.environ, "TMPDIR": str(self.private)}, "stdout": subprocess.DEVNULL}
         for number in (signal.SIGINT, signal.SIGTERM):
-            with subprocess.Popen([LAB / "grade-class", "--seconds", "60", "--jobs", "2", *folders], env=env, **quiet) as tool:
-                self.assertTrue(comes(lambda: sum(is_running(folder / "csim") for folder in folders) == 2))
+            with subprocess.Popen(command, **given) as tool:
+                self.assertTrue(comes(lambda: sum(map(is_running, programs)) == 2))
                 tool.send_signal(number)
                 self.assertEqual(tool.wait(20), 128 + number)
-            self.assertEqual([folder for folder in folders if is_running(folder / "csim")], [])
+            self.assertEqual(list(filter(is_running, programs)), [])
             self.assertEqual(list(self.private.iterdir()), [])
 
 
 class Confined(ClassTest):
     def script(self, name, *lines):
         """A student whose program does something first, and then is right."""
-        program = self.executable("program", "here=$(dirname \"$0\")", *lines, "exec \"$here/right\" \"$@\"")
+        lines = 'here=$(dirname "$0")', *lines, 'exec "$here/right" "$@"'
+        program = self.executable("program", *lines)
         shutil.copy(self.student(), self.enrol(name, program) / "right")
 
     def points(self, *arguments, env=None):
-        rows = self.table(self.grade_class("--geometry", "4,1,4", *arguments, *sorted((self.folder / "students").iterdir()), env=env))
+        folders = sorted((self.folder / "students").iterdir())
+        rows = self.table(self.grade_class("--geometry", "4,1,4", *arguments, *folders, env=env))
         return {name: int(row["points"]) for name, row in rows.items()}
 
     def test_cachesim_is_not_on_the_path(self):
         self.enrol("ann", self.student("CALLS_CACHESIM"))
-        self.assertEqual(self.points("--trace", BLOCKS, env={"PATH": f"{PROGRAM.parent}:{os.environ['PATH']}"}), {"ann": 0})
+        self.assertEqual(self.points("--trace", BLOCKS), {"ann": 0})
 
     @needs("bubblewrap")
     def test_what_cannot_be_done(self):
-        """Each program that is not refused what it tries is wrong, but for those that try to have cachesim do the work."""
+        """Each program that is not refused what it tries is wrong, but for those that try to have
+        cachesim do the work."""
         self.script("plain")
-        self.script("writes", f"! echo > '{self.folder}/there' || exit 1", "! echo > \"$here/new\" || exit 1", "echo > here")
-        self.script("reads", f"[ ! -e '{self.folder}/students/plain' ] && [ ! -e '{TOOLS}' ] && [ ! -e /etc/passwd ] || exit 1")
+        self.script("writes", f"! echo > '{self.folder}/there' || exit 1",
+                    "! echo > \"$here/new\" || exit 1", "echo > here")
+        hidden = f"{self.folder}/students/plain", TOOLS, "/etc/passwd"
+        self.script("reads", *(f"[ ! -e '{path}' ] || exit 1" for path in hidden))
         self.script("processes", f"[ ! -e /proc/{os.getpid()} ] || exit 1")
         self.script("network", "[ \"$(grep -o '[a-z0-9]*:' /proc/net/dev)\" = lo: ] || exit 1")
         self.script("inside", f"exec '{self.folder}/students/inside/cachesim' csim \"$@\"")
         shutil.copy(PROGRAM, self.folder / "students/inside/cachesim")
         self.script("path", f"exec '{PROGRAM}' csim \"$@\"")
         named = {"CACHESIM": str(self.folder / "students/inside/cachesim")}
-        self.assertEqual(self.points("--confine", env=named),
-                         {"inside": 0, "network": 18, "path": 0, "plain": 18, "processes": 18, "reads": 18, "writes": 18})
+        able = dict.fromkeys(("network", "plain", "processes", "reads", "writes"), 18)
+        self.assertEqual(self.points("--confine", env=named), {"inside": 0, "path": 0, **able})
 
     @needs("bubblewrap")
     def test_tools_below_the_folder_of_the_program_are_hidden(self):
         """Some of them simulate caches too. The grader is a copy, so that it stands there."""
         shutil.copytree(LAB, self.folder / "students/ann/tools/lab")
         copy_tools(self.folder / "students/ann/tools")
-        ann = self.folder / "students/ann"
-        program = self.executable(ann / "csim", f"[ -z \"$(ls '{ann}/tools')\" ] && exec '{ann}/right' \"$@\"")
-        shutil.copy(self.student(), program.parent / "right")
+        ann, options = self.folder / "students/ann", ("--geometry", "4,1,4", "--verbose-lines=no")
+        hidden = f"[ -z \"$(ls '{ann}/tools')\" ]"
+        program = self.executable(ann / "csim", f"{hidden} && exec '{ann}/right' \"$@\"")
+        shutil.copy(self.student(), ann / "right")
         for confine, right in (([], 0), (["--confine"], 6)):
-            ran = self.run_command(program.parent / "tools/lab/grade", "--geometry", "4,1,4", "--verbose-lines=no", *confine, program)
+            ran = self.run_command(ann / "tools/lab/grade", *options, *confine, program)
             self.assertEqual(ran.stdout.decode().splitlines()[-1], f"{right} of 6 right")
 
     @needs("bubblewrap")
@@ -339,7 +371,8 @@ class Confined(ClassTest):
     @needs("bubblewrap")
     def test_faults_are_told_as_without(self):
         """A crash, a status, a file that grows, and a hang."""
-        for mistake, seconds in (("CRASHES_LATE", 60), ("STATUS", 60), ("FLOODS", 60), ("LOOPS", 2)):
+        for mistake in ("CRASHES_LATE", "STATUS", "FLOODS", "LOOPS"):
+            seconds = 2 if mistake == "LOOPS" else 60
             self.enrol(mistake, self.student(mistake))
             texts = []
             for confine in ([], ["--confine"]):
@@ -351,6 +384,7 @@ class Confined(ClassTest):
 
     def test_bubblewrap_that_does_not_work(self):
         self.enrol("ann", self.student())
-        path = self.stand_in("bwrap", "echo 'bwrap: No permissions to create a new namespace' >&2", "exit 1")
+        message = "bwrap: No permissions to create a new namespace"
+        path = self.stand_in("bwrap", f"echo '{message}' >&2", "exit 1")
         ran = self.grade_class("--confine", "students/ann", env=path)
-        self.refused(ran, 2, "grade-class: bubblewrap doesn't work here: bwrap: No permissions to create a new namespace\n")
+        self.refused(ran, 2, f"grade-class: bubblewrap doesn't work here: {message}\n")
