@@ -1,6 +1,7 @@
 """The best caches of a table."""
 
 import csv
+import math
 import os
 import re
 import subprocess
@@ -15,6 +16,12 @@ CACHES = {
     (64, 4, 1): 50, (64, 2, 4): 49, (64, 8, 1): 49,
 }
 TABLE = f"{table.HEADER}\n{base.rows_of(1000, CACHES)}"
+# of din: the columns of a cache, those of several runs, and a table of two levels
+SHAPE = "l1-usize,l1-ubsize,l1-uassoc,l1-urepl,size,l1-u-misses"
+MEANS = f"{SHAPE},runs,deviation,least,greatest"
+GIVEN = f"{COLUMNS}\n{din_rows(POLICIES)}"
+LEVELS = ("l1-dsize,l2-usize,l1-d-references,l1-d-misses,l1-d-percent,l2-u-references,l2-u-misses,"
+          "l2-u-percent,memory-reads,bypassed")
 
 
 class Best(base.ToolTest):
@@ -28,143 +35,148 @@ class Best(base.ToolTest):
         self.assertEqual(text.split("\n")[0], table.HEADER + ",percent")
         return [",".join(line.split(",")[:3]) for line in text.split("\n")[1:-1]]
 
+    def chooses(self, words, caches, stdin=b""):
+        """The caches that are chosen must be these."""
+        self.assertEqual(self.best(*words.split(), stdin=stdin), caches.split(), words)
+
     def test_the_smallest_with_the_fewest_misses(self):
         # of the two that miss 49 times, both of 512 bytes, that of one way comes first
-        self.assertEqual(self.best("table.csv"), ["64,8,1", "64,2,4"])
+        self.chooses("table.csv", "64,8,1 64,2,4")
         # 50 misses are the fewest of up to 256 bytes; 128 bytes are the least size that has them
-        self.assertEqual(self.best("table.csv", "--up-to", "256"), ["32,2,2"])
-        self.assertEqual(self.best("table.csv", "--up-to", "511"), ["32,2,2"])
-        self.assertEqual(self.best("--up-to", "64", "table.csv"), ["32,1,2"])
+        self.chooses("table.csv --up-to 256", "32,2,2")
+        self.chooses("table.csv --up-to 511", "32,2,2")
+        self.chooses("--up-to 64 table.csv", "32,1,2")
 
     def test_within(self):
         # 49 and so many per cent more: 49.98, 50.0045, 99.47, 100.0041
         for percent, caches in (
-            ("0", ["64,8,1", "64,2,4"]),
-            ("2", ["64,8,1", "64,2,4"]),
-            ("2.05", ["32,2,2"]),
-            ("103", ["32,2,2"]),
-            ("104.09", ["32,1,2"]),
-            ("1000", ["32,1,2", "16,4,1", "16,1,4"]),
+            ("0", "64,8,1 64,2,4"), ("2", "64,8,1 64,2,4"), ("2.05", "32,2,2"), ("103", "32,2,2"),
+            ("104.09", "32,1,2"), ("1000", "32,1,2 16,4,1 16,1,4"),
         ):
-            self.assertEqual(self.best("table.csv", "--within", percent), caches, percent)
-        # 50 are the fewest of up to 256 bytes; twice as many is 100 per cent more, and that itself is within
-        self.assertEqual(self.best("table.csv", "--within", "100", "--up-to", "256"), ["32,1,2"])
-        self.assertEqual(self.best("table.csv", "--within", "99.99", "--up-to", "256"), ["32,2,2"])
+            self.chooses(f"table.csv --within {percent}", caches)
+        # 50 are the fewest of up to 256 bytes; twice as many, 100 per cent more, is within that
+        self.chooses("table.csv --within 100 --up-to 256", "32,1,2")
+        self.chooses("table.csv --within 99.99 --up-to 256", "32,2,2")
 
     def test_within_is_exact(self):
-        # 47.7 per cent more than 54,305,000 are 80,208,485 and no less, though not in binary fractions
-        rows = base.rows_of(10 ** 8, {(32, 1, 1): 80208486, (32, 2, 1): 80208485, (32, 4, 1): 54305000}).encode()
-        self.assertEqual(self.best("-", "--within", "47.6999", stdin=rows), ["32,4,1"])
-        self.assertEqual(self.best("-", "--within", "47.7", stdin=rows), ["32,2,1"])
+        # 47.7 per cent more than 54,305,000 are 80,208,485, though not in binary fractions
+        misses = {(32, 1, 1): 80208486, (32, 2, 1): 80208485, (32, 4, 1): 54305000}
+        rows = base.rows_of(10 ** 8, misses).encode()
+        self.chooses("- --within 47.6999", "32,4,1", stdin=rows)
+        self.chooses("- --within 47.7", "32,2,1", stdin=rows)
 
     def test_within_nothing_by_default(self):
         """One miss more in ten million is too many."""
         rows = base.rows_of(10 ** 8, {(32, 1, 1): 10 ** 7 + 1, (32, 2, 1): 10 ** 7}).encode()
-        self.assertEqual(self.best("-", stdin=rows), ["32,2,1"])
-        self.assertEqual(self.best("-", "--within", "0.00001", stdin=rows), ["32,1,1"])
+        self.chooses("-", "32,2,1", stdin=rows)
+        self.chooses("- --within 0.00001", "32,1,1", stdin=rows)
 
     def test_below(self):
         """Of 1,000 references: 50 misses are 5 per cent, which is at most that."""
         for percent, caches in (
-            ("100", ["32,1,2", "16,4,1", "16,1,4"]),
-            ("20", ["32,1,2", "16,4,1", "16,1,4"]),
-            ("19.9", ["32,1,2"]),
-            ("9.9999", ["32,2,2"]),
-            ("5", ["32,2,2"]),
-            ("4.9", ["64,8,1", "64,2,4"]),
+            ("100", "32,1,2 16,4,1 16,1,4"), ("20", "32,1,2 16,4,1 16,1,4"), ("19.9", "32,1,2"),
+            ("9.9999", "32,2,2"), ("5", "32,2,2"), ("4.9", "64,8,1 64,2,4"),
         ):
-            self.assertEqual(self.best("table.csv", "--below", percent), caches, percent)
-        self.assertEqual(self.best("table.csv", "--below", "5", "--up-to", "128"), ["32,2,2"])
+            self.chooses(f"table.csv --below {percent}", caches)
+        self.chooses("table.csv --below 5 --up-to 128", "32,2,2")
         # 200 misses are 800 hits
-        self.assertEqual(self.best("table.csv", "--below", "80", "--measure", "hits"), ["16,4,1", "16,1,4"])
-        self.assertEqual(self.best("-", "--below", "0", stdin=b"16,1,1,16,0,0,0\n"), ["16,1,1"])
+        self.chooses("table.csv --below 80 --measure hits", "16,4,1 16,1,4")
+        self.chooses("- --below 0", "16,1,1", stdin=b"16,1,1,16,0,0,0\n")
 
     def test_below_is_exact(self):
         # one miss of three references
         row = base.rows_of(3, {(16, 1, 1): 1}).encode()
-        self.assertEqual(self.best("-", "--below", "33.33333333333333333334", stdin=row), ["16,1,1"])
+        self.chooses("- --below 33.33333333333333333334", "16,1,1", stdin=row)
         ran = self.run_tool("best", "-", "--below", "33.33333333333333333333", stdin=row)
-        self.refused(ran, 1, "best: -: no cache has at most 33.3333 per cent misses; the least is 33.3333\n")
+        said = "no cache has at most 33.3333 per cent misses; the least is 33.3333\n"
+        self.refused(ran, 1, f"best: -: {said}")
 
     def test_nothing_below(self):
-        for arguments, said in (
-            (["--below", "4.89"], "no cache has at most 4.89 per cent misses; the least is 4.9\n"),
-            (["--below", "5", "--up-to", "64"], "no cache of at most 64 bytes has at most 5 per cent misses; the least is 10\n"),
-            (["--below", "0", "--measure", "evictions"], "no cache has at most 0 per cent evictions; the least is 4.1\n"),
+        for words, said in (
+            ("4.89", "has at most 4.89 per cent misses; the least is 4.9"),
+            ("5 --up-to 64", "of at most 64 bytes has at most 5 per cent misses; the least is 10"),
+            ("0 --measure evictions", "has at most 0 per cent evictions; the least is 4.1"),
         ):
-            self.refused(self.run_tool("best", "table.csv", *arguments), 1, f"best: table.csv: {said}")
+            ran = self.run_tool("best", "table.csv", "--below", *words.split())
+            self.refused(ran, 1, f"best: table.csv: no cache {said}\n")
 
     def test_rows(self):
-        self.assertEqual(self.best("table.csv", "--rows", "4"), ["64,8,1", "64,2,4", "32,2,2", "64,4,1"])
-        self.assertEqual(self.best("table.csv", "--rows", "2", "--up-to", "64"), ["32,1,2", "16,4,1"])
+        self.chooses("table.csv --rows 4", "64,8,1 64,2,4 32,2,2 64,4,1")
+        self.chooses("table.csv --rows 2 --up-to 64", "32,1,2 16,4,1")
         self.assertEqual(len(self.best("table.csv", "--rows", "100")), 9)
 
     def test_front(self):
-        self.assertEqual(self.best("table.csv", "--front"), ["32,1,2", "32,2,2", "64,8,1"])
-        self.assertEqual(self.best("table.csv", "--front", "--up-to", "128"), ["32,1,2", "32,2,2"])
+        self.chooses("table.csv --front", "32,1,2 32,2,2 64,8,1")
+        self.chooses("table.csv --front --up-to 128", "32,1,2 32,2,2")
 
     def test_per_cent(self):
         text = self.good(self.run_tool("best", "table.csv", "--rows", "9"))
-        percent = [row["percent"] for row in csv.DictReader(text.splitlines())]
-        self.assertEqual(percent, "4.900 4.900 5.000 5.000 5.200 10.000 10.500 20.000 20.000".split())
-        nothing = f"{table.HEADER}\n16,1,1,16,0,0,0\n"
-        self.assertIn("\n16,1,1,16,0,0,0,0.000\n", self.good(self.run_tool("best", "-", stdin=nothing.encode())))
+        percent = " ".join(row["percent"] for row in csv.DictReader(text.splitlines()))
+        self.assertEqual(percent, "4.900 4.900 5.000 5.000 5.200 10.000 10.500 20.000 20.000")
+        nothing = f"{table.HEADER}\n16,1,1,16,0,0,0\n".encode()
+        text = self.good(self.run_tool("best", "-", stdin=nothing))
+        self.assertIn("\n16,1,1,16,0,0,0,0.000\n", text)
 
     def test_real_tables(self):
         space = ("--bsize", "16-128", "--sets", "1-64", "--assoc", "1-8", "--size", "64-8k")
-        for name, arguments in (("sort.din", ()), ("transpose.lackey", ("--format", "l", "--kind", "d"))):
-            text = self.sweep(*space, *arguments, "-t", base.EXAMPLES / name)
-            points = {(int(row["size"]), int(row["misses"])) for row in csv.DictReader(text.splitlines())}
+        for name, words in (("sort.din", ""), ("transpose.lackey", "--format l --kind d")):
+            text = self.sweep(*space, *words.split(), "-t", base.EXAMPLES / name)
+            rows, text = list(csv.DictReader(text.splitlines())), text.encode()
+            points = {(int(row["size"]), int(row["misses"])) for row in rows}
             # by the definition: no other point is as small and as good
-            front = [point for point in points if not any(s <= point[0] and m <= point[1] for s, m in points - {point})]
-            found = [tuple(map(int, cache.split(","))) for cache in self.best("-", "--front", stdin=text.encode())]
-            self.assertEqual([b * s * e for b, s, e in found], sorted(size for size, _ in front))
+            front = [(size, misses) for size, misses in points
+                     if not any(s <= size and m <= misses for s, m in points - {(size, misses)})]
+            found = self.best("-", "--front", stdin=text)
+            sizes = [math.prod(map(int, cache.split(","))) for cache in found]
+            self.assertEqual(sizes, sorted(size for size, _ in front))
             self.assertGreater(len(front), 3)
             most = 1.25 * min(misses for _, misses in points)
             least = min(size for size, misses in points if misses <= most)
-            near = {
-                f"{row['bsize']},{row['sets']},{row['assoc']}"
-                for row in csv.DictReader(text.splitlines())
-                if int(row["size"]) == least and int(row["misses"]) <= most
-            }
-            self.assertEqual(set(self.best("-", "--within", "25", stdin=text.encode())), near)
+            near = {f"{row['bsize']},{row['sets']},{row['assoc']}" for row in rows
+                    if int(row["size"]) == least and int(row["misses"]) <= most}
+            self.assertEqual(set(self.best("-", "--within", "25", stdin=text)), near)
 
     def test_the_answer_is_a_table(self):
         front = self.run_tool("best", "table.csv", "--front").stdout
-        self.assertEqual(self.best("-", "--up-to", "511", stdin=front), ["32,2,2"])
+        self.chooses("- --up-to 511", "32,2,2", stdin=front)
 
     def test_names(self):
         os.rename(self.folder / "table.csv", self.folder / "-a table.csv")
-        self.assertEqual(self.best("./-a table.csv", "--front"), self.best("--front", "--", "-a table.csv"))
+        behind = self.best("--front", "--", "-a table.csv")
+        self.assertEqual(self.best("./-a table.csv", "--front"), behind)
         link = self.folder / "cachesim-best"
         link.symlink_to(base.TOOLS / "best")
         self.assertEqual(self.good(self.run_command(link, "./-a table.csv")).count("\n"), 3)
-        self.refused(self.run_command(link, "none.csv"), 1, "cachesim-best: none.csv: No such file or directory\n")
+        ran = self.run_command(link, "none.csv")
+        self.refused(ran, 1, "cachesim-best: none.csv: No such file or directory\n")
 
     def test_what_is_refused(self):
-        for stdin, arguments, status, fault in (
-            (b"", ["-"], 1, "best: standard input: a table without a row\n"),
-            (b"\xff\xfe\n", ["-"], 1, "best: standard input: line 1: no row of a sweep's table\n"),
-            (b"16,1,1,16,2,1,0\n16,1,2,32,2,2,0\n", ["-"], 1, "best: -: rows of several traces: they count different numbers"),
-            (b"", ["table.csv", "--up-to", "63"], 1, "best: table.csv: no cache of at most 63 bytes\n"),
-            (b"", ["."], 1, "best: .: Is a directory\n"),
-            (b"", [], 2, "required: TABLE"),
-            (b"", ["table.csv", "--within", "-1"], 2, "--within"),
-            (b"", ["table.csv", "--within", "nan"], 2, "'nan' is no number of per cent"),
-            (b"", ["table.csv", "--within", "1", "--front"], 2, "not allowed with"),
-            (b"", ["table.csv", "--within", "1", "--below", "1"], 2, "not allowed with"),
-            (b"", ["table.csv", "--below", "1%"], 2, "'1%' is no number of per cent"),
-            (b"", ["table.csv", "--rows", "0"], 2, "'0' is no number above 0"),
-            (b"", ["table.csv", "--up-to", "1x"], 2, "'1x' is no size"),
+        several = b"16,1,1,16,2,1,0\n16,1,2,32,2,2,0\n"
+        for stdin, words, status, fault in (
+            (b"", "-", 1, "best: standard input: a table without a row\n"),
+            (b"\xff\xfe\n", "-", 1, "best: standard input: line 1: no row of a sweep's table\n"),
+            (several, "-", 1, "best: -: rows of several traces: they count different numbers"),
+            (b"", "table.csv --up-to 63", 1, "best: table.csv: no cache of at most 63 bytes\n"),
+            (b"", ".", 1, "best: .: Is a directory\n"),
+            (b"", "", 2, "required: TABLE"),
+            (b"", "table.csv --within -1", 2, "--within"),
+            (b"", "table.csv --within nan", 2, "'nan' is no number of per cent"),
+            (b"", "table.csv --within 1 --front", 2, "not allowed with"),
+            (b"", "table.csv --within 1 --below 1", 2, "not allowed with"),
+            (b"", "table.csv --below 1%", 2, "'1%' is no number of per cent"),
+            (b"", "table.csv --rows 0", 2, "'0' is no number above 0"),
+            (b"", "table.csv --up-to 1x", 2, "'1x' is no size"),
         ):
-            given = {"PYTHONIOENCODING": "utf-8:strict"}
-            self.refused(self.run_tool("best", *arguments, stdin=stdin, env=given), status, fault)
+            env = {"PYTHONIOENCODING": "utf-8:strict"}
+            ran = self.run_tool("best", *words.split(), stdin=stdin, env=env)
+            self.refused(ran, status, fault)
 
     def test_writing(self):
         self.on_full_device("best", "table.csv", told="No space left on device")
         reader, writer = os.pipe()
         os.close(reader)
-        ran = subprocess.run([base.TOOLS / "best", self.folder / "table.csv"], stdout=writer, stderr=subprocess.PIPE)
+        given = {"stdout": writer, "stderr": subprocess.PIPE}
+        ran = subprocess.run([base.TOOLS / "best", self.folder / "table.csv"], **given)
         os.close(writer)
         self.assertEqual((ran.returncode, ran.stderr), (141, b""))
 
@@ -172,74 +184,78 @@ class Best(base.ToolTest):
 class OfDin(base.ToolTest):
     """Of tables of din, and by other measures than misses."""
 
-    def best(self, text, *arguments):
-        (self.folder / "t.csv").write_text(text)
-        return self.good(self.run_tool("best", "t.csv", *arguments)).splitlines()
+    def best(self, text, words=""):
+        self.write("t.csv", text)
+        return self.good(self.run_tool("best", "t.csv", *words.split())).splitlines()
 
     def test_mean_and_spread(self):
         """30, 33 and 42: the mean is 35, and the deviation the root of (25 + 4 + 49) / 2."""
-        given = f"{COLUMNS}\n{din_rows(POLICIES)}"
-        header = "l1-usize,l1-ubsize,l1-uassoc,l1-urepl,size,l1-u-misses,runs,deviation,least,greatest"
-        lines = self.best(given, "--rows", "3")
-        self.assertEqual(lines, [header, "128,16,2,l,128,20,3,0.000,20,20", "128,16,2,f,128,25,3,0.000,25,25",
-                                 "128,16,2,r,128,35,3,6.245,30,42"])
-        self.assertEqual(self.best(given, "--up-to", "64")[1:], ["64,16,2,l,64,100,3,0.000,100,100"])
-        self.assertEqual(self.best(given, "--up-to", "64", "--within", "50")[1:],
-                         ["64,16,2,l,64,100,3,0.000,100,100", "64,16,2,r,64,150,3,30.000,120,180"])
-        self.assertEqual([line[:4] for line in self.best(given, "--front")[1:]], ["64,1", "128,"])
-        percent = self.best(given, "--measure", "l1-u-percent", "--rows", "3")
-        self.assertEqual((percent[0].split(",")[5], percent[3]), ("l1-u-percent", "128,16,2,r,128,3.500,3,0.624,3,4.200"))
+        self.assertEqual(self.best(GIVEN, "--rows 3"), [
+            MEANS, "128,16,2,l,128,20,3,0.000,20,20", "128,16,2,f,128,25,3,0.000,25,25",
+            "128,16,2,r,128,35,3,6.245,30,42"])
+        two = ["64,16,2,l,64,100,3,0.000,100,100", "64,16,2,r,64,150,3,30.000,120,180"]
+        self.assertEqual(self.best(GIVEN, "--up-to 64")[1:], two[:1])
+        self.assertEqual(self.best(GIVEN, "--up-to 64 --within 50")[1:], two)
+        self.assertEqual([line[:4] for line in self.best(GIVEN, "--front")[1:]], ["64,1", "128,"])
+        percent = self.best(GIVEN, "--measure l1-u-percent --rows 3")
+        self.assertEqual(percent[0].split(",")[5], "l1-u-percent")
+        self.assertEqual(percent[3], "128,16,2,r,128,3.500,3,0.624,3,4.200")
 
     def test_without_seeds(self):
-        given = COLUMNS.replace(",seed", "") + "\n" + re.sub("(?m)^(([^,]+,){4})1,", r"\1", din_rows({(64, "l"): (100,)}))
-        self.assertEqual(self.best(given), ["l1-usize,l1-ubsize,l1-uassoc,l1-urepl,size,l1-u-misses", "64,16,2,l,64,100"])
+        rows = re.sub("(?m)^(([^,]+,){4})1,", r"\1", din_rows({(64, "l"): (100,)}))
+        given = COLUMNS.replace(",seed", "") + "\n" + rows
+        self.assertEqual(self.best(given), [SHAPE, "64,16,2,l,64,100"])
 
     def test_the_last_cache(self):
-        """Its misses are compared, whichever column stands behind them, and the size is that of all caches."""
-        header = "l1-dsize,l2-usize,l1-d-references,l1-d-misses,l1-d-percent,l2-u-references,l2-u-misses,l2-u-percent,memory-reads,bypassed"
+        """Its misses are compared, whatever stands behind them, and the size is that of all."""
         rows = "64,256,100,50,50.000,50,20,40.000,20,9\n128,256,100,40,40.000,40,25,62.500,25,9\n"
-        self.assertEqual(self.best(f"{header}\n{rows}", "--rows", "2"),
-                         ["l1-dsize,l2-usize,size,l2-u-misses", "64,256,320,20", "128,256,384,25"])
+        wanted = ["l1-dsize,l2-usize,size,l2-u-misses", "64,256,320,20", "128,256,384,25"]
+        self.assertEqual(self.best(f"{LEVELS}\n{rows}", "--rows 2"), wanted)
 
     def test_below(self):
         """30, 42 and 33 misses of 1,000 references are 3.5 per cent in the mean."""
-        given = f"{COLUMNS}\n{din_rows(POLICIES)}"
-        lines = self.best(given, "--below", "3.5")
-        self.assertEqual(lines[0], "l1-usize,l1-ubsize,l1-uassoc,l1-urepl,size,l1-u-misses,runs,deviation,least,greatest,percent")
-        self.assertEqual([(line[:10], line.split(",")[-1]) for line in lines[1:]],
-                         [("128,16,2,l", "2.000"), ("128,16,2,f", "2.500"), ("128,16,2,r", "3.500")])
-        self.assertEqual([line[:10] for line in self.best(given, "--below", "3.4999")[1:]], ["128,16,2,l", "128,16,2,f"])
-        self.assertEqual([line[:9] for line in self.best(given, "--below", "10")[1:]], ["64,16,2,l"])
+        lines = self.best(GIVEN, "--below 3.5")
+        self.assertEqual(lines[0], f"{MEANS},percent")
+        got = [f"{line[:10]} {line.split(',')[-1]}" for line in lines[1:]]
+        self.assertEqual(got, ["128,16,2,l 2.000", "128,16,2,f 2.500", "128,16,2,r 3.500"])
+        lines = self.best(GIVEN, "--below 3.4999")[1:]
+        self.assertEqual([line[:10] for line in lines], ["128,16,2,l", "128,16,2,f"])
+        self.assertEqual([line[:9] for line in self.best(GIVEN, "--below 10")[1:]], ["64,16,2,l"])
         self.refused(self.run_tool("best", "t.csv", "--below", "1.9"), 1,
                      "best: t.csv: no cache has at most 1.9 per cent misses; the least is 2\n")
 
     def test_below_of_a_cache_and_of_the_trace(self):
-        """20 of the 50 references to the second level, and of the 109 of the trace: 40 and 18.349 per cent."""
+        """20 of the 50 references to the second level, and of the 109 of the trace: 40 and 18.349
+        per cent."""
         rows = "64,256,100,50,50.000,50,20,40.000,20,9,90\n"
         rows += "128,256,100,40,40.000,40,25,62.500,25,9,80\n"
-        header = "l1-dsize,l2-usize,l1-d-references,l1-d-misses,l1-d-percent,l2-u-references,l2-u-misses,l2-u-percent,memory-reads,bypassed"
-        header += ",cycles"
-        for arguments, row in (
-            (["--below", "40"], "64,256,320,20,40.000"),
-            (["--below", "20", "--measure", "memory-reads"], "64,256,320,20,18.349"),
-            (["--below", "40", "--measure", "l1-d-misses"], "128,256,384,40,40.000"),
-            (["--below", "41", "--measure", "l2-u-percent"], "64,256,320,40,40.000"),
-            (["--below", "90", "--measure", "cycles"], "64,256,320,90"),
+        for words, row in (
+            ("--below 40", "64,256,320,20,40.000"),
+            ("--below 20 --measure memory-reads", "64,256,320,20,18.349"),
+            ("--below 40 --measure l1-d-misses", "128,256,384,40,40.000"),
+            ("--below 41 --measure l2-u-percent", "64,256,320,40,40.000"),
+            ("--below 90 --measure cycles", "64,256,320,90"),
         ):
-            self.assertEqual(self.best(f"{header}\n{rows}", *arguments)[1:], [row])
-        self.refused(self.run_tool("best", "t.csv", "--below", "39.999"), 1, "at most 39.999 per cent misses; the least is 40\n")
+            self.assertEqual(self.best(f"{LEVELS},cycles\n{rows}", words)[1:], [row])
+        ran = self.run_tool("best", "t.csv", "--below", "39.999")
+        self.refused(ran, 1, "at most 39.999 per cent misses; the least is 40\n")
         nothing = "l1-dsize,l1-d-references,l1-d-misses,l1-d-percent,bypassed\n64,0,0,0.000,0\n"
-        self.assertEqual(self.best(nothing, "--below", "0")[1:], ["64,64,0,0.000"])
+        self.assertEqual(self.best(nothing, "--below 0")[1:], ["64,64,0,0.000"])
 
     def test_measure_of_a_sweep(self):
         given = f"{table.HEADER}\n64,1,1,64,500,500,0\n64,2,1,128,600,400,0\n"
-        self.assertEqual(self.best(given, "--measure", "hits"), [f"{table.HEADER},percent", "64,1,1,64,500,500,0,50.000"])
+        wanted = [f"{table.HEADER},percent", "64,1,1,64,500,500,0,50.000"]
+        self.assertEqual(self.best(given, "--measure hits"), wanted)
         more = f"{table.HEADER},conflict\n64,1,1,64,50,50,49,7\n64,2,1,128,60,40,38,9\n"
-        self.assertEqual(self.best(more, "--measure", "conflict"), [f"{table.HEADER},conflict,percent", "64,1,1,64,50,50,49,7,7.000"])
+        wanted = [f"{table.HEADER},conflict,percent", "64,1,1,64,50,50,49,7,7.000"]
+        self.assertEqual(self.best(more, "--measure conflict"), wanted)
         cost = f"{table.HEADER},cost\n64,1,1,64,50,50,49,7.5\n64,2,1,128,60,40,38,4.25\n"
         header, *rows = cost.replace("7.5", "7.500").replace("4.25", "4.250").splitlines()
-        self.assertEqual(self.best(cost, "--measure", "cost", "--below", "7.5"), [header, rows[0]])
-        self.assertEqual(self.best(cost, "--measure", "cost", "--below", "7.49"), [header, rows[1]])
-        self.refused(self.run_tool("best", "t.csv", "--measure", "cost", "--below", "4"), 1,
-                     "best: t.csv: no cache has at most 4 cost; the least is 4.25\n")
-        self.refused(self.run_tool("best", "t.csv", "--measure", "x"), 1, "best: t.csv: no column x; there are ")
+        self.assertEqual(self.best(cost, "--measure cost --below 7.5"), [header, rows[0]])
+        self.assertEqual(self.best(cost, "--measure cost --below 7.49"), [header, rows[1]])
+        for words, said in (
+            ("--measure cost --below 4", "no cache has at most 4 cost; the least is 4.25\n"),
+            ("--measure x", "no column x; there are "),
+        ):
+            ran = self.run_tool("best", "t.csv", *words.split())
+            self.refused(ran, 1, f"best: t.csv: {said}")
