@@ -1,5 +1,6 @@
 """Tables of runs of din, compared with the model of the program and with sums by hand."""
 
+import collections
 import csv
 import gzip
 import itertools
@@ -17,7 +18,7 @@ POLICIES = "-l1-usize 128,256 -l1-ubsize 16 -l1-uassoc 2 -l1-urepl l,f,r --seed 
 
 
 def report_of(options, text):
-    """The report of the model for some options, as a dictionary: the counts by cache and name. None where it refuses them."""
+    """The model's report for some options: counts by cache and name. None where it refuses them."""
     words = [word for name, value in options.items() for word in (f"--{name}", value)]
     out, err, status = base.model.run(["din", *words], lambda: text, None)
     if status:
@@ -26,7 +27,8 @@ def report_of(options, text):
     found = {}
     for line in out.splitlines():
         cache, _, rest = line.rpartition(" ") if "=" in line.split()[0] else line.partition(" ")
-        found.update({(cache, name): int(count) for name, count in (word.split("=") for word in rest.split())})
+        counts = (word.split("=") for word in rest.split())
+        found.update({(cache, name): int(count) for name, count in counts})
     return found
 
 
@@ -37,35 +39,35 @@ class DinTableTest(reading_base.Many, base.ToolTest):
     def rows(self, *arguments, left_out="", **given):
         """The rows of a table. What is told of combinations that are left out begins as this."""
         ran = self.tool(*arguments, **given)
-        told = ran.stderr.decode()
-        wanted = f"din-table: {left_out} combinations are left out: no cache has such a geometry\n" if left_out else ""
-        self.assertEqual((told, ran.returncode), (wanted, 0))
+        told = f"din-table: {left_out} combinations are left out: no cache has such a geometry\n"
+        got = ran.stderr.decode(), ran.returncode
+        self.assertEqual(got, (told if left_out else "", 0))
         return list(csv.DictReader(ran.stdout.decode().splitlines()))
 
 
 class Rows(DinTableTest):
     def test_by_hand(self):
-        """A flush empties the cache. One set of two ways holds blocks 0 and 1; block 2 comes and evicts 0, which then misses."""
+        """A flush empties the cache. One set of two ways holds blocks 0 and 1; block 2 comes and
+        evicts 0, which then misses."""
         self.write("six", SIX)
         row, = self.rows(1, "six", *"-l1-usize 32 -l1-ubsize 16 -l1-uassoc 2".split())
-        self.assertEqual(row, {
-            "l1-usize": "32", "l1-ubsize": "16", "l1-uassoc": "2",
-            "l1-u-fetches": "1", "l1-u-fetch-misses": "1", "l1-u-reads": "2", "l1-u-read-misses": "2",
-            "l1-u-writes": "2", "l1-u-write-misses": "2", "l1-u-evictions": "2", "l1-u-copybacks": "1",
-            "l1-u-references": "5", "l1-u-misses": "5", "l1-u-percent": "100.000",
-            "memory-reads": "5", "memory-writes": "1", "bypassed": "0",
-        })
+        wanted = (
+            "l1-usize=32 l1-ubsize=16 l1-uassoc=2 l1-u-fetches=1 l1-u-fetch-misses=1 l1-u-reads=2 "
+            "l1-u-read-misses=2 l1-u-writes=2 l1-u-write-misses=2 l1-u-evictions=2 "
+            "l1-u-copybacks=1 l1-u-references=5 l1-u-misses=5 l1-u-percent=100.000 "
+            "memory-reads=5 memory-writes=1 bypassed=0")
+        self.assertEqual(row, dict(word.split("=") for word in wanted.split()))
 
-    def agree(self, trace, left_out, **options):
-        """Compares a table with the model: each combination that there is, the last option fastest, and each of its counts."""
-        text = trace.read_bytes()
-        words = [word for name, values in options.items() for word in (f"-{name.replace('_', '-')}", ",".join(values))]
-        names = [name.replace("_", "-") for name in options]
+    def agree(self, trace, left_out, options):
+        """Compares a table with the model: each combination that there is, the last option
+        fastest, and each of its counts."""
+        text, words = trace.read_bytes(), options.split()
         wanted = []
-        for values in itertools.product(*options.values()):
-            report = report_of(dict(zip(names, values)), text)
+        for values in itertools.product(*(word.split(",") for word in words[1::2])):
+            given = dict(zip((word[1:] for word in words[::2]), values))
+            report = report_of(given, text)
             if report:
-                wanted.append((dict(zip(names, values)), report))
+                wanted.append((given, report))
         rows = self.rows(3, trace, *words, left_out=left_out)
         self.assertEqual(len(rows), len(wanted))
         for row, (given, report) in zip(rows, wanted):
@@ -74,52 +76,63 @@ class Rows(DinTableTest):
             for cache in {cache for cache, name in report if name == "fetches"}:
                 references = sum(report[cache, name] for name in ("fetches", "reads", "writes"))
                 misses = sum(report[cache, f"{name}-misses"] for name in ("fetch", "read", "write"))
-                self.assertEqual((int(row[f"{cache}-references"]), int(row[f"{cache}-misses"])), (references, misses))
-                self.assertAlmostEqual(float(row[f"{cache}-percent"]), 100 * misses / max(1, references), delta=0.00051)
+                got = tuple(int(row[f"{cache}-{name}"]) for name in ("references", "misses"))
+                self.assertEqual(got, (references, misses))
+                percent = 100 * misses / max(1, references)
+                self.assertAlmostEqual(float(row[f"{cache}-percent"]), percent, delta=0.00051)
         return len(rows)
 
     def short(self):
         """A trace with all labels that is short enough for the model."""
-        return self.write("short", b"".join(DIN.read_bytes().splitlines(True)[:900]) + b"4 0\n1 1fff000578\n2 401000\n")
+        text = b"".join(DIN.read_bytes().splitlines(True)[:900])
+        return self.write("short", text + b"4 0\n1 1fff000578\n2 401000\n")
 
     def test_policies_and_write_modes(self):
-        self.assertEqual(self.agree(
-            self.short(), "", l1_usize=["64", "256"], l1_ubsize=["16"], l1_uassoc=["2", "4"], l1_urepl=["l", "f", "r"],
-            l1_uwalloc=["a", "n"], l1_uwback=["a", "n"],
-        ), 48)
+        self.assertEqual(48, self.agree(
+            self.short(), "", "-l1-usize 64,256 -l1-ubsize 16 -l1-uassoc 2,4 -l1-urepl l,f,r "
+            "-l1-uwalloc a,n -l1-uwback a,n"))
 
     def test_second_levels(self):
-        """Of 2 * 2 * 2 * 2 = 16 the blocks of 16 bytes are too small behind those of 32: 4 combinations are left out."""
-        self.assertEqual(self.agree(
-            self.short(), "4 of 16", l1_isize=["64"], l1_ibsize=["16"], l1_dsize=["64"], l1_dbsize=["16", "32"], l1_dwback=["n", "a"],
-            l2_usize=["256"], l2_ubsize=["16", "32"], l2_uassoc=["4"], l2_urepl=["f", "r"],
-        ), 12)
+        """Of 2 * 2 * 2 * 2 = 16 the blocks of 16 bytes are too small behind those of 32: 4
+        combinations are left out."""
+        self.assertEqual(12, self.agree(
+            self.short(), "4 of 16", "-l1-isize 64 -l1-ibsize 16 -l1-dsize 64 -l1-dbsize 16,32 "
+            "-l1-dwback n,a -l2-usize 256 -l2-ubsize 16,32 -l2-uassoc 4 -l2-urepl f,r"))
 
     def test_seeds(self):
         """Also where the second level alone replaces at random."""
-        self.agree(self.short(), "", l1_usize=["64"], l1_ubsize=["16"], l1_uassoc=["4"], l1_urepl=["r", "l"],
-                   l2_usize=["256"], l2_ubsize=["32"], l2_uassoc=["4"], l2_urepl=["r", "l"], seed=["0", "1", "42", "123456789012"])
+        self.agree(self.short(), "", "-l1-usize 64 -l1-ubsize 16 -l1-uassoc 4 -l1-urepl r,l "
+                   "-l2-usize 256 -l2-ubsize 32 -l2-uassoc 4 -l2-urepl r,l "
+                   "-seed 0,1,42,123456789012")
 
     def test_lackey_and_one_kind_alone(self):
-        rows = self.rows(2, EXAMPLES / "blocks.lackey", *"-informat l -l1-dsize 1k -l1-dbsize 32 -l1-dassoc 1-4".split())
+        options = "-informat l -l1-dsize 1k -l1-dbsize 32 -l1-dassoc 1-4".split()
+        rows = self.rows(2, EXAMPLES / "blocks.lackey", *options)
         self.assertEqual(list(rows[0])[:4], ["l1-dsize", "l1-dbsize", "l1-dassoc", "l1-d-fetches"])
         # the cookbook's caches of 1,024 bytes with blocks of 32
         self.assertEqual([row["l1-d-misses"] for row in rows], ["340", "364", "468"])
 
     def test_lru_is_that_of_a_sweep(self):
-        rows = self.rows("auto", DIN, *"-l1-usize 64-8k -l1-ubsize 16-64 -l1-uassoc 1-8".split(), left_out="10 of 96")
-        table = self.sweep(*"--bsize 16-64 --sets 1-512 --assoc 1-8 --pow2 --size 64-8k -t".split(), DIN)
-        swept = {(row["size"], row["bsize"], row["assoc"]): row["misses"] for row in csv.DictReader(table.splitlines())}
+        options = "-l1-usize 64-8k -l1-ubsize 16-64 -l1-uassoc 1-8".split()
+        rows = self.rows("auto", DIN, *options, left_out="10 of 96")
+        space = "--bsize 16-64 --sets 1-512 --assoc 1-8 --pow2 --size 64-8k -t".split()
+        swept = csv.DictReader(self.sweep(*space, DIN).splitlines())
+        wanted = {(row["size"], row["bsize"], row["assoc"]): row["misses"] for row in swept}
         names = ("l1-usize", "l1-ubsize", "l1-uassoc")
-        self.assertEqual({tuple(row[name] for name in names): row["l1-u-misses"] for row in rows}, swept)
+        got = {tuple(row[name] for name in names): row["l1-u-misses"] for row in rows}
+        self.assertEqual(got, wanted)
 
 
 class Values(DinTableTest):
     def test_ranges_and_lists(self):
-        for text, values in (("4k", [4096]), ("1k-8k", [1024, 2048, 4096, 8192]), ("64,1k-2k", [64, 1024, 2048]), ("1K-1K", [1024])):
+        for text, values in (
+            ("4k", "4096"), ("1k-8k", "1024 2048 4096 8192"), ("64,1k-2k", "64 1024 2048"),
+            ("1K-1K", "1024"),
+        ):
             rows = self.rows(4, DIN, "-l1-usize", text, "--l1-ubsize=16")
-            self.assertEqual([int(row["l1-usize"]) for row in rows], values)
-        rows = self.rows(4, DIN, *"--l1-usize=256 -l1-ubsize 16 -l1-uassoc 4 -l1-urepl r --seed 3-5,9".split())
+            self.assertEqual(" ".join(row["l1-usize"] for row in rows), values)
+        options = "--l1-usize=256 -l1-ubsize 16 -l1-uassoc 4 -l1-urepl r --seed 3-5,9".split()
+        rows = self.rows(4, DIN, *options)
         self.assertEqual([row["seed"] for row in rows], ["3", "4", "5", "9"])
         self.assertEqual(len({row["l1-u-misses"] for row in rows}), 4)
 
@@ -127,14 +140,18 @@ class Values(DinTableTest):
         """There is a row for each seed all the same, from one run."""
         env = self.program('echo "$*" >> commands')
         rows = self.rows(2, DIN, *POLICIES, env=env)
-        self.assertEqual([(row["l1-urepl"], row["seed"]) for row in rows], 2 * list(itertools.product("lfr", "123")))
+        got = [(row["l1-urepl"], row["seed"]) for row in rows]
+        self.assertEqual(got, 2 * list(itertools.product("lfr", "123")))
         commands = (self.folder / "commands").read_text().splitlines()
         self.assertEqual(len(commands), 2 * (1 + 1 + 3))
+        found = collections.defaultdict(set)
         for row in rows:
-            same = [other for other in rows if (other["l1-usize"], other["l1-urepl"]) == (row["l1-usize"], row["l1-urepl"])]
-            self.assertEqual(len({other["l1-u-misses"] for other in same}) > 1, row["l1-urepl"] == "r")
+            found[row["l1-usize"], row["l1-urepl"]].add(row["l1-u-misses"])
+        for (_, policy), misses in found.items():
+            self.assertEqual(len(misses) > 1, policy == "r")
 
     def test_refused(self):
+        many = "400000 combinations; at most 100000 are taken"
         for words, fault in (
             ("-l1-usize 64k -l1-ubsize", "-l1-ubsize: an option and its values are wanted"),
             ("-l1-usize 64-x -l1-ubsize 16", "'x' is no size"),
@@ -145,7 +162,7 @@ class Values(DinTableTest):
             ("-l1-usize 64 -l1-ubsize 16 --seed=1,", "-seed 1,: a value is missing"),
             ("-l1-usize 64 -l1-ubsize 16 --seed 5-3", "5-3 is a reversed range"),
             ("-l1-usize 64 -l1-ubsize 16 --seed 1-999999", "more than 100000 combinations"),
-            ("-l1-usize 64-8k -l1-ubsize 16 --seed 1-50000", "400000 combinations; at most 100000 are taken"),
+            ("-l1-usize 64-8k -l1-ubsize 16 --seed 1-50000", many),
             ("-l1-usize 64 -l1-usize 16", "l1-usize is given twice"),
             ("64 -l1-usize 16 -l1-ubsize", "64: an option and its values are wanted"),
             ("-l1-usize 64 -l1-ubsize 16 -t x", "leave out -t"),
@@ -167,7 +184,8 @@ class Values(DinTableTest):
 
 class Traces(DinTableTest):
     def test_read_once(self):
-        """Standard input, pipes, and packed traces, with fewer runs at once than there are and with more: one table."""
+        """Standard input, pipes, and packed traces, with fewer runs at once than there are and with
+        more: one table."""
         text = DIN.read_bytes()
         self.write("t.gz", gzip.compress(text))
         wanted = self.good(self.tool(2, DIN, *SMALL))
@@ -175,7 +193,8 @@ class Traces(DinTableTest):
         for jobs in (1, 4, 6, 30):
             self.assertEqual(self.good(self.tool(jobs, "-", *SMALL, stdin=text)), wanted)
             self.assertEqual(self.good(self.tool(jobs, "t.gz", *SMALL)), wanted)
-        script = f'"{TOOLS}/din-table" 2 <(cat "$1") {" ".join(SMALL)}; "{TOOLS}/din-table" 2 /dev/stdin {" ".join(SMALL)} < "$1"'
+        tool, words = f'"{TOOLS}/din-table" 2', " ".join(SMALL)
+        script = f'{tool} <(cat "$1") {words}; {tool} /dev/stdin {words} < "$1"'
         self.assertEqual(self.good(self.run_command("bash", "-c", script, "-", DIN)), 2 * wanted)
 
     def test_jobs(self):
@@ -186,9 +205,9 @@ class Traces(DinTableTest):
             self.rows(2, trace, *SMALL, stdin=stdin, env=self.program(body))
             counts = list(map(int, (self.folder / "counts").read_text().split()))
             self.assertEqual((len(counts), max(counts)), (6, 2))
-        one = ("taskset", "-c", min(os.sched_getaffinity(0)))
+        one = "taskset", "-c", min(os.sched_getaffinity(0)), TOOLS / "din-table", "auto"
         (self.folder / "counts").unlink()
-        self.good(self.run_command(*one, TOOLS / "din-table", "auto", DIN, *SMALL, env=self.program(body)))
+        self.good(self.run_command(*one, DIN, *SMALL, env=self.program(body)))
         self.assertEqual((self.folder / "counts").read_text(), 6 * "1\n")
 
 
@@ -198,7 +217,8 @@ class Faults(reading_base.ReadingForMany, DinTableTest):
     OPTIONS = SMALL
 
     def test_a_run_fails(self):
-        """Whichever it is, there is no table, and the others are ended, of a file as of a pipe that nothing comes from."""
+        """Whichever it is, there is no table, and the others are ended, of a file as of a pipe
+        that nothing comes from."""
         for at, (body, status, message) in itertools.product((1, 3, 6), (
             ("kill -KILL $$", 1, "din-table: the run of {} ended with signal 9\n"),
             ("exit 7", 1, "din-table: the run of {} ended with status 7\n"),
@@ -208,8 +228,10 @@ class Faults(reading_base.ReadingForMany, DinTableTest):
             env = self.program(f"[[ $* != *size={size}*assoc={ways}* ]] || {{ {body}; }}")
             name = f"-l1-usize {size} -l1-ubsize 16 -l1-uassoc {ways}"
             for trace in (DIN, "-"):
-                self.failed(self.tool(2, trace, *SMALL, stdin=DIN.read_bytes(), env=env), status, message.format(name))
-        env = self.program("[[ $* != *size=64*assoc=2* ]] && exec sleep 60 || { echo x: no >&2; exit 1; }")
+                ran = self.tool(2, trace, *SMALL, stdin=DIN.read_bytes(), env=env)
+                self.failed(ran, status, message.format(name))
+        fails = "{ echo x: no >&2; exit 1; }"
+        env = self.program(f"[[ $* != *size=64*assoc=2* ]] && exec sleep 60 || {fails}")
         began = time.monotonic()
         self.failed(self.tool(2, DIN, *SMALL, env=env), 1, "x: no\n")
         self.assertLess(time.monotonic() - began, 20)
@@ -221,5 +243,7 @@ class Faults(reading_base.ReadingForMany, DinTableTest):
 
     def test_no_room_for_the_trace(self):
         limited = f'ulimit -f 10; trap "" XFSZ; exec "{TOOLS}/din-table" 2 - {" ".join(SMALL)}'
-        ran = self.run_command("bash", "-c", limited, stdin=DIN.read_bytes(), env={"TMPDIR": str(self.folder)})
-        self.failed(ran, 1, f"din-table: the trace can't be kept in {self.folder}: File too large\n")
+        given = {"stdin": DIN.read_bytes(), "env": {"TMPDIR": str(self.folder)}}
+        ran = self.run_command("bash", "-c", limited, **given)
+        told = f"din-table: the trace can't be kept in {self.folder}: File too large\n"
+        self.failed(ran, 1, told)
