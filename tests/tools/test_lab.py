@@ -1,4 +1,4 @@
-"""The tools for the cache lab of CS:APP. What they must say is from the handout, or worked out by hand."""
+"""The tools for the cache lab of CS:APP. What they must say is from the handout, or by hand."""
 
 import os
 import re
@@ -11,9 +11,10 @@ from base import EXAMPLES, PROGRAM, TOP, copy_tools, needs, processes
 from lab_base import LAB, STUDENTS, LabTest, StudentTest, comes, is_running
 
 YI = TOP / "tests/cases/inputs/handout.lackey"
-YI_LINES = ["L 10,1 miss", "M 20,1 miss hit", "L 22,1 hit", "S 18,1 hit", "L 110,1 miss eviction", "L 210,1 miss eviction",
-            "M 12,1 miss eviction hit"]
+YI_LINES = ["L 10,1 miss", "M 20,1 miss hit", "L 22,1 hit", "S 18,1 hit", "L 110,1 miss eviction",
+            "L 210,1 miss eviction", "M 12,1 miss eviction hit"]
 YI_TEXT = "".join(f"{line} \n" for line in YI_LINES) + "hits:4 misses:5 evictions:3\n"
+ONE = "-s 4 -E 1 -b 4 -t"
 TRACES = {
     "yi.trace": YI.read_text(),
     "order.trace": "I  400,3\n L 10,1\n L 20,1\nI  403,2\n L 10,1\n S 30,8\n L 20,1\n",
@@ -25,63 +26,70 @@ LAB_LINE = re.compile(r"(I  | [LSM] )[0-9a-f]+,[0-9]+")
 class Csim(LabTest):
     """cachesim in the place of the lab's csim."""
 
-    def csim(self, *arguments, **given):
-        return self.run_tool("lab/lab-csim", *arguments, **given)
+    def csim(self, words, *more, **given):
+        return self.run_tool("lab/lab-csim", *words.split(), *more, **given)
 
     def results(self):
         path = self.folder / ".csim_results"
         return path.read_text() if path.exists() else None
 
     def test_the_handouts_example(self):
-        self.assertEqual(self.good(self.csim("-v", "-s", 4, "-E", 1, "-b", 4, "-t", YI)), YI_TEXT)
+        self.assertEqual(self.good(self.csim(f"-v {ONE}", YI)), YI_TEXT)
         self.assertEqual(self.results(), "4 5 3\n")
-        self.assertEqual(self.good(self.csim("-s", 4, "-E", 2, "-b", 4, "-t", YI)), "hits:4 misses:5 evictions:2\n")
+        said = self.good(self.csim("-s 4 -E 2 -b 4 -t", YI))
+        self.assertEqual(said, "hits:4 misses:5 evictions:2\n")
         self.assertEqual(self.results(), "4 5 2\n")
 
     def test_a_link_under_the_name_of_the_reference(self):
         (self.folder / "csim-ref").symlink_to(LAB / "lab-csim")
         arguments = ["./csim-ref", "-vs4", "-E1", "-b4", "-t", YI]
         self.assertEqual(self.good(self.run_command(*arguments)), YI_TEXT)
-        self.refused(self.run_command(*arguments, env={"CACHESIM": "absent"}), 1, "csim-ref: absent is no program")
+        ran = self.run_command(*arguments, env={"CACHESIM": "absent"})
+        self.refused(ran, 1, "csim-ref: absent is no program")
 
     def test_traces_with_odd_names(self):
         for name, text in (("./-a b", b""), ("/dev/stdin", YI.read_bytes())):
             shutil.copy(YI, self.folder / "-a b")
-            self.assertEqual(self.good(self.csim("-v", "-s", 4, "-E", 1, "-b", 4, "-t", name, stdin=text)), YI_TEXT)
+            self.assertEqual(self.good(self.csim(f"-v {ONE}", name, stdin=text)), YI_TEXT)
 
     def test_a_fault_keeps_its_message_and_status_and_leaves_no_results(self):
         for arguments, text, wrote, status, message in (
-            ("-v -s 4 -E 1 -b 4 -t trace", " L 10,1\n X 22,1\n", "L 10,1 miss \n", 1, "line 2: bad label"),
-            ("-s 4 -E 1 -b 4 -t trace", "I  10\n", "", 1, "line 1: bad size"),
+            (f"-v {ONE} trace", " L 10,1\n X 22,1\n", "L 10,1 miss \n", 1, "line 2: bad label"),
+            (f"{ONE} trace", "I  10\n", "", 1, "line 1: bad size"),
             ("-s 21 -E 1 -b 4 -t trace", "", "", 2, "bad geometry"),
-            ("-s 4 -E 1 -b 4 -t absent", "", "", 1, "cannot open absent"),
+            (f"{ONE} absent", "", "", 1, "cannot open absent"),
         ):
             (self.folder / ".csim_results").write_text("1 2 3\n")
             (self.folder / "trace").write_text(text)
-            ran = self.csim(*arguments.split())
-            self.assertEqual((ran.stdout.decode(), ran.returncode, self.results()), (wrote, status, None))
+            ran = self.csim(arguments)
+            got = ran.stdout.decode(), ran.returncode, self.results()
+            self.assertEqual(got, (wrote, status, None))
             self.assertTrue(ran.stderr.decode().startswith(f"cachesim: {message}"), ran.stderr)
 
     def test_help(self):
         for word in ("-h", "--help", "-hv", "-vh"):
-            self.assertTrue(self.good(self.csim("-s", 4, word)).startswith("lab-csim [-v] -s N -E N -b N -t FILE "))
+            text = self.good(self.csim("-s 4", word))
+            self.assertTrue(text.startswith("lab-csim [-v] -s N -E N -b N -t FILE "))
         for arguments in (["-s", "-h"], ["--hits"], ["-s4", "-E1", "-b4", "-t", YI, "--", "-h"]):
             self.refused(self.csim(*arguments), 2, "cachesim: ")
         self.assertIsNone(self.results())
 
     def test_outputs_that_fail(self):
         message = "lab-csim: the output can't be written\n"
-        ran = self.run_command("bash", "-c", f"'{LAB}/lab-csim' -s 4 -E 1 -b 4 -t '{YI}' > /dev/full")
+        ran = self.run_command("bash", "-c", f"'{LAB}/lab-csim' {ONE} '{YI}' > /dev/full")
         self.assertEqual((ran.stderr.decode(), ran.returncode, self.results()), (message, 1, None))
-        self.assertEqual(self.without_a_reader(LAB / "lab-csim", "-s4", "-E1", "-b4", "-t", YI), (message, 1))
+        words = LAB / "lab-csim", "-s4", "-E1", "-b4", "-t", YI
+        self.assertEqual(self.without_a_reader(*words), (message, 1))
         self.assertIsNone(self.results())
         (self.folder / ".csim_results").mkdir()
-        self.refused(self.csim("-s", 4, "-E", 1, "-b", 4, "-t", YI), 1, "lab-csim: the old .csim_results can't be removed\n")
+        message = "lab-csim: the old .csim_results can't be removed\n"
+        self.refused(self.csim(ONE, YI), 1, message)
 
     def test_private_files_are_removed(self):
-        self.good(self.csim("-s", 4, "-E", 1, "-b", 4, "-t", YI, env={"TMPDIR": str(self.private)}))
+        self.good(self.csim(ONE, YI, env={"TMPDIR": str(self.private)}))
         self.assertEqual(list(self.private.iterdir()), [])
-        self.leaves_nothing(LAB / "lab-csim", "-vs4", "-E1", "-b4", "-t", "/dev/stdin", stdin=b" L 10,1\n" * 20000)
+        words = "-vs4", "-E1", "-b4", "-t", "/dev/stdin"
+        self.leaves_nothing(LAB / "lab-csim", *words, stdin=b" L 10,1\n" * 20000)
 
 
 def mistakes():
@@ -89,7 +97,8 @@ def mistakes():
     for case in (STUDENTS / "mistakes.cases").read_text().split("\n== ")[1:]:
         lines = case.splitlines()
         arguments = next(line[2:] for line in lines if line.startswith("$ "))
-        yield lines[0].split(), arguments.split(), "".join(f"{line[2:]}\n" for line in lines if line.startswith("> "))
+        said = "".join(f"{line[2:]}\n" for line in lines if line.startswith("> "))
+        yield lines[0].split(), arguments.split(), said
 
 
 class Grade(StudentTest):
@@ -101,18 +110,18 @@ class Grade(StudentTest):
             (self.folder / name).write_text(text)
 
     def grade(self, *arguments, env=None):
-        return self.run_tool("lab/grade", *arguments, env={"TMPDIR": str(self.private), **(env or {})}, seconds=40)
+        env = {"TMPDIR": str(self.private), **(env or {})}
+        return self.run_tool("lab/grade", *arguments, env=env, seconds=40)
 
     def says(self, ran, text, status):
-        """A run that must end with this status, and with this output alone. It must leave nothing but that."""
-        self.assertEqual((ran.stderr.decode(), ran.returncode), ("", status))
-        self.assertEqual(ran.stdout.decode(), text)
+        """A run that must end with this status, and leave nothing but this output."""
+        self.ends(ran, status, "", text)
         self.assertEqual(list(self.private.iterdir()), [])
 
     def test_a_right_program(self):
         """A simulator that shares nothing with cachesim."""
-        ran = self.grade(self.student(), "yi.trace", EXAMPLES / "blocks.lackey", EXAMPLES / "transpose.lackey")
-        self.says(ran, "45 of 45 right\n", 0)
+        traces = "yi.trace", EXAMPLES / "blocks.lackey", EXAMPLES / "transpose.lackey"
+        self.says(self.grade(self.student(), *traces), "45 of 45 right\n", 0)
 
     def test_the_labs_caches_are_among_those_tried(self):
         said = self.good(self.grade("--all", self.student(), "yi.trace")).splitlines()
@@ -126,30 +135,36 @@ class Grade(StudentTest):
         for names, arguments, said in cases:
             with self.subTest(names):
                 program = self.student(*names)
-                self.says(self.grade(*(program if word == "CSIM" else word for word in arguments[1:])), said, 1)
+                words = (program if word == "CSIM" else word for word in arguments[1:])
+                self.says(self.grade(*words), said, 1)
                 self.assertTrue(comes(lambda: not is_running(program)))
 
     def test_numbers_are_compared_whole(self):
         """Those wanted are 720, 1328 and 1312."""
-        for hits, misses, evictions in ((7200, 1328, 1312), (72, 1328, 1312), (720, 328, 1312), (720, 1328, 11312)):
-            program = self.executable("csim", f"echo hits:{hits} misses:{misses} evictions:{evictions}")
-            ran = self.grade("--geometry", "4,1,4", "--points", "--verbose-lines", "no", program, EXAMPLES / "blocks.lackey")
-            self.assertEqual((ran.returncode, ran.stdout.decode().splitlines()[-1]), (1, "0 of 1 right, 2 of 3 points"))
+        options = "--geometry", "4,1,4", "--points", "--verbose-lines", "no"
+        for numbers in ((7200, 1328, 1312), (72, 1328, 1312), (720, 328, 1312), (720, 1328, 11312)):
+            summary = "hits:{} misses:{} evictions:{}".format(*numbers)
+            program = self.executable("csim", f"echo {summary}")
+            ran = self.grade(*options, program, EXAMPLES / "blocks.lackey")
+            last = ran.stdout.decode().splitlines()[-1]
+            self.assertEqual((ran.returncode, last), (1, "0 of 1 right, 2 of 3 points"))
 
     def test_what_plays_no_part(self):
-        """Other output, files and folders that are left behind, an emptied copy of the trace, a process that goes on."""
+        """Other output, what is left behind, an emptied copy of the trace, a process left."""
         for mistake in ("CHATTY", "JUNK", "LEAVES_CHILD", "LEAVES_DAEMON"):
             self.says(self.grade(self.student(mistake), "order.trace"), "15 of 15 right\n", 0)
             self.assertTrue(comes(lambda: not is_running(self.student(mistake))))
-        self.assertEqual({path.name: path.read_text() for path in self.folder.glob("*.trace")}, TRACES)
+        traces = {path.name: path.read_text() for path in self.folder.glob("*.trace")}
+        self.assertEqual(traces, TRACES)
         self.assertEqual(len(list(self.folder.iterdir())), len(TRACES) + 1)
 
     def test_notes(self):
-        note = "note: no .csim_results was written; the lab's printSummary would have done so\n"
-        self.says(self.grade("--geometry", "4,1,4", self.student("NO_RESULTS"), "yi.trace"), note + "1 of 1 right\n", 0)
-        (self.folder / "odd.trace").write_text(" L 10,1\nI  400,3\n==1== a message\n")
-        note = "note: line 3 of odd.trace isn't in the lab's form; a program may rightly misread it\n"
-        self.says(self.grade("--geometry", "4,1,4", self.student(), "odd.trace"), note + "1 of 1 right\n", 0)
+        self.write("odd.trace", " L 10,1\nI  400,3\n==1== a message\n")
+        none = "no .csim_results was written; the lab's printSummary would have done so"
+        odd = "line 3 of odd.trace isn't in the lab's form; a program may rightly misread it"
+        for mistakes, trace, note in ((["NO_RESULTS"], "yi.trace", none), ([], "odd.trace", odd)):
+            ran = self.grade("--geometry", "4,1,4", self.student(*mistakes), trace)
+            self.says(ran, f"note: {note}\n1 of 1 right\n", 0)
 
     def test_odd_names(self):
         """Of a program, and of traces, one of which isn't UTF-8."""
@@ -166,36 +181,39 @@ class Grade(StudentTest):
         self.says(ran, "".join(f"{line}\n" for line in said), 1)
 
     def test_nothing_to_judge(self):
-        (self.folder / "bad.trace").write_text(" L 10,1\n X 10,1\n")
-        (self.folder / "text").write_text("no program\n")
-        (self.folder / "text").chmod(0o755)
-        right, option = self.student(), "grade: argument"
+        self.write("bad.trace", " L 10,1\n X 10,1\n")
+        self.write("text", "no program\n").chmod(0o755)
+        one = [self.student(), "yi.trace"]
         for arguments, message in (
-            (["absent", "yi.trace"], "grade: absent: no such file\n"),
-            (["private", "yi.trace"], "grade: private: no such file\n"),
-            (["yi.trace", "yi.trace"], f"grade: {self.folder}/yi.trace: Permission denied\n"),
-            (["text", "yi.trace"], f"grade: {self.folder}/text: Exec format error\n"),
-            ([right, "yi.trace", "absent"], "grade: absent: no such file\n"),
-            ([right, "yi.trace", "bad.trace"], "grade: -s 1 -E 1 -b 1 -t bad.trace: line 2: bad label\n"),
-            (["--geometry", "21,1,1", right, "yi.trace"], "grade: -s 21 -E 1 -b 1 -t yi.trace: bad geometry\n"),
-            (["--geometry", "4,1", right, "yi.trace"], f"{option} --geometry: invalid geometry value: '4,1'; "),
-            (["--seconds", "0", right, "yi.trace"], f"{option} --seconds: invalid seconds value: '0'; "),
-            (["--verbose-lines", "some", right, "yi.trace"], f"{option} --verbose-lines: invalid choice"),
-            ([], "grade: the following arguments are required: CSIM; 'grade --help' explains the arguments\n"),
+            (["absent", "yi.trace"], "absent: no such file\n"),
+            (["private", "yi.trace"], "private: no such file\n"),
+            (["yi.trace", "yi.trace"], f"{self.folder}/yi.trace: Permission denied\n"),
+            (["text", "yi.trace"], f"{self.folder}/text: Exec format error\n"),
+            ([*one, "absent"], "absent: no such file\n"),
+            ([*one, "bad.trace"], "-s 1 -E 1 -b 1 -t bad.trace: line 2: bad label\n"),
+            (["--geometry", "21,1,1", *one], "-s 21 -E 1 -b 1 -t yi.trace: bad geometry\n"),
+            (["--geometry", "4,1", *one], "argument --geometry: invalid geometry value: '4,1'; "),
+            (["--seconds", "0", *one], "argument --seconds: invalid seconds value: '0'; "),
+            (["--verbose-lines", "some", *one], "argument --verbose-lines: invalid choice"),
+            ([], "the following arguments are required: CSIM; 'grade --help' explains the "
+             "arguments\n"),
         ):
-            self.refused(self.grade(*arguments), 2, message)
-        self.refused(self.grade(right, "yi.trace", env={"CACHESIM": "/absent"}), 2, "grade: /absent is no program that can be run\n")
+            self.refused(self.grade(*arguments), 2, f"grade: {message}")
+        ran = self.grade(*one, env={"CACHESIM": "/absent"})
+        self.refused(ran, 2, "grade: /absent is no program that can be run\n")
 
     def test_outputs_that_fail(self):
-        ran = self.run_command("bash", "-c", f"'{LAB}/grade' '{self.student()}' yi.trace > /dev/full")
-        self.assertEqual((ran.stderr.decode(), ran.returncode), ("grade: standard output: No space left on device\n", 2))
-        self.assertEqual(self.without_a_reader(LAB / "grade", self.student(), "yi.trace"), ("", 141))
+        student = self.student()
+        ran = self.run_command("bash", "-c", f"'{LAB}/grade' '{student}' yi.trace > /dev/full")
+        self.ends(ran, 2, "grade: standard output: No space left on device\n")
+        self.assertEqual(self.without_a_reader(LAB / "grade", student, "yi.trace"), ("", 141))
 
     def test_an_interrupt(self):
         """Nothing goes on, and no file is left."""
         student, env = self.student("LOOPS"), {**os.environ, "TMPDIR": str(self.private)}
         for number in (signal.SIGINT, signal.SIGTERM):
-            with subprocess.Popen([LAB / "grade", "--seconds", "30", student, YI], env=env) as grade:
+            command = [LAB / "grade", "--seconds", "30", student, YI]
+            with subprocess.Popen(command, env=env) as grade:
                 self.assertTrue(comes(lambda: is_running(student)))
                 grade.send_signal(number)
                 self.assertEqual(grade.wait(20), 128 + number)
@@ -214,7 +232,8 @@ class Grade(StudentTest):
         copy_tools(self.folder / "tools")
         arguments = [self.folder / "tools/lab/grade", self.student(), "yi.trace"]
         self.says(self.run_command(*arguments, env={"CACHESIM": ""}), "15 of 15 right\n", 0)
-        self.refused(self.run_command(*arguments, env={"CACHESIM": "", "PATH": "/nowhere"}), 2, "grade: no program cachesim")
+        ran = self.run_command(*arguments, env={"CACHESIM": "", "PATH": "/nowhere"})
+        self.refused(ran, 2, "grade: no program cachesim")
 
 
 class Trace(LabTest):
@@ -225,15 +244,17 @@ class Trace(LabTest):
 
     @needs("valgrind")
     def test_a_program_and_its_child(self):
-        """Ten stores of the program are there, and none of its child; so are the program's words, its input and its status."""
-        subprocess.run(["cc", "-O1", "-o", self.folder / "-a program", STUDENTS / "stores.c"], check=True)
+        """Ten stores of the program are there, and none of its child; so are the program's words,
+        its input and its status."""
+        flags = "-O1", "-o", self.folder / "-a program"
+        self.good(self.run_command("cc", *flags, STUDENTS / "stores.c"))
         ran = self.trace("--", "./-a program", stdin=b"input\n")
         address, *arguments = ran.stderr.decode().split()
         self.assertEqual((arguments, ran.returncode), (["input", "L", "77,1"], 7))
         lines = ran.stdout.decode().splitlines()
-        self.assertEqual([line for line in lines if not LAB_LINE.fullmatch(line) or line == " L 77,1"], [])
-        self.assertEqual(len([line for line in lines if line == f" S {int(address, 16):08x},8"]), 10)
-        self.good(self.run_command(PROGRAM, "csim", "-s", 4, "-E", 1, "-b", 4, "-t", "/dev/stdin", stdin=ran.stdout))
+        odd = [line for line in lines if not LAB_LINE.fullmatch(line) or line == " L 77,1"]
+        self.assertEqual((odd, lines.count(f" S {int(address, 16):08x},8")), ([], 10))
+        self.good(self.run_command(PROGRAM, "csim", *ONE.split(), "/dev/stdin", stdin=ran.stdout))
 
     @needs("valgrind")
     def test_statuses(self):
@@ -251,20 +272,23 @@ class Trace(LabTest):
         self.assertEqual(self.without_a_reader(LAB / "lab-trace", "true"), (message, 125))
 
     def test_a_failure_of_valgrind(self):
-        """With a valgrind that writes what the real one does where it meets an instruction that it doesn't know."""
+        """With a valgrind that writes what the real one does at an instruction unknown to it."""
         log = r"I  0400d7d4,8\n\nhost stacktrace:\n==1== at 0\n"
         self.executable("valgrind", f"printf '{log}' >&9", "exit 1")
-        ran = self.trace("true", env={"PATH": f"{self.folder}:{os.environ['PATH']}", "TMPDIR": str(self.private)})
-        self.assertEqual((ran.stdout, ran.returncode), (b"I  0400d7d4,8\n", 125))
-        said = "\nhost stacktrace:\n==1== at 0\nlab-trace: Valgrind itself failed; the trace ends there\n"
-        self.assertEqual(ran.stderr.decode(), said)
+        env = {"PATH": f"{self.folder}:{os.environ['PATH']}", "TMPDIR": str(self.private)}
+        ran = self.trace("true", env=env)
+        said = "lab-trace: Valgrind itself failed; the trace ends there\n"
+        said = f"\nhost stacktrace:\n==1== at 0\n{said}"
+        self.ends(ran, 125, said, "I  0400d7d4,8\n")
         self.assertEqual(list(self.private.iterdir()), [])
 
     def test_a_signal_as_the_program_begins(self):
         """To the tool alone, which does not wait for the program's end."""
-        env = {**os.environ, **self.stand_in("valgrind", "exec sleep 60"), "TMPDIR": str(self.private)}
+        env = {**self.stand_in("valgrind", "exec sleep 60"), "TMPDIR": str(self.private)}
+        given = {"env": {**os.environ, **env}, "stdout": subprocess.DEVNULL}
         for step in range(40):
-            with subprocess.Popen([LAB / "lab-trace", "true"], env=env, stdout=subprocess.DEVNULL, start_new_session=True) as tool:
+            command = [LAB / "lab-trace", "true"]
+            with subprocess.Popen(command, start_new_session=True, **given) as tool:
                 self.assertTrue(comes(lambda: list(self.private.iterdir())))
                 time.sleep(0.0005 * step)
                 tool.terminate()
@@ -277,7 +301,8 @@ class Trace(LabTest):
         self.leaves_nothing(LAB / "lab-trace", "sh", "-c", "while :; do :; done")
 
     def test_wrong_arguments_and_a_missing_valgrind(self):
-        self.refused(self.trace(), 125, "lab-trace: no program; 'lab-trace --help' explains the arguments\n")
+        message = "lab-trace: no program; 'lab-trace --help' explains the arguments\n"
+        self.refused(self.trace(), 125, message)
         self.refused(self.trace("--all", "ls"), 125, "lab-trace: unknown option --all; ")
         self.assertTrue(self.good(self.trace("--help")).startswith("lab-trace PROGRAM ARGS.. "))
         (self.private / "readlink").symlink_to(shutil.which("readlink"))
