@@ -12,9 +12,11 @@ from base import PACKAGING, PROGRAM, ToolTest, needs
 
 # The commands with their options, from the manual
 OF_A_CACHE = ("size", "bsize", "assoc", "repl", "walloc", "wback")
-ONE_OR_TWO = [f"{cache}{option}" for cache in ("l1-i", "l1-d", "l1-u", "l2-u") for option in OF_A_CACHE] + ["informat"]
+ONE_OR_TWO = [f"{cache}{option}" for cache in ("l1-i", "l1-d", "l1-u", "l2-u")
+              for option in OF_A_CACHE] + ["informat"]
+OF_SWEEP = "--bsize --sets --assoc --size --kind --format --after --rows --pow2"
 OPTIONS = {
-    "sweep": set("--bsize --sets --assoc --size --kind --format --after --rows --pow2 -t -h --help".split()),
+    "sweep": set(f"{OF_SWEEP} -t -h --help".split()),
     "csim": set("-s -E -b -t -v -h --help".split()),
     "din": {f"-{name}" for name in ONE_OR_TWO} | {"--seed", "-t", "-h", "--help"},
     "log": {f"-{name}" for name in ONE_OR_TWO} | {"--seed", "-t", "-h", "--help"},
@@ -40,19 +42,26 @@ def written(shell, *options):
     return subprocess.run(words, stdout=subprocess.PIPE, check=True, text=True, timeout=120).stdout
 
 
+def called(function, words):
+    """A line of bash in which a function completes the last of these words."""
+    quoted = " ".join(f"'{word}'" for word in words)
+    words = f"COMP_WORDS=({quoted}) COMP_CWORD={len(words) - 1}"
+    return f"{words}; {function}\necho \"${{COMPREPLY[@]}}\""
+
+
 def on_terminal(words, env, *typed):
-    """What a program shows on a terminal that is given texts, each with the mark that is waited for after it."""
+    """What a program shows on a terminal that is given texts, each with a mark to wait for."""
     process, terminal = pty.fork()
     if not process:
         os.execvpe(words[0], words, env)
-    shown = b""
-    seen = 0
+    shown, seen = b"", 0
     for text, mark in typed:
         os.write(terminal, text.encode())
         end = time.monotonic() + 60
-        while mark not in shown[seen:] and time.monotonic() < end and select.select([terminal], [], [], 60)[0]:
+        while mark not in shown[seen:] and time.monotonic() < end:
             try:
-                shown += os.read(terminal, 65536)
+                if select.select([terminal], [], [], 60)[0]:
+                    shown += os.read(terminal, 65536)
             except OSError:
                 break
         seen = len(shown)
@@ -65,43 +74,41 @@ class Generated(ToolTest):
     """What is written for the shells, without them."""
 
     def offered(self, *words):
-        """What the function for bash offers for the last of these words."""
-        quoted = " ".join(f"'{word}'" for word in words)
-        called = f"COMP_WORDS=({quoted}) COMP_CWORD={len(words) - 1}; _cachesim\necho \"${{COMPREPLY[@]}}\""
-        script = f"{written('bash')}\n{called}"
+        """What the function for bash offers for the last of these words behind the program's."""
+        script = f"{written('bash')}\n{called('_cachesim', ('cachesim', *words))}"
         return set(self.good(self.run_command("bash", "-c", script)).split())
 
     def test_commands(self):
-        self.assertEqual(self.offered("cachesim", ""), {"sweep", "csim", "din", "log", "-h", "--help"})
-        self.assertEqual(self.offered("cachesim", "sw"), {"sweep"})
-        self.assertEqual(self.offered("cachesim", "x"), set())
+        self.assertEqual(self.offered(""), {"sweep", "csim", "din", "log", "-h", "--help"})
+        self.assertEqual(self.offered("sw"), {"sweep"})
+        self.assertEqual(self.offered("x"), set())
 
     def test_options(self):
         for command, options in OPTIONS.items():
-            self.assertEqual(self.offered("cachesim", command, ""), options)
-            self.assertEqual(self.offered("cachesim", command, "-"), options)
+            self.assertEqual(self.offered(command, ""), options)
+            self.assertEqual(self.offered(command, "-"), options)
         two = {f"--{name}" for name in [*ONE_OR_TWO, "seed", "help"]}
-        self.assertEqual(self.offered("cachesim", "din", "--"), two)
-        self.assertEqual(self.offered("cachesim", "din", "-l2-us"), {"-l2-usize"})
-        self.assertEqual(self.offered("cachesim", "din", "--l2-us"), {"--l2-usize"})
+        self.assertEqual(self.offered("din", "--"), two)
+        self.assertEqual(self.offered("din", "-l2-us"), {"-l2-usize"})
+        self.assertEqual(self.offered("din", "--l2-us"), {"--l2-usize"})
 
     def test_each_option_once(self):
-        left = self.offered("cachesim", "sweep", "--bsize", "16", "--pow2", "--kind", "=", "d", "")
+        left = self.offered("sweep", "--bsize", "16", "--pow2", "--kind", "=", "d", "")
         self.assertEqual(left, OPTIONS["sweep"] - {"--bsize", "--pow2", "--kind"})
         others = {"-l1-ubsize", "-l1-uassoc", "-l1-urepl", "-l1-uwalloc", "-l1-uwback"}
         for given in ("-l1-usize", "--l1-usize"):
-            self.assertEqual(self.offered("cachesim", "din", given, "1k", "-l1-u"), others)
-            self.assertNotIn("--l1-usize", self.offered("cachesim", "din", given, "1k", "--"))
+            self.assertEqual(self.offered("din", given, "1k", "-l1-u"), others)
+            self.assertNotIn("--l1-usize", self.offered("din", given, "1k", "--"))
 
     def test_values(self):
         for option, letters in ONE_OF.items():
-            self.assertEqual(self.offered("cachesim", *option.split(), ""), set(letters.split()))
-            self.assertEqual(self.offered("cachesim", *option.split(), "="), set(letters.split()))
-            self.assertEqual(self.offered("cachesim", *option.split(), "=", letters[0]), {letters[0]})
+            self.assertEqual(self.offered(*option.split(), ""), set(letters.split()))
+            self.assertEqual(self.offered(*option.split(), "="), set(letters.split()))
+            self.assertEqual(self.offered(*option.split(), "=", letters[0]), {letters[0]})
         for option in ("sweep --bsize", "sweep --after", "csim -b", "din -l1-usize", "din --seed"):
-            self.assertEqual(self.offered("cachesim", *option.split(), ""), set())
+            self.assertEqual(self.offered(*option.split(), ""), set())
         # the trace is no option
-        self.assertEqual(self.offered("cachesim", "csim", "-t", "s", "-"), OPTIONS["csim"] - {"-t"})
+        self.assertEqual(self.offered("csim", "-t", "s", "-"), OPTIONS["csim"] - {"-t"})
 
     def test_every_shell_has_every_option(self):
         options = set().union(*OPTIONS.values()) | {f"--{name}" for name in ONE_OR_TWO}
@@ -112,13 +119,15 @@ class Generated(ToolTest):
             self.assertRegex(written("fish"), rf" -[slo] {option.lstrip('-')} ")
 
     def test_a_program_without_such_a_help(self):
+        completion = PACKAGING / "completion"
         for program, text in (("/bin/true", "tells no command"), (self.folder / "none", "none")):
-            self.refused(self.run_command(PACKAGING / "completion", "bash", program), 1, "completion: ", text)
-        self.refused(self.run_command(PACKAGING / "completion", "csh", PROGRAM), 2, "csh")
+            self.refused(self.run_command(completion, "bash", program), 1, "completion: ", text)
+        self.refused(self.run_command(completion, "csh", PROGRAM), 2, "csh")
 
 
 class Shells(ToolTest):
-    """The shells themselves: all that fits is put into a line, where 'cachesim' is a function that writes its words."""
+    """The shells themselves: all that fits is put into a line, where 'cachesim' is a function that
+    writes its words."""
 
     LINES = {
         "sw": "sweep",
@@ -130,20 +139,23 @@ class Shells(ToolTest):
         "din -l1-uw": "din|-l1-uwalloc|-l1-uwback",
         "din --l1-uw": "din|--l1-uwalloc|--l1-uwback",
     }
-    SHOW = "cachesim() { printf '\\n'; printf '<%s>' \"$@\"; echo EN''-D; }; cd traces; echo REA''-DY\n"
+    SHOW = ("cachesim() { printf '\\n'; printf '<%s>' \"$@\"; echo EN''-D; }; cd traces; "
+            "echo REA''-DY\n")
 
     def setUp(self):
         super().setUp()
-        self.env = {"PATH": os.environ["PATH"], "HOME": str(self.folder), "TERM": "dumb", "LC_ALL": "C.UTF-8", "PS1": "> "}
+        self.env = {"PATH": os.environ["PATH"], "HOME": str(self.folder), "TERM": "dumb",
+                    "LC_ALL": "C.UTF-8", "PS1": "> "}
         (self.folder / "traces/folder").mkdir(parents=True)
         for name in ("a trace.din", "b.din"):
             (self.folder / "traces" / name).touch()
 
     def check(self, words, before, key):
+        start = f"cd '{self.folder}'; {before}; {self.SHOW}", b"REA-DY"
         for typed, wanted in self.LINES.items():
-            start = f"cd '{self.folder}'; {before}; {self.SHOW}"
-            shown = on_terminal(words, self.env, (start, b"REA-DY"), (f"cachesim {typed}{key}\n", b"EN-D"))
-            found = [word.rstrip("/") for word in re.findall(r"<(.*?)>", shown.rpartition("\n<")[2].join(["<", ""]))]
+            shown = on_terminal(words, self.env, start, (f"cachesim {typed}{key}\n", b"EN-D"))
+            last = "<" + shown.rpartition("\n<")[2]
+            found = [word.rstrip("/") for word in re.findall(r"<(.*?)>", last)]
             self.assertEqual(sorted(found), sorted(wanted.split("|")), (typed, shown))
 
     @needs("bash-completion")
@@ -152,7 +164,8 @@ class Shells(ToolTest):
         share.mkdir(parents=True)
         (share / "cachesim").write_text(written("bash"))
         self.env["XDG_DATA_DIRS"] = str(self.folder / "share")
-        before = ". /usr/share/bash-completion/bash_completion; bind 'set enable-bracketed-paste off'"
+        before = "bind 'set enable-bracketed-paste off'"
+        before = f". /usr/share/bash-completion/bash_completion; {before}"
         self.check(["bash", "--norc", "-i"], before, "\x1b*")
 
     @needs("zsh")
@@ -160,8 +173,9 @@ class Shells(ToolTest):
         (self.folder / "site").mkdir()
         (self.folder / "site/_cachesim").write_text(written("zsh"))
         before = (
-            "fpath=(./site $fpath); autoload -Uz compinit && compinit -u -D; zle -C all-matches complete-word _generic;"
-            " bindkey '^Xa' all-matches; zstyle ':completion:all-matches::::' completer _all_matches _complete;"
+            "fpath=(./site $fpath); autoload -Uz compinit && compinit -u -D;"
+            " zle -C all-matches complete-word _generic; bindkey '^Xa' all-matches;"
+            " zstyle ':completion:all-matches::::' completer _all_matches _complete;"
             " zstyle ':completion:all-matches:*' insert true; autoload +X _cachesim"
         )
         self.check(["zsh", "-f", "-i"], before, "\x18a")
@@ -169,25 +183,29 @@ class Shells(ToolTest):
     @needs("fish")
     def test_fish(self):
         (self.folder / "c.fish").write_text(written("fish"))
-        more = {"": "sweep|csim|din|log", "csim -": "|".join(OPTIONS["csim"]), "sweep --kind=": "--kind=u|--kind=d|--kind=i"}
+        more = {"": "sweep|csim|din|log", "csim -": "|".join(OPTIONS["csim"]),
+                "sweep --kind=": "--kind=u|--kind=d|--kind=i"}
         for typed, wanted in {**self.LINES, **more}.items():
-            ran = self.run_command("fish", "-N", "-c", f"source c.fish; cd traces; complete -C 'cachesim {typed}'", env=self.env)
-            found = {line.partition("\t")[0].replace("\\ ", " ").rstrip("/") for line in self.good(ran).splitlines()}
+            script = f"source c.fish; cd traces; complete -C 'cachesim {typed}'"
+            ran = self.run_command("fish", "-N", "-c", script, env=self.env)
+            lines = (line.partition("\t")[0] for line in self.good(ran).splitlines())
+            found = {line.replace("\\ ", " ").rstrip("/") for line in lines}
             given = typed.split()[:-1] if not typed.endswith(" ") else typed.split()
             self.assertEqual(found, set(wanted.split("|")) - set(given), typed)
 
 
-OF_SWEEP = "--bsize --sets --assoc --size --kind --format --after --rows --pow2"
 OF_DIN = "--seed " + " ".join(f"-{name} --{name}" for name in ONE_OR_TWO)
 # options of tools, from their help
 OF_TOOLS = {
     "best": "-h --help --up-to --within --below --rows --front --measure",
-    "trace": "-h --help -o --output --program-output --from --to --during --kind --skip --count --with --libraries --any-version --map",
+    "trace": "-h --help -o --output --program-output --from --to --during --kind --skip --count "
+    "--with --libraries --any-version --map",
     "to-din": "-h --help",
     "din-table": f"-h --help {OF_DIN}",
     "over-time": f"-h --help --each --cache --format {OF_DIN}",
     "by-page": f"-h --help --page --cache --format {OF_DIN}",
-    "by-line": f"-h --help --at --program --base --map --by --evicted-by --annotate --callgrind {OF_DIN}",
+    "by-line": "-h --help --at --program --base --map --by --evicted-by --annotate --callgrind "
+    f"{OF_DIN}",
     "second-level": f"-h --help --format {OF_DIN}",
     **dict.fromkeys(("pages", "three-c", "warm"), f"-h --help {OF_SWEEP}"),
     "sweep-parallel": f"-h --help --resume {OF_SWEEP}",
@@ -216,15 +234,15 @@ class ForTools(ToolTest):
 
     def offered(self, *words):
         """What is offered for the last word, FILES for files."""
-        quoted = " ".join(f"'{word}'" for word in words)
-        called = f"COMP_WORDS=({quoted}) COMP_CWORD={len(words) - 1}; _cachesim_tool\necho \"${{COMPREPLY[@]}}\""
         files = "compopt() { [[ $* != '-o default' ]] || echo FILES; }"
-        return set(self.good(self.run_command("bash", "-c", f"{written('bash', '--tools')}\n{files}\n{called}")).split())
+        script = f"{written('bash', '--tools')}\n{files}\n{called('_cachesim_tool', words)}"
+        return set(self.good(self.run_command("bash", "-c", script)).split())
 
     def test_bash(self):
         for name, options in OF_TOOLS.items():
-            one_dash, two = set(options.split()), {option for option in options.split() if option.startswith("--")}
-            one_dash -= {option for option in two if option[1:] in one_dash}
+            words = set(options.split())
+            two = {option for option in words if option.startswith("--")}
+            one_dash = words - {option for option in two if option[1:] in words}
             self.assertEqual(self.offered(f"cachesim-{name}", "a", "-"), one_dash | {"FILES"})
             self.assertEqual(self.offered(f"/b/cachesim-{name}", "a", "--"), two | {"FILES"})
             self.assertEqual(self.offered(f"cachesim-{name}", "a", ""), {"FILES"})
@@ -237,17 +255,22 @@ class ForTools(ToolTest):
         for command in ("cachesim-grade", "cachesim-lab-csim", "cachesim-lab-trace"):
             self.assertIn("--help", self.offered(command, "-"))
 
+    def by_fish(self, line, before=""):
+        """What fish offers behind a line."""
+        script = f"source tools.fish; {before} complete -C '{line}'"
+        lines = self.good(self.run_command("fish", "-N", "-c", script)).splitlines()
+        return {line.partition("\t")[0] for line in lines}
+
     @needs("fish")
     def test_fish(self):
-        (self.folder / "tools.fish").write_text(written("fish", "--tools"))
+        self.write("tools.fish", written("fish", "--tools"))
         for line, wanted in self.LINES.items():
-            ran = self.run_command("fish", "-N", "-c", f"source tools.fish; complete -C '{line}'")
-            # an option is offered again
-            found, given = {found.partition("\t")[0] for found in self.good(ran).splitlines()}, set(line.split(" ")[:-1])
-            self.assertEqual(found - given, set(wanted.split()) - given, line)
-        ran = self.run_command("fish", "-N", "-c", "source tools.fish; touch file; complete -C 'cachesim-to-din '")
-        self.assertEqual({found.partition("\t")[0] for found in self.good(ran).splitlines()}, set(FORMATS.split()))
-        ran = self.run_command("fish", "-N", "-c", "source tools.fish; complete -C 'cachesim-to-din pin fi'")
+            given = set(line.split(" ")[:-1])  # an option is offered again
+            self.assertEqual(self.by_fish(line) - given, set(wanted.split()) - given, line)
+        found = self.by_fish("cachesim-to-din ", before="touch file;")
+        self.assertEqual(found, set(FORMATS.split()))
+        script = "source tools.fish; complete -C 'cachesim-to-din pin fi'"
+        ran = self.run_command("fish", "-N", "-c", script)
         self.assertEqual(self.good(ran), "file\n")
 
     @needs("zsh")
@@ -255,11 +278,15 @@ class ForTools(ToolTest):
         """Each tool has its options, and the whole is read without a fault."""
         (self.folder / "_cachesim-tools").write_text(written("zsh", "--tools"))
         self.good(self.run_command("zsh", "-n", "_cachesim-tools"))
+        stub = '_arguments() { print -l -- "$@" }'
         for name, options in OF_TOOLS.items():
-            script = f'_arguments() {{ print -l -- "$@" }}; service=cachesim-{name}; source ./_cachesim-tools'
+            script = f"{stub}; service=cachesim-{name}; source ./_cachesim-tools"
             told = self.good(self.run_command("zsh", "-f", "-c", script))
-            self.assertEqual(set(re.findall(r"(?m)^(?:\(.*?\)|\*)(--?[\w-]+)[=+]?\[", told)), set(options.split()))
+            found = re.findall(r"(?m)^(?:\(.*?\)|\*)(--?[\w-]+)[=+]?\[", told)
+            self.assertEqual(set(found), set(options.split()))
             self.assertIn("*:file:_files\n", told)
-        self.assertIn("'1:word:((pin\\:\"Pin", written("zsh", "--tools"))
-        self.assertIn(":value:(qemu lackey)'", written("zsh", "--tools"))
-        self.assertTrue(written("zsh", "--tools").startswith("#compdef cachesim-best cachesim-by-line cachesim-by-page "))
+        text = written("zsh", "--tools")
+        self.assertIn("'1:word:((pin\\:\"Pin", text)
+        self.assertIn(":value:(qemu lackey)'", text)
+        start = "#compdef cachesim-best cachesim-by-line cachesim-by-page "
+        self.assertTrue(text.startswith(start))
