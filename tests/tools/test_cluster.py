@@ -16,8 +16,8 @@ SPACE = "--bsize 16-64 --sets 1-64 --assoc 1-8 --size 256-16k".split()
 THREE = "--bsize 16 --sets 1-4 --assoc 1-2 --size 64-1k".split()
 TRACE = EXAMPLES / "sort.din"
 
-# Runs the tasks of a job at once, and a job that depends on another only where all tasks of that one ended well. Each job is noted
-# with its options.
+# Runs the tasks of a job at once, and a job that depends on another only where all tasks of that
+# one ended well. Each job is noted with its options.
 SBATCH = """#!/bin/bash
 set -eu
 note=$(dirname "$0") tasks= after=
@@ -37,7 +37,8 @@ echo "$number;here"
 [ ! -e "$note/failed-$after" ] || exit 0
 cd "$folder"
 for task in ${tasks:-0}; do
-    SLURM_ARRAY_TASK_ID=$task bash "$@" < /dev/null > "log-$number-$task" 2>&1 || touch "$note/failed-$number"
+    SLURM_ARRAY_TASK_ID=$task bash "$@" < /dev/null > "log-$number-$task" 2>&1 ||
+        touch "$note/failed-$number"
 done
 """
 
@@ -55,7 +56,8 @@ class Submitting(ToolTest):
         (self.note / name).chmod(0o755)
 
     def submit(self, *arguments, **env):
-        return self.run_command(CLUSTER / "submit", *arguments, env={"PATH": f"{self.note}:{PROGRAM.parent}:{os.environ['PATH']}", **env})
+        path = f"{self.note}:{PROGRAM.parent}:{os.environ['PATH']}"
+        return self.run_command(CLUSTER / "submit", *arguments, env={"PATH": path, **env})
 
     def options(self, number):
         return (self.note / f"job-{number}").read_text().split("\n")
@@ -63,19 +65,22 @@ class Submitting(ToolTest):
     def test_same_bytes(self):
         pressed = self.folder / "a trace.gz"
         pressed.write_bytes(gzip.compress(TRACE.read_bytes()))
-        for number, (tasks, trace) in enumerate(((1, TRACE), (4, "a trace.gz"), (5, "./a trace.gz"))):
+        traces = (1, TRACE), (4, "a trace.gz"), (5, "./a trace.gz")
+        for number, (tasks, trace) in enumerate(traces):
             said = self.good(self.submit(f"run {number}", tasks, trace, *SPACE))
             made = self.folder / f"run {number}"
             self.assertEqual((made / "table.csv").read_text(), self.sweep(*SPACE, "-t", TRACE))
-            self.assertEqual(said, f"job {7 + 2 * number}: {tasks} pages; job {8 + 2 * number}: {made}/table.csv\n")
+            jobs = f"job {7 + 2 * number}: {tasks} pages; job {8 + 2 * number}"
+            self.assertEqual(said, f"{jobs}: {made}/table.csv\n")
             self.assertEqual(len((made / "pages").read_text().splitlines()), tasks)
             self.assertEqual([path.name for path in made.glob("part-*")], [])
 
     def test_options_of_the_jobs(self):
         self.good(self.submit("run", 2, TRACE, *THREE))
         folder = f"--chdir={self.folder}/run"
+        after = "--dependency=afterok:7", "--kill-on-invalid-dep=yes"
         self.assertEqual(self.options(7), ["--parsable", "--array=1-2", folder, ""])
-        self.assertEqual(self.options(8), ["--parsable", "--dependency=afterok:7", "--kill-on-invalid-dep=yes", folder, ""])
+        self.assertEqual(self.options(8), ["--parsable", *after, folder, ""])
 
     def test_bad_trace(self):
         (self.folder / "bad").write_text("0 10\n0 20\n2 1g\n")
@@ -88,33 +93,41 @@ class Submitting(ToolTest):
             logs = list(made.glob("log-*"))
             self.assertEqual([fault in log.read_text() for log in logs], [True, True])
 
+    def parts(self, *numbers):
+        for number in numbers:
+            self.write(f"part-{number}", f"{number}\n")
+
+    def joined(self):
+        """The status of a join, and the table, if there is one."""
+        ran, table = self.run_command("bash", CLUSTER / "join.sbatch"), self.folder / "table.csv"
+        return ran.returncode, table.read_text() if table.exists() else None
+
     def test_a_part_is_missing(self):
-        (self.folder / "pages").write_text("a\nb\nc\n")
-        for number in (1, 3):
-            (self.folder / f"part-{number}").write_text(f"{number}\n")
-        self.assertEqual(self.run_command("bash", CLUSTER / "join.sbatch").returncode, 1)
-        self.assertFalse((self.folder / "table.csv").exists())
-        (self.folder / "part-2").write_text("2\n")
-        self.assertEqual(self.run_command("bash", CLUSTER / "join.sbatch").returncode, 0)
-        self.assertEqual((self.folder / "table.csv").read_text(), "1\n2\n3\n")
+        self.write("pages", "a\nb\nc\n")
+        self.parts(1, 3)
+        self.assertEqual(self.joined(), (1, None))
+        self.parts(2)
+        self.assertEqual(self.joined(), (0, "1\n2\n3\n"))
 
     def test_more_than_nine_parts(self):
         """They are joined by their numbers, and not as their names are sorted."""
-        (self.folder / "pages").write_text("a page\n" * 11)
-        for number in range(1, 12):
-            (self.folder / f"part-{number}").write_text(f"{number}\n")
-        self.assertEqual(self.run_command("bash", CLUSTER / "join.sbatch").returncode, 0)
-        self.assertEqual((self.folder / "table.csv").read_text().split(), [str(number) for number in range(1, 12)])
+        self.write("pages", "a page\n" * 11)
+        self.parts(*range(1, 12))
+        self.assertEqual(self.joined(), (0, "".join(f"{number}\n" for number in range(1, 12))))
 
     def test_refused(self):
         (self.folder / "there").mkdir()
-        self.refused(self.submit("there", 2, TRACE, *THREE), 1, "submit: there can't be made, or is there already\n")
-        self.refused(self.submit("no/run", 2, TRACE, *THREE), 1, "submit: no/run can't be made")
-        for trace in ("none", "-", ".", "/dev/stdin"):
-            self.refused(self.submit("run", 2, trace, *THREE), 1, f"submit: {trace}: no file that each task can read\n")
-        self.refused(self.submit("run", 2, TRACE, "--bsize", "24", *THREE[2:]), 2, "cachesim: bsize: not a power of two\n")
+        for arguments, status, message in (
+            (("there", 2, TRACE, *THREE), 1, "there can't be made, or is there already\n"),
+            (("no/run", 2, TRACE, *THREE), 1, "no/run can't be made"),
+            *((("run", 2, trace, *THREE), 1, f"{trace}: no file that each task can read\n")
+              for trace in ("none", "-", ".", "/dev/stdin")),
+            (("run", "auto", TRACE, *THREE), 2, "auto is no number of tasks"),
+        ):
+            self.refused(self.submit(*arguments), status, f"submit: {message}")
+        ran = self.submit("run", 2, TRACE, "--bsize", "24", *THREE[2:])
+        self.refused(ran, 2, "cachesim: bsize: not a power of two\n")
         self.refused(self.submit("run", 2, TRACE, *THREE, "-t", TRACE), 2, "leave out -t")
-        self.refused(self.submit("run", "auto", TRACE, *THREE), 2, "submit: auto is no number of tasks")
         self.refused(self.submit("run", 2), 2, "submit: ", "missing")
         self.assertFalse((self.folder / "run").exists())
         self.assertEqual(list(self.note.glob("job-*")), [])
@@ -123,7 +136,8 @@ class Submitting(ToolTest):
         for number, cancelled in ((7, ""), (8, "7\n")):
             (self.note / f"refuse-{number}").touch()
             (self.note / "cancelled").write_text("")
-            self.refused(self.submit("run", 2, TRACE, *THREE), 1, "sbatch: error: refused\nsubmit: no job was submitted\n")
+            ran = self.submit("run", 2, TRACE, *THREE)
+            self.refused(ran, 1, "sbatch: error: refused\nsubmit: no job was submitted\n")
             self.assertFalse((self.folder / "run").exists())
             self.assertEqual((self.note / "cancelled").read_text(), cancelled)
             (self.note / f"refuse-{number}").unlink()
@@ -136,17 +150,22 @@ class Submitting(ToolTest):
         self.refused(ran, 1, "submit: sbatch is missing: apt-get install slurm-client\n")
 
     def test_one_node_arguments(self):
-        self.refused(self.run_command(CLUSTER / "one-node", "halt", "x"), 2, "one-node: halt is neither start nor stop")
-        self.refused(self.run_command(CLUSTER / "one-node", "start"), 2, "one-node: ", "a folder")
-        self.refused(self.run_command(CLUSTER / "one-node", "start", "a b"), 1, "one-node: ", "a b: Slurm takes letters")
-        self.refused(self.run_command(CLUSTER / "one-node", "stop", "none"), 1, "one-node: ", "none is no folder")
-        self.refused(self.run_command(CLUSTER / "one-node", "stop", "."), 1, "one-node: ", "nothing was started there")
+        for words, status, text in (
+            (["halt", "x"], 2, "one-node: halt is neither start nor stop"),
+            (["start"], 2, "a folder"),
+            (["start", "a b"], 1, "a b: Slurm takes letters"),
+            (["stop", "none"], 1, "none is no folder"),
+            (["stop", "."], 1, "nothing was started there"),
+        ):
+            ran = self.run_command(CLUSTER / "one-node", *words)
+            self.refused(ran, status, "one-node: ", text)
 
 
 def daemons(place):
     """The commands of the processes that work for a Slurm in a folder."""
     known = all_processes("comm", "cmdline", "environ")
-    found = {name.decode().strip() for _, name, *texts in known if any(str(place).encode() in text for text in texts)}
+    found = {name.decode().strip() for _, name, *texts in known
+             if any(str(place).encode() in text for text in texts)}
     return sorted(found & {"munged", "slurmctld", "slurmd", "slurmstepd"})
 
 
@@ -170,29 +189,33 @@ class OneNode(ToolTest):
         if left:
             raise AssertionError(f"still there: {left}")
 
-    def submit(self, *arguments):
-        return self.good(self.run_command(CLUSTER / "submit", *arguments, env={"SLURM_CONF": str(self.place / "slurm/slurm.conf")}))
+    def in_cluster(self, *command):
+        env = {"SLURM_CONF": str(self.place / "slurm/slurm.conf")}
+        return self.good(self.run_command(*command, env=env))
 
     def wait(self):
         """Waits until no job is left."""
         for _ in range(400):
-            if not self.good(self.run_command("squeue", "-h", env={"SLURM_CONF": str(self.place / "slurm/slurm.conf")})):
+            if not self.in_cluster("squeue", "-h"):
                 return
             time.sleep(0.2)
         self.fail("jobs are left: " + (self.place / "slurm/slurmctld.log").read_text())
 
     def test_sweep(self):
-        """A good trace, plain and compressed, gives the bytes of one run; a bad one no table, and its joining job never runs."""
+        """A good trace, plain and compressed, gives the bytes of one run; a bad one no table, and
+        its joining job never runs."""
         (self.folder / "a trace.gz").write_bytes(gzip.compress(TRACE.read_bytes()))
         (self.folder / "bad").write_text("0 10\n0 20\n2 1g\n")
         for name, trace in (("plain", TRACE), ("a b", "a trace.gz"), ("failing", "bad")):
-            self.submit(name, 3, trace, *SPACE)
+            self.in_cluster(CLUSTER / "submit", name, 3, trace, *SPACE)
         self.wait()
+        table, fault = self.sweep(*SPACE, "-t", TRACE), "cachesim: line 3: bad address\n"
         for name in ("plain", "a b"):
-            self.assertEqual((self.folder / name / "table.csv").read_text(), self.sweep(*SPACE, "-t", TRACE))
-            self.assertEqual([path.read_text() for path in (self.folder / name).glob("*.log")], 4 * [""])
+            self.assertEqual((self.folder / name / "table.csv").read_text(), table)
+            logs = [path.read_text() for path in (self.folder / name).glob("*.log")]
+            self.assertEqual(logs, 4 * [""])
         logs = {path.name: path.read_text() for path in (self.folder / "failing").glob("*.log")}
-        self.assertEqual(logs, {f"page-{number}.log": "cachesim: line 3: bad address\n" for number in (1, 2, 3)})
+        self.assertEqual(logs, {f"page-{number}.log": fault for number in (1, 2, 3)})
         self.assertFalse((self.folder / "failing" / "table.csv").exists())
 
     def test_daemons(self):

@@ -1,4 +1,4 @@
-"""What the ledger names is there, and says what it said: tests/ledger, and that it sees what it should."""
+"""What the ledger names is there, and says what it said: tests/ledger, and what it sees."""
 
 import re
 import shutil
@@ -40,59 +40,78 @@ class TheLedger(ToolTest):
 
     def test_changes_of_contracts(self):
         self.copy()
-        passed = r"ensures passed \{ ReadConsumes"
-        self.fails_after(READ, passed, "ensures moved { ReadConsumes", "FAILED FromRead::read.passed: there is no")
-        self.fails_after(TASK, re.escape(FLUSHED), FLUSHED.replace("≡", "≤"), r"FAILED trace_core::Finished.flushes: new or changed")
-        self.fails_after(LAWS, r"pub fn pages\(\)\n    ensures \{", r"\g<0> 1 ≡ 2 →", "FAILED sweep_core::laws::pages: new or changed")
-        self.fails_after(LAWS, r"pub fn pages\(\)\n", r"\g<0>    requires { 1 ≡ 2 }\n", r"sweep_core::laws::pages \(requires\)")
-        self.fails_after(LAWS, r"pub fn pages\(\)", "pub fn pages_of()", "FAILED sweep_core::laws::pages: there is no such law")
-        self.fails_after("cache_core/specs/Windows.antt", r"nat_lt \(", "nat_le (", r"FAILED cache_core.Windows \w+: new or changed")
+        passed, again = r"ensures passed \{ ReadConsumes", "new or changed"
+        self.fails_after(READ, passed, "ensures moved { ReadConsumes",
+                         "FAILED FromRead::read.passed: there is no")
+        self.fails_after(TASK, re.escape(FLUSHED), FLUSHED.replace("≡", "≤"),
+                         f"FAILED trace_core::Finished.flushes: {again}")
+        law, pages = "sweep_core::laws::pages", r"pub fn pages\(\)"
+        for old, new, text in (
+            (rf"{pages}\n    ensures \{{", r"\g<0> 1 ≡ 2 →", f"FAILED {law}: {again}"),
+            (rf"{pages}\n", r"\g<0>    requires { 1 ≡ 2 }\n", rf"{law} \(requires\)"),
+            (pages, "pub fn pages_of()", f"FAILED {law}: there is no such law"),
+        ):
+            self.fails_after(LAWS, old, new, text)
+        self.fails_after("cache_core/specs/Windows.antt", r"nat_lt \(", "nat_le (",
+                         rf"FAILED cache_core.Windows \w+: {again}")
 
     def test_names_without_a_clause(self):
         """A function, a record or a definition that a row names, and that has another name now."""
         self.copy()
         told = "there is no such function, record or definition"
-        self.fails_after("sweep_core/src/pass.rt", r"fn catch_up\(", "fn catch_all_up(", f"FAILED catch_up: {told}")
-        self.fails_after("sweep_core/src/space/configs.rt", r"fn next\(", "fn following(", f"FAILED Configs::next: {told}")
-        self.fails_after("sweep_core/specs/SweepText.antt", r"\bsweep_task :", "task_of_sweep :", f"FAILED sweep_task: {told}")
+        for file, old, new, name in (
+            ("src/pass.rt", r"fn catch_up\(", "fn catch_all_up(", "catch_up"),
+            ("src/space/configs.rt", r"fn next\(", "fn following(", "Configs::next"),
+            ("specs/SweepText.antt", r"\bsweep_task :", "task_of_sweep :", "sweep_task"),
+        ):
+            self.fails_after(f"sweep_core/{file}", old, new, f"FAILED {name}: {told}")
 
     def test_changes_of_what_clauses_cite(self):
-        """A clause may say another thing in the same words: by a view, a constant, an import or a comment."""
+        """A clause may say another thing in the same words: by a view, a constant, an import or a
+        comment."""
         self.copy()
-        self.fails_after(READ, r"W\.contents s\.writer else None", "None else None", r"FAILED trace_core.io ToWrite view: new or changed")
-        self.fails_after("trace_core/src/limits.rt", "1_099_511_627_776", "1_099_511_627_775", "FAILED trace_core.limits MAX_LINES: new")
-        self.fails_after(TASK, r"IfSome, OnOk\}", r"OnOk}\nuse Rattle.trace_core.proofs.Runs.{IfSome}", "FAILED trace_core.Task: IfSome")
-        self.fails_after("sweep_core/specs/Space.antt", "nat_lt, nat_le,", "nat_le as nat_lt, nat_le,", "Space: nat_le as nat_lt of ")
+        self.fails_after(READ, r"W\.contents s\.writer else None", "None else None",
+                         r"FAILED trace_core.io ToWrite view: new or changed")
+        self.fails_after("trace_core/src/limits.rt", "1_099_511_627_776", "1_099_511_627_775",
+                         "FAILED trace_core.limits MAX_LINES: new")
+        some = r"OnOk}\nuse Rattle.trace_core.proofs.Runs.{IfSome}"
+        self.fails_after(TASK, r"IfSome, OnOk\}", some, "FAILED trace_core.Task: IfSome")
+        self.fails_after("sweep_core/specs/Space.antt", "nat_lt, nat_le,",
+                         "nat_le as nat_lt, nat_le,", "Space: nat_le as nat_lt of ")
         work = r"(    ensures work \{.*?\}\n)\{"
-        self.fails_after("sweep_core/src/sweep.rt", work, r"    /*\n\1    */\n{", "FAILED sweep.work: there is no such clause")
+        self.fails_after("sweep_core/src/sweep.rt", work, r"    /*\n\1    */\n{",
+                         "FAILED sweep.work: there is no such clause")
         size = r" +ensures \{ result ≡ size_of self\.now \}\n"
         self.fails_after("cache_core/src/geometry.rt", size, "", "cache_core::Geometry::size: gone")
 
     def test_what_is_counted(self):
         """A file of cases, a case, a worked row of each kind, an edit and a condition are missed."""
         self.copy()
-        cases = self.folder / "tests/cases"
-        for path, text in (
-            (cases / "log.cases", "tests/cases/log.cases: gone or changed"),
-            (self.folder / EDIT, f"{EDIT}: gone or changed"),
-        ):
+        for name in ("tests/cases/log.cases", EDIT):
+            path = self.folder / name
             path.rename(self.folder / "away")
             ran = self.run_command(self.folder / "tests/ledger")
             self.assertEqual(ran.returncode, 1)
-            self.assertIn(f"FAILED {text}", ran.stdout.decode())
+            self.assertIn(f"FAILED {name}: gone or changed", ran.stdout.decode())
             (self.folder / "away").rename(path)
-        self.fails_after("../tests/cases/din.cases", r"== din-lru\n.*?\n\n", "", "FAILED tests/cases/din.cases: new")
+        self.fails_after("../tests/cases/din.cases", r"== din-lru\n.*?\n\n", "",
+                         "FAILED tests/cases/din.cases: new")
         rows = f"FAILED crates/{ROWS}: new or changed"
         self.fails_after(ROWS, r"nine_held : .*?refl\n", "", rows)
-        self.fails_after(ROWS, r"(nine_held : .*?) ∷ 5 ∷ \[\]\) ≡ 1 ∷ 3 ∷ 4", r"\1 ∷ []) ≡ 1 ∷ 3", rows)
+        held = r"(nine_held : .*?) ∷ 5 ∷ \[\]\) ≡ 1 ∷ 3 ∷ 4"
+        self.fails_after(ROWS, held, r"\1 ∷ []) ≡ 1 ∷ 3", rows)
         worked = f"FAILED crates/{WORKED}: new or changed"
         self.fails_after(WORKED, r"#\[test\]\n", "", worked)
-        self.fails_after(WORKED, r"profile\.probes\(\)\.saturating_sub\(before\) == \*wanted", "true", worked)
+        probes = r"profile\.probes\(\)\.saturating_sub\(before\) == \*wanted"
+        self.fails_after(WORKED, probes, "true", worked)
 
     def test_a_change_is_acknowledged(self):
         self.copy()
         path = self.folder / "crates" / TASK
-        path.write_text(path.read_text().replace(FLUSHED, FLUSHED.replace("≡", "≤")).replace("-- it finished", "-- it came to its end"))
-        ran = self.run_command(self.folder / "tests/ledger", "--write")
-        self.assertEqual((ran.returncode, self.run_command(self.folder / "tests/ledger").returncode), (0, 0))
-        self.assertIn("trace_core::Finished.flushes: sink'.flushes ≤", (self.folder / "tests/clauses").read_text())
+        text = path.read_text().replace(FLUSHED, FLUSHED.replace("≡", "≤"))
+        path.write_text(text.replace("-- it finished", "-- it came to its end"))
+        for words in (["--write"], []):
+            ran = self.run_command(self.folder / "tests/ledger", *words)
+            self.assertEqual(ran.returncode, 0)
+        clauses = (self.folder / "tests/clauses").read_text()
+        self.assertIn("trace_core::Finished.flushes: sink'.flushes ≤", clauses)
