@@ -20,7 +20,8 @@ def installed():
     atexit.register(shutil.rmtree, folder, ignore_errors=True)
     copy_repository(folder / "a copy")
     put_program(folder / "a copy")
-    subprocess.run([folder / "a copy/package/install", folder / "usr"], check=True, stdout=subprocess.DEVNULL)
+    install = [folder / "a copy/package/install", folder / "usr"]
+    subprocess.run(install, check=True, stdout=subprocess.DEVNULL)
     return folder / "usr"
 
 
@@ -56,9 +57,11 @@ class Installing(MakeTest):
         ran = self.install()
         self.assertIn("lowdown is missing (apt-get install lowdown)", ran.stderr)
         program = self.to / "usr/bin/cachesim"
-        self.assertEqual((program.read_bytes(), program.stat().st_mode & 0o777), (PROGRAM.read_bytes(), 0o755))
+        got = program.read_bytes(), program.stat().st_mode & 0o777
+        self.assertEqual(got, (PROGRAM.read_bytes(), 0o755))
         self.assertEqual(os.readlink(self.to / "usr/bin/cachesim-best"), "../lib/cachesim/best")
-        for name in ("lib/cachesim/lib/lib.bash", "share/bash-completion/completions/cachesim", "share/doc/cachesim/docs/manual.md"):
+        for name in ("lib/cachesim/lib/lib.bash", "share/bash-completion/completions/cachesim",
+                     "share/doc/cachesim/docs/manual.md"):
             self.assertTrue((self.to / "usr" / name).is_file(), name)
         self.assertFalse((self.to / "usr/share/man/man1/cachesim.1.gz").exists())
         self.uninstall()
@@ -101,7 +104,8 @@ class Installing(MakeTest):
 
     def test_a_later_version_takes_the_place_of_an_earlier_one(self):
         self.few_tools()
-        old = self.executable(self.top / "tools/old", "# old    does what was once needed", "sed -n '2s/# //p' \"$0\"")
+        lines = "# old    does what was once needed", "sed -n '2s/# //p' \"$0\""
+        old = self.executable(self.top / "tools/old", *lines)
         self.install()
         self.assertTrue((self.to / "usr/bin/cachesim-old").exists())
         old.unlink()
@@ -114,24 +118,27 @@ class Installing(MakeTest):
         self.few_tools()
         self.install()
         (self.to / "usr/bin/other").touch()
-        (self.folder / "failing").mkdir()
-        env = {"PATH": f"{self.folder}/failing:{self.path['PATH']}", "TMPDIR": str(self.folder / "failing")}
-        for command, arguments, end in (("rmdir", "--*", "exit 1"), ("rmdir", "--*", "kill -TERM $PPID"), ("cp", "-P", "exit 1")):
-            failing = self.executable(f"failing/{command}", f'[[ $1 != {arguments} ]] && exec {shutil.which(command)} "$@"', end)
+        failing = self.folder / "failing"
+        env = {"PATH": f"{failing}:{self.path['PATH']}", "TMPDIR": str(failing)}
+        kill = "kill -TERM $PPID"
+        faults = ("rmdir", "--*", "exit 1"), ("rmdir", "--*", kill), ("cp", "-P", "exit 1")
+        for command, arguments, end in faults:
+            start = f'[[ $1 != {arguments} ]] && exec {shutil.which(command)} "$@"'
+            stand_in = self.executable(failing / command, start, end)
             ran = self.make("install", f"DESTDIR={self.to}", "PREFIX=/usr", env=env)
             self.assertEqual(ran.returncode, 2)
             self.assertTrue((self.to / "usr/bin/other").exists())
-            failing.unlink()
-            self.assertEqual(os.listdir(self.folder / "failing"), [])
+            stand_in.unlink()
+            self.assertEqual(os.listdir(failing), [])
         self.install()
         self.uninstall()
         self.assertEqual(self.below(), ["usr", "usr/bin", "usr/bin/other"])
 
     def test_each_c_part_is_compiled(self):
-        parts = set()
+        parts, called = set(), re.compile(r"^ *compiled ([\w.-]+) ", re.M)
         for path in (TOP / "tools").rglob("*"):
             if path.is_file() and os.access(path, os.X_OK) and path.parent.name != "out":
-                parts |= set(re.findall(r"^ *compiled ([\w.-]+) ", path.read_text(errors="replace"), re.M))
+                parts |= set(called.findall(path.read_text(errors="replace")))
         self.assertIn("to-din", parts)
         ran = self.make("tools")
         self.assertEqual((ran.returncode, ran.stderr), (0, ""))
@@ -139,10 +146,11 @@ class Installing(MakeTest):
 
     def test_without_a_compiler_tools_are_left_out(self):
         self.few_tools()
-        lines = "# needs-c    does much", "[ \"$*\" != --build ] || exit 1", "sed -n '2s/# //p' \"$0\""
-        self.executable(self.top / "tools/needs-c", *lines)
+        self.executable(self.top / "tools/needs-c", "# needs-c    does much",
+                        "[ \"$*\" != --build ] || exit 1", "sed -n '2s/# //p' \"$0\"")
         ran = self.install()
-        self.assertRegex(ran.stderr, "(?m)^stage: left out, since their C parts are not compiled:.* needs-c")
+        told = "(?m)^stage: left out, since their C parts are not compiled:.* needs-c"
+        self.assertRegex(ran.stderr, told)
         self.assertFalse((self.to / "usr/bin/cachesim-needs-c").exists())
 
     def test_no_program_is_built(self):
@@ -173,7 +181,8 @@ class Installed(ToolTest):
             # a tool with a C part may be left out where there is no C compiler
             link = installed() / "bin" / f"cachesim-{path.name}"
             self.assertTrue(link.resolve().is_file(), link)
-            for completion in (f"bash-completion/completions/{link.name}", f"fish/vendor_completions.d/{link.name}.fish"):
+            for completion in (f"bash-completion/completions/{link.name}",
+                               f"fish/vendor_completions.d/{link.name}.fish"):
                 self.assertIn(link.name, (installed() / "share" / completion).read_text())
         for link in (installed() / "bin").glob("cachesim-*"):
             env = {"PATH": f"{link.parent}:{os.environ['PATH']}", "PYTHONDONTWRITEBYTECODE": ""}
@@ -183,29 +192,33 @@ class Installed(ToolTest):
         self.assertEqual(self.below(), there)
 
     def test_tools_find_the_program_beside_them(self):
-        """Installed below a folder that is not on the path, before another program of its name that is."""
+        """Below a folder that is not on the path, before another program of its name that is."""
         lab = installed() / "lib/cachesim/lab"
         space = ("--bsize", "16", "--sets", "1-4", "--assoc", "1-2", "--size", "0-1k")
         din, lackey = TOP / "examples/sort.din", TOP / "examples/blocks.lackey"
         self.executable("cachesim", "exit 9")
         env = {"CACHESIM": "", "PATH": f"{self.folder}:/usr/bin:/bin"}
         replayed = ("-s", 1, "-E", 2, "-b", 4, "-t", TOP / "tests/cases/inputs/handout.lackey")
-        pages = "--pow2 --bsize 16 --sets 1 --assoc 1-4 --size 0-1k --rows 3\n"
+        one = "--pow2 --bsize 16 --sets 1 --assoc 1-4 --size 0-1k".split()
+        swept = self.run_command(PROGRAM, "sweep", *space, "-t", din).stdout.decode()
+        shown = self.run_tool("lab/replay", *replayed).stdout.decode()
+        grade, right = "lib/cachesim/lab/grade", "15 of 15 right\n"
         for arguments, text in (
-            (("bin/cachesim-sweep-parallel", 2, din, *space), self.run_command(PROGRAM, "sweep", *space, "-t", din).stdout.decode()),
-            (("bin/cachesim-pages", 1, "--pow2", "--bsize", 16, "--sets", 1, "--assoc", "1-4", "--size", "0-1k"), pages),
-            (("bin/cachesim-replay", *replayed), self.run_tool("lab/replay", *replayed).stdout.decode()),
-            (("bin/cachesim-grade", lab / "lab-csim", lackey), "15 of 15 right\n"),
-            (("lib/cachesim/lab/grade", installed() / "bin/cachesim-lab-csim", lackey), "15 of 15 right\n"),
-            (("lib/cachesim/lab/grade", lab / "lab-csim"), "90 of 90 right\n"),
+            (("bin/cachesim-sweep-parallel", 2, din, *space), swept),
+            (("bin/cachesim-pages", 1, *one), " ".join([*one, "--rows", "3\n"])),
+            (("bin/cachesim-replay", *replayed), shown),
+            (("bin/cachesim-grade", lab / "lab-csim", lackey), right),
+            ((grade, installed() / "bin/cachesim-lab-csim", lackey), right),
+            ((grade, lab / "lab-csim"), "90 of 90 right\n"),
         ):
             ran = self.run_command(installed() / arguments[0], *arguments[1:], env=env)
-            self.assertEqual((ran.returncode, ran.stdout.decode(), ran.stderr), (0, text, b""))
+            self.ends(ran, 0, "", text)
 
     def test_tools_are_named_as_they_are_called(self):
         """In what grade says of a program that takes each hit for a miss."""
         folder = installed()
-        wrong = self.executable("wrong", f"{folder}/bin/cachesim-lab-csim \"$@\" | sed 's/ hit/ miss/; s/hits:/hits:1/'")
+        csim = f"{folder}/bin/cachesim-lab-csim"
+        wrong = self.executable("wrong", f"{csim} \"$@\" | sed 's/ hit/ miss/; s/hits:/hits:1/'")
         ran = self.run_command(folder / "lib/cachesim/lab/grade", wrong)
         self.assertEqual((ran.returncode, ran.stderr), (1, b""))
         self.assertIn(b"\n    see cachesim-replay -s ", ran.stdout)

@@ -85,7 +85,7 @@ class TheLedger(ToolTest):
         self.fails_after("cache_core/src/geometry.rt", size, "", "cache_core::Geometry::size: gone")
 
     def test_what_is_counted(self):
-        """A file of cases, a case, a worked row of each kind, an edit and a condition are missed."""
+        """A file of cases, a case, a worked row of each kind, an edit, a condition are missed."""
         self.copy()
         for name in ("tests/cases/log.cases", EDIT):
             path = self.folder / name

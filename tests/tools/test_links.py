@@ -1,4 +1,5 @@
-"""Documents name files and headings that are there, and the libraries' pages for callers names that are there."""
+"""Documents name files and headings that are there, and the libraries' pages for callers names that
+are there."""
 
 import re
 import unittest
@@ -20,7 +21,8 @@ ROOT = re.compile(r"^pub (?:mod (\w+);|use [\w:]+?::(?:\{([^}]*)\}|(\w+));)", re
 
 def anchors(text):
     """The headings as links name them."""
-    return {re.sub(r"[^\w -]", "", heading.lower()).strip().replace(" ", "-") for heading in HEADING.findall(text)}
+    headings = (re.sub(r"[^\w -]", "", heading.lower()) for heading in HEADING.findall(text))
+    return {heading.strip().replace(" ", "-") for heading in headings}
 
 
 def broken(text, path):
@@ -32,19 +34,23 @@ def broken(text, path):
         elif anchor and anchor not in anchors(text if target == path else target.read_text()):
             yield f"{name}#{anchor}"
     for name in PATH.findall(text):
-        if not ANY.search(name) and not any(any(top.glob(name.rstrip("/."))) for top in (base.TOP, path.parent)):
+        found = (path for top in (base.TOP, path.parent) for path in top.glob(name.rstrip("/.")))
+        if not ANY.search(name) and not any(found):
             yield name
 
 
 def words_of(crate):
     """The words of a library's code and definitions."""
     folder = base.TOP / "crates" / crate
-    return {word for top in ("src", "specs") for path in folder.glob(f"{top}/**/*.*") for word in NAME.findall(path.read_text())}
+    paths = (path for top in ("src", "specs") for path in folder.glob(f"{top}/**/*.*"))
+    return {word for path in paths for word in NAME.findall(path.read_text())}
 
 
 def unknown(text, crate):
-    """The names of a page for callers that are nowhere in the libraries, and those that a `use` in it doesn't find."""
-    known = {word for path in base.TOP.glob("crates/*/src") for word in [path.parts[-2], *words_of(path.parts[-2])]}
+    """The names of a page for callers that are nowhere in the libraries, and those that a `use` in
+    it doesn't find."""
+    crates = [path.parts[-2] for path in base.TOP.glob("crates/*/src")]
+    known = {word for each in crates for word in [each, *words_of(each)]}
     for code in CODE.findall(text):
         if code.split("/")[0] not in ("specs", "src", "tests"):
             yield from (name for name in NAME.findall(code) if name not in known)
@@ -53,34 +59,42 @@ def unknown(text, crate):
     for used, module, names, name in USE.findall(text):
         source = base.TOP / "crates" / used / "src" / f"{module or 'lib'}.rt"
         items = source.read_text() if source.exists() else ""
-        found = ROOT.findall(items) if not module else re.findall(r"^pub \w+ (\w+)()()", items, re.M)
+        one = r"^pub \w+ (\w+)()()"
+        found = re.findall(one, items, re.M) if module else ROOT.findall(items)
         there = {word for each in found for word in NAME.findall(" ".join(each))}
-        yield from (f"{each} of {used}" for each in NAME.findall(names or name) if each not in there)
+        absent = (each for each in NAME.findall(names or name) if each not in there)
+        yield from (f"{each} of {used}" for each in absent)
 
 
 class Links(unittest.TestCase):
     def test_documents(self):
         texts = {base.TOP / name: (base.TOP / name).read_text() for name in [*DOCUMENTS, *PAGES]}
-        self.assertGreater(sum(len(LINK.findall(text)) + len(PATH.findall(text)) for text in texts.values()), 100)
-        self.assertEqual([f"{path}: {name}" for path, text in texts.items() for name in broken(text, path)], [])
+        named = sum(len(LINK.findall(text)) + len(PATH.findall(text)) for text in texts.values())
+        self.assertGreater(named, 100)
+        wrong = [f"{path}: {name}" for path, text in texts.items() for name in broken(text, path)]
+        self.assertEqual(wrong, [])
 
     def test_what_is_broken(self):
         path = base.TOP / "docs/manual.md"
-        text = "# A Title, and more\n[a](#a-title-and-more) [b](#b) [c](nowhere.md) [d](proofs.md#promises) [e](proofs.md#promise)\n"
-        text += "`tests/run NAME`, `tests/walk`, `crates/*/specs`, `crates/NAME/src`, [f](https://a.b/c)\n"
-        self.assertEqual(list(broken(text, path)), ["#b", "nowhere.md", "proofs.md#promise", "tests/walk"])
+        text = "# A Title, and more\n[a](#a-title-and-more) [b](#b) [c](nowhere.md) "
+        text += "[d](proofs.md#promises) [e](proofs.md#promise)\n`tests/run NAME`, `tests/walk`, "
+        text += "`crates/*/specs`, `crates/NAME/src`, [f](https://a.b/c)\n"
+        wrong = ["#b", "nowhere.md", "proofs.md#promise", "tests/walk"]
+        self.assertEqual(list(broken(text, path)), wrong)
 
 
 class PagesForCallers(unittest.TestCase):
     def test_names(self):
         self.assertGreater(len(PAGES), 5)
-        wrong = [f"{path.parts[-2]}: {name}" for path in PAGES for name in unknown(path.read_text(), path.parts[-2])]
+        wrong = [f"{path.parts[-2]}: {name}" for path in PAGES
+                 for name in unknown(path.read_text(), path.parts[-2])]
         self.assertEqual(wrong, [])
         self.assertEqual([path.parts[-2] for path in PAGES if not USE.search(path.read_text())], [])
 
     def test_what_is_unknown(self):
-        text = "    use cache_core::{Cache, Cash};\n    use cache_core::simulate::simulate;\n    use cache_core::simulate::simulated;\n"
-        text += "`Cache::access`, `Cache::axess(reference)`, `specs/Windows.antt`, `specs/Doors.antt`, `MAX_STEPS`\n"
+        text = "    use cache_core::{Cache, Cash};\n    use cache_core::simulate::simulate;\n"
+        text += "    use cache_core::simulate::simulated;\n`Cache::access`, "
+        text += "`Cache::axess(reference)`, `specs/Windows.antt`, `specs/Doors.antt`, `MAX_STEPS`\n"
         wrong = ["axess", "specs/Doors.antt", "Cash of cache_core", "simulated of cache_core"]
         self.assertEqual(list(unknown(text, "cache_core")), wrong)
 
