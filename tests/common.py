@@ -1,4 +1,4 @@
-"""What the scripts of this folder share: their arguments, runs of the program, and the sum of what passed."""
+"""What the scripts of this folder share: arguments, runs of the program, sums of what passed."""
 
 import argparse
 import contextlib
@@ -20,7 +20,8 @@ DEFINITION = re.compile(r"^(?:(?:abbrev|unfoldable|pub) )*(?:(?:record|data) (\w
 
 
 class Arguments(argparse.ArgumentParser):
-    """The arguments of a script, whose help is its own text: the second paragraph shows the call. A fault of them is one line."""
+    """The arguments of a script, whose help is its own text: the second paragraph shows the call. A
+    fault of them is one line."""
 
     def __init__(self, text):
         super().__init__()
@@ -33,19 +34,22 @@ class Arguments(argparse.ArgumentParser):
         self.exit(2, f"{self.prog}: {message}; '{self.prog} --help' explains the arguments\n")
 
     def of_program(self, may_be_unproved=False):
-        """The arguments with --program, which gets the path of a program that can be run: without it the proved one, or, where it may
-        be unproved, that of make demo, if it is newer."""
+        """The arguments with --program, which gets the path of a program that can be run: without
+        it the proved one, or, where it may be unproved, that of make demo, if it is newer."""
         self.add_argument("--program", type=pathlib.Path)
         asked = self.parse_args()
         path = asked.program or PROGRAM
         if not asked.program and may_be_unproved and is_newer(UNPROVED, PROGRAM):
             path = UNPROVED
-            print(f"with the unproved program of make demo, {path.relative_to(TOP)}: make proves it", flush=True)
+            name = path.relative_to(TOP)
+            print(f"with the unproved program of make demo, {name}: make proves it", flush=True)
         if not is_program(path):
-            print(f"no program {path}: make builds it" + ", make demo an unproved one" * may_be_unproved + "\n0 passed, 1 failed")
+            makes = "make builds it" + ", make demo an unproved one" * may_be_unproved
+            print(f"no program {path}: {makes}\n0 passed, 1 failed")
             sys.exit(1)
         if changed := not asked.program and changed_since(path):
-            print(f"{path.relative_to(TOP)} is older than {changed.relative_to(TOP)}: make builds it anew", flush=True)
+            older, newer = path.relative_to(TOP), changed.relative_to(TOP)
+            print(f"{older} is older than {newer}: make builds it anew", flush=True)
         asked.program = str(path.resolve())
         return asked
 
@@ -55,16 +59,18 @@ def is_program(path):
 
 
 def is_newer(path, other):
-    return is_program(path) and (not is_program(other) or path.stat().st_mtime > other.stat().st_mtime)
+    if not is_program(path) or not is_program(other):
+        return is_program(path)
+    return path.stat().st_mtime > other.stat().st_mtime
 
 
 def is_worked(path):
-    """Whether it belongs to a crate of which nothing is built: one that has tests alone, or that of the proved callers."""
+    """Whether it is of a crate of which nothing is built: of tests alone, or the proved callers."""
     return any(part == "callers" or part.startswith("worked_") for part in path.parts)
 
 
 def changed_since(program):
-    """A file of the code or the definitions that the program is built of and that changed after it, or None."""
+    """A file of the code or the definitions of the program that changed after it, or None."""
     built = program.stat().st_mtime
     files = (path for path in sorted(TOP.glob("crates/*/s*/**/*.*t")) if not is_worked(path))
     return next((path for path in files if path.stat().st_mtime > built), None)
@@ -106,7 +112,7 @@ class Sum:
         self.judge(name, got == wanted, f"wanted {wanted}, got {got}")
 
     def end(self):
-        """Prints the last line, and returns the exit status, which is 1 where nothing was tested."""
+        """Prints the last line, and returns the exit status: 1 also where nothing was tested."""
         if not self.passed + self.failed:
             print("FAILED: nothing was tested")
             self.failed = 1
@@ -115,7 +121,8 @@ class Sum:
 
 
 def run(program, arguments, **given):
-    """What a run writes to standard output and to standard error, and its status, or none if it takes too long."""
+    """What a run writes to standard output and to standard error, and its status, or none if it
+    takes too long."""
     stdin = {} if "input" in given else {"stdin": subprocess.DEVNULL}
     streams = {"stdout": subprocess.PIPE, "stderr": subprocess.PIPE}
     given = {**streams, **stdin, "timeout": 120, **given}
@@ -140,5 +147,6 @@ def preloads():
     needs("cc", "gcc")
     with tempfile.TemporaryDirectory(prefix="cachesim-preload-") as folder:
         library = pathlib.Path(folder, "preload.so")
-        subprocess.run(["cc", "-O2", "-shared", "-fPIC", "-o", library, TOP / "tests/preload.c"], check=True)
-        yield lambda **given: {"LD_PRELOAD": str(library), **{key: f"{it}" for key, it in given.items()}}
+        compiler = ["cc", "-O2", "-shared", "-fPIC", "-o", library]
+        subprocess.run([*compiler, TOP / "tests/preload.c"], check=True)
+        yield lambda **given: {"LD_PRELOAD": str(library)} | {key: f"{given[key]}" for key in given}

@@ -1,10 +1,12 @@
-"""The code blocks of a document, and runs of the commands in them, for `run` and for the tests of the documents.
+"""The code blocks of a document, and runs of the commands in them, for `run` and for the tests of
+the documents.
 
 A code block, indented or fenced, is one of these:
 
-    a session          some lines begin with '$ '. Each is a command, with the lines that a backslash, a pipe or << 'WORD' at a
-                       line's end joins to it; what follows up to the next '$ ' is all that it writes. '...' alone on a line stands
-                       for any lines.
+    a session          some lines begin with '$ '. Each is a command, with the lines that a
+                       backslash, a pipe or << 'WORD' at a line's end joins to it; what follows up
+                       to the next '$ ' is all that it writes. '...' alone on a line stands for any
+                       lines.
     a script           its first word is a command
     anything else      a piece of a file, or of a table
 
@@ -63,7 +65,8 @@ class Block:
                 word = here.group(1) if here else None
             elif found:
                 found[-1].wanted.append(line)
-            is_open = bool(found) and not found[-1].wanted and not word and line.endswith(("\\", "|"))
+            may_go_on = bool(found) and not found[-1].wanted and not word
+            is_open = may_go_on and line.endswith(("\\", "|"))
         return found
 
 
@@ -91,7 +94,8 @@ def blocks_of(text):
 
 
 def run(script, folder, **known):
-    """What bash writes of a script, both streams, and its status. One that takes too long is ended with all that it started."""
+    """What bash writes of a script, both streams, and its status. One that takes too long is ended
+    with all that it started."""
     given = {"cwd": folder, "env": {**os.environ, **known}, "start_new_session": True}
     streams = {"stdin": subprocess.DEVNULL, "stdout": subprocess.PIPE, "stderr": subprocess.STDOUT}
     with subprocess.Popen(["bash", "-c", script], **given, **streams) as ran:
@@ -99,7 +103,8 @@ def run(script, folder, **known):
             wrote = ran.communicate(timeout=SECONDS)[0]
         except subprocess.TimeoutExpired:
             os.killpg(ran.pid, signal.SIGKILL)
-            return ran.communicate()[0].decode(errors="replace") + f"not done after {SECONDS} seconds\n", 124
+            wrote = ran.communicate()[0].decode(errors="replace")
+            return f"{wrote}not done after {SECONDS} seconds\n", 124
     return wrote.decode(errors="replace"), ran.returncode
 
 
@@ -110,8 +115,10 @@ def matches(wanted, got):
 
 
 def differences(command, wrote):
-    """The command of a session and how what it wrote differs, in lines; none where it is as wanted."""
+    """The command of a session and how its text differs, in lines; none where it is as wanted."""
     lines = wrote.splitlines()
     if matches(command.wanted, lines):
         return []
-    return [f"$ {command.text}", *difflib.unified_diff(command.wanted, lines, "document", "run", lineterm="")]
+    names = "document", "run"
+    lines = difflib.unified_diff(command.wanted, lines, *names, lineterm="")
+    return [f"$ {command.text}", *lines]
