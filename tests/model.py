@@ -1,10 +1,12 @@
 #!/usr/bin/env python3
 """A literal model of the program, to compare it with.
 
-It follows the definitions in docs/definitions.md and docs/manual.md alone, and shares nothing with the program. Where
-the program is quick, the model is plain: a text is cut into lines first, a reference looks back over all that came before it, a
-cache is a map of stamps, a table is a filter of all triples. tests/fuzz compares the two on random input, and
-'tests/run --program tests/model.py' runs the model on the cases, except for the texts of the library that reads the arguments.
+It follows the definitions in docs/definitions.md and docs/manual.md alone, and shares nothing with
+the program. Where the program is quick, the model is plain: a text is cut into lines first, a
+reference looks back over all that came before it, a cache is a map of stamps, a table is a filter
+of all triples. tests/fuzz compares the two on random input, and 'tests/run --program
+tests/model.py' runs the model on the cases, except for the texts of the library that reads the
+arguments.
 
     tests/model.py WORD..       writes what the program would write
 """
@@ -47,12 +49,12 @@ def lines_of(text):
 
 
 def fields_of(line):
-    """The longest runs of bytes that are no blanks, without the blanks and returns at the line's end."""
+    """The longest runs of bytes that are no blanks, without blanks and returns at the end."""
     return re.findall(rb"[^ \t]+", line.rstrip(b" \t\r"))
 
 
 def meaning(format, line):
-    """An item, FLUSH, or None for a line that is skipped. A fault is that of the leftmost field that is wrong."""
+    """An item, FLUSH, or None for a skipped line. A fault is of the leftmost wrong field."""
     return din_meaning(line) if format == "d" else lackey_meaning(line)
 
 
@@ -62,11 +64,12 @@ def din_meaning(line):
         return None
     if fields[0] not in (b"0", b"1", b"2", b"3", b"4"):
         raise Fault("bad label")
-    address = re.fullmatch(rb"(?:0[xX])?([0-9a-fA-F]{1,16})", fields[1]) if len(fields) > 1 else None
+    address = re.fullmatch(rb"(?:0[xX])?([0-9a-fA-F]{1,16})", b"".join(fields[1:2]))
     if not address:
         raise Fault("bad address")
     addr = int(address.group(1), 16)
-    return {b"0": Item("L", addr, 0), b"1": Item("S", addr, 0), b"2": Item("I", addr, 0), b"3": None, b"4": FLUSH}[fields[0]]
+    op = {b"0": "L", b"1": "S", b"2": "I"}.get(fields[0])
+    return Item(op, addr, 0) if op else FLUSH if fields[0] == b"4" else None
 
 
 def lackey_meaning(line):
@@ -105,27 +108,29 @@ class Ref:
 
 
 def refs_of(item):
-    return [Ref(access, item.addr) for access in {"I": ["fetch"], "L": ["read"], "S": ["write"], "M": ["read", "write"]}[item.op]]
+    accesses = {"I": ["fetch"], "L": ["read"], "S": ["write"], "M": ["read", "write"]}
+    return [Ref(access, item.addr) for access in accesses[item.op]]
 
 
 def events_of(entries, kind):
     """The references of the kind, and every flush."""
-    events = []
+    events, are_fetches = [], {"u": (True, False), "i": (True,), "d": (False,)}[kind]
     for entry in entries:
         if entry is FLUSH:
             events.append(FLUSH)
         else:
-            events += [ref for ref in refs_of(entry) if kind == "u" or (ref.access == "fetch") == (kind == "i")]
+            events += [ref for ref in refs_of(entry) if (ref.access == "fetch") in are_fetches]
     return events
 
 
 # ---- counts by looking back
 
 def windows(events, s, b):
-    """For each reference the distance to the last reference to its block, and how many blocks of its set were seen.
+    """For each reference the distance to the last reference to its block, and how many blocks of
+    its set were seen.
 
-    Both look back no further than the last flush. The distance is the number of different blocks of the set in between, and
-    None where the block wasn't referenced before."""
+    Both look back no further than the last flush. The distance is the number of different blocks of
+    the set in between, and None where the block wasn't referenced before."""
     found = []
     for i, event in enumerate(events):
         if event is FLUSH:
@@ -146,7 +151,8 @@ def windows(events, s, b):
 def lookups(places, ways):
     """Whether each reference hits, misses or evicts in a cache of this many ways."""
     hits = [distance is not None and distance < ways for distance, _ in places]
-    return ["hit" if hit else "miss eviction" if seen >= ways else "miss" for hit, (_, seen) in zip(hits, places)]
+    return ["hit" if hit else "miss eviction" if seen >= ways else "miss"
+            for hit, (_, seen) in zip(hits, places)]
 
 
 def counts(places, ways):
@@ -185,7 +191,8 @@ def random_words(seed):
         state = (state * multiplier + increment) & mask
 
 
-STATISTICS = ("fetch", "read", "write", "fetch miss", "read miss", "write miss", "evictions", "copybacks")
+STATISTICS = ("fetch", "read", "write", "fetch miss", "read miss", "write miss", "evictions",
+              "copybacks")
 
 
 @dataclass
@@ -254,8 +261,9 @@ class Machine:
     def line(self, name):
         st = self.stats
         return (
-            f"{name} fetches={st['fetch']} fetch-misses={st['fetch miss']} reads={st['read']} read-misses={st['read miss']}"
-            f" writes={st['write']} write-misses={st['write miss']} evictions={st['evictions']} copybacks={st['copybacks']}\n"
+            f"{name} fetches={st['fetch']} fetch-misses={st['fetch miss']} reads={st['read']}"
+            f" read-misses={st['read miss']} writes={st['write']} write-misses={st['write miss']}"
+            f" evictions={st['evictions']} copybacks={st['copybacks']}\n"
         )
 
 
@@ -263,7 +271,8 @@ CACHES = ("l1-i", "l1-d", "l1-u", "l2-u")
 
 
 def machines_of(job):
-    return {name: Machine(**shape, words=random_words(job["seed"])) for name, shape in job["caches"].items()}
+    shapes = job["caches"].items()
+    return {name: Machine(**shape, words=random_words(job["seed"])) for name, shape in shapes}
 
 
 def din(job, text, write):
@@ -297,7 +306,7 @@ def log(job, text, write):
     caches = machines_of(job)
 
     def arrives(ref, places):
-        """A reference at the first of these places, and then, one by one, what that sends down to the others."""
+        """A reference at the first of these places, and then, one by one, what it sends down."""
         place, *lower = places
         line = f"{place} {('read', 'write', 'fetch').index(ref.access)} {ref.addr:x}"
         if place not in caches:
@@ -316,7 +325,8 @@ def log(job, text, write):
             continue
         own = "l1-i" if event.access == "fetch" else "l1-d"
         first = [name for name in ("l1-u", own) if name in caches]
-        arrives(event, [*first, *(name for name in caches if name == "l2-u"), "memory"] if first else ["bypassed"])
+        below = [*(name for name in caches if name == "l2-u"), "memory"]
+        arrives(event, [*first, *below] if first else ["bypassed"])
     if fault:
         raise fault
 
@@ -332,10 +342,12 @@ def table(space):
     bsizes = [2**k for k in range(21) if space["bsize"][0] <= 2**k <= space["bsize"][1]]
     sets = [2**k for k in range(21) if space["sets"][0] <= 2**k <= space["sets"][1]]
     low, high = space["size"]
+    ways = range(space["assoc"][0], space["assoc"][1] + 1)
+    ways = [e for e in ways if is_power(e) or not space["pow2"]]
     for b in bsizes:
         for s in sets:
-            for e in range(space["assoc"][0], space["assoc"][1] + 1):
-                if e * s <= 2**22 and low <= b * s * e <= high and (is_power(e) or not space["pow2"]):
+            for e in ways:
+                if e * s <= 2**22 and low <= b * s * e <= high:
                     yield b, s, e
 
 
@@ -364,7 +376,8 @@ def number(text):
 def scaled(text):
     found = re.fullmatch("([0-9]+)([kKmMgG]?)", text)
     if found:
-        value = int(found.group(1)) * {"": 1, "k": 2**10, "m": 2**20, "g": 2**30}[found.group(2).lower()]
+        scales = {"": 1, "k": 2**10, "m": 2**20, "g": 2**30}
+        value = int(found.group(1)) * scales[found.group(2).lower()]
         return value if value < 2**64 else None
 
 
@@ -401,22 +414,23 @@ class Option:
 
 
 FILE = Option("-t", str)
-OF_A_CACHE = {"size": power, "bsize": power, "assoc": number, "repl": one_of("lfr"), "walloc": one_of("an"), "wback": one_of("an")}
+OF_A_CACHE = {"size": power, "bsize": power, "assoc": number, "repl": one_of("lfr"),
+              "walloc": one_of("an"), "wback": one_of("an")}
 OPTIONS = {
-    "csim": [Option(name, number, True) for name in ("-s", "-E", "-b")] + [Option("-t", str, True), Option("-v", None)],
-    "din": [Option(f"-{cache}{word}", reader) for cache in CACHES for word, reader in OF_A_CACHE.items()]
+    "csim": [Option(name, number, True) for name in ("-s", "-E", "-b")]
+    + [Option("-t", str, True), Option("-v", None)],
+    "din": [Option(f"-{cache}{word}", reader)
+            for cache in CACHES for word, reader in OF_A_CACHE.items()]
     + [Option("-informat", one_of("dl")), Option("--seed", number), FILE],
     "sweep": [Option(f"--{name}", range_of, True) for name in ("bsize", "sets", "assoc", "size")]
     + [Option("--kind", one_of("udi")), Option("--format", one_of("dl")), Option("--after", triple)]
     + [Option("--rows", number), Option("--pow2", None), FILE],
 }
-
-
 OPTIONS["log"] = OPTIONS["din"]
 
 
 def given(options, words):
-    """The text of each option that is given: a small part of what the library that reads the words does."""
+    """The text of each option that is given: a small part of what the library does."""
     found, left = {}, list(words)
     by_spelling = {option.spelled(): option for option in options}
 
@@ -486,8 +500,8 @@ def parse(words):
             values[option.name] = option.reader(texts[option.name])
             if values[option.name] is None:
                 raise Fault(f"{option.name}: bad value", 2)
-    job = {"csim": csim_job, "din": din_job, "log": din_job, "sweep": sweep_job}[command](values, texts)
-    return command, job, texts.get("-t")
+    jobs = {"csim": csim_job, "din": din_job, "log": din_job, "sweep": sweep_job}
+    return command, jobs[command](values, texts), texts.get("-t")
 
 
 def is_geometry(s, e, b):
@@ -508,8 +522,8 @@ def din_job(values, texts):
         if any(value is not None for value in own.values()):
             if own["size"] is None or own["bsize"] is None:
                 raise Fault(f"{cache}: size and bsize are needed", 2)
-            defaults = {"assoc": 1, "repl": "l", "walloc": "a", "wback": "a"}
-            caches[cache] = {word: defaults[word] if value is None else value for word, value in own.items()}
+            told = {word: value for word, value in own.items() if value is not None}
+            caches[cache] = {"assoc": 1, "repl": "l", "walloc": "a", "wback": "a", **told}
     if not any(cache.startswith("l1") for cache in caches):
         raise Fault("no first-level cache", 2)
     if "l1-u" in caches and ("l1-i" in caches or "l1-d" in caches):
@@ -518,18 +532,23 @@ def din_job(values, texts):
     for name, cache in caches.items():
         ways, size = cache["assoc"], cache["size"]
         exponents = [(s, b) for s in range(21) for b in range(21) if cache["bsize"] == 2**b]
-        found = [(s, b) for s, b in exponents if size == ways * 2 ** (b + s) and is_geometry(s, ways, b)]
+        found = [(s, b) for s, b in exponents
+                 if size == ways * 2 ** (b + s) and is_geometry(s, ways, b)]
         if not found:
             raise Fault(f"{name}: bad geometry", 2)
         own = {option: cache[option] for option in ("repl", "walloc", "wback")}
         machines[name] = {"s": found[0][0], "b": found[0][1], "ways": ways, **own}
-    if "l2-u" in caches and any(caches["l2-u"]["bsize"] < cache["bsize"] for cache in caches.values()):
+    bsizes = [cache["bsize"] for cache in caches.values()]
+    if "l2-u" in caches and caches["l2-u"]["bsize"] < max(bsizes):
         raise Fault("l2-u: block size smaller than in the first level", 2)
-    return {"caches": machines, "format": values.get("-informat", "d"), "seed": values.get("--seed", 42)}
+    format, seed = values.get("-informat", "d"), values.get("--seed", 42)
+    return {"caches": machines, "format": format, "seed": seed}
 
 
 def sweep_job(values, texts):
-    for name, least, most in (("bsize", 1, 2**20), ("sets", 1, 2**20), ("assoc", 1, 65536), ("size", 0, 2**64)):
+    for name, least, most in (
+        ("bsize", 1, 2**20), ("sets", 1, 2**20), ("assoc", 1, 65536), ("size", 0, 2**64),
+    ):
         low, high = values[f"--{name}"]
         if name in ("bsize", "sets") and not (is_power(low) and is_power(high)):
             raise Fault(f"{name}: not a power of two", 2)
@@ -546,8 +565,9 @@ def sweep_job(values, texts):
 # ---- the program
 
 def run(words, stdin, text_of):
-    """What the program writes to standard output and standard error, and its status. `stdin` gives the text of standard input,
-    `text_of` that of a file. Of the texts of the library that reads the words there are only the first words here."""
+    """What the program writes to standard output and standard error, and its status. `stdin` gives
+    the text of standard input, `text_of` that of a file. Of the texts of the library that reads the
+    words there are only the first words here."""
     written = []
     try:
         command, job, name = parse(words)
