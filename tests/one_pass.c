@@ -1,9 +1,11 @@
 // The one-pass sweep by hand, to compare tables and times with: the same lists as the program's.
 //
-//     one_pass [--each] BSIZE SETS ASSOC SIZE TRACE     each of the four as LOWEST-GREATEST, in plain decimal numbers
+//     one_pass [--each] BSIZE SETS ASSOC SIZE TRACE
 //
-// With --each every profile looks at every reference, and none is left out where another one decides for it. TRACE is a din trace
-// of labels 0 to 2, a space after each, and 1 to 16 digits up to the line's end. The table goes to standard output.
+// Each of the four is LOWEST-GREATEST, in plain decimal numbers. With --each every profile looks at
+// every reference, and none is left out where another one decides for it. TRACE is a din trace of
+// labels 0 to 2, a space after each, and 1 to 16 digits up to the line's end. The table goes to
+// standard output.
 #define _DEFAULT_SOURCE
 #include <fcntl.h>
 #include <stdint.h>
@@ -16,7 +18,8 @@ enum { BUFFER = 1 << 16, PAIRS = 21 * 21, MOST_LINES = 1 << 22 };
 
 typedef struct { uint64_t lowest, greatest; } range;
 
-// The recency lists of all sets for one block size and one number of sets, and where references were found in them.
+// The recency lists of all sets for one block size and one number of sets, and where references
+// were found in them.
 typedef struct {
     uint64_t bsize, sets, depth;
     int block_bits;
@@ -24,7 +27,7 @@ typedef struct {
     uint32_t *lengths;     // of each set's list
     uint64_t *distances;   // references found at a place; those in front are counted at the end
     uint64_t *fills;       // references not found in a list of a length
-    int next;              // the first profile after it in which the block that is in front here need not be so too
+    int next;              // the first profile after it whose front block need not be this one's
 } profile;
 
 static range bsizes, sets_range, assocs, sizes;
@@ -32,9 +35,14 @@ static profile profiles[PAIRS];
 static int profile_count;
 static uint64_t references;
 
+static void fail(const char *fault, const char *of, int status) {
+    fprintf(stderr, "%s%s\n", fault, of);
+    exit(status);
+}
+
 static range range_of(const char *text) {
     range r;
-    if (sscanf(text, "%lu-%lu", &r.lowest, &r.greatest) != 2) { fprintf(stderr, "not a range: %s\n", text); exit(2); }
+    if (sscanf(text, "%lu-%lu", &r.lowest, &r.greatest) != 2) fail("not a range: ", text, 2);
     return r;
 }
 
@@ -46,7 +54,7 @@ static int is_valid(uint64_t bsize, uint64_t sets, uint64_t assoc) {
 
 static void *zeros(uint64_t count, size_t size) {
     void *taken = calloc(count ? count : 1, size);
-    if (!taken) { fprintf(stderr, "out of memory\n"); exit(1); }
+    if (!taken) fail("out of memory", "", 1);
     return taken;
 }
 
@@ -55,12 +63,14 @@ static void make_profile(uint64_t bsize, uint64_t sets) {
     while (depth >= assocs.lowest && depth && !is_valid(bsize, sets, depth)) depth--;
     if (!depth || depth < assocs.lowest) return;
     profiles[profile_count++] = (profile){
-        bsize, sets, depth, __builtin_ctzll(bsize), zeros(sets * depth, sizeof(uint64_t)), zeros(sets, sizeof(uint32_t)),
-        zeros(depth, sizeof(uint64_t)), zeros(depth + 1, sizeof(uint64_t)), 0,
+        bsize, sets, depth, __builtin_ctzll(bsize), zeros(sets * depth, sizeof(uint64_t)),
+        zeros(sets, sizeof(uint32_t)), zeros(depth, sizeof(uint64_t)),
+        zeros(depth + 1, sizeof(uint64_t)), 0,
     };
 }
 
-// Brings a block to the front of its set's list: each entry moves one index on, up to where the block was. Whether it was in front.
+// Brings a block to the front of its set's list: each entry moves one index on, up to where the
+// block was. Whether it was in front.
 static inline int feed(profile *p, uint64_t address) {
     uint64_t block = address >> p->block_bits, set = block & (p->sets - 1), carried = block;
     uint64_t *list = p->lists + set * p->depth;
@@ -77,13 +87,16 @@ static inline int feed(profile *p, uint64_t address) {
     return 0;
 }
 
-// What was used last in its set was so with more sets of the same block size, and with one set with all larger blocks. With `each`
-// no profile decides for another.
+// What was used last in its set was so with more sets of the same block size, and with one set with
+// all larger blocks. With `each` no profile decides for another.
 static void link_profiles(int each) {
     for (int i = 0; i < profile_count; i++) {
+        profile *own = &profiles[i];
         int next = i + 1;
-        while (!each && next < profile_count && (profiles[i].sets == 1 || profiles[next].bsize == profiles[i].bsize)) next++;
-        profiles[i].next = next;
+        while (!each && next < profile_count
+               && (own->sets == 1 || profiles[next].bsize == own->bsize))
+            next++;
+        own->next = next;
     }
 }
 
@@ -100,17 +113,18 @@ static int8_t digit_of[256];
 static inline uint64_t address_in(const unsigned char *line) {
     const unsigned char *first = line + 2, *at = first;
     uint64_t address = 0;
-    if (line[0] < '0' || line[0] > '2' || line[1] != ' ') { fputs("bad label\n", stderr); exit(1); }
+    if (line[0] < '0' || line[0] > '2' || line[1] != ' ') fail("bad label", "", 1);
     for (; digit_of[*at] >= 0; at++) address = address << 4 | (uint64_t)digit_of[*at];
-    if (at == first || at - first > 16 || *at != '\n') { fputs("bad address\n", stderr); exit(1); }
+    if (at == first || at - first > 16 || *at != '\n') fail("bad address", "", 1);
     return address;
 }
 
 static void read_trace(const char *name) {
     static unsigned char buffer[BUFFER];
     memset(digit_of, -1, sizeof digit_of);
-    const char *lower = "0123456789abcdef", *upper = "0123456789ABCDEF";
-    for (int d = 0; d < 16; d++) digit_of[(unsigned char)lower[d]] = digit_of[(unsigned char)upper[d]] = (int8_t)d;
+    const unsigned char *lower = (const unsigned char *)"0123456789abcdef";
+    const unsigned char *upper = (const unsigned char *)"0123456789ABCDEF";
+    for (int8_t d = 0; d < 16; d++) digit_of[lower[d]] = digit_of[upper[d]] = d;
     int file = open(name, O_RDONLY);
     if (file < 0) { perror(name); exit(1); }
     size_t held = 0;
@@ -119,7 +133,8 @@ static void read_trace(const char *name) {
         while ((line_end = memchr(at, '\n', (size_t)(end - at)))) {
             uint64_t address = address_in(at);
             references++;
-            for (int i = 0; i < profile_count;) i = feed(&profiles[i], address) ? profiles[i].next : i + 1;
+            for (int i = 0; i < profile_count;)
+                i = feed(&profiles[i], address) ? profiles[i].next : i + 1;
             at = line_end + 1;
         }
         held = (size_t)(end - at);
@@ -133,21 +148,27 @@ static void write_rows(const profile *p) {
         hits += p->distances[assoc - 1];
         filled += p->fills[assoc - 1];
         if (!is_valid(p->bsize, p->sets, assoc)) continue;
-        uint64_t misses = references - hits;
-        printf("%lu,%lu,%lu,%lu,%lu,%lu,%lu\n", p->bsize, p->sets, assoc, p->bsize * p->sets * assoc, hits, misses, misses - filled);
+        uint64_t size = p->bsize * p->sets * assoc, misses = references - hits;
+        printf("%lu,%lu,%lu,%lu,%lu,%lu,%lu\n", p->bsize, p->sets, assoc, size, hits, misses,
+               misses - filled);
     }
 }
 
 int main(int count, char **words) {
     int each = count > 1 && !strcmp(words[1], "--each");
     words += each;
-    if (count - each != 6) { fprintf(stderr, "one_pass [--each] BSIZE SETS ASSOC SIZE TRACE\n"); return 2; }
-    bsizes = range_of(words[1]); sets_range = range_of(words[2]); assocs = range_of(words[3]); sizes = range_of(words[4]);
+    if (count - each != 6) fail("one_pass [--each] BSIZE SETS ASSOC SIZE TRACE", "", 2);
+    bsizes = range_of(words[1]), sets_range = range_of(words[2]);
+    assocs = range_of(words[3]), sizes = range_of(words[4]);
     for (uint64_t bsize = bsizes.lowest; bsize <= bsizes.greatest; bsize *= 2)
-        for (uint64_t sets = sets_range.lowest; sets <= sets_range.greatest; sets *= 2) make_profile(bsize, sets);
+        for (uint64_t sets = sets_range.lowest; sets <= sets_range.greatest; sets *= 2)
+            make_profile(bsize, sets);
     link_profiles(each);
     read_trace(words[5]);
     puts("bsize,sets,assoc,size,hits,misses,evictions");
-    for (int i = 0; i < profile_count; i++) { count_fronts(&profiles[i]); write_rows(&profiles[i]); }
+    for (profile *p = profiles; p < profiles + profile_count; p++) {
+        count_fronts(p);
+        write_rows(p);
+    }
     return 0;
 }

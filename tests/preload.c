@@ -1,5 +1,5 @@
-/* Calls of the C library that give no memory, fail, or move little at a time: common.py builds this as a shared library, which
-   LD_PRELOAD puts into the program.
+/* Calls of the C library that give no memory, fail, or move little at a time: common.py builds this
+   as a shared library, which LD_PRELOAD puts into the program.
 
    REFUSE_AT=N      the Nth call that asks for memory gets none; 0: each gets it
    REFUSE_AFTER=1   nor does any later call
@@ -9,10 +9,12 @@
    READ_FAILS=N     the Nth read fails; 0: none
    WRITE_MOST=N     the same of writes to standard output
    WRITE_FAILS=N
-   TELL_CALLS=1     at the end of the process the numbers of reads and writes are written to standard error
+   TELL_CALLS=1     at the end of the process the numbers of reads and writes are written to
+                    standard error
    TELL_PEAK=1      the same of the most memory that it had, in KiB
 
-   A read or a write after one that failed ends the process with status 98: a device that failed is not to be asked again. */
+   A read or a write after one that failed ends the process with status 98: a device that failed is
+   not to be asked again. */
 #include <errno.h>
 #include <fcntl.h>
 #include <malloc.h>
@@ -53,7 +55,7 @@ __attribute__((constructor)) static void begin(void) {
     is_on = refused_call > 0;
 }
 
-/* What wait4 tells of a process has the memory of the one that forked it in it; this is the program's own. */
+/* What wait4 tells of a process has the memory of the one that forked it in it; this is its own. */
 static void tell_peak(void) {
     FILE *status = fopen("/proc/self/status", "r");
     char line[256];
@@ -81,9 +83,12 @@ static int refuses(void) {
 
 void *malloc(size_t size) { return refuses() ? NULL : __libc_malloc(size); }
 void *calloc(size_t count, size_t size) { return refuses() ? NULL : __libc_calloc(count, size); }
-void *realloc(void *old, size_t size) { return size && refuses() ? NULL : __libc_realloc(old, size); }
+void *realloc(void *old, size_t size)
+{
+    return size && refuses() ? NULL : __libc_realloc(old, size);
+}
 void *memalign(size_t step, size_t size) { return refuses() ? NULL : __libc_memalign(step, size); }
-void *aligned_alloc(size_t step, size_t size) { return refuses() ? NULL : __libc_memalign(step, size); }
+void *aligned_alloc(size_t step, size_t size) { return memalign(step, size); }
 
 int posix_memalign(void **out, size_t step, size_t size) {
     if (refuses()) return ENOMEM;

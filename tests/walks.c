@@ -1,5 +1,5 @@
-/* Walks over memory in several manners, for tests/against_cachegrind. It uses no library and reads and writes aligned words
-   alone, so that no access touches two blocks. */
+/* Walks over memory in several manners, for tests/against_cachegrind. It uses no library and reads
+   and writes aligned words alone, so that no access touches two blocks. */
 typedef unsigned long word;
 #define N 4096
 
@@ -7,7 +7,10 @@ static word table[N] __attribute__((aligned(4096)));
 static unsigned next[N] __attribute__((aligned(4096)));
 static word state = 1;
 
-static word drawn(void) { return (state = state * 6364136223846793005ul + 1442695040888963407ul) >> 33; }
+static word drawn(void)
+{
+    return (state = state * 6364136223846793005ul + 1442695040888963407ul) >> 33;
+}
 
 static void walk(void) {
     for (int i = 0; i < N; i++) table[i] = drawn();

@@ -1,7 +1,8 @@
 """Every command that a document shows, run as it is written.
 
-The blocks of a document are run one after another in one folder, a copy of the top of the repository, so that a later one can use
-what an earlier one wrote. A script is run by bash as a whole, and must end with status 0. The program's folder is on the path.
+The blocks of a document are run one after another in one folder, a copy of the top of the
+repository, so that a later one can use what an earlier one wrote. A script is run by bash as a
+whole, and must end with status 0. The program's folder is on the path.
 """
 
 import os
@@ -20,9 +21,10 @@ DOCUMENTS += [str(path.relative_to(base.TOP)) for path in sorted(base.TOOLS.glob
 
 
 def copied_top():
-    """A copy of the top of the repository with the built program, in which a document's commands may write."""
+    """A copy of the top of the repository with the built program, where commands may write."""
     folder = pathlib.Path(tempfile.mkdtemp(prefix="cachesim-documents-")) / "top"
-    shutil.copytree(base.TOP, folder, symlinks=True, ignore=shutil.ignore_patterns(".git", "out", "__pycache__"))
+    ignored = shutil.ignore_patterns(".git", "out", "__pycache__")
+    shutil.copytree(base.TOP, folder, symlinks=True, ignore=ignored)
     (folder / "crates/cachesim/out").mkdir()
     shutil.copy2(base.PROGRAM, folder / "crates/cachesim/out/cachesim")
     if (base.TOOLS / "out").is_dir():
@@ -54,7 +56,8 @@ def packages_of(text):
     commands = [command.text for block in blocks for command in block.commands()]
     commands += ["\n".join(block.lines) for block in blocks if block.is_script]
     said = "\n".join(commands).replace("\\\n", " ")
-    return sorted({name for sign, names in PACKAGES.items() for name in names if re.search(sign, said)})
+    found = (names for sign, names in PACKAGES.items() if re.search(sign, said))
+    return sorted({name for names in found for name in names})
 
 
 class Documents(unittest.TestCase):
@@ -64,17 +67,20 @@ class Documents(unittest.TestCase):
         folder = copied_top()
         self.addCleanup(shutil.rmtree, folder.parent, ignore_errors=True)
         program = folder / "crates/cachesim/out/cachesim"
-        known = {"PATH": f"{program.parent}:{os.environ['PATH']}", "CACHESIM": str(program), "COLUMNS": "100"}
+        path = f"{program.parent}:{os.environ['PATH']}"
+        known = {"PATH": path, "CACHESIM": str(program), "COLUMNS": "100"}
         for block in documents.blocks_of((base.TOP / name).read_text()):
             if block.reason:
                 continue
             for command in block.commands():
                 with self.subTest(f"{name}:{command.number}"):
-                    wrong = documents.differences(command, documents.run(command.text, folder, **known)[0])
+                    seen = documents.run(command.text, folder, **known)[0]
+                    wrong = documents.differences(command, seen)
                     self.assertFalse(wrong, "\n".join([f"{name}:{command.number}:", *wrong]))
             if block.is_script:
                 with self.subTest(f"{name}:{block.number}"):
-                    got, status = documents.run("set -eo pipefail\n" + "\n".join(block.lines), folder, **known)
+                    script = "\n".join(["set -eo pipefail", *block.lines])
+                    got, status = documents.run(script, folder, **known)
                     self.assertEqual(status, 0, f"{name}:{block.number}: status {status}\n{got}")
 
 
@@ -82,20 +88,23 @@ class Blocks(unittest.TestCase):
     """That blocks are told apart."""
 
     def test_blocks(self):
-        text = "a\n\n    $ one \\\n        two\n    out\n\n    $ three\n\nb\n<!-- not run: no -->\n\n    make\n\n"
-        text += "```\nmake\n```\n\n    0 10\n"
+        text = "a\n\n    $ one \\\n        two\n    out\n\n    $ three\n\nb\n<!-- not run: no -->"
+        text += "\n\n    make\n\n```\nmake\n```\n\n    0 10\n"
         blocks = documents.blocks_of(text)
-        self.assertEqual([(block.number, block.reason, block.is_session, block.is_script) for block in blocks],
-                         [(3, None, True, False), (12, "no", False, True), (15, None, False, True), (18, None, False, False)])
-        self.assertEqual(blocks[0].commands(), [(3, "one \\\n    two", ["out", ""]), (7, "three", [])])
+        got = [(it.number, it.reason, it.is_session, it.is_script) for it in blocks]
+        self.assertEqual(got, [(3, None, True, False), (12, "no", False, True),
+                               (15, None, False, True), (18, None, False, False)])
+        wanted = [(3, "one \\\n    two", ["out", ""]), (7, "three", [])]
+        self.assertEqual(blocks[0].commands(), wanted)
 
     def test_packages(self):
         """Those of commands that are run, and no other."""
-        text = "mlr\n\n    $ tools/plot t.csv \\\n        a.html\n\n<!-- not run: no -->\n\n    $ valgrind ls\n"
+        text = "mlr\n\n    $ tools/plot t.csv \\\n        a.html\n\n<!-- not run: no -->\n\n"
+        text += "    $ valgrind ls\n"
         self.assertEqual(packages_of(text), ["gnuplot-nox", "python3-plotly"])
         text += "\na script, and a piece of a file\n\n    make man\n\nb\n\n    xz 1\n"
         self.assertEqual(packages_of(text), ["gnuplot-nox", "lowdown", "python3-plotly"])
-        self.assertLessEqual({name for names in PACKAGES.values() for name in names}, set(base.PACKAGES))
+        self.assertLessEqual(set().union(*PACKAGES.values()), set(base.PACKAGES))
 
     def test_any_lines(self):
         self.assertTrue(documents.matches(["a", "...", "d"], ["a", "b", "c", "d"]))
@@ -113,4 +122,5 @@ def test_of(name):
 
 
 for document in DOCUMENTS:
-    setattr(Documents, "test_" + re.sub(r"\W", "_", document.removesuffix(".md")), test_of(document))
+    name = "test_" + re.sub(r"\W", "_", document.removesuffix(".md"))
+    setattr(Documents, name, test_of(document))

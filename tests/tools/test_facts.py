@@ -26,16 +26,20 @@ def constant(crate, source, name):
 
 class Manual(base.ToolTest):
     def test_options(self):
-        """Those of a command, their letters and their defaults are those of its help; of the caches of din the manual shows one."""
+        """Those of a command, their letters and their defaults are those of its help; of the caches
+        of din the manual shows one."""
+        others = re.compile("--l1-[id]|--l2|--help")
         for command in ("sweep", "csim", "din"):
             text = self.good(self.run_command(base.PROGRAM, command, "--help"))
-            asked = {name: rest for name, *rest in HELP.findall(text) if not re.match("--l1-[id]|--l2|--help", name)}
+            asked = {name: rest for name, *rest in HELP.findall(text) if not others.match(name)}
             told = {name: rest for name, *rest in ROW.findall(section(MANUAL, command))}
             self.assertGreater(len(told), 4)
-            self.assertEqual({name.lstrip("-") for name in told}, {name.lstrip("-") for name in asked})
+            one, other = ({name.lstrip("-") for name in names} for names in (told, asked))
+            self.assertEqual(one, other)
             for name, (meaning, default) in asked.items():
                 value, said = told[name if name in told else name[1:]]
-                letters = re.findall(r"\b([a-z]) [\w-]", meaning.rpartition(": ")[2]) if "`" in value else []
+                letters = re.findall(r"\b([a-z]) [\w-]", meaning.rpartition(": ")[2])
+                letters = letters if "`" in value else []
                 self.assertEqual(re.findall("`(.)`", value), letters, name)
                 if letters or default.isdigit():
                     self.assertIn("the default" if letters else f"{default} by default", said, name)
@@ -48,20 +52,24 @@ class Manual(base.ToolTest):
         bits = constant("cache_core", "geometry.rt", "MAX_BITS")
         self.assertIn(f"{2**bits:,} (2^{bits})", text)
         self.assertEqual(section(MANUAL, "csim").count(f"at most {bits}\n"), 2)
-        self.assertIn(f"at most {constant('trace_core', 'limits.rt', 'MAX_LINE'):,} bytes", text)
-        self.assertIn(f"at most 2^{constant('trace_core', 'limits.rt', 'MAX_LINES').bit_length() - 1} lines", text)
+        line, lines = (constant("trace_core", "limits.rt", f"MAX_{it}") for it in ("LINE", "LINES"))
+        self.assertIn(f"at most {line:,} bytes", text)
+        self.assertIn(f"at most 2^{lines.bit_length() - 1} lines", text)
 
     def test_digits(self):
         """How many an address and a size have, by how many the code reads."""
         code = (base.TOP / "crates/trace_core/src/line.rt").read_text()
-        for what, radix in (("address has 1 to {} hexadecimal digits", 16), ("size has 1 to {} decimal digits", 10)):
+        for what, radix in (
+            ("address has 1 to {} hexadecimal digits", 16), ("size has 1 to {} decimal digits", 10),
+        ):
             most = {int(number) for number in re.findall(rf"read_number\({radix}, (\d+), ", code)}
             self.assertEqual(len(most), 1)
             self.assertIn(what.format(*most), section(MANUAL, "Traces"))
 
     def test_buffers(self):
         """Output and input are gathered in pieces as large as the documents tell."""
-        code = (base.TOP / "crates/cachesim/src/main.rt").read_text() + (base.TOP / "crates/trace_core/src/buffer.rt").read_text()
+        sources = "cachesim/src/main.rt", "trace_core/src/buffer.rt"
+        code = "".join((base.TOP / "crates" / name).read_text() for name in sources)
         sizes = re.findall(r"const (?:OUTPUT_BUFFER|CAPACITY): usize = (\d[\d_]*);", code)
         self.assertEqual((len(sizes), len({int(size) for size in sizes})), (2, 1))
         told = f"{int(sizes[0]) // 1024} KiB"
@@ -90,9 +98,9 @@ class Others(base.ToolTest):
         text = (base.TOP / "docs/definitions.md").read_text()
         stream = constant("cache_core", "replacement.rt", "STREAM")
         self.assertIn(f"stream {stream}.", text)
-        seed, told = re.search(r"With seed (\d+) the first are ((?:[0-9a-f]{8}(?:, )?)+)", text).groups()
-        numbers = [f"{number:08x}" for number in itertools.islice(base.model.random_words(int(seed)), 4)]
-        self.assertEqual(told.split(", "), numbers)
+        told = re.search(r"With seed (\d+) the first are ((?:[0-9a-f]{8}(?:, )?)+)", text)
+        numbers = itertools.islice(base.model.random_words(int(told[1])), 4)
+        self.assertEqual(told[2].split(", "), [f"{number:08x}" for number in numbers])
 
     def test_the_picture(self):
         with open(base.TOP / "docs/pictures/sort.csv", newline="", encoding="ascii") as file:
@@ -103,8 +111,9 @@ class Others(base.ToolTest):
 
     def test_the_default_page(self):
         """Of by-page, as its help tells it."""
-        told = re.search(r"(\w+) without this option", self.good(self.run_tool("by-page", "--help")))[1]
-        arguments = (base.EXAMPLES / "sort.din", *"-l1-dsize 256 -l1-dbsize 16 -l1-dassoc 2".split())
+        text = self.good(self.run_tool("by-page", "--help"))
+        told = re.search(r"(\w+) without this option", text)[1]
+        arguments = base.EXAMPLES / "sort.din", *base.cache(256, 16, "-l1-dassoc", 2)
         named = self.good(self.run_tool("by-page", *arguments, "--page", told))
         self.assertEqual(self.good(self.run_tool("by-page", *arguments)), named)
         self.assertNotEqual(named, self.good(self.run_tool("by-page", *arguments, "--page", "8k")))

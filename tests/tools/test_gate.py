@@ -14,9 +14,10 @@ ALL = f"{CRATES + EDITS} passed, 0 failed"
 
 class Gate(ToolTest):
     def judge(self, lines, status, wanted):
-        """Compares the sum of the gate, where rt ci writes these lines, with the sum that is wanted."""
+        """Compares the sum of the gate, where rt ci writes these lines, with the wanted one."""
         gate = script("all")
-        with mock.patch.object(gate, "shown", lambda command: (lines, status)), contextlib.redirect_stdout(io.StringIO()):
+        stand_in = mock.patch.object(gate, "shown", lambda command: (lines, status))
+        with stand_in, contextlib.redirect_stdout(io.StringIO()):
             self.assertEqual(gate.gate(), wanted)
 
     def test_each_edit_is_refused(self):
@@ -25,7 +26,8 @@ class Gate(ToolTest):
         self.judge([f"rt: ok; must-fail edits: {EDITS} refused", ALL], 0, (CRATES + EDITS, 0))
 
     def test_an_edit_that_is_taken_for_refused(self):
-        self.judge([f"rt: ok; must-fail edits: {EDITS - 1} refused, 1 not compiled", ALL], 0, (CRATES + EDITS, 1))
+        told = f"rt: ok; must-fail edits: {EDITS - 1} refused, 1 not compiled"
+        self.judge([told, ALL], 0, (CRATES + EDITS, 1))
 
     def test_an_edit_that_was_not_tried(self):
         self.judge([f"{CRATES + EDITS - 1} passed, 0 failed"], 0, (CRATES + EDITS - 1, 1))

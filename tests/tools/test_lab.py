@@ -94,7 +94,8 @@ class Csim(LabTest):
 
 def mistakes():
     """The cases in mistakes.cases: names of mistakes, arguments, and what is to be written."""
-    for case in (STUDENTS / "mistakes.cases").read_text().split("\n== ")[1:]:
+    text = (STUDENTS / "mistakes.cases").read_text().replace("\n>+", "")
+    for case in text.split("\n== ")[1:]:
         lines = case.splitlines()
         arguments = next(line[2:] for line in lines if line.startswith("$ "))
         said = "".join(f"{line[2:]}\n" for line in lines if line.startswith("> "))

@@ -1,5 +1,5 @@
 #!/usr/bin/python3
-"""A right simulator in Python, for the tests of `grade`: each set is a dictionary, which keeps the order of its entries."""
+"""A right simulator in Python, for tests of `grade`: a set is a dictionary, which is ordered."""
 
 import getopt
 import sys

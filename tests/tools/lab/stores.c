@@ -1,5 +1,5 @@
-/* Says where it stores and what it reads, and a line that looks like one of a trace. Stores there ten times; its child stores there a
- * thousand times. Ends with status 7. */
+/* Says where it stores and what it reads, and a line that looks like one of a trace. Stores there
+ * ten times; its child stores there a thousand times. Ends with status 7. */
 #include <stdio.h>
 #include <sys/wait.h>
 #include <unistd.h>

@@ -1,5 +1,5 @@
-/* A simulator of the kind that students write for the cache lab, for the tests of `grade`. It is right as it stands; each name that
- * is defined puts a mistake in, as `cc -DFIFO`. */
+/* A simulator of the kind that students write for the cache lab, for the tests of `grade`. It is
+ * right as it stands; each name that is defined puts a mistake in, as `cc -DFIFO`. */
 #include <fcntl.h>
 #include <getopt.h>
 #include <signal.h>
@@ -9,7 +9,7 @@
 #include <sys/stat.h>
 #include <unistd.h>
 
-/* HAS(NAME) is 1 where NAME is defined by -DNAME, and else 0. It is how Linux has its IS_ENABLED. */
+/* HAS(NAME) is 1 where NAME is defined by -DNAME, and else 0, as is Linux's IS_ENABLED. */
 #define COMMA_1 0,
 #define SECOND(first, second, ...) second
 #define IS(text) SECOND(text 1, 0, )
@@ -104,7 +104,8 @@ static address_t tag_of(address_t address)
         return address >> set_bits;
     if (HAS(TAG_TOO_SHORT))
         return address >> (block_bits + set_bits + 1);
-    return address >> block_bits >> set_bits & (HAS(NARROW_TAG) ? 0xffffffff : HAS(SHORT_TAG) ? 0xffff : HAS(BYTE_TAG) ? 0xff : ~0ull);
+    return address >> block_bits >> set_bits & (HAS(NARROW_TAG) ? 0xffffffff
+        : HAS(SHORT_TAG) ? 0xffff : HAS(BYTE_TAG) ? 0xff : ~0ull);
 }
 
 /* The lines that an array has for a set, and those of a set that are looked at. */
@@ -115,7 +116,8 @@ static int apart(void)
 
 static int looked_at(void)
 {
-    int most = HAS(ONE_WAY) ? 1 : HAS(MOST_8) ? 8 : HAS(MOST_64) ? 64 : HAS(ONE_LESS) ? ways - 1 : ways + HAS(ONE_MORE);
+    int most = HAS(ONE_WAY) ? 1 : HAS(MOST_8) ? 8 : HAS(MOST_64) ? 64
+        : HAS(ONE_LESS) ? ways - 1 : ways + HAS(ONE_MORE);
     return most < ways + HAS(ONE_MORE) ? most : ways + HAS(ONE_MORE);
 }
 
@@ -163,8 +165,9 @@ static void step(char kind, address_t address, int size)
 /* What the lab's function of this name does, as its handout describes it. */
 static void printSummary(int hits, int misses, int evictions)
 {
-    const char *form = HAS(OWN_WORDS) ? "Hits: %d, Misses: %d, Evictions: %d\n" : HAS(OWN_ORDER) ? "misses:%2$d hits:%1$d evictions:%3$d\n"
-                                                                                 : "hits:%d misses:%d evictions:%d\n";
+    const char *form = HAS(OWN_WORDS) ? "Hits: %d, Misses: %d, Evictions: %d\n"
+        : HAS(OWN_ORDER) ? "misses:%2$d hits:%1$d evictions:%3$d\n"
+        : "hits:%d misses:%d evictions:%d\n";
     if (!HAS(NEEDS_VERBOSE) || verbose)
         fprintf(HAS(TO_STDERR) ? stderr : stdout, form, hits, misses, evictions);
     if (HAS(NO_RESULTS))
@@ -273,7 +276,8 @@ static int reads(const char *text, char *kind, address_t *address, int *size)
         *address = strtoull(text + 3, NULL, 10);
     if (HAS(FIRST_LETTER) && found == 3)
         *kind = *text;
-    const char *kinds = HAS(FETCHES) ? "LSMI" : HAS(NO_MODIFIES) ? "LS" : HAS(NO_STORES) ? "LM" : "LSM";
+    const char *kinds = HAS(FETCHES) ? "LSMI"
+        : HAS(NO_MODIFIES) ? "LS" : HAS(NO_STORES) ? "LM" : "LSM";
     return found == 3 && strchr(kinds, *kind);
 }
 
@@ -319,7 +323,8 @@ int main(int argc, char **argv)
         }
     if (HAS(FIXED_OPTIONS)) { /* as in: csim -s 4 -E 2 -b 4 -t FILE */
         int first = verbose ? 3 : 2;
-        set_bits = atoi(argv[first]), ways = atoi(argv[first + 2]), block_bits = atoi(argv[first + 4]), trace = argv[first + 6];
+        set_bits = atoi(argv[first]), ways = atoi(argv[first + 2]);
+        block_bits = atoi(argv[first + 4]), trace = argv[first + 6];
     }
     FILE *file = fopen(trace, "r");
     if (!file)

@@ -1,5 +1,6 @@
-/* Simulators as other students write them, all right, for the tests of `grade`: cc -DSTYLE=LIST, AGES, SHIFT or HASH. They read
- * the whole trace at once, and write no .csim_results. The last one doesn't end its line. */
+/* Simulators as other students write them, all right, for the tests of `grade`: cc -DSTYLE=LIST,
+ * AGES, SHIFT or HASH. They read the whole trace at once, and write no .csim_results. The last one
+ * doesn't end its line. */
 #include <stdio.h>
 #include <stdlib.h>
 #include <string.h>
@@ -100,7 +101,7 @@ static enum outcome hash(unsigned long set, unsigned long tag)
     return outcome;
 }
 
-static enum outcome (*const touch[])(unsigned long set, unsigned long tag) = {list, ages, shift, hash};
+static enum outcome (*const touch[])(unsigned long, unsigned long) = {list, ages, shift, hash};
 
 /* The whole of a file, as a text. */
 static char *read_all(const char *name)
@@ -134,6 +135,8 @@ int main(int argc, char **argv)
         for (int times = *line == 'I' ? 0 : line[1] == 'M' ? 2 : 1; times > 0; times--)
             went[touch[STYLE](block & ((1ul << set_bits) - 1), block >> set_bits)]++;
     }
-    printf("hits:%lu misses:%lu evictions:%lu%s", went[HIT], went[MISS] + went[EVICTION], went[EVICTION], STYLE == HASH ? "" : "\n");
+    unsigned long misses = went[MISS] + went[EVICTION];
+    printf("hits:%lu misses:%lu evictions:%lu", went[HIT], misses, went[EVICTION]);
+    fputs(STYLE == HASH ? "" : "\n", stdout);
     return 0;
 }

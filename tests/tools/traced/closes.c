@@ -1,4 +1,4 @@
-// Closes all descriptors that it doesn't know, as daemons do, and writes its own file, whose number may be one of those.
+// Closes all descriptors that it doesn't know, as daemons do; its own file may get such a number.
 #include <fcntl.h>
 #include <unistd.h>
 

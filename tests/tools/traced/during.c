@@ -31,7 +31,8 @@ int main(int count, char **words) {
     const char *way = count > 1 ? words[1] : "";
     pthread_t other;
     outside[0] = 1;
-    if (!strcmp(way, "thread")) return pthread_create(&other, 0, in_a_thread, 0) || pthread_join(other, 0);
+    if (!strcmp(way, "thread"))
+        return pthread_create(&other, 0, in_a_thread, 0) || pthread_join(other, 0);
     if (!strcmp(way, "exit")) f(9);
     if (!strcmp(way, "jump away")) return setjmp(away) ? (outside[4] = 1, 0) : (f(8), 1);
     if (!strcmp(way, "never")) return 0;

@@ -1,4 +1,4 @@
-// Writes 10007 numbers of its own, more than go in two blocks of the tracer, and ends in the way that its argument names.
+// Writes 10007 numbers of its own, more than go in two blocks of trace, and ends as it is told.
 #include <pthread.h>
 #include <signal.h>
 #include <stdio.h>

@@ -1,11 +1,12 @@
-// Replaces QEMU in tests without it: loads a plugin, and calls it for what the arguments after the program say.
+// Replaces QEMU in tests: loads a plugin, and calls it for what the arguments after a program say.
 //
 //     fake_qemu -plugin FILE,ARGUMENT,.. .. -0 NAME PROGRAM STEP..
 //     fake_qemu --version     fake_qemu -h
 //
-// 0:ADDRESS, 1:ADDRESS and 2:ADDRESS are references as in din, 3:ADDRESS reads and writes at once; many:N are N reads from 0 on.
-// call is a system call, say:TEXT writes, exit:N ends, exec:N becomes another program that ends, kill is a death by SIGKILL, wait
-// waits for ever, and loop reads for ever. fork has a child that ends. ignore lets SIGTERM do nothing. The program's code starts at
+// 0:ADDRESS, 1:ADDRESS and 2:ADDRESS are references as in din, 3:ADDRESS reads and writes at once;
+// many:N are N reads from 0 on. call is a system call, say:TEXT writes, exit:N ends, exec:N becomes
+// another program that ends, kill is a death by SIGKILL, wait waits for ever, and loop reads for
+// ever. fork has a child that ends. ignore lets SIGTERM do nothing. The program's code starts at
 // FAKE_START.
 #include <dlfcn.h>
 #include <signal.h>
@@ -18,7 +19,8 @@
 
 typedef void translated(uint64_t, void *), executed(unsigned, void *), ended(uint64_t, void *);
 typedef void accessed(unsigned, uint32_t, uint64_t, void *);
-typedef void called(uint64_t, unsigned, int64_t, uint64_t, uint64_t, uint64_t, uint64_t, uint64_t, uint64_t, uint64_t, uint64_t);
+typedef void called(uint64_t, unsigned, int64_t, uint64_t, uint64_t, uint64_t, uint64_t, uint64_t,
+                    uint64_t, uint64_t, uint64_t);
 typedef int install(uint64_t, const void *, int, char **);
 
 static translated *on_translation;
@@ -29,7 +31,10 @@ static called *on_call;
 static ended *on_end;
 static uint64_t address;
 
-void qemu_plugin_register_vcpu_tb_trans_cb(uint64_t id, translated *call) { (void)id, on_translation = call; }
+void qemu_plugin_register_vcpu_tb_trans_cb(uint64_t id, translated *call)
+{
+    (void)id, on_translation = call;
+}
 void qemu_plugin_register_vcpu_insn_exec_cb(void *at, executed *call, int flags, void *word)
 {
     (void)at, (void)flags, on_fetch[fetch_calls].call = call, on_fetch[fetch_calls++].word = word;
@@ -39,11 +44,14 @@ void qemu_plugin_register_vcpu_mem_cb(void *at, accessed *call, int flags, int w
     (void)at, (void)flags, (void)way, (void)word, on_data = call;
 }
 void qemu_plugin_register_vcpu_syscall_cb(uint64_t id, called *call) { (void)id, on_call = call; }
-void qemu_plugin_register_atexit_cb(uint64_t id, ended *call, void *word) { (void)id, (void)word, on_end = call; }
+void qemu_plugin_register_atexit_cb(uint64_t id, ended *call, void *word)
+{
+    (void)id, (void)word, on_end = call;
+}
 size_t qemu_plugin_tb_n_insns(const void *block) { return block != NULL; }
 void *qemu_plugin_tb_get_insn(void *block, size_t at) { return at ? NULL : block; }
 uint64_t qemu_plugin_insn_vaddr(const void *instruction) { return instruction ? address : 0; }
-void *qemu_plugin_insn_haddr(const void *instruction) { return (void *)(instruction ? address : 0); }
+void *qemu_plugin_insn_haddr(const void *at) { return (void *)(at ? address : 0); }
 bool qemu_plugin_mem_is_store(uint32_t access) { return access >> 16 & 2; }
 #ifndef WITHOUT_START
 uint64_t qemu_plugin_start_code(void) { return strtoull(getenv("FAKE_START"), NULL, 16); }
@@ -53,7 +61,8 @@ static void refer(char label) {
     fetch_calls = 0;
     on_translation(1, &address);
     for (int i = 0; label == '2' && i < fetch_calls; i++) on_fetch[i].call(0, on_fetch[i].word);
-    if (label != '2' && on_data) on_data(0, (label == '3' ? 3u : label - '0' + 1u) << 16, address, NULL);
+    unsigned way = label == '3' ? 3u : label - '0' + 1u;
+    if (label != '2' && on_data) on_data(0, way << 16, address, NULL);
 }
 
 static void refer_many(uint64_t count) {
@@ -78,7 +87,7 @@ static void step(const char *word) {
     if (!strncmp(word, "exec:", 5)) call(), execlp("sh", "sh", "-c", value, (char *)0);
 }
 
-// What follows a plugin's file or argument, which a single comma ends; two commas are one of its own.
+// What is behind a plugin's file or argument, which one comma ends; two commas are one of its own.
 static char *behind(char *word) {
     char *to = word, *at = word;
     while (*at && (*at != ',' || *++at == ',')) *to++ = *at++;
@@ -98,7 +107,8 @@ static int load(char *words) {
 }
 
 int main(int count, char **words) {
-    if (!strcmp(words[1], "--version")) return !printf("qemu-x86_64 version %s (Debian)\nCopyright\n", getenv("FAKE_VERSION"));
+    const char *version = "qemu-x86_64 version %s (Debian)\nCopyright\n";
+    if (!strcmp(words[1], "--version")) return !printf(version, getenv("FAKE_VERSION"));
     if (!strcmp(words[1], "-h")) return !printf("%s\n", getenv("FAKE_HELP"));
     if (strcmp(words[1], "-plugin") || load(words[2])) return 1;
     int at = 3;

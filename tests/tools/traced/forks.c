@@ -1,4 +1,4 @@
-// Writes before, while and after a forked child writes other numbers; a second child becomes another program.
+// Writes before, while and after a forked child writes others; a second becomes another program.
 #include <stdio.h>
 #include <sys/wait.h>
 #include <unistd.h>

@@ -1,4 +1,4 @@
-// Reads and writes its own static data in a way that is plain from this text: the trace must have just that.
+// Reads and writes its own static data as is plain from this text: the trace must have just that.
 volatile unsigned numbers[1000];
 volatile unsigned long long longs[10];
 volatile unsigned char bytes[3];

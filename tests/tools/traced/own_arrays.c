@@ -1,4 +1,4 @@
-/* Three threads, each of which changes only an array of its own, in a function of its own and without system calls. */
+/* Three threads, each changing an array of its own, in its own function without system calls. */
 #include <pthread.h>
 #include <stddef.h>
 

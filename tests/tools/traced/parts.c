@@ -1,5 +1,5 @@
-// Writes to `inside` between each call of enter and of leave, and else to `outside`. With the argument `threads` another thread does so;
-// with `fork` only a forked child calls enter.
+// Writes to `inside` between each call of enter and of leave, and else to `outside`. With the word
+// `threads` another thread does so; with `fork` only a forked child calls enter.
 #include <pthread.h>
 #include <string.h>
 #include <sys/wait.h>

@@ -1,4 +1,4 @@
-// A little of much of the standard library: strings in a map, a hash table, objects by their base class, and two sorts.
+// A little of much of the standard library: strings in a map, a hash table, objects, and two sorts.
 #include <algorithm>
 #include <cstdio>
 #include <map>
@@ -36,7 +36,8 @@ int main() {
         else shapes.push_back(std::make_unique<Circle>(number));
     }
     std::sort(numbers.begin(), numbers.end());
-    std::stable_sort(shapes.begin(), shapes.end(), [](const auto &one, const auto &other) { return one->area() < other->area(); });
+    auto is_less = [](const auto &one, const auto &other) { return one->area() < other->area(); };
+    std::stable_sort(shapes.begin(), shapes.end(), is_less);
     long sum = numbers[100] + long(shapes[100]->area());
     for (const auto &word : words) sum += word.second * word.first.size();
     for (const auto &one : seen) sum += one.first ^ one.second;

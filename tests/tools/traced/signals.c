@@ -1,5 +1,5 @@
-// Stores numbers of its own, round after round, while a clock and pages that may not be written yet interrupt it. Says the rounds, the
-// ticks of the clock and the faults of pages.
+// Stores numbers of its own, round after round, while a clock and pages that may not be written yet
+// interrupt it. Says the rounds, the ticks of the clock and the faults of pages.
 #include <signal.h>
 #include <stdint.h>
 #include <stdio.h>
@@ -22,7 +22,8 @@ static void on_fault(int number, siginfo_t *info, void *context) {
 }
 
 int main(void) {
-    struct sigaction tick = {.sa_handler = on_tick}, fault = {.sa_sigaction = on_fault, .sa_flags = SA_SIGINFO};
+    struct sigaction tick = {.sa_handler = on_tick};
+    struct sigaction fault = {.sa_sigaction = on_fault, .sa_flags = SA_SIGINFO};
     struct itimerval clock = {{0, 1000}, {0, 1000}}, none = {{0, 0}, {0, 0}};
     unsigned rounds = 0;
     sigaction(SIGALRM, &tick, 0);

@@ -1,4 +1,4 @@
-// Four threads: each writes its own row from the front and adds 1 to one number at each step, without a lock.
+// Four threads: each writes its own row from the front and adds 1 to a number, without a lock.
 #include <pthread.h>
 
 enum { THREADS = 4, STEPS = 20000 };

@@ -1,4 +1,4 @@
-// Words in a map, and points that are sorted, filtered and summed: most of it is code of the standard library, inlined.
+// Words in a map, and points sorted, filtered and summed: mostly code of the standard library.
 use std::collections::BTreeMap;
 
 struct Point {
