@@ -26,35 +26,23 @@ PACKAGES = {
     "bash-completion": "/usr/share/bash-completion/bash_completion",
     "binutils": "addr2line",
     "bubblewrap": "bwrap",
-    "chromium": "chromium",
     "debhelper": "dh",
-    "fish": "fish",
-    "flake8": "flake8",
-    "g++": "g++",
-    "gcc": "gcc",
     "gcc-aarch64-linux-gnu": "aarch64-linux-gnu-gcc",
-    "git": "git",
     "gnuplot-nox": "gnuplot",
-    "lintian": "lintian",
     "llvm": "llvm-addr2line",
-    "lowdown": "lowdown",
     "man-db": "man",
     "miller": "mlr",
     "munge": "munged",
-    "parallel": "parallel",
     "poppler-utils": "pdftotext",
     "python3-pandas": "/usr/lib/python3/dist-packages/pandas",
     "python3-plotly": "/usr/lib/python3/dist-packages/plotly",
-    "pv": "pv",
     "qemu-user": "qemu-x86_64",
-    "rustc": "rustc",
-    "shellcheck": "shellcheck",
     "slurm-client": "sbatch",
     "slurm-wlm": "slurmctld",
-    "valgrind": "valgrind",
     "xz-utils": "xz",
-    "zsh": "zsh",
-    "zstd": "zstd",
+    **{name: name for name in (
+        "chromium fish flake8 g++ gcc git lintian lowdown parallel pv rustc shellcheck valgrind "
+        "zsh zstd").split()},
 }
 # set by the runner where tests that need a package are left out
 PLAIN = bool(os.environ.get("CACHESIM_PLAIN_TESTS"))
@@ -117,8 +105,7 @@ def references(text, format="d", kind="u"):
 
 
 def rows_of(references, misses):
-    """Rows of a table, for caches that are full at the end: how many references miss, by block
-    size, sets and ways."""
+    """Rows of a table, for caches that are full at the end, by block size, sets and ways."""
     return "".join(
         f"{bsize},{sets},{ways},{bsize * sets * ways},{references - missed},{missed},"
         f"{missed - sets * ways}\n"
@@ -127,8 +114,7 @@ def rows_of(references, misses):
 
 
 class Lru:
-    """A cache that replaces the block least recently used, as plainly as can be: each set is a
-    list, the block used last behind."""
+    """A cache that replaces the least recently used block: a set is a list, the latest last."""
 
     def __init__(self, bsize, sets, assoc):
         self.bsize, self.assoc = bsize, assoc
@@ -247,8 +233,7 @@ class ToolTest(unittest.TestCase):
         self.assertEqual((running.communicate(timeout=20)[1], running.returncode), (b"", 141))
 
     def end_of(self, running):
-        """What a process with a group of its own has written. One that goes on is a failure, and
-        is ended with its group."""
+        """What a process with its own group has written. One that goes on is ended with it."""
         try:
             return running.communicate(timeout=20)
         except subprocess.TimeoutExpired:

@@ -11,8 +11,7 @@ POLICIES = {
 
 
 def din_rows(policies, ways=2, bsize=16):
-    """Rows of a table of din, given the misses of 1,000 references by size and policy, for each
-    seed."""
+    """Rows of a table of din, given the misses of 1,000 references by size and policy."""
     return "".join(
         f"{size},{bsize},{ways},{policy},{seed},1000,{missed},{missed / 10:.3f},{missed // 10},0\n"
         for (size, policy), misses in policies.items()

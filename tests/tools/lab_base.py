@@ -34,8 +34,7 @@ class LabTest(ToolTest):
         self.private.mkdir()
 
     def leaves_nothing(self, *arguments, stdin=b""):
-        """Runs a tool, and interrupts it as the keyboard does once it has begun to write. Its
-        files are removed."""
+        """Interrupts a tool, as the keyboard does, once it has begun to write: its files go."""
         env = {**os.environ, "TMPDIR": str(self.private)}
         given = {"env": env, "cwd": self.folder, "start_new_session": True}
         pipes = {"stdin": subprocess.PIPE, "stdout": subprocess.PIPE, "stderr": subprocess.DEVNULL}

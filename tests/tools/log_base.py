@@ -1,5 +1,4 @@
-"""What the tests of the tools that filter the log share: caches, what comes to them by the model,
-traces, and faults."""
+"""What tests of the tools that filter the log share: caches, what comes to them, traces, faults."""
 
 import random
 
@@ -129,8 +128,7 @@ class Filtering(reading_base.Reading):
 
 
 def cases(seed, count=3):
-    """Traces in both formats with their format, and options for them: each plan with random
-    caches, and by turns all formats."""
+    """Traces with their format, and options: each plan with random caches, by turns all formats."""
     drawn = random.Random(seed)
     for names in PLANS * count:
         options = random_options(drawn, names)

@@ -1,5 +1,4 @@
-"""What the tests of all tools that read a trace share: files, pipes, packed traces, faults of the
-trace, and a full device."""
+"""What tests of tools that read a trace share: files, pipes, packed ones, faults, a full device."""
 
 import gzip
 import itertools
@@ -52,8 +51,7 @@ class Reading:
             self.assertEqual(got, (1, self.MARK, told))
 
     def test_faults_of_the_trace(self):
-        """After a line that is bad, or the end of a packed trace that was cut off or has something
-        behind it."""
+        """After a bad line, or a packed trace that was cut off or has something behind it."""
         bad, whole = SORT + b"4 10\n0 10 \n7 10\n0 0", gzip.compress(SORT)
         for name, text, fault in (
             ("bad", bad, b"cachesim: line 5849: bad label\n"),
@@ -125,8 +123,7 @@ class ReadingForMany(Many):
             self.assertEqual(self.table(name), self.table(base.EXAMPLES / "sort.din"))
 
     def test_cut_short(self):
-        """A compressed trace that ends too early, also behind a whole line: no run may take what
-        was read for the whole."""
+        """A packed trace that ends too early, also behind a line: no run takes it for whole."""
         pressed = gzip.compress(SORT)
         bad = *(pressed[:end] for end in (-4, -8, 1000)), pressed[:-8] + b"8 bytes!", b"", b"0 10\n"
         for repeated, text in itertools.product(range(3), bad):

@@ -225,8 +225,7 @@ class OfDin(base.ToolTest):
                      "best: t.csv: no cache has at most 1.9 per cent misses; the least is 2\n")
 
     def test_below_of_a_cache_and_of_the_trace(self):
-        """20 of the 50 references to the second level, and of the 109 of the trace: 40 and 18.349
-        per cent."""
+        """20 of 50 references to the second level, of 109 of the trace: 40 and 18.349 per cent."""
         rows = "64,256,100,50,50.000,50,20,40.000,20,9,90\n"
         rows += "128,256,100,40,40.000,40,25,62.500,25,9,80\n"
         for words, row in (

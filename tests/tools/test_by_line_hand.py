@@ -73,8 +73,7 @@ class Hand(ByLineTest):
 
 class Misses(Hand):
     def test_fully_associative_fifo(self):
-        """Capacity misses are those of LRU: it keeps block 1, which is used again; FIFO evicts it
-        for block 3, and misses it once more."""
+        """Capacity misses are those of LRU: it keeps block 1 where FIFO evicts it for block 3."""
         text = b"0 10\n0 20\n0 10\n0 30\n0 10\n"
         for more in (("-l1-dassoc", "2", "-l1-drepl", "f"), ("-l1-dassoc=2", "--l1-drepl=f")):
             self.assertEqual(self.counts(text, *cache(32, 16), *more), [5, 4, 3, 0, 1])
@@ -138,8 +137,7 @@ class Objects(Hand):
 
 class Evictions(Hand):
     def evict(self, text, *wanted, more=()):
-        """References to the one object miss what those to the other had evicted: how often, and
-        which share of all misses this is."""
+        """References to the one object miss what the other's evicted: how often, which share."""
         rows = self.by_object(text, "--evicted-by", *ONE_LINE, *more)
         got = self.values(rows, "object", "evicted-by-object", "misses", "share")
         self.assertEqual(got, list(wanted))
@@ -162,8 +160,7 @@ class Evictions(Hand):
         self.evict(text + b"0 1010\n0 10\n", ("(heap)", "(stack)", 1, "20.000"))
 
     def test_a_write_that_brings_no_block_in(self):
-        """The block stays away by the same eviction, so the next miss is told too; but not of a
-        block that was never in."""
+        """The block stays away by the same eviction, so the next miss is told if it was ever in."""
         text = b"0 10\n0 1010\n1 10\n0 10\n"
         for trace, *row in (
             (text, "(heap)", "(stack)", 2, "50.000"),

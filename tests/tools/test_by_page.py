@@ -14,8 +14,7 @@ class ByPage(log_base.Filtering, base.ToolTest):
     TOOL = "by-page"
 
     def judge(self, text, page, size, *options, cache=None):
-        """Compares with the machines of the model: what comes to a cache, or else to the first
-        level, by page."""
+        """Compares with the model: by page what comes to a cache, or else to the first level."""
         references, misses = collections.Counter(), collections.Counter()
         for place, event, missed in log_base.arrivals(text, options):
             if place.startswith(cache or "l1"):

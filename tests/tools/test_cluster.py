@@ -202,8 +202,7 @@ class OneNode(ToolTest):
         self.fail("jobs are left: " + (self.place / "slurm/slurmctld.log").read_text())
 
     def test_sweep(self):
-        """A good trace, plain and compressed, gives the bytes of one run; a bad one no table, and
-        its joining job never runs."""
+        """A good trace gives the bytes of one run; a bad one no table, and its join never runs."""
         (self.folder / "a trace.gz").write_bytes(gzip.compress(TRACE.read_bytes()))
         (self.folder / "bad").write_text("0 10\n0 20\n2 1g\n")
         for name, trace in (("plain", TRACE), ("a b", "a trace.gz"), ("failing", "bad")):

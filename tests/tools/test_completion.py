@@ -19,19 +19,13 @@ OPTIONS = {
     "sweep": set(f"{OF_SWEEP} -t -h --help".split()),
     "csim": set("-s -E -b -t -v -h --help".split()),
     "din": {f"-{name}" for name in ONE_OR_TWO} | {"--seed", "-t", "-h", "--help"},
-    "log": {f"-{name}" for name in ONE_OR_TWO} | {"--seed", "-t", "-h", "--help"},
 }
+OPTIONS["log"] = OPTIONS["din"]
 ONE_OF = {
-    "sweep --kind": "u d i",
-    "sweep --format": "d l",
-    "din -informat": "d l",
-    "din --informat": "d l",
-    "din -l1-urepl": "l f r",
-    "din --l2-urepl": "l f r",
-    "din -l1-dwalloc": "a n",
-    "din --l1-iwback": "a n",
-    "log -l1-urepl": "l f r",
-    "log --l2-urepl": "l f r",
+    "sweep --kind": "u d i", "din -l1-dwalloc": "a n", "din --l1-iwback": "a n",
+    **dict.fromkeys(("sweep --format", "din -informat", "din --informat"), "d l"),
+    **{f"{command} {option}": "l f r"
+       for command in ("din", "log") for option in ("-l1-urepl", "--l2-urepl")},
 }
 
 

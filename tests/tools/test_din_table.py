@@ -47,8 +47,7 @@ class DinTableTest(reading_base.Many, base.ToolTest):
 
 class Rows(DinTableTest):
     def test_by_hand(self):
-        """A flush empties the cache. One set of two ways holds blocks 0 and 1; block 2 comes and
-        evicts 0, which then misses."""
+        """A flush empties the cache. Two ways hold blocks 0 and 1; 2 evicts 0, which misses."""
         self.write("six", SIX)
         row, = self.rows(1, "six", *"-l1-usize 32 -l1-ubsize 16 -l1-uassoc 2".split())
         wanted = (
@@ -59,8 +58,7 @@ class Rows(DinTableTest):
         self.assertEqual(row, dict(word.split("=") for word in wanted.split()))
 
     def agree(self, trace, left_out, options):
-        """Compares a table with the model: each combination that there is, the last option
-        fastest, and each of its counts."""
+        """Compares a table with the model: each row, the last option fastest; each count."""
         text, words = trace.read_bytes(), options.split()
         wanted = []
         for values in itertools.product(*(word.split(",") for word in words[1::2])):
@@ -93,8 +91,7 @@ class Rows(DinTableTest):
             "-l1-uwalloc a,n -l1-uwback a,n"))
 
     def test_second_levels(self):
-        """Of 2 * 2 * 2 * 2 = 16 the blocks of 16 bytes are too small behind those of 32: 4
-        combinations are left out."""
+        """Of 2 * 2 * 2 * 2 = 16, 4 have blocks of 16 bytes behind those of 32: left out."""
         self.assertEqual(12, self.agree(
             self.short(), "4 of 16", "-l1-isize 64 -l1-ibsize 16 -l1-dsize 64 -l1-dbsize 16,32 "
             "-l1-dwback n,a -l2-usize 256 -l2-ubsize 16,32 -l2-uassoc 4 -l2-urepl f,r"))
@@ -184,8 +181,7 @@ class Values(DinTableTest):
 
 class Traces(DinTableTest):
     def test_read_once(self):
-        """Standard input, pipes, and packed traces, with fewer runs at once than there are and with
-        more: one table."""
+        """Standard input, pipes, packed traces, few runs at once and many: one table."""
         text = DIN.read_bytes()
         self.write("t.gz", gzip.compress(text))
         wanted = self.good(self.tool(2, DIN, *SMALL))

@@ -56,8 +56,7 @@ PIPES = {"stdout": subprocess.PIPE, "stderr": subprocess.PIPE, "start_new_sessio
 class FailureTest(ToolTest):
     @classmethod
     def setUpClass(cls):
-        """A copy of the tools in which each command that they run is a stand-in, and a folder with
-        what they read."""
+        """A copy of the tools with stand-ins for all commands, and a folder with what they read."""
         cls.place = pathlib.Path(tempfile.mkdtemp(prefix="cachesim-failures-"))
         cls.addClassCleanup(shutil.rmtree, cls.place, ignore_errors=True)
         cls.tools, cls.commands, cls.given = (
@@ -107,8 +106,7 @@ class FailureTest(ToolTest):
         return {**own, "LC_ALL": "C.UTF-8", "PYTHONDONTWRITEBYTECODE": "1", **FAKE, **more}
 
     def run_in(self, name, words, before="", after="", **more):
-        """Runs a tool in a folder of its own, in which it may write. Which commands were called is
-        in the folder `name`."""
+        """Runs a tool in a folder of its own. The folder `name` tells which commands it called."""
         calls = self.folder / name
         env = self.environment(calls, **more)
         folder = calls / "in"

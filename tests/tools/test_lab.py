@@ -245,8 +245,7 @@ class Trace(LabTest):
 
     @needs("valgrind")
     def test_a_program_and_its_child(self):
-        """Ten stores of the program are there, and none of its child; so are the program's words,
-        its input and its status."""
+        """Ten stores of the program, and none of its child; and its words, input and status."""
         flags = "-O1", "-o", self.folder / "-a program"
         self.good(self.run_command("cc", *flags, STUDENTS / "stores.c"))
         ran = self.trace("--", "./-a program", stdin=b"input\n")

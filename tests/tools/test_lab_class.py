@@ -329,8 +329,7 @@ class Confined(ClassTest):
 
     @needs("bubblewrap")
     def test_what_cannot_be_done(self):
-        """Each program that is not refused what it tries is wrong, but for those that try to have
-        cachesim do the work."""
+        """Programs that are not refused what they try are wrong, and those that try cachesim."""
         self.script("plain")
         self.script("writes", f"! echo > '{self.folder}/there' || exit 1",
                     "! echo > \"$here/new\" || exit 1", "echo > here")

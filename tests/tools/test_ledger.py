@@ -67,8 +67,7 @@ class TheLedger(ToolTest):
             self.fails_after(f"sweep_core/{file}", old, new, f"FAILED {name}: {told}")
 
     def test_changes_of_what_clauses_cite(self):
-        """A clause may say another thing in the same words: by a view, a constant, an import or a
-        comment."""
+        """A clause's words may mean another thing: by a view, a constant, an import, a comment."""
         self.copy()
         self.fails_after(READ, r"W\.contents s\.writer else None", "None else None",
                          r"FAILED trace_core.io ToWrite view: new or changed")

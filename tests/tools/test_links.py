@@ -1,5 +1,4 @@
-"""Documents name files and headings that are there, and the libraries' pages for callers names that
-are there."""
+"""Documents name files and headings that are there, and pages for callers names that are there."""
 
 import re
 import unittest
@@ -47,8 +46,7 @@ def words_of(crate):
 
 
 def unknown(text, crate):
-    """The names of a page for callers that are nowhere in the libraries, and those that a `use` in
-    it doesn't find."""
+    """The names of a page for callers that no library has, and those that a `use` doesn't find."""
     crates = [path.parts[-2] for path in base.TOP.glob("crates/*/src")]
     known = {word for each in crates for word in [each, *words_of(each)]}
     for code in CODE.findall(text):

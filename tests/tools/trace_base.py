@@ -95,8 +95,7 @@ class TraceTest(ToolTest):
             self.assertIn(text, message)
 
     def in_shell(self, line, **given):
-        """Runs a line of bash in which `trace` is the tool with its tracer. Its last line has the
-        statuses of the pipe."""
+        """Runs a line of bash where `trace` is the tool. Its last line has the pipe's statuses."""
         tool = f"trace() {{ {TOOLS}/trace --with {self.with_} \"$@\"; }}"
         arguments = f"{tool}; {line}; echo \"${{PIPESTATUS[@]}}\""
         return self.run_command("bash", "-c", arguments, **given)
