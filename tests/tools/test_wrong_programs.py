@@ -154,7 +154,7 @@ class Others(Wrong):
 
     def test_limits(self):
         """Each kind of limit is found: of tables, times, memory and calls."""
-        bad = self.named("limits", ["BYTE", "GREEDY", "PIECES", "SLOW"])[1]
+        bad = self.named("limits", ["BYTE", "GREEDY", "PIECES", "SLOW"], "--tries", 1)[1]
         for name in (
             "441 pairs of block size and set count", "65536 associativities",
             "100,000 verbose lines, and none", "plain lines, and lines with every check",
