@@ -15,6 +15,8 @@ MOST_64          rows   1,65,3  a set has at most 64 lines
 ONE_WAY          order  1,9,3   a set has only one line
 UNCLEARED        order  2,4,3   memory of malloc is taken for zeros; calloc clears it
 BYTE_CLOCK       mixed  2,4,3   the clock of LRU has only 8 bits
+TICKS_AT_MISSES  mixed  2,2,3   in which a hit does not advance the clock of LRU
+TICKS_AFTER_MISSES mixed 2,4,3  of LRU, and a miss does once its block is in
 SHORT_TAG        wide   0,2,4   tags have only 16 bits
 BYTE_TAG         order  2,4,3   tags have only 8 bits
 TAG_IS_ADDRESS   mixed  4,2,4   the offset is taken for a part of the tag

@@ -18,6 +18,7 @@ class Habits:
     address_bits: int = 64
     tag_bits: int = 64
     clock_bits: int = 64
+    ticks: str = ""  # the clock stands at a hit, and at a miss goes on "before" or "after" its use
     is_signed: bool = False
     kinds: str = "LSM"
     modify: str = "both"  # accesses of an M count, or "once", or the second after a "hit" only
@@ -61,6 +62,9 @@ MISTAKES = {
     "addresses are signed, and cut at 7fffffffffffffff": {"is_signed": True},
     "the clock of LRU has only 8 bits": {"clock_bits": 8},
     "the clock of LRU has only 16 bits": {"clock_bits": 16},
+    "a hit does not advance the clock of LRU": {"ticks": "before"},
+    "a hit does not advance the clock of LRU, and a miss does once its block is in": {
+        "ticks": "after"},
     "an access that ends in another block counts for that too": {"crosses": True},
     "a line that is still empty is found by tag 0": {"is_valid": False},
     "a set has only one line": {"ways": 1},
@@ -134,7 +138,8 @@ class Cache:
     def touch(self, kind, address):
         """An access to one block. Returns whether it hits."""
         habits = self.habits
-        self.now = self.now + 1 & (1 << habits.clock_bits) - 1
+        if not habits.ticks:
+            self.tick()
         address &= (1 << habits.address_bits) - 1
         if habits.is_signed:
             address = min(address, (1 << 63) - 1)
@@ -149,9 +154,16 @@ class Cache:
                 line.used = line.used if kind in habits.no_use else self.now
             return True
         self.misses += 1
+        if habits.ticks == "before":
+            self.tick()
         if not (habits.passes and kind == "S"):
             self.bring(lines, tag)
+        if habits.ticks == "after":
+            self.tick()
         return False
+
+    def tick(self):
+        self.now = self.now + 1 & (1 << self.habits.clock_bits) - 1
 
     def bring(self, lines, tag):
         """Brings a block in, and evicts one where the set is full."""
