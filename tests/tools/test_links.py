@@ -95,7 +95,3 @@ class PagesForCallers(unittest.TestCase):
         text += "`Cache::axess(reference)`, `specs/Windows.antt`, `specs/Doors.antt`, `MAX_STEPS`\n"
         wrong = ["axess", "specs/Doors.antt", "Cash of cache_core", "simulated of cache_core"]
         self.assertEqual(list(unknown(text, "cache_core")), wrong)
-
-
-if __name__ == "__main__":
-    unittest.main()
