@@ -80,7 +80,9 @@ private_folder() {
     trap 'exit 130' INT
     trap 'exit 143' HUP TERM  # until it is known what to remove
     private_folder_made=$(mktemp -d -t "cachesim-$name.XXXXXXXX")
-    trap - HUP TERM  # a trap would wait for what runs in front, which may wait for its input
+    # a trap would wait for what runs in front, which may wait for its input; and bash would tell of
+    # a signal that comes right here
+    { trap - HUP TERM; :; } 2> /dev/null
     folder=$private_folder_made
 }
 
@@ -116,18 +118,29 @@ at_end() {
     [ -z "$compiling" ] || rm -f -- "$compiling" || :
 }
 
-# stop PROCESS: ends a process, unless it is this shell, and all that it has started. It ends before
-# these, so that it does not report their ends. A subshell of this tool is killed: bash heeds no
-# SIGTERM while it waits for the other end of a pipe
+# stop PROCESS: ends a process, unless it is this shell, and all that it has started. It stands still
+# first, so that it starts no others, and ends before these, so that it does not report their ends. A
+# subshell of this tool is killed: bash heeds no SIGTERM while it waits for a pipe's other end
 stop() {
     local child children=() whose='' own='' signal=TERM
+    [ "$1" = "$BASHPID" ] || hold "$1"
     read -ra children 2> /dev/null < "/proc/$1/task/$1/children" || :
     read -r whose 2> /dev/null < "/proc/$1/comm" || :
     read -r own 2> /dev/null < "/proc/$$/comm" || :
     [ "$whose" != "$own" ] || signal=KILL
-    [ "$1" = "$BASHPID" ] || kill -"$signal" -- "$1" 2> /dev/null || :
+    [ "$1" = "$BASHPID" ] || { kill -"$signal" -- "$1" && kill -CONT -- "$1"; } 2> /dev/null || :
     for child in "${children[@]}"; do stop "$child"; done
 }
+
+# hold PROCESS: has it stand still, and waits for that: it may be about to start another
+hold() {
+    local at key state
+    kill -STOP -- "$1" || return 0
+    for ((at = 0; at < 1000; at++)); do
+        while read -r key state && [ "$key" != State: ]; do :; done < "/proc/$1/status" || return 0
+        [[ $state = [RSD]* ]] || return 0
+    done
+} 2> /dev/null
 
 stop_jobs() { stop "$BASHPID"; }
 
