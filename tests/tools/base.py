@@ -29,6 +29,7 @@ PACKAGES = {
     "debhelper": "dh",
     "gcc-aarch64-linux-gnu": "aarch64-linux-gnu-gcc",
     "gnuplot-nox": "gnuplot",
+    "libc6-dev-arm64-cross": "/usr/aarch64-linux-gnu/include/stdio.h",
     "llvm": "llvm-addr2line",
     "man-db": "man",
     "miller": "mlr",
@@ -44,6 +45,8 @@ PACKAGES = {
         "chromium fish flake8 g++ gcc git lintian lowdown parallel pv rustc shellcheck valgrind "
         "zsh zstd").split()},
 }
+# a C compiler for another machine, and its library
+CROSS = "gcc-aarch64-linux-gnu", "libc6-dev-arm64-cross"
 # set by the runner where tests that need a package are left out
 PLAIN = bool(os.environ.get("CACHESIM_PLAIN_TESTS"))
 

@@ -345,7 +345,7 @@ class Programs(ByLineTest):
             self.assertEqual(ran.returncode, 125)
             self.assertIn(fault, ran.stderr.decode())
 
-    @base.needs("gcc-aarch64-linux-gnu")
+    @base.needs(*base.CROSS)
     def test_another_machine(self):
         source = trace_base.TRACED / "own_arrays.c"
         program = built(source, "-fpie", "-pie", compiler="aarch64-linux-gnu-gcc")

@@ -4,7 +4,7 @@ import re
 import shutil
 import subprocess
 
-from base import needs
+from base import CROSS, needs
 from trace_base import TRACED, TraceTest, program_of, symbols_of, traced
 
 
@@ -60,7 +60,7 @@ class Parts(TraceTest):
         program = program_of(TRACED / "parts.c", "-fpie", "-pie")
         self.same_as_cut(program, self.base_of(program, **given), **given)
 
-    @needs("gcc-aarch64-linux-gnu")
+    @needs(*CROSS)
     def test_another_machine(self):
         compiler = "aarch64-linux-gnu-gcc"
         self.same_as_cut(traced("parts", compiler=compiler))
@@ -174,7 +174,7 @@ class During(TraceTest):
                 other, _ = self.traced_to_file("--during", "f", "--kind", kind, program)
                 self.assertEqual(other, [line for line in lines if line[0] in labels])
 
-    @needs("gcc-aarch64-linux-gnu")
+    @needs(*CROSS)
     def test_another_machine(self):
         given = {"compiler": "aarch64-linux-gnu-gcc"}
         program = program_of(TRACED / "during.c", "-static", self.CALLS, **given)

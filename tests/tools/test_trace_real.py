@@ -9,7 +9,7 @@ import signal
 import subprocess
 import termios
 
-from base import EXAMPLES, copy_tools, needs
+from base import CROSS, EXAMPLES, copy_tools, needs
 from trace_base import SPACE, TRACED, TraceTest, program_of, symbols_of, traced, within
 
 
@@ -206,7 +206,7 @@ class ByQemu(Both, TraceTest):
         # main reads it once more
         self.assertEqual((added.count("0"), added.count("1")), (80001, 80000))
 
-    @needs("gcc-aarch64-linux-gnu")
+    @needs(*CROSS)
     def test_another_machine(self):
         compiler = "aarch64-linux-gnu-gcc"
         self.known(traced("known", compiler=compiler))
