@@ -118,9 +118,9 @@ at_end() {
     [ -z "$compiling" ] || rm -f -- "$compiling" || :
 }
 
-# stop PROCESS: ends a process, unless it is this shell, and all that it has started. It stands still
-# first, so that it starts no others, and ends before these, so that it does not report their ends. A
-# subshell of this tool is killed: bash heeds no SIGTERM while it waits for a pipe's other end
+# stop PROCESS: ends a process, unless it is this shell, and all that it has started. It is held
+# first, so that it starts no others, and ends before these, so that it does not report their ends.
+# A subshell of this tool is killed: bash heeds no SIGTERM while it waits for a pipe's other end
 stop() {
     local child children=() whose='' own='' signal=TERM
     [ "$1" = "$BASHPID" ] || hold "$1"
