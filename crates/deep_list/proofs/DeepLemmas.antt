@@ -1,0 +1,365 @@
+-- The slots of a list, after each change.
+use Rattle.std.proofs.Common.{◌≡◌, ℕ, zero, suc, ◌+◌, ◌-◌, ◌*◌, ◌<◌, ◌≤◌, ◌^◌, ◌≢◌, ◌⊎◌, inl, inr, Bool, true, false, cond, Some, None, Option, List, [], ◌∷◌, length, take, drop}
+use Rattle.std.proofs.Common.{get_or, set, sum, refl, sym, ◌∙◌, ap, subst, arith, length-set, get_or-set_same, get_or-set_other}
+use Rattle.std.specs.Prelude.{replicate}
+use Rattle.std.specs.List.{remove}
+use Rattle.std.proofs.lemmas.Bool.{cases_eq, cases_lt, false≢true}
+use Rattle.std.proofs.lemmas.List.{take_all, length-take-le, get_or_past, nil_from_length, length-replicate}
+use Rattle.std.proofs.lemmas.List.Sums.{sum_by-set, sum_by_more, sum_by-take-le}
+use Rattle.deep_list.specs.Slots.{SlotsValue, AreFlags, kept, filled, vacated, IsAt}
+use Rattle.deep_list.specs.Buckets.{BucketsValue, IsBuckets, AreFiled, IsFiled, NoneHas}
+use Rattle.deep_list.specs.Deep.{Deep, index_of, is_in, place_of, IsOnce, IsRanked, IsDeep, IsGathering, IsGathered}
+use Rattle.deep_list.proofs.SlotLemmas.{sum_take-set_above, flags_set, flags_sum}
+use Rattle.deep_list.proofs.KeptLemmas.{kept-vacate, kept-fill, kept-move, kept-dead, length-kept, sum-dead, is_in-kept, absent-kept, index-kept, sum-some, remove-last, remove-end, once-take, once-remove, index-absent}
+
+zero_set : (xs : List ℕ) (s k : ℕ) → get_or xs k 0 ≡ 0 → get_or (set xs s 0) k 0 ≡ 0
+zero_set [] s k h = h
+zero_set (x ∷ xs) zero zero h = refl
+zero_set (x ∷ xs) zero (suc k) h = h
+zero_set (x ∷ xs) (suc s) zero h = h
+zero_set (x ∷ xs) (suc s) (suc k) h = zero_set xs s k h
+
+one_set : (xs : List ℕ) (s k : ℕ) → get_or (set xs s 0) k 0 ≡ 1 → get_or xs k 0 ≡ 1
+one_set [] s k h = h
+one_set (x ∷ xs) zero zero h = absurd (omega (arith, h))
+one_set (x ∷ xs) zero (suc k) h = h
+one_set (x ∷ xs) (suc s) zero h = h
+one_set (x ∷ xs) (suc s) (suc k) h = one_set xs s k h
+
+pub live_within : (xs : List ℕ) (s : ℕ) → get_or xs s 0 ≡ 1 → s < length xs
+live_within xs s one = elim (cases_lt s (length xs)) [ inl lt ↦ lt | inr le ↦ absurd (omega (arith, get_or_past xs s 0 le, one)) ]
+
+dead_flag : (xs : List ℕ) (s : ℕ) → AreFlags xs → (get_or xs s 0 ≡ 1 → ⊥) → get_or xs s 0 ≡ 0
+dead_flag xs s flags ne = let le : get_or xs s 0 ≤ 1 = flags s in omega arith
+
+-- where a block stands
+pub place_found : (x i : ℕ) (xs : List ℕ) → is_in x xs ≡ true → index_of x xs ≡ i → Some i ≡ place_of x xs
+place_found x i xs inside at = ap (λ j. Some j) (sym at) ∙ sym (ap (λ b. cond b (Some (index_of x xs)) None) inside)
+
+pub place_none : (x : ℕ) (xs : List ℕ) → is_in x xs ≡ false → None ≡ place_of x xs
+place_none x xs absent = sym (ap (λ b. cond b (Some (index_of x xs)) None) absent)
+
+module _ {top end : ℕ} {slots : SlotsValue} {buckets : BucketsValue} (r : IsRanked top end slots buckets) where
+  -- a slot vacated
+  pub vacated_ranked : (s end' : ℕ) → top ≤ end' → end' ≤ end → ((k : ℕ) → end' ≤ k → get_or (set slots.live s 0) k 0 ≡ 0)
+      → IsRanked top end' (vacated slots s) buckets
+  vacated_ranked s end' order less behind = record {
+    same = r.same ∙ sym (length-set slots.live s 0);
+    small = omega (arith, r.small, length-set slots.live s 0);
+    flags = flags_set slots.live s 0 (omega arith) r.flags;
+    order = order;
+    within = omega (arith, less, r.within, length-set slots.live s 0);
+    before = λ k lt. zero_set slots.live s k (r.before k lt);
+    behind = behind;
+    buckets_are = let P : ℕ → Type 0 = λ n. IsBuckets n buckets in subst P (sym (length-set slots.live s 0)) r.buckets_are;
+    filed = λ k one. r.filed k (one_set slots.live s k one);
+  }
+
+  pub vacated_any : (s : ℕ) → IsRanked top end (vacated slots s) buckets
+  vacated_any s = vacated_ranked s end r.order (omega arith) (λ k le. zero_set slots.live s k (r.behind k le))
+
+  pub behind_last : (s : ℕ) → ((k : ℕ) → s < k → k < end → get_or slots.live k 0 ≡ 1 → ⊥) → (k : ℕ) → s < k → get_or slots.live k 0 ≡ 0
+  behind_last s none k past =
+      elim (cases_lt k end) [ inl inside ↦ dead_flag slots.live k r.flags (none k past inside) | inr le ↦ r.behind k le ]
+
+  pub vacated_last : (s : ℕ) → get_or slots.live s 0 ≡ 1 → s < end → ((k : ℕ) → s < k → k < end → get_or slots.live k 0 ≡ 1 → ⊥)
+      → IsRanked top s (vacated slots s) buckets
+  vacated_last s one lt none =
+      vacated_ranked s s
+      (elim (cases_lt s top) [ inl before ↦ absurd (omega (arith, r.before s before, one)) | inr le ↦ le ])
+      (omega arith)
+      (λ k le. elim (cases_eq k s) [
+        | inl same ↦ ap (λ j. get_or (set slots.live s 0) j 0) same ∙ get_or-set_same slots.live s 0 0 (live_within slots.live s one)
+        | inr other ↦ zero_set slots.live s k (behind_last s none k (omega (arith, le, other)))
+      ])
+
+  vacated_sum : (s : ℕ) → get_or slots.live s 0 ≡ 1 → sum (set slots.live s 0) + 1 ≡ sum slots.live
+  vacated_sum s one = omega (arith, sum_by-set (λ x. x) slots.live s 0 0 (live_within slots.live s one), one)
+
+  -- block x in the slot before all live ones
+  module _ (x t : ℕ) (next : t + 1 ≡ top) where
+    free : (k : ℕ) → k ≤ t → get_or slots.live k 0 ≡ 0
+    free k le = r.before k (omega arith)
+
+    lt : t < length slots.live
+    lt = omega (arith, r.order, r.within)
+
+    pub filled_kept : kept (set slots.blocks t x) (set slots.live t 1) ≡ x ∷ kept slots.blocks slots.live
+    filled_kept = kept-fill slots.blocks slots.live t x r.same lt free
+
+    pub filled_sum : sum (set slots.live t 1) ≡ sum slots.live + 1
+    filled_sum = omega (arith, sum_by-set (λ x. x) slots.live t 1 0 lt, free t (omega arith))
+
+    filled_filed : (buckets' : BucketsValue) → IsFiled buckets' (get_or (set slots.blocks t x) t 0) t
+        → ((s : ℕ) → get_or (set slots.live t 1) s 0 ≡ 1 → IsFiled buckets (get_or (set slots.blocks t x) s 0) s
+        → IsFiled buckets' (get_or (set slots.blocks t x) s 0) s)
+        → AreFiled buckets' (filled slots t x)
+    filled_filed buckets' here others s one =
+        elim (cases_eq s t) [
+          | inl same ↦ let P : ℕ → Type 0 = λ j. IsFiled buckets' (get_or (set slots.blocks t x) j 0) j in subst P (sym same) here
+          | inr other ↦ others s one
+              (let P : ℕ → Type 0 = λ y. IsFiled buckets y s in
+              subst P (sym (get_or-set_other slots.blocks t s x 0 other)) (r.filed s (sym (get_or-set_other slots.live t s 1 0 other) ∙ one)))
+        ]
+
+    pub filled_ranked : (buckets' : BucketsValue) → IsBuckets (length (set slots.live t 1)) buckets'
+        → IsFiled buckets' (get_or (set slots.blocks t x) t 0) t
+        → ((s : ℕ) → get_or (set slots.live t 1) s 0 ≡ 1 → IsFiled buckets (get_or (set slots.blocks t x) s 0) s
+        → IsFiled buckets' (get_or (set slots.blocks t x) s 0) s)
+        → IsRanked t end (filled slots t x) buckets'
+    filled_ranked buckets' are here others = record {
+      same = length-set slots.blocks t x ∙ r.same ∙ sym (length-set slots.live t 1);
+      small = omega (arith, r.small, length-set slots.live t 1);
+      flags = flags_set slots.live t 1 (omega arith) r.flags;
+      order = omega (arith, r.order);
+      within = omega (arith, r.within, length-set slots.live t 1);
+      before = λ k lt. get_or-set_other slots.live t k 1 0 (omega arith) ∙ free k (omega arith);
+      behind = λ k le. get_or-set_other slots.live t k 1 0 (omega (arith, r.order)) ∙ r.behind k le;
+      buckets_are = are;
+      filed = filled_filed buckets' here others;
+    }
+
+-- the moves to the end
+pub gathering_none : (v : SlotsValue) → length v.blocks ≡ length v.live → AreFlags v.live → IsGathering (length v.live) (length v.live) v v
+gathering_none v same flags = record {
+  same = same;
+  long = refl;
+  flags = flags;
+  order = omega arith;
+  within = omega arith;
+  dead = λ s le lt. absurd (omega arith);
+  kept_same = refl;
+  left = ap (λ xs. length v.live + sum xs) (take_all (length v.live) v.live (omega arith));
+}
+
+module _ {from to : ℕ} {v w : SlotsValue} (g : IsGathering from to v w) (f : ℕ) (next : f + 1 ≡ from) where
+  one_more : sum (take from w.live) ≡ sum (take f w.live) + get_or w.live f 0
+  one_more = ap (λ j. sum (take j w.live)) (sym next) ∙ sum_by_more (λ x. x) w.live f 0 (omega (arith, g.order, g.within))
+
+  pub gathering_past : (get_or w.live f 0 ≡ 1 → ⊥) → IsGathering f to v w
+  gathering_past ne =
+      let none : get_or w.live f 0 ≡ 0 = dead_flag w.live f g.flags ne in
+      record {
+        same = g.same;
+        long = g.long;
+        flags = g.flags;
+        order = omega (arith, g.order);
+        within = g.within;
+        dead = λ s le lt. elim (cases_eq s f) [ inl same ↦ ap (λ j. get_or w.live j 0) same ∙ none | inr other ↦ g.dead s (omega arith) lt ];
+        kept_same = g.kept_same;
+        left = omega (arith, g.left, one_more, none);
+      }
+
+  pub gathering_moved : (u : ℕ) → u + 1 ≡ to → get_or w.live f 0 ≡ 1 → IsGathering f u v (filled (vacated w f) u (get_or w.blocks f 0))
+  gathering_moved u last one =
+      let long : length (set (set w.live f 0) u 1) ≡ length w.live = length-set (set w.live f 0) u 1 ∙ length-set w.live f 0 in
+      record {
+        same = length-set w.blocks u (get_or w.blocks f 0) ∙ g.same ∙ sym long;
+        long = long ∙ g.long;
+        flags = flags_set (set w.live f 0) u 1 (omega arith) (flags_set w.live f 0 (omega arith) g.flags);
+        order = omega (arith, g.order);
+        within = omega (arith, g.within, long);
+        dead = λ s le lt. get_or-set_other (set w.live f 0) u s 1 0 (omega arith) ∙ elim (cases_eq s f) [
+          | inl same ↦ ap (λ j. get_or (set w.live f 0) j 0) same ∙ get_or-set_same w.live f 0 0 (live_within w.live f one)
+          | inr other ↦ get_or-set_other w.live f s 0 0 other ∙ g.dead s (omega arith) (omega arith)
+        ];
+        kept_same = kept-move w.blocks w.live f u g.same one (omega (arith, g.order)) (omega (arith, g.within))
+            (λ k past le. g.dead k (omega arith) (omega arith)) ∙ g.kept_same;
+        left = omega (
+          arith,
+          g.left,
+          one_more,
+          one,
+          long,
+          sum_take-set_above f u 1 (set w.live f 0) (omega (arith, g.order)),
+          sum_take-set_above f f 0 w.live (omega arith),
+        );
+      }
+
+pub gathered : {from to : ℕ} {v w : SlotsValue} → IsGathering from to v w → from ≡ 0 → IsGathered to v w
+gathered {from} {to} {v} {w} g none = record {
+  same = g.same;
+  long = g.long;
+  flags = g.flags;
+  dead = λ s lt. g.dead s (omega arith) lt;
+  kept_same = g.kept_same;
+  top_is = omega (arith, g.left, ap (λ j. sum (take j w.live)) none);
+}
+
+pub gathered_ranked : {top : ℕ} {v w : SlotsValue} (buckets : BucketsValue) → IsGathered top v w → length w.live ≤ 2 ^ 24
+    → IsBuckets (length w.live) buckets → AreFiled buckets w → IsRanked top (length w.live) w buckets
+gathered_ranked {top} {v} {w} buckets g small are filed = record {
+  same = g.same;
+  small = small;
+  flags = g.flags;
+  order = omega (arith, g.top_is);
+  within = omega arith;
+  before = g.dead;
+  behind = λ s le. get_or_past w.live s 0 le;
+  buckets_are = are;
+  filed = filed;
+}
+
+zeros : (n k : ℕ) → get_or {A = ℕ} (replicate n 0) k 0 ≡ 0
+zeros zero k = refl
+zeros (suc n) zero = refl
+zeros (suc n) (suc k) = zeros n k
+
+-- no live slot
+module _ (cap n : ℕ) (slots : SlotsValue) (long : length slots.blocks ≡ n) (none : slots.live ≡ replicate n 0) where
+  dead : (k : ℕ) → get_or slots.live k 0 ≡ 0
+  dead k = ap (λ xs. get_or xs k 0) none ∙ zeros n k
+
+  size : length slots.live ≡ n
+  size = ap length none ∙ length-replicate {A = ℕ} n 0
+
+  pub none_kept : kept slots.blocks slots.live ≡ []
+  none_kept = kept-dead slots.blocks slots.live dead
+
+  pub none_deep : (buckets : BucketsValue) → 1 ≤ cap → cap < n → n ≤ 2 ^ 24 → IsBuckets n buckets → IsDeep cap 0 n n slots buckets
+  none_deep buckets some room small are = record {
+    some = some;
+    room = omega (arith, size, room);
+    at_most = omega arith;
+    held_is = sym (sum-dead slots.live dead);
+    once = let P : List ℕ → Type 0 = IsOnce in subst P (sym none_kept) tt;
+    ranked = record {
+      same = long ∙ sym size;
+      small = omega (arith, size, small);
+      flags = λ k. omega (arith, dead k);
+      order = omega arith;
+      within = omega (arith, size);
+      before = λ k lt. dead k;
+      behind = λ k le. dead k;
+      buckets_are = let P : ℕ → Type 0 = λ m. IsBuckets m buckets in subst P (sym size) are;
+      filed = λ k one. absurd (omega (arith, dead k, one));
+    };
+  }
+
+pub buckets_none : (n count : ℕ) (v : BucketsValue) → 1 ≤ n → 1 ≤ count → count ≤ 2 ^ 24 → v.entries ≡ replicate (count * 8) 0 → v.spilled ≡ replicate count 0 → IsBuckets n v
+buckets_none n count v some one few entries spilled = record {
+  some = omega (arith, ap length spilled, length-replicate {A = ℕ} count 0, one);
+  few = omega (arith, ap length spilled, length-replicate {A = ℕ} count 0, few);
+  eight = omega (arith, ap length entries, ap length spilled, length-replicate {A = ℕ} (count * 8) 0, length-replicate {A = ℕ} count 0);
+  within = λ j. omega (arith, ap (λ xs. get_or xs j 0) entries, zeros (count * 8) j, some);
+}
+
+module _ {cap held top end : ℕ} {slots : SlotsValue} {buckets : BucketsValue} (d : IsDeep cap held top end slots buckets) where
+  pub held_length : held ≡ length (kept slots.blocks slots.live)
+  held_length = d.held_is ∙ sym (length-kept slots.blocks slots.live d.ranked.same d.ranked.flags)
+
+  pub held_none : held ≤ 0 → kept slots.blocks slots.live ≡ []
+  held_none none = nil_from_length (kept slots.blocks slots.live) (omega (arith, held_length, none))
+
+  -- a live slot vacated
+  module _ (s : ℕ) (one : get_or slots.live s 0 ≡ 1) where
+    pub vacated_kept : kept slots.blocks (set slots.live s 0) ≡ remove (kept slots.blocks slots.live) (sum (take s slots.live))
+    vacated_kept = kept-vacate slots.blocks slots.live s d.ranked.same d.ranked.flags one
+
+    pub vacated_deep : (end' : ℕ) (w : SlotsValue) → w ≡ vacated slots s → IsRanked top end' (vacated slots s) buckets
+        → IsDeep cap (held - 1) top end' w buckets
+    vacated_deep end' w is ranked =
+        let sums = vacated_sum d.ranked s one in
+        let P : SlotsValue → Type 0 = λ v. IsDeep cap (held - 1) top end' v buckets in
+        subst P (sym is) (record {
+          some = d.some;
+          room = omega (arith, d.room, length-set slots.live s 0);
+          at_most = omega (arith, d.at_most);
+          held_is = omega (arith, d.held_is, sums);
+          once = let Q : List ℕ → Type 0 = IsOnce in
+              subst Q (sym vacated_kept) (once-remove (sum (take s slots.live)) (kept slots.blocks slots.live) d.once);
+          ranked = ranked;
+        })
+
+  -- the slot of a block
+  module _ (x s : ℕ) (at : IsAt slots x s) where
+    pub found_inside : is_in x (kept slots.blocks slots.live) ≡ true
+    found_inside = is_in-kept x slots.blocks slots.live s d.ranked.same at.live at.block
+
+    pub found_index : index_of x (kept slots.blocks slots.live) ≡ sum (take s slots.live)
+    found_index = index-kept x slots.blocks slots.live s d.ranked.same d.ranked.flags d.once at.live at.block
+
+  pub not_found : (x : ℕ) → NoneHas slots x → is_in x (kept slots.blocks slots.live) ≡ false
+  not_found x none =
+      absent-kept x slots.blocks slots.live d.ranked.flags (λ s lt live is. none s lt (record { live = live; block = is }))
+
+  -- the last live slot
+  module _ (s : ℕ) (one : get_or slots.live s 0 ≡ 1) (past : (k : ℕ) → s < k → k < end → get_or slots.live k 0 ≡ 1 → ⊥) where
+    pub last_kept : kept slots.blocks (set slots.live s 0) ≡ take (length (kept slots.blocks slots.live) - 1) (kept slots.blocks slots.live)
+    last_kept =
+        let sums : sum slots.live ≡ sum (take s slots.live) + 1 =
+        sum-some slots.live s (live_within slots.live s one) one (behind_last d.ranked s past) in
+        let index : suc (sum (take s slots.live)) ≡ length (kept slots.blocks slots.live) = omega (arith, held_length, d.held_is, sums) in
+        vacated_kept s one ∙ remove-last (kept slots.blocks slots.live) (sum (take s slots.live)) index
+        ∙ ap (λ n. take n (kept slots.blocks slots.live)) (omega (arith, index))
+
+  pub some_live : ((k : ℕ) → k < end → get_or slots.live k 0 ≡ 1 → ⊥) → kept slots.blocks slots.live ≡ []
+  some_live none =
+      kept-dead slots.blocks slots.live
+      (λ k. elim (cases_lt k end) [ inl inside ↦ dead_flag slots.live k d.ranked.flags (none k inside) | inr le ↦ d.ranked.behind k le ])
+
+pub without_absent : (x : ℕ) (xs : List ℕ) → is_in x xs ≡ false → remove xs (index_of x xs) ≡ xs
+without_absent x xs absent = remove-end xs (index_of x xs) (index-absent x xs absent)
+
+-- a list of which one slot more is live, that before all live ones
+pub filled_deep : {cap held top0 end0 top end : ℕ} {slots0 slots : SlotsValue} {buckets0 buckets : BucketsValue}
+    → IsDeep cap held top0 end0 slots0 buckets0 → IsRanked top end slots buckets → kept slots.blocks slots.live ≡ kept slots0.blocks slots0.live
+    → length slots.live ≡ length slots0.live → (x t : ℕ) → t + 1 ≡ top → is_in x (kept slots0.blocks slots0.live) ≡ false
+    → length (kept slots0.blocks slots0.live) < cap → (w : SlotsValue) (buckets' : BucketsValue) → w ≡ filled slots t x
+    → IsRanked t end (filled slots t x) buckets' → IsDeep cap (held + 1) t end w buckets'
+filled_deep {cap} {held} {top0} {end0} {top} {end} {slots0} {slots} d r same long x t next absent short w buckets' is ranked =
+    let P : SlotsValue → Type 0 = λ v. IsDeep cap (held + 1) t end v buckets' in
+    let Q : List ℕ → Type 0 = IsOnce in
+    let once : IsOnce (x ∷ kept slots.blocks slots.live) = (ap (is_in x) same ∙ absent, subst Q (sym same) d.once) in
+    subst P (sym is) (record {
+      some = d.some;
+      room = omega (arith, d.room, long, length-set slots.live t 1);
+      at_most = omega (arith, held_length d, short);
+      held_is = omega (arith, held_length d, ap length same, length-kept slots.blocks slots.live r.same r.flags, filled_sum r x t next);
+      once = subst Q (sym (filled_kept r x t next)) once;
+      ranked = ranked;
+    })
+
+-- full or not, there is room once the last block of a full list is gone
+pub take_cap : (cap x : ℕ) (xs : List ℕ) → 1 ≤ cap → x ∷ take (cap - 1) xs ≡ take cap (x ∷ xs)
+take_cap zero x xs some = absurd (omega arith)
+take_cap (suc cap) x xs some = ap (λ n. x ∷ take n xs) (omega arith)
+
+-- how long a list is, by its fields
+pub record IsHeld (cap held : ℕ) (v : Deep) : Type 0 where
+  pub cap_is : cap ≡ v.cap
+  pub some : 1 ≤ cap
+  pub at_most : held ≤ cap
+  pub length_is : length v.blocks ≡ held
+
+pub held_is : {cap held top end : ℕ} {slots : SlotsValue} {buckets : BucketsValue} (v : Deep) → IsDeep cap held top end slots buckets
+    → record { cap = cap; blocks = kept slots.blocks slots.live } ≡ v → IsHeld cap held v
+held_is v d is = record {
+  cap_is = ap (λ w. w.cap) is;
+  some = d.some;
+  at_most = d.at_most;
+  length_is = sym (held_length d ∙ ap (λ w. length w.blocks) is);
+}
+
+module _ {cap held : ℕ} {v : Deep} (h : IsHeld cap held v) where
+  abbrev cut : ℕ → Deep
+  cut n = record { cap = v.cap; blocks = take n v.blocks }
+
+  pub full_some : held ≡ cap → v.blocks ≡ [] → ⊥
+  full_some full none = absurd (omega (arith, ap length none, h.length_is, h.some, full))
+
+  pub full_cut : held ≡ cap → cut (length v.blocks - 1) ≡ cut (v.cap - 1)
+  full_cut full = ap (λ n. cut (n - 1)) (h.length_is ∙ full ∙ h.cap_is)
+
+  pub full_room : (w : Deep) → held ≡ cap → w ≡ cut (length v.blocks - 1) → length w.blocks < w.cap
+  full_room w full is =
+      omega (arith, ap (λ u. length u.blocks) is, ap (λ u. u.cap) is, length-take-le (length v.blocks - 1) v.blocks (omega arith), h.length_is, h.some, full, h.cap_is)
+
+  pub short_cut : (held ≡ cap → ⊥) → v ≡ cut (v.cap - 1)
+  short_cut short =
+      let whole : take (v.cap - 1) v.blocks ≡ v.blocks = take_all (v.cap - 1) v.blocks (omega (arith, h.length_is, h.at_most, h.cap_is, short)) in
+      let made : List ℕ → Deep = λ xs. record { cap = v.cap; blocks = xs } in
+      ap made (sym whole)
+
+  pub short_room : (held ≡ cap → ⊥) → length v.blocks < v.cap
+  short_room short = omega (arith, h.length_is, h.at_most, h.cap_is, short)

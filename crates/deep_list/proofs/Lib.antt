@@ -1,0 +1,4 @@
+pub mod SlotLemmas
+pub mod BucketLemmas
+pub mod KeptLemmas
+pub mod DeepLemmas

@@ -1,0 +1,76 @@
+-- A list of different blocks, the most recent first, and the slots that it stands in.
+use Rattle.std.specs.Prelude.{ℕ, ◌≡◌, ◌≤◌, ◌<◌, ◌+◌, ◌-◌, ◌==◌, ◌^◌, Bool, true, false, if◌then◌else◌, Option, Some, None, List, [], ◌∷◌, length, take, sum, slice_index}
+use Rattle.std.specs.List.{list_any, position_or_len, remove}
+use Rattle.deep_list.specs.Slots.{SlotsValue, AreFlags, kept}
+use Rattle.deep_list.specs.Buckets.{BucketsValue, IsBuckets, AreFiled}
+
+-- the index of x in a list, or the list's length
+abbrev pub index_of : ℕ → List ℕ → ℕ
+index_of x xs = position_or_len (λ y. y == x) xs
+
+-- whether x stands in a list
+abbrev pub is_in : ℕ → List ℕ → Bool
+is_in x xs = list_any (λ y. y == x) xs
+
+-- where x stands in a list
+abbrev pub place_of : ℕ → List ℕ → Option ℕ
+place_of x xs = if is_in x xs then Some (index_of x xs) else None
+
+-- no two blocks are equal
+abbrev pub IsOnce : List ℕ → Type 0
+IsOnce [] = Unit {0}
+IsOnce (x ∷ xs) = (is_in x xs ≡ false) × IsOnce xs
+
+-- a list of at most `cap` blocks
+pub record Deep : Type 0 where
+  pub cap : ℕ
+  pub blocks : List ℕ
+
+-- without block x
+abbrev pub without : Deep → ℕ → Deep
+without d x = record d { blocks = remove d.blocks (index_of x d.blocks) }
+
+-- with block y in front and without block x, as far as there is room
+abbrev pub exchanged : Deep → ℕ → ℕ → Deep
+exchanged d x y = record d { blocks = take d.cap (y ∷ remove d.blocks (index_of x d.blocks)) }
+
+-- slots whose live ones are from top on and before end, and are found by their blocks
+pub record IsRanked (top end : ℕ) (slots : SlotsValue) (buckets : BucketsValue) : Type 0 where
+  pub same : length slots.blocks ≡ length slots.live
+  pub small : length slots.live ≤ 2 ^ 24
+  pub flags : AreFlags slots.live
+  pub order : top ≤ end
+  pub within : end ≤ length slots.live
+  pub before : (s : ℕ) → s < top → slice_index slots.live s ≡ 0
+  pub behind : (s : ℕ) → end ≤ s → slice_index slots.live s ≡ 0
+  pub buckets_are : IsBuckets (length slots.live) buckets
+  pub filed : AreFiled buckets slots
+
+-- what is true of the fields of every list
+pub record IsDeep (cap held top end : ℕ) (slots : SlotsValue) (buckets : BucketsValue) : Type 0 where
+  pub some : 1 ≤ cap
+  pub room : cap < length slots.live
+  pub at_most : held ≤ cap
+  pub held_is : held ≡ sum slots.live
+  pub once : IsOnce (kept slots.blocks slots.live)
+  pub ranked : IsRanked top end slots buckets
+
+-- what moves the live slots to the end, when those from `from` on were moved: those before `to` of them are free
+pub record IsGathering (from to : ℕ) (before slots : SlotsValue) : Type 0 where
+  pub same : length slots.blocks ≡ length slots.live
+  pub long : length slots.live ≡ length before.live
+  pub flags : AreFlags slots.live
+  pub order : from ≤ to
+  pub within : to ≤ length slots.live
+  pub dead : (s : ℕ) → from ≤ s → s < to → slice_index slots.live s ≡ 0
+  pub kept_same : kept slots.blocks slots.live ≡ kept before.blocks before.live
+  pub left : length slots.live + sum (take from slots.live) ≡ to + sum before.live
+
+-- the live slots at the end, from `top` on
+pub record IsGathered (top : ℕ) (before slots : SlotsValue) : Type 0 where
+  pub same : length slots.blocks ≡ length slots.live
+  pub long : length slots.live ≡ length before.live
+  pub flags : AreFlags slots.live
+  pub dead : (s : ℕ) → s < top → slice_index slots.live s ≡ 0
+  pub kept_same : kept slots.blocks slots.live ≡ kept before.blocks before.live
+  pub top_is : length slots.live ≡ top + sum before.live

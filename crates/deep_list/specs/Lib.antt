@@ -1,0 +1,3 @@
+pub mod Slots
+pub mod Buckets
+pub mod Deep

@@ -1,0 +1,43 @@
+-- Slots for blocks: which are live, how many live slots stand before one, and the list of the live ones' blocks.
+use Rattle.std.specs.Prelude.{ℕ, zero, suc, ◌≡◌, ◌≤◌, ◌<◌, ◌+◌, ◌*◌, ◌^◌, List, [], ◌∷◌, length, take, sum, slice_set, slice_index}
+
+-- a block for each slot, and 1 for each that is live, else 0
+pub record SlotsValue : Type 0 where
+  pub blocks : List ℕ
+  pub live : List ℕ
+
+-- slot s is live, and has block x
+pub record IsAt (v : SlotsValue) (x s : ℕ) : Type 0 where
+  pub live : slice_index v.live s ≡ 1
+  pub block : slice_index v.blocks s ≡ x
+
+-- with block x in slot s
+abbrev pub filled : SlotsValue → ℕ → ℕ → SlotsValue
+filled v s x = record { blocks = slice_set v.blocks s x; live = slice_set v.live s 1 }
+
+-- with slot s no longer live
+abbrev pub vacated : SlotsValue → ℕ → SlotsValue
+vacated v s = record v { live = slice_set v.live s 0 }
+
+-- each is 0 or 1
+abbrev pub AreFlags : List ℕ → Type 0
+AreFlags live = (s : ℕ) → slice_index live s ≤ 1
+
+-- how many slots share a count
+abbrev pub chunk : ℕ
+chunk = 256
+
+-- the counts of the chunks, one after another
+pub record IsCounted (blocks live counts : List ℕ) : Type 0 where
+  pub same : length blocks ≡ length live
+  pub small : length live ≤ 2 ^ 24
+  pub flags : AreFlags live
+  pub chunks : length live < length counts * 256
+  pub prefixes : (c : ℕ) → c ≤ length counts → sum (take c counts) ≡ sum (take (c * 256) live)
+
+-- the blocks of the live slots, in order
+unfoldable pub kept : List ℕ → List ℕ → List ℕ
+kept [] live = []
+kept (x ∷ blocks) [] = []
+kept (x ∷ blocks) (zero ∷ live) = kept blocks live
+kept (x ∷ blocks) (suc n ∷ live) = x ∷ kept blocks live

@@ -1,0 +1,246 @@
+//! A list of different blocks, the most recent first. A block is looked up by a table, and where it
+//! stands is counted by flags and counts (Bennett and Kruskal 1975): both without a walk over the
+//! list.
+ghost use Rattle.std.specs.Prelude.{◌≡◌, ◌+◌, ◌-◌, ◌<◌, ◌≤◌, ◌^◌, ◌≢◌, ℕ, false, [], ◌∷◌, length, sum, take};
+ghost use Rattle.std.specs.Prelude.{IfOk, MatchOption, slice_index};
+ghost use Rattle.deep_list.specs.Slots.{SlotsValue, AreFlags, filled, vacated, kept};
+ghost use Rattle.deep_list.specs.Buckets.{IsBuckets, AreFiled};
+ghost use Rattle.deep_list.specs.Deep.{is_in, place_of, without, exchanged, IsRanked, IsGathered};
+
+use crate::buckets::Buckets;
+use crate::slots::Slots;
+use std::alloc::{AllocError, Global};
+use std::marker::Model;
+
+/// The slots of a list: all live ones are from `top` on and before `end`.
+#[derive(Clone, Copy, Debug)]
+struct Span {
+    top: usize,
+    end: usize,
+}
+
+/// A list of at most `cap` different blocks. The blocks of the live slots are the list. A block that
+/// comes to the front takes the slot before all live ones; when there is none, all are moved to the
+/// end of the slots.
+#[derive(Drop)]
+pub struct DeepList {
+    cap: usize,
+    held: usize,
+    span: Span,
+    slots: Slots,
+    buckets: Buckets,
+}
+
+impl Model for DeepList {
+    ghost use Rattle.deep_list.specs.Slots.{kept};
+    ghost use Rattle.deep_list.specs.Deep.{Deep, IsDeep};
+
+    ghost Value = { Deep };
+
+    ghost view = { λ d. record { cap = d.cap; blocks = kept d.slots.blocks d.slots.live } };
+
+    ghost invariant = { λ d. IsDeep d.cap d.held d.span.top d.span.end d.slots d.buckets };
+}
+
+impl DeepList {
+    /// An empty list. It takes all its memory here: two slots for each block, of 9 bytes each, and a
+    /// bucket of 33 bytes for each two blocks.
+    pub fn new(alloc: Global, cap: usize) -> Result<DeepList, AllocError>
+        requires some { 1 ≤ cap }
+        requires small { cap ≤ 2 ^ 22 }
+        ensures { IfOk result (λ d. d ≡ record { cap = cap; blocks = [] }) }
+    {
+        let count = 2 * cap;
+        Ok(DeepList {
+            cap,
+            held: 0,
+            span: Span {
+                top: count,
+                end: count,
+            },
+            slots: Slots::new(alloc, count)?,
+            buckets: Buckets::new(alloc, cap / 2 + 1)?,
+        })
+    }
+
+    /// How many blocks stand in the list.
+    pub fn len(&self) -> usize
+        ensures { result ≡ length self.now.blocks }
+    {
+        self.held
+    }
+
+    /// Takes a block out of the list, wherever it is, and puts another in front. If the list is
+    /// full, its last block falls out. Returns where the first block stood.
+    pub fn exchange(&mut self, wanted: u64, given: u64) -> Option<usize>
+        requires { is_in given self.old.blocks ≡ false }
+        ensures found { result ≡ place_of wanted self.old.blocks }
+        ensures moved { self.new ≡ exchanged self.old wanted given }
+    {
+        let place = self.take_out(wanted);
+        self.drop_if_full();
+        self.put_first(given);
+        place
+    }
+
+    /// Takes a block out of the list. Returns where it stood.
+    fn take_out(&mut self, block: u64) -> Option<usize>
+        ensures found { result ≡ place_of block self.old.blocks }
+        ensures moved { self.new ≡ without self.old block }
+    {
+        match self.buckets.find(&self.slots, block) {
+            Some(slot) => {
+                let place = self.slots.live_before(slot);
+                self.slots.vacate(slot);
+                self.held -= 1;
+                Some(place)
+            }
+            None => None,
+        }
+    }
+
+    /// Takes the last block out of the list if it is full.
+    fn drop_if_full(&mut self)
+        ensures dropped { self.new ≡ record self.old { blocks = take (self.old.cap - 1) self.old.blocks } }
+        ensures room { length self.new.blocks < self.new.cap }
+    {
+        if self.held == self.cap {
+            self.drop_last();
+        }
+    }
+
+    /// Takes the last block out of the list.
+    fn drop_last(&mut self)
+        requires { self.old.blocks ≢ [] }
+        ensures { self.new ≡ record self.old { blocks = take (length self.old.blocks - 1) self.old.blocks } }
+    {
+        let Some(slot) = last_live(&self.slots, self.span.end) else {
+            unreachable!()
+        };
+        self.slots.vacate(slot);
+        self.span.end = slot;
+        self.held -= 1;
+    }
+
+    /// Puts a block in front of the list.
+    fn put_first(&mut self, block: u64)
+        requires other { is_in block self.old.blocks ≡ false }
+        requires room { length self.old.blocks < self.old.cap }
+        ensures { self.new ≡ record self.old { blocks = block ∷ self.old.blocks } }
+    {
+        self.span = make_room(&mut self.slots, &mut self.buckets, self.span);
+        let slot = self.span.top - 1;
+        self.slots.fill(slot, block);
+        self.buckets.add(&self.slots, slot);
+        self.span.top = slot;
+        self.held += 1;
+    }
+
+    /// Empties the list. It goes over all slots, unless the list is empty.
+    pub fn clear(&mut self)
+        ensures { self.new ≡ record self.old { blocks = [] } }
+    {
+        if self.held > 0 {
+            self.empty();
+        }
+    }
+
+    /// Empties the list.
+    fn empty(&mut self)
+        ensures { self.new ≡ record self.old { blocks = [] } }
+    {
+        self.slots.clear();
+        let count = self.slots.len();
+        self.span = Span {
+            top: count,
+            end: count,
+        };
+        self.held = 0;
+    }
+}
+
+/// The last live slot before an end.
+fn last_live(slots: &Slots, end: usize) -> Option<usize>
+    requires { end ≤ length slots.now.live }
+    ensures { MatchOption result ((s : ℕ) → s < end → slice_index slots.now.live s ≢ 1)
+        (λ slot. (slot < end) × (slice_index slots.now.live slot ≡ 1)
+        × ((s : ℕ) → slot < s → s < end → slice_index slots.now.live s ≢ 1)) }
+{
+    let mut slot = end;
+    while slot > 0 {
+        slot -= 1;
+        if slots.is_live(slot) {
+            return Some(slot);
+        }
+    }
+    None
+}
+
+/// Sees to it that a slot before the live ones is free, by moving them if there is none.
+fn make_room(slots: &mut Slots, buckets: &mut Buckets, span: Span) -> Span
+    requires ranked { IsRanked span.top span.end slots.old buckets.old }
+    requires room { sum slots.old.live < length slots.old.live }
+    ensures ranked { IsRanked result.top result.end slots.new buckets.new }
+    ensures free { 1 ≤ result.top }
+    ensures kept_same { kept slots.new.blocks slots.new.live ≡ kept slots.old.blocks slots.old.live }
+    ensures long { length slots.new.live ≡ length slots.old.live }
+{
+    if span.top > 0 {
+        return span;
+    }
+    let top = gather(slots);
+    file_all(buckets, slots);
+    Span {
+        top,
+        end: slots.len(),
+    }
+}
+
+/// Moves the live slots to the end. Returns the first of them.
+fn gather(slots: &mut Slots) -> usize
+    requires same { length slots.old.blocks ≡ length slots.old.live }
+    requires flags { AreFlags slots.old.live }
+    ensures { IsGathered result slots.old slots.new }
+{
+    let mut to = slots.len();
+    let mut from = to;
+    while from > 0 {
+        from -= 1;
+        if slots.is_live(from) {
+            to -= 1;
+            shift(slots, from, to);
+        }
+    }
+    to
+}
+
+/// Moves a live slot to a later one, with no live one in between.
+fn shift(slots: &mut Slots, from: usize, to: usize)
+    requires order { from ≤ to }
+    requires within { to < length slots.old.live }
+    requires same { length slots.old.blocks ≡ length slots.old.live }
+    requires live { slice_index slots.old.live from ≡ 1 }
+    requires dead { (s : ℕ) → from < s → s ≤ to → slice_index slots.old.live s ≡ 0 }
+    ensures { slots.new ≡ filled (vacated slots.old from) to (slice_index slots.old.blocks from) }
+{
+    let block = slots.block(from);
+    slots.vacate(from);
+    slots.fill(to, block);
+}
+
+/// Files all live slots anew.
+fn file_all(buckets: &mut Buckets, slots: &Slots)
+    requires buckets { IsBuckets (length slots.now.live) buckets.old }
+    requires same { length slots.now.blocks ≡ length slots.now.live }
+    requires few { length slots.now.live ≤ 2 ^ 24 }
+    requires some { 1 ≤ length slots.now.live }
+    ensures buckets { IsBuckets (length slots.now.live) buckets.new }
+    ensures filed { AreFiled buckets.new slots.now }
+{
+    buckets.clear();
+    for slot in 0..slots.len() {
+        if slots.is_live(slot) {
+            buckets.add(slots, slot);
+        }
+    }
+}

@@ -1,0 +1,9 @@
+//! A list of different blocks, the most recent first, that says where a block stands without a walk over
+//! the list.
+#![tactic(auto)]
+
+mod buckets;
+pub mod deep;
+mod slots;
+
+pub use deep::DeepList;
