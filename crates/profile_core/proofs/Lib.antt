@@ -13,4 +13,5 @@ pub mod Fed
 pub mod Fronts
 pub mod Runs
 pub mod HitSums
+pub mod StackLemmas
 mod Rows

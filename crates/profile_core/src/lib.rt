@@ -5,5 +5,6 @@
 pub mod laws;
 pub mod profile;
 mod recency;
+mod stacks;
 
 pub use profile::{MAX_REFERENCES, Profile};

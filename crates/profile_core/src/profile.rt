@@ -11,7 +11,8 @@ ghost use Rattle.profile_core.specs.Fronts.{is_refined};
 ghost use Rattle.profile_core.specs.Moves.{is_second};
 ghost use Rattle.profile_core.specs.ProfileStandsFor.{ProfileStandsFor};
 
-use crate::recency::{RecencyLists, Touch};
+use crate::recency::Touch;
+use crate::stacks::Stacks;
 use cache_core::geometry::Geometry;
 use cache_core::outcome::Counts;
 use std::alloc::{AllocError, Global};
@@ -31,7 +32,7 @@ pub const MAX_REFERENCES: u64 = 2 * MAX_LINES;
 pub struct Profile {
     geometry: Geometry,
     probes: u64,
-    lists: RecencyLists,
+    lists: Stacks,
     behind: Vec<u64>,
     misses_by_occupancy: Vec<u64>,
 }
@@ -90,7 +91,7 @@ impl Profile {
         let depth = depth as usize;
         Ok(Profile {
             geometry,
-            lists: RecencyLists::new(alloc, 1 << s, depth)?,
+            lists: Stacks::new(alloc, 1 << s, depth)?,
             behind: vec![in alloc; 0; depth]?,
             misses_by_occupancy: vec![in alloc; 0; depth + 1]?,
             probes: 0,

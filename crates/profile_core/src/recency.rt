@@ -2,7 +2,7 @@
 //! blocks in one slab.
 
 ghost use Rattle.std.specs.Prelude.{◌≡◌, ◌*◌, ◌^◌, ◌<◌, ◌≤◌, [], ◌∷◌, true, false, nat_eq, length};
-ghost use Rattle.std.specs.Prelude.{take};
+ghost use Rattle.std.specs.Prelude.{take, slice_index, MatchOption, ◌-◌};
 ghost use Rattle.std.specs.Prelude.{sum_by, replicate, IfOk, slice_index_or};
 ghost use Rattle.std.specs.List.{remove};
 ghost use Rattle.cache_core.specs.Touched.{Covers, ListsFilled};
@@ -145,6 +145,22 @@ impl RecencyLists {
         self.fronts[set] = block;
         self.lens[set] = 1;
         self.touched.add_grown(set, 0, 1);
+    }
+
+    /// The last block of a set's list, if that is as long as it may be.
+    #[inline(always)]
+    pub fn last_of_full(&self, set: usize) -> Option<u64>
+        requires within { set < length self.now.lists }
+        requires two { 2 ≤ self.now.depth }
+        ensures { MatchOption result (length (slice_index_or self.now.lists set []) < self.now.depth)
+            (λ last. (length (slice_index_or self.now.lists set []) ≡ self.now.depth)
+            × (last ≡ slice_index (slice_index_or self.now.lists set []) (self.now.depth - 1))) }
+    {
+        if self.lens[set] as usize > self.stride {
+            Some(self.slab[set * self.stride + self.stride - 1])
+        } else {
+            None
+        }
     }
 
     /// Empties the lists.

@@ -1,0 +1,222 @@
+//! A recency list for each set, the most recent block first: its first blocks in a row, and those
+//! behind them, if lists may be long, in a list that is not walked.
+ghost use Rattle.std.specs.Prelude.{◌≡◌, ◌*◌, ◌^◌, ◌<◌, ◌≤◌, [], ◌∷◌, true, false, length, replicate, sum_by, map};
+ghost use Rattle.std.specs.Prelude.{IfOk, slice_index_or};
+ghost use Rattle.deep_list.specs.Deep.{exchanged};
+ghost use Rattle.profile_core.specs.Moves.{is_in, is_front, is_second, touch_of};
+ghost use Rattle.profile_core.specs.Stacks.{rest_touch_of, in_row_of, emptied};
+ghost use Rattle.profile_core.specs.Slab.{brought};
+
+use crate::recency::{RecencyLists, Touch};
+use deep_list::DeepList;
+use std::alloc::{AllocError, Global};
+use std::marker::Model;
+
+/// How many blocks of a list stand in its row, if it may be longer than that.
+const ROW: usize = 64;
+
+/// What a row tells of a block that comes to its front: where it stands in the list, or, if it is
+/// not in the row and that is full, how many blocks the row has, and which was its last.
+#[derive(Debug, Clone, Copy)]
+enum InRow {
+    Settled(Touch),
+    Full(usize, u64),
+}
+
+/// The lists of all sets: the first `ROW` blocks of each in `near`, and up to `beyond` more in `far`,
+/// which has a list for each set, or none if all fit in their rows.
+#[derive(Drop)]
+pub struct Stacks {
+    near: RecencyLists,
+    beyond: usize,
+    far: Vec<DeepList>,
+}
+
+impl Model for Stacks {
+    ghost use Rattle.std.specs.Prelude.{◌+◌};
+    ghost use Rattle.profile_core.specs.Slab.{Lists};
+    ghost use Rattle.profile_core.specs.Stacks.{joined, IsStacked};
+
+    ghost Value = { Lists };
+
+    ghost view = { λ s. record { depth = s.near.depth + s.beyond; lists = joined s.near.lists s.far.items } };
+
+    ghost invariant = { λ s. IsStacked s.near s.beyond s.far.items };
+}
+
+impl Stacks {
+    /// Empty lists for a number of sets.
+    pub fn new(alloc: Global, sets: usize, depth: usize) -> Result<Stacks, AllocError>
+        requires some { 1 ≤ depth }
+        requires filled { 1 ≤ sets }
+        requires small { sets * depth ≤ 2 ^ 22 }
+        ensures { IfOk result (λ r. r ≡ record { depth = depth; lists = replicate sets [] }) }
+    {
+        if depth <= ROW {
+            return Ok(Stacks {
+                near: RecencyLists::new(alloc, sets, depth)?,
+                beyond: 0,
+                far: Vec::new(alloc),
+            });
+        }
+        let beyond = depth - ROW;
+        let near = RecencyLists::new(alloc, sets, ROW)?;
+        let far = far_lists(alloc, sets, beyond)?;
+        Ok(Stacks { near, beyond, far })
+    }
+
+    /// Whether a block is the front of a set's list. Only block 0 has to look at the length. A
+    /// caller that knows that the block is not block 0 says so by `past_first`, and spares the
+    /// test.
+    #[inline(always)]
+    pub fn is_front(&self, set: usize, block: u64, past_first: bool) -> bool
+        requires within { set < length self.now.lists }
+        requires known { past_first ≡ true → 0 < block }
+        ensures { result ≡ is_front block (slice_index_or self.now.lists set []) }
+    {
+        self.near.is_front(set, block, past_first)
+    }
+
+    /// Whether a block is the second of a set's list.
+    #[inline(always)]
+    pub fn is_second(&self, set: usize, block: u64) -> bool
+        requires { set < length self.now.lists }
+        ensures { result ≡ is_second block (slice_index_or self.now.lists set []) }
+    {
+        self.near.is_second(set, block)
+    }
+
+    /// Brings the second block of a set's list to the front.
+    #[inline(always)]
+    pub fn bring_second(&mut self, set: usize, block: u64)
+        requires within { set < length self.old.lists }
+        requires behind { is_front block (slice_index_or self.old.lists set []) ≡ false }
+        requires second { is_second block (slice_index_or self.old.lists set []) ≡ true }
+        ensures { self.new ≡ brought self.old set block }
+    {
+        self.near.bring_second(set, block);
+    }
+
+    /// Brings a block that is neither the front nor the second of a set's list to the front,
+    /// wherever it is.
+    #[inline(always)]
+    pub fn bring(&mut self, set: usize, block: u64) -> Touch
+        requires within { set < length self.old.lists }
+        requires behind { is_front block (slice_index_or self.old.lists set []) ≡ false }
+        requires further { is_second block (slice_index_or self.old.lists set []) ≡ false }
+        ensures found { result ≡ touch_of block (slice_index_or self.old.lists set []) }
+        ensures moved { self.new ≡ brought self.old set block }
+    {
+        if self.beyond == 0 {
+            self.near.bring(set, block)
+        } else {
+            self.bring_far(set, block)
+        }
+    }
+
+    /// The same, where lists may be longer than their rows. It stands apart, so that the path of
+    /// the others stays short.
+    #[inline(never)]
+    fn bring_far(&mut self, set: usize, block: u64) -> Touch
+        requires within { set < length self.old.lists }
+        requires behind { is_front block (slice_index_or self.old.lists set []) ≡ false }
+        requires further { is_second block (slice_index_or self.old.lists set []) ≡ false }
+        ensures found { result ≡ touch_of block (slice_index_or self.old.lists set []) }
+        ensures moved { self.new ≡ brought self.old set block }
+    {
+        // Its caller knows this to be false, but no contract can say so.
+        if self.beyond == 0 {
+            return self.near.bring(set, block);
+        }
+        match bring_near(&mut self.near, set, block) {
+            InRow::Settled(touch) => touch,
+            InRow::Full(held, last) => exchange(&mut self.far[set], held, block, last),
+        }
+    }
+
+    /// Empties the lists.
+    pub fn clear(&mut self)
+        ensures { self.new ≡ record self.old { lists = replicate (length self.old.lists) [] } }
+    {
+        self.near.clear();
+        clear_all(&mut self.far);
+    }
+
+    /// How many blocks stand in the lists. It adds up the lengths of all sets.
+    pub fn held(&self) -> u64
+        ensures value { result ≡ sum_by length self.now.lists }
+        ensures at_most { result ≤ length self.now.lists * self.now.depth }
+    {
+        self.near.held() + held_by(&self.far)
+    }
+}
+
+/// Empties lists.
+fn clear_all(far: &mut [DeepList])
+    ensures { far.new ≡ map emptied far.old }
+{
+    for list in far.iter_mut() {
+        list.clear();
+    }
+}
+
+/// How many blocks stand in lists.
+fn held_by(far: &[DeepList]) -> u64
+    requires { sum_by (λ d. length d.blocks) far.now ≤ 2 ^ 22 }
+    ensures { result ≡ sum_by (λ d. length d.blocks) far.now }
+{
+    let mut total = 0;
+    for list in far {
+        total += list.len() as u64;
+    }
+    total
+}
+
+/// Brings a block to the front of its row.
+#[inline(never)]
+fn bring_near(near: &mut RecencyLists, set: usize, block: u64) -> InRow
+    requires within { set < length near.old.lists }
+    requires two { 2 ≤ near.old.depth }
+    requires behind { is_front block (slice_index_or near.old.lists set []) ≡ false }
+    requires further { is_second block (slice_index_or near.old.lists set []) ≡ false }
+    ensures found { result ≡ in_row_of near.old.depth block (slice_index_or near.old.lists set []) }
+    ensures moved { near.new ≡ brought near.old set block }
+{
+    let last = near.last_of_full(set);
+    match near.bring(set, block) {
+        Touch::Behind(distance) => InRow::Settled(Touch::Behind(distance)),
+        Touch::New(held) => match last {
+            Some(last) => InRow::Full(held, last),
+            None => InRow::Settled(Touch::New(held)),
+        },
+    }
+}
+
+/// A list for the blocks behind each row.
+fn far_lists(alloc: Global, sets: usize, beyond: usize) -> Result<Vec<DeepList>, AllocError>
+    requires some { 1 ≤ beyond }
+    requires small { beyond ≤ 2 ^ 22 }
+    ensures { IfOk result (λ far. far.items ≡ replicate sets (record { cap = beyond; blocks = [] })) }
+{
+    let mut far = Vec::with_capacity(alloc, sets)?;
+    for made in 0..sets {
+        far.push(DeepList::new(alloc, beyond)?)?;
+    }
+    Ok(far)
+}
+
+/// Where a block stands in a list of which `held` blocks are in the row, and not this one: takes it
+/// out of the rest, and puts the last block of the row there.
+fn exchange(rest: &mut DeepList, held: usize, block: u64, last: u64) -> Touch
+    requires other { is_in last rest.old.blocks ≡ false }
+    requires few { held ≤ 2 ^ 22 }
+    requires short { length rest.old.blocks ≤ 2 ^ 22 }
+    ensures found { result ≡ rest_touch_of held block rest.old.blocks }
+    ensures moved { rest.new ≡ exchanged rest.old block last }
+{
+    let more = rest.len();
+    match rest.exchange(block, last) {
+        Some(place) => Touch::Behind(held + place),
+        None => Touch::New(held + more),
+    }
+}
