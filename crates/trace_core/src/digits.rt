@@ -4,6 +4,9 @@ ghost use Rattle.std.specs.Prelude.{length, slice_index, IfSome, if◌then◌els
 ghost use Rattle.std.specs.Char.{digit_value, is_digit};
 ghost use Rattle.trace_core.specs.Fields.{WritesNumber, number_written};
 
+use crate::nibbles::{digit_mask, digit_values, number_of};
+use std::simd::prelude::*;
+
 /// The number that 1 to 16 hexadecimal digits in front write, and what follows them.
 #[inline(always)]
 pub(crate) fn split_hexadecimal(text: &[u8]) -> Option<(u64, &[u8])>
@@ -53,7 +56,8 @@ pub(crate) fn read_number(radix: u8, most: usize, digits: &[u8]) -> Option<u64>
 }
 
 /// The number that the hexadecimal digits in front write, and how many they are; at most 16 are
-/// read. Four at a time leave fewer branches to predict; `docs/speed.md` says what that gains.
+/// read. All are read at once, so no branch depends on how many they are; `docs/speed.md` says what
+/// that gains.
 #[inline(always)]
 fn read_hexadecimal(text: &[u8]) -> (u64, usize)
     ensures value { WritesNumber 16 text.now result }
@@ -62,31 +66,12 @@ fn read_hexadecimal(text: &[u8]) -> (u64, usize)
     if text.len() < 16 {
         return more_digits(16, text, text.len(), (0, 0));
     }
-    let mut value = 0u64;
-    for group in 0..4usize {
-        let at = 4 * group;
-        let four = four_digits(text, at);
-        if four >= NO_DIGIT {
-            return more_digits(16, text, at + 4, (value, at));
-        }
-        value = value * GROUP as u64 + four as u64;
+    let bytes = u8x16::from_slice(text);
+    let len = digit_mask(bytes).trailing_ones() as usize;
+    if len == 0 {
+        return (0, 0);
     }
-    (value, 16)
-}
-
-/// The value that four bytes write, from index `at` of a text on, or at least `NO_DIGIT` if one
-/// of them is not a hexadecimal digit.
-#[inline(always)]
-fn four_digits(text: &[u8], at: usize) -> u32
-    requires { at + 4 ≤ length text.now }
-    ensures { result < NO_DIGIT → (value : ℕ) → WritesNumber 16 text.now (value, at) →
-        WritesNumber 16 text.now (value * GROUP + result, at + 4) }
-{
-    let first = hexadecimal_digit(text[at]);
-    let second = hexadecimal_digit(text[at + 1]);
-    let third = hexadecimal_digit(text[at + 2]);
-    let fourth = hexadecimal_digit(text[at + 3]);
-    ((first * 16 + second) * 16 + third) * 16 + fourth
+    (number_of(digit_values(bytes)) >> (64 - 4 * len), len)
 }
 
 /// The number that the digits in front write, and how many they are; at most `most` are read. Where
@@ -139,12 +124,8 @@ fn hexadecimal_digit(c: u8) -> u32
     DIGITS[c as usize]
 }
 
-/// How many values four hexadecimal digits have: 16^4.
-const GROUP: u32 = 65536;
-
-/// What the table has for a byte that is not a hexadecimal digit. It is above each value of four
-/// digits, so one comparison tells whether four bytes are digits.
-const NO_DIGIT: u32 = GROUP;
+/// What the table has for a byte that is not a hexadecimal digit.
+const NO_DIGIT: u32 = 65536;
 
 /// For each byte its value as a hexadecimal digit, or `NO_DIGIT`.
 static DIGITS: [u32; 256] = [

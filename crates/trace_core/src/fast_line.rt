@@ -17,6 +17,10 @@ use crate::limits::MAX_LINE;
 use crate::line::{Format, din_op, lackey_op, without_0x};
 use memchr::memchr;
 
+/// How many bytes a text must have for the plain form. One test of it stands for those of each
+/// part, and only the last lines of what a source delivered at once are read more slowly.
+const PLAIN_ROOM: usize = 64;
+
 /// The item of the line that a text begins with, and the index of the line's LF, if the line has
 /// the usual form: the label and the blanks as tracers write them.
 #[inline(always)]
@@ -26,6 +30,9 @@ pub(crate) fn read_plain_line(format: Format, text: &[u8]) -> Option<(Item, usiz
     ensures item { IfSome result (λ found.
         meaning format (take found.1 text.now) ≡ Ok (Some (Entry.Item found.0))) }
 {
+    if text.len() < PLAIN_ROOM {
+        return None;
+    }
     let (label, rest) = split_plain_label(format, text)?;
     read_labelled(format, text, label, rest)
 }
@@ -54,27 +61,25 @@ fn read_labelled(format: Format, text: &[u8], label: u8, fields: &[u8]) -> Optio
         meaning format (take found.1 text.now) ≡ Ok (Some (Entry.Item found.0))) }
 {
     let (item, rest) = read_item(format, label, fields)?;
-    let end = line_end(rest)?;
-    let at = text.len() - rest.len() + end;
-    if at > MAX_LINE {
-        return None;
+    let len = text.len() - rest.len();
+    if let [b'\n', ..] = rest {
+        return if len <= MAX_LINE {
+            Some((item, len))
+        } else {
+            None
+        };
     }
-    Some((item, at))
-}
-
-/// The index of a line's LF in what follows its last field that matters.
-#[inline(always)]
-fn line_end(rest: &[u8]) -> Option<usize>
-    ensures line { IfSome result (λ end. IsFirstByte (is_byte 10) rest.now (Some end)) }
-    ensures ends { IfSome result (λ end. ends_field (take end rest.now) ≡ true) }
-{
-    match rest {
-        [b'\n', ..] => Some(0),
-        _ => late_end(rest),
+    let end = late_end(rest)?;
+    let at = len + end;
+    if at <= MAX_LINE {
+        Some((item, at))
+    } else {
+        None
     }
 }
 
-/// The same if it comes after a CR, or after a blank and a comment.
+/// The index of a line's LF in what follows its last field that matters, if it comes after a CR,
+/// or after a blank and a comment.
 #[inline(never)]
 fn late_end(rest: &[u8]) -> Option<usize>
     ensures line { IfSome result (λ end. IsFirstByte (is_byte 10) rest.now (Some end)) }

@@ -11,6 +11,7 @@ pub mod io;
 pub mod laws;
 mod limits;
 pub mod line;
+mod nibbles;
 pub mod reader;
 mod scan;
 mod state;

@@ -1,0 +1,56 @@
+//! Sixteen bytes at once, as hexadecimal digits.
+ghost use Rattle.std.specs.Prelude.{◌≡◌, ℕ, ◌+◌, ◌-◌, ◌%◌, true, map, nat_le, length, slice_index, if◌then◌else◌, bit_or};
+ghost use Rattle.std.specs.Char.{digit_value, is_digit};
+ghost use Rattle.std.specs.Int.Digits.{number_from_digits, AllBelowBase};
+ghost use Rattle.std.specs.Simd.Lanes.{mask_l};
+
+use std::simd::prelude::*;
+
+/// A bit for each byte that is a hexadecimal digit, the lowest for the first byte.
+#[inline(always)]
+pub(crate) fn digit_mask(bytes: u8x16) -> u64
+    ensures { result ≡ mask_l (map (λ c. is_digit c 16) bytes) }
+{
+    let digits = lanes_within(bytes, b'0', 9) | letters(bytes);
+    digits.simd_eq(u8x16::splat(255)).to_bitmask()
+}
+
+/// The values of the bytes that are hexadecimal digits, and any below 16 for the others.
+#[inline(always)]
+pub(crate) fn digit_values(bytes: u8x16) -> u8x16
+    ensures lanes { length result ≡ 16 }
+    ensures below { AllBelowBase 16 result }
+    ensures values { (k : ℕ) → is_digit (slice_index bytes k) 16 ≡ true →
+        slice_index result k ≡ digit_value (slice_index bytes k) }
+{
+    (bytes & u8x16::splat(15)) + (letters(bytes) & u8x16::splat(9))
+}
+
+/// The number that sixteen digits write.
+#[inline(always)]
+pub(crate) fn number_of(digits: u8x16) -> u64
+    requires { AllBelowBase 16 digits }
+    ensures { result ≡ number_from_digits 16 digits }
+{
+    let words = u16x8::from_le_bytes(digits);
+    let pairs = ((words << u16x8::splat(4)) + (words >> u16x8::splat(8))) & u16x8::splat(255);
+    u64::from_be_bytes(pairs.cast::<u8>().to_array())
+}
+
+/// 255 for each byte that is a letter from `a` to `f` or from `A` to `F`, and 0 for the others.
+#[inline(always)]
+fn letters(bytes: u8x16) -> u8x16
+    ensures { result ≡ map (λ c. if nat_le ((bit_or c 32 + (256 - 97)) % 256) 5 then 255 else 0) bytes }
+{
+    lanes_within(bytes | u8x16::splat(32), b'a', 5)
+}
+
+/// 255 for each byte that is `first` or at most `more` above it, and 0 for the others.
+#[inline(always)]
+fn lanes_within(bytes: u8x16, first: u8, more: u8) -> u8x16
+    ensures { result ≡ map (λ c. if nat_le ((c + (256 - first)) % 256) more then 255 else 0) bytes }
+{
+    (bytes - u8x16::splat(first))
+        .simd_le(u8x16::splat(more))
+        .select(u8x16::splat(255), u8x16::splat(0))
+}
