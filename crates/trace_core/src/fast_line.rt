@@ -3,10 +3,10 @@
 //!
 //! This way is for speed alone. A reader that never took it would meet each contract, and read most
 //! traces several times slower: only `tests/limits` sees that.
-ghost use Rattle.std.specs.Prelude.{◌≡◌, ℕ, ◌≤◌, List, ◌++◌, true, Ok, Some, IfSome, take};
+ghost use Rattle.std.specs.Prelude.{◌^◌, ◌<◌, ◌≡◌, ℕ, ◌≤◌, List, ◌++◌, true, Ok, Some, IfSome, take};
 ghost use Rattle.std.specs.List.{list_all};
 ghost use Rattle.memchr.specs.Find.{IsFirstByte, is_byte};
-ghost use Rattle.trace_core.specs.Fields.{is_blank, ends_field};
+ghost use Rattle.trace_core.specs.Fields.{is_blank, ends_field, number_written};
 ghost use Rattle.trace_core.specs.Line.{meaning};
 ghost use Rattle.trace_core.specs.FastLine.{BeginsLine, BeginsLabel};
 ghost use Rattle.trace_core.specs.declared.events.Entry.TheVariants as entry;
@@ -126,9 +126,24 @@ fn read_lackey_item(label: u8, rest: &[u8]) -> Option<(Item, &[u8])>
     let [b',', rest @ ..] = rest else {
         return None;
     };
-    let (size, rest) = split_number(10, 9, rest)?;
+    let (size, rest) = split_size(rest)?;
     let size = size as u32;
     Some((Item { op, addr, size }, rest))
+}
+
+/// The size of a lackey line, and what follows it. Most sizes have one digit, and end the line.
+#[inline(always)]
+fn split_size(text: &[u8]) -> Option<(u64, &[u8])>
+    ensures parts { IfSome result (λ parts. (digits : List ℕ) × (text.now ≡ digits ++ parts.1.now)
+        × (number_written 10 9 digits ≡ Some parts.0)) }
+    ensures bound { IfSome result (λ parts. parts.0 < 10 ^ 9) }
+{
+    if let [digit @ b'0'..=b'9', rest @ ..] = text {
+        if let [b'\n', ..] = rest {
+            return Some(((*digit - b'0') as u64, rest));
+        }
+    }
+    split_number(10, 9, text)
 }
 
 /// A label with the blanks beside it that tracers write, and what comes after them.

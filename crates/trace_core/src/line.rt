@@ -139,18 +139,31 @@ fn read_lackey(line: &[u8]) -> Result<Option<Entry>, LineFault>
     read_lackey_access(op, rest)
 }
 
+/// What the labels from `I` to `S` mean. A table, since the labels of a trace come in no order that
+/// a processor predicts.
+static LACKEY_OPS: [Option<Op>; 11] = [
+    Some(Op::Fetch),
+    None,
+    None,
+    Some(Op::Load),
+    Some(Op::Modify),
+    None,
+    None,
+    None,
+    None,
+    None,
+    Some(Op::Store),
+];
+
 /// What a label of a lackey line means.
 #[inline(always)]
 pub(crate) fn lackey_op(label: u8) -> Option<Op>
     ensures { result ≡ lackey_op label }
 {
-    match label {
-        b'I' => Some(Op::Fetch),
-        b'L' => Some(Op::Load),
-        b'S' => Some(Op::Store),
-        b'M' => Some(Op::Modify),
-        _ => None,
+    if label < b'I' || label > b'S' {
+        return None;
     }
+    LACKEY_OPS[(label - b'I') as usize]
 }
 
 /// The item of a lackey line, whose address, comma and size are in the first field.
