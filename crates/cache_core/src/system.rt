@@ -204,7 +204,7 @@ impl Memory {
 }
 
 /// One reference at a first-level cache, if it is there: what it sends down for it.
-#[inline(never)]
+#[inline(always)]
 fn access_first<O: Observer>(
     name: CacheName,
     cache: &mut Option<SystemCache>,
@@ -226,6 +226,7 @@ fn access_first<O: Observer>(
 }
 
 /// A reference at the first level. `None` if no cache takes it.
+#[inline(always)]
 fn first_level<O: Observer>(
     i: &mut Option<SystemCache>,
     d: &mut Option<SystemCache>,
