@@ -17,7 +17,7 @@ use Rattle.cache_core.specs.CacheSteps.{system_cache_contents, Empties}
 use Rattle.cache_core.specs.Systems.{machine_of, events_for, first_level_sends, below, flush_counts, flush_copybacks, is_taken}
 use Rattle.cache_core.specs.SystemSteps.{SystemValue, present_refs, AccessesFirstLevel, AllDescend, StepsSystem, FlushesSystem, EmptiesCache}
 use Rattle.cache_core.specs.SystemSteps.{IsNewSystemCache, IsNewCache, IsNewSystem}
-use Rattle.cache_core.specs.SystemStands.{SystemStandsFor, SystemRuns, NewSystemLaw, StepLaw, SystemFlushLaw, SystemRunLaw}
+use Rattle.cache_core.specs.SystemStands.{SystemStandsFor, NewSystemLaw, StepLaw, SystemFlushLaw}
 use Rattle.cache_core.proofs.RunLaw.{start_law, flush_run}
 use Rattle.cache_core.proofs.Pushes.{count_by_push}
 use Rattle.cache_core.proofs.SystemPushes.{counts_flush, flush_counts_flush, flush_counts_taken, flush_counts_refs, events_flush}
@@ -178,25 +178,3 @@ pub system_flush_law : SystemFlushLaw
 system_flush_law plan seed events old new s t =
     stands_kept plan seed (events ++ event.Flush ∷ []) new (kept_flush plan seed events old new (kept_of plan seed events old s) t)
     (omega (arith, t.steps, s.steps, length-append events (event.Flush ∷ [])))
-
--- a run
-pub system_runs_law : SystemRunLaw
-system_runs_law plan seed events [] old new p i r = grind (arith, append-nil)
-system_runs_law plan seed events (event.Reference ref ∷ more) old new p i (half, a, r) =
-    subst (λ es. SystemStandsFor plan seed es new) (append_assoc events (event.Reference ref ∷ []) more)
-    (system_runs_law plan seed (events ++ event.Reference ref ∷ []) more half new p (step_law plan seed events old ref half p i a) r)
-system_runs_law plan seed events (event.Flush ∷ more) old new p i (half, f, r) =
-    subst (λ es. SystemStandsFor plan seed es new) (append_assoc events (event.Flush ∷ []) more)
-    (system_runs_law plan seed (events ++ event.Flush ∷ []) more half new p (system_flush_law plan seed events old half i f) r)
-
-pub system_runs-append : (v mid new : SystemValue) (events more : List Event) → SystemRuns v events mid → SystemRuns mid more new →
-    SystemRuns v (events ++ more) new
-system_runs-append v mid new [] more r s = subst (λ (x : SystemValue). SystemRuns x more new) r s
-system_runs-append v mid new (event.Reference ref ∷ events) more (half, a, r) s = (half, a, system_runs-append half mid new events more r s)
-system_runs-append v mid new (event.Flush ∷ events) more (half, f, r) s = (half, f, system_runs-append half mid new events more r s)
-
--- each event is a step
-pub system_runs-steps : (v new : SystemValue) (events : List Event) → SystemRuns v events new → new.steps ≡ v.steps + length events
-system_runs-steps v new [] r = rw r (omega arith)
-system_runs-steps v new (event.Reference ref ∷ events) (half, a, r) = omega (arith, a.steps, system_runs-steps half new events r)
-system_runs-steps v new (event.Flush ∷ events) (half, f, r) = omega (arith, f.steps, system_runs-steps half new events r)

@@ -27,12 +27,6 @@ pub record SystemStandsFor (plan : PlannedCaches) (seed : ℕ) (events : List Ev
   pub stats : stats_of v ≡ system_run plan seed events
   pub steps : v.steps ≡ length events
 
--- a list of events at a system, one after another
-abbrev pub SystemRuns : SystemValue → List Event → SystemValue → Type 0
-SystemRuns old [] new = new ≡ old
-SystemRuns old (event.Reference ref ∷ events) new = (half : SystemValue) × StepsSystem old ref half × SystemRuns half events new
-SystemRuns old (event.Flush ∷ events) new = (half : SystemValue) × FlushesSystem old half × SystemRuns half events new
-
 -- a new system stands for no event
 abbrev pub NewSystemLaw : Type 0
 NewSystemLaw = (plan : PlannedCaches) (seed : ℕ) (v : SystemValue) → IsNewSystem plan seed v → SystemStandsFor plan seed [] v
@@ -46,8 +40,3 @@ StepLaw = (plan : PlannedCaches) (seed : ℕ) (events : List Event) (old : Syste
 abbrev pub SystemFlushLaw : Type 0
 SystemFlushLaw = (plan : PlannedCaches) (seed : ℕ) (events : List Event) (old new : SystemValue) →
     SystemStandsFor plan seed events old → FlushesSystem old new → SystemStandsFor plan seed (events ++ event.Flush ∷ []) new
-
--- so a list of events adds itself
-abbrev pub SystemRunLaw : Type 0
-SystemRunLaw = (plan : PlannedCaches) (seed : ℕ) (events more : List Event) (old new : SystemValue) →
-    IsPlan plan → SystemStandsFor plan seed events old → SystemRuns old more new → SystemStandsFor plan seed (events ++ more) new

@@ -12,8 +12,6 @@ ghost use Rattle.cache_core.specs.AnyPolicy.{AnyStartLaw, AnyAccessLaw, AnyFlush
 ghost use Rattle.cache_core.specs.LruLaws.{occurrence_after, HitLaw, VictimLaw, CountLaw, NextLaw};
 ghost use Rattle.cache_core.specs.LruLaws.{HitInclusion, HeldInclusion};
 ghost use Rattle.cache_core.specs.Plans.{GeometryLaw};
-ghost use Rattle.cache_core.specs.SystemStands.{NewSystemLaw, StepLaw, SystemFlushLaw};
-ghost use Rattle.cache_core.specs.SystemStands.{SystemRunLaw};
 ghost use Rattle.cache_core.specs.ArrivalStats.{LogLaw};
 ghost use Rattle.cache_core.specs.LogLaws.{MemoryLaw, BypassedLaw, FetchCacheLaw, DataCacheLaw};
 ghost use Rattle.cache_core.specs.LogLaws.{UnifiedCacheLaw, SecondLevelLaw, FollowLaw, LinesLaw};
@@ -105,26 +103,6 @@ pub fn limits_are_tested()
 /// The geometry of a cache is the one that its numbers give.
 pub fn geometry_is()
     ensures { GeometryLaw }
-{}
-
-/// A new system stands for no event.
-pub fn new_system_stands()
-    ensures { NewSystemLaw }
-{}
-
-/// A step of a system adds its reference to the list that it stands for.
-pub fn step_stands()
-    ensures { StepLaw }
-{}
-
-/// A flush of a system adds itself to the list.
-pub fn system_flush_stands()
-    ensures { SystemFlushLaw }
-{}
-
-/// A list of events, one after another, adds itself to the list that a system stands for.
-pub fn system_run_stands()
-    ensures { SystemRunLaw }
 {}
 
 /// The statistics of a system are the counts of its log.

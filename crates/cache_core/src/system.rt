@@ -1,6 +1,6 @@
 //! A system of caches.
 ghost use Rattle.std.specs.Prelude.{◌≡◌, ◌≤◌, ◌<◌, ◌+◌, ◌^◌, ℕ, List, length, ◌∷◌, [], IfOk};
-ghost use Rattle.std.specs.Prelude.{Option};
+ghost use Rattle.std.specs.Prelude.{Option, ◌++◌};
 ghost use Rattle.cache_core.specs.SystemSteps.{present_refs, all_reach, Descends, AllDescend};
 ghost use Rattle.cache_core.specs.SystemSteps.{AccessesFirst, AccessesFirstLevel, EmptiesCache};
 ghost use Rattle.cache_core.specs.SystemSteps.{accesses_of, memory_accesses, stats_held};
@@ -53,7 +53,6 @@ impl Model for System {
 }
 
 impl System {
-    ghost use Rattle.cache_core.specs.SystemSteps.{StepsSystem, FlushesSystem, IsNewSystem};
     ghost use Rattle.cache_core.specs.SystemSteps.{stats_of, HasWritten};
     ghost use Rattle.trace_core.specs.declared.events.Event.TheVariants as event;
     ghost use Rattle.cache_core.specs.Systems.{system_run};
@@ -64,7 +63,7 @@ impl System {
     /// its own, of this seed. Takes the memory of all its caches; it fails only if there is too
     /// little.
     pub fn new(alloc: Global, plan: Plan, seed: u64) -> Result<Self, AllocError>
-        ensures new { IfOk result (IsNewSystem plan seed) }
+        ensures stands { IfOk result (SystemStandsFor plan seed []) }
         ensures limits { IsPlan plan }
     {
         let i = new_cache(alloc, plan.first_i(), seed)?;
@@ -100,7 +99,10 @@ impl System {
     /// flushes together may be at most `MAX_STEPS`.
     pub fn step(&mut self, reference: Ref)
         requires { self.old.steps < MAX_STEPS }
-        ensures { StepsSystem self.old reference self.new }
+        ensures stands { (plan : PlannedCaches) (seed : ℕ) (events : List Event) → IsPlan plan →
+            SystemStandsFor plan seed events self.old →
+            SystemStandsFor plan seed (events ++ event.Reference reference ∷ []) self.new }
+        ensures steps { self.new.steps ≡ self.old.steps + 1 }
     {
         self.step_observed(reference, &mut Nobody);
     }
@@ -110,7 +112,10 @@ impl System {
     pub fn step_observed<O: Observer>(&mut self, reference: Ref, observer: &mut O)
         requires steps { self.old.steps < MAX_STEPS }
         requires room { MAX_ARRIVALS ≤ O.room observer.old }
-        ensures step { StepsSystem self.old reference self.new }
+        ensures stands { (plan : PlannedCaches) (seed : ℕ) (events : List Event) → IsPlan plan →
+            SystemStandsFor plan seed events self.old →
+            SystemStandsFor plan seed (events ++ event.Reference reference ∷ []) self.new }
+        ensures steps { self.new.steps ≡ self.old.steps + 1 }
         ensures seen { (plan : PlannedCaches) (seed : ℕ) (events : List Event) → IsPlan plan →
             SystemStandsFor plan seed events self.old →
             Saw O.has_seen observer.old (arrivals_of plan seed events (event.Reference reference))
@@ -132,7 +137,10 @@ impl System {
     /// second level, and nothing is an eviction. A flush is a step, too.
     pub fn flush(&mut self)
         requires { self.old.steps < MAX_STEPS }
-        ensures { FlushesSystem self.old self.new }
+        ensures stands { (plan : PlannedCaches) (seed : ℕ) (events : List Event) →
+            SystemStandsFor plan seed events self.old →
+            SystemStandsFor plan seed (events ++ event.Flush ∷ []) self.new }
+        ensures steps { self.new.steps ≡ self.old.steps + 1 }
     {
         self.flush_observed(&mut Nobody);
     }
@@ -141,7 +149,10 @@ impl System {
     pub fn flush_observed<O: Observer>(&mut self, observer: &mut O)
         requires steps { self.old.steps < MAX_STEPS }
         requires room { MAX_ARRIVALS ≤ O.room observer.old }
-        ensures flush { FlushesSystem self.old self.new }
+        ensures stands { (plan : PlannedCaches) (seed : ℕ) (events : List Event) →
+            SystemStandsFor plan seed events self.old →
+            SystemStandsFor plan seed (events ++ event.Flush ∷ []) self.new }
+        ensures steps { self.new.steps ≡ self.old.steps + 1 }
         ensures seen { (plan : PlannedCaches) (seed : ℕ) (events : List Event) →
             SystemStandsFor plan seed events self.old →
             Saw O.has_seen observer.old (arrivals_of plan seed events event.Flush) observer.new }

@@ -1,5 +1,5 @@
 -- What `din` has read, stepped through and written when it ends.
-use Rattle.std.proofs.Common.{◌≡◌, ℕ, ◌*◌, ◌<◌, ◌≤◌, List, [], ◌∷◌, ◌++◌, Option, None, Some, Result, Ok, map, sym, ap, subst, ◌∙◌, length, arith}
+use Rattle.std.proofs.Common.{◌≡◌, ℕ, ◌+◌, ◌*◌, ◌<◌, ◌≤◌, List, [], ◌∷◌, ◌++◌, append_assoc, Option, None, Some, Result, Ok, map, sym, ap, subst, ◌∙◌, length, arith}
 use Rattle.std.specs.Prelude.{IfOk, IfSome}
 use Rattle.std.specs.List.{filter, flat_map}
 use Rattle.std.specs.Option.{option_to_list}
@@ -9,6 +9,7 @@ use Rattle.trace_core.specs.declared.events.Item.{Item}
 use Rattle.trace_core.specs.declared.events.Op.{Op}
 use Rattle.trace_core.specs.declared.events.Op.TheVariants.{Fetch, Load, Store, Modify}
 use Rattle.trace_core.specs.declared.events.Ref.{Ref}
+use Rattle.trace_core.specs.declared.events.Event.{Event}
 use Rattle.trace_core.specs.declared.events.Event.TheVariants as event
 use Rattle.trace_core.specs.declared.events.Kind.TheVariants.{All}
 use Rattle.trace_core.specs.declared.line.Format.{Format}
@@ -26,9 +27,8 @@ use Rattle.trace_core.proofs.Written.{Wrote-none}
 use Rattle.cache_core.specs.declared.stats.Stats.{Stats}
 use Rattle.cache_core.specs.Plans.{PlannedCaches, IsPlan}
 use Rattle.cache_core.specs.Systems.{system_run}
-use Rattle.cache_core.specs.SystemSteps.{SystemValue, IsNewSystem, stats_of}
-use Rattle.cache_core.specs.SystemStands.{SystemRuns}
-use Rattle.cache_core.proofs.SystemLaw.{new_law, system_runs_law, system_runs-append, system_runs-steps}
+use Rattle.cache_core.specs.SystemSteps.{SystemValue, stats_of}
+use Rattle.cache_core.specs.SystemStands.{SystemStandsFor}
 use Rattle.commands.specs.DinPass.{StepsThrough}
 use Rattle.commands.specs.DinText.{din_task, report_of}
 
@@ -43,7 +43,7 @@ module _ (plan : PlannedCaches) (seed : ℕ) (format : Format) (limit : ℕ) {st
   unfolding din_task
   din-stopped sink x failed = Stopped-at x failed reached (Wrote-none sink)
 
-  module _ {bytes : List ℕ} {stats : Stats} (good : IsPlan plan) (fresh : IsNewSystem plan seed old) (ended : p.state ≡ state.Ended)
+  module _ {bytes : List ℕ} {stats : Stats} (good : IsPlan plan) (fresh : SystemStandsFor plan seed [] old) (ended : p.state ≡ state.Ended)
       (counted : stats ≡ stats_of new) (is : bytes ≡ report_of stats) where
     -- at the end the report of the system is what has to be written
     whole : ReadWhole (din_task plan seed format limit) start now bytes
@@ -54,8 +54,7 @@ module _ (plan : PlannedCaches) (seed : ℕ) (format : Format) (limit : ℕ) {st
       reached = reached;
       ended = ended;
       output = λ text all.
-          let es = flat_map (events_of All) (entries_of run.read) in
-          let stands = (system_runs_law plan seed [] es old new good (new_law plan seed old fresh) run.runs).stats in
+          let stands = (run.stands plan seed good fresh).stats in
           sym (is ∙ ap report_of (counted ∙ stands ∙ ap (λ es. system_run plan seed (flat_map (events_of All) es)) all));
     }
 
@@ -89,6 +88,15 @@ two_steps (entry.Item item) = by_op item.op
     by_op Modify = omega arith
 two_steps entry.Flush = omega arith
 
+-- a system stands for these events too
+abbrev pub AddsEvents : SystemValue → List Event → SystemValue → Type 0
+AddsEvents old es new = (plan : PlannedCaches) (seed : ℕ) (events : List Event) → IsPlan plan → SystemStandsFor plan seed events old →
+    SystemStandsFor plan seed (events ++ es) new
+
+pub adds_both : {old mid new : SystemValue} {a b : Event} → AddsEvents old (a ∷ []) mid → AddsEvents mid (b ∷ []) new → AddsEvents old (a ∷ b ∷ []) new
+adds_both {new = new} {a} {b} first second = λ plan seed events good stands.
+    subst (λ es. SystemStandsFor plan seed es new) (append_assoc events (a ∷ []) (b ∷ [])) (second plan seed _ good (first plan seed events good stands))
+
 -- A system was stepped through the entries that were read, at most two references a line, and then through one entry more.
 pub stepped-more : {format : Format} {limit : ℕ} {start mid now : SourceView} {p q : Progress} {first old new : SystemValue} {x : ℕ × Entry}
     {answer : Result (Option (ℕ × Entry)) TraceFault} {found : Option (ℕ × Entry)}
@@ -96,16 +104,16 @@ pub stepped-more : {format : Format} {limit : ℕ} {start mid now : SourceView} 
     → ((format : Format) (limit : ℕ) (start : SourceView) (xs : List (ℕ × Entry)) → Reached format limit start mid xs p
     → Reached format limit start now (xs ++ entries_returned answer) q)
     → IfOk answer (λ one. IfSome one (λ y. (y.0 ≡ q.lines) × (p.lines < q.lines)))
-    → answer ≡ Ok found → found ≡ Some x → SystemRuns old (events_of All x.1) new
+    → answer ≡ Ok found → found ≡ Some x → AddsEvents old (events_of All x.1) new → new.steps ≤ old.steps + 2
     → StepsThrough format limit start now q first new × (new.steps ≤ 2 * q.lines)
-stepped-more {q = q} {first} {old} {new} {x} so_far reads_on bears was is runs =
+stepped-more {q = q} {first} {old} {new} {x} so_far reads_on bears was is adds few =
     let read = so_far.0.read in
     let further = (rw (was ∙ ap Ok is) at bears).1 in (
       record {
         read = read ++ x ∷ [];
         reached = rw (was ∙ ap Ok is) at (reads_on _ _ _ read so_far.0.reached);
-        runs = subst (λ es. SystemRuns first es new) (sym (collected-more All read x))
-            (system_runs-append first old new (flat_map (events_of All) (entries_of read)) (events_of All x.1) so_far.0.runs runs);
+        stands = λ plan seed good fresh. subst (λ es. SystemStandsFor plan seed es new) (sym (collected-more All read x))
+            (adds plan seed _ good (so_far.0.stands plan seed good fresh));
       },
-      omega (arith, system_runs-steps old new (events_of All x.1) runs, two_steps x.1, so_far.1, further),
+      omega (arith, few, so_far.1, further),
     )

@@ -27,12 +27,11 @@ use Rattle.trace_core.proofs.Written.{Wrote-none, Wrote-more, WrotePart-after, W
 use Rattle.cache_core.specs.declared.arrival.Arrival.{Arrival}
 use Rattle.cache_core.specs.Arrivals.{Saw, arrivals_of, arrivals_from}
 use Rattle.cache_core.specs.Plans.{PlannedCaches, IsPlan}
-use Rattle.cache_core.specs.SystemSteps.{SystemValue, IsNewSystem, StepsSystem, FlushesSystem}
+use Rattle.cache_core.specs.SystemSteps.{SystemValue}
 use Rattle.cache_core.specs.SystemStands.{SystemStandsFor}
-use Rattle.cache_core.proofs.SystemLaw.{new_law, step_law, system_flush_law}
 use Rattle.commands.specs.declared.log_text.LogText.{LogText}
 use Rattle.commands.specs.LogText.{arrival_line, arrival_lines, log_lines, log_task}
-use Rattle.commands.proofs.DinLemmas.{both_events, one_event, two_steps}
+use Rattle.commands.proofs.DinLemmas.{AddsEvents, adds_both, both_events, one_event, two_steps}
 
 -- one entry: a system that stood for some events stands for these with those of the entry, and its arrivals were seen
 module _ {O : Type 0} (has_seen : O → List Arrival → Type 0) (plan : PlannedCaches) (seed : ℕ) (events : List Event) {more : List Event}
@@ -43,19 +42,18 @@ module _ {O : Type 0} (has_seen : O → List Arrival → Type 0) (plan : Planned
       rw is (after, subst (has_seen end) (sym (append-nil (arrivals_of plan seed events e))) (saw [] none))
 
   logged_both : {mid : SystemValue} {half : O} {first second : Ref} → more ≡ event.Reference first ∷ event.Reference second ∷ [] →
-      StepsSystem old first mid → StepsSystem mid second new →
+      AddsEvents old (event.Reference first ∷ []) mid → AddsEvents mid (event.Reference second ∷ []) new →
       Saw has_seen start (arrivals_of plan seed events (event.Reference first)) half →
       (SystemStandsFor plan seed (events ++ event.Reference first ∷ []) mid →
       Saw has_seen half (arrivals_of plan seed (events ++ event.Reference first ∷ []) (event.Reference second)) end) →
       SystemStandsFor plan seed (events ++ more) new × has_seen end (arrivals_from plan seed events more)
   logged_both {mid} {first = first} {second} is one two saw then =
       let before = events ++ event.Reference first ∷ [] in
-      let middle = step_law plan seed events old first mid good stands one in
+      let middle = one plan seed events good stands in
       let xs = arrivals_of plan seed events (event.Reference first) in
       let ys = arrivals_of plan seed before (event.Reference second) in
       rw is (
-        subst (λ es. SystemStandsFor plan seed es new) (append_assoc events (event.Reference first ∷ []) (event.Reference second ∷ []))
-            (step_law plan seed before mid second new good middle two),
+        adds_both one two plan seed events good stands,
         subst (λ zs. has_seen end (xs ++ zs)) (sym (append-nil ys)) (then middle xs (saw [] none)),
       )
 
@@ -112,12 +110,12 @@ pub record Logging (plan : PlannedCaches) (seed : ℕ) (format : Format) (limit 
   pub good : IsPlan plan
 
 pub logged_start : {plan : PlannedCaches} {seed : ℕ} {format : Format} {limit : ℕ} {source : SourceView} {sink : SinkView} {p : Progress} {v : SystemValue}
-    → p ≡ begun format limit → IsPlan plan → IsNewSystem plan seed v → Logging plan seed format limit source source sink sink p v
+    → p ≡ begun format limit → IsPlan plan → SystemStandsFor plan seed [] v → Logging plan seed format limit source source sink sink p v
 logged_start {plan} {seed} {format} {limit} {source} {sink} {v = v} is good new = record {
   read = [];
   reached = rw is (Reached-start format limit source);
   wrote = Wrote-none sink;
-  stands = new_law plan seed v new;
+  stands = new;
   few = omega (arith, new.steps);
   good = good;
 }
@@ -139,26 +137,27 @@ Sees v log ref log' = (plan : PlannedCaches) (seed : ℕ) (events : List Event) 
 module _ {plan : PlannedCaches} {seed : ℕ} {format : Format} {limit : ℕ} {start now : SourceView} {sink sink' : SinkView} {p : Progress}
     {v : SystemValue} (old : Logging plan seed format limit start now sink sink' p v) {log : LogText} (none : log.text ≡ []) where
   pub logged_two : {e : Entry} {item : Item} {refs : Ref × Option Ref} {second : Ref} {mid v' : SystemValue} {half log' : LogText} →
-      e ≡ entry.Item item → refs ≡ references item → refs.1 ≡ Some second → StepsSystem v refs.0 mid → Sees v log refs.0 half →
-      StepsSystem mid second v' → Sees mid half second log' → Logged plan seed (all_of (entries_of old.read)) (events_of All e) v' log'
+      e ≡ entry.Item item → refs ≡ references item → refs.1 ≡ Some second → AddsEvents v (event.Reference refs.0 ∷ []) mid → Sees v log refs.0 half →
+      AddsEvents mid (event.Reference second ∷ []) v' → Sees mid half second log' → Logged plan seed (all_of (entries_of old.read)) (events_of All e) v' log'
   logged_two is refs two first seen next then =
       logged_both has plan seed (all_of (entries_of old.read)) old.good old.stands none (both_events is refs two) first next
       (seen plan seed _ old.good old.stands) (λ middle. then plan seed _ old.good middle)
 
   pub logged_step : {e : Entry} {item : Item} {refs : Ref × Option Ref} {v' : SystemValue} {log' : LogText} →
-      e ≡ entry.Item item → refs ≡ references item → refs.1 ≡ None → StepsSystem v refs.0 v' → Sees v log refs.0 log' →
+      e ≡ entry.Item item → refs ≡ references item → refs.1 ≡ None → AddsEvents v (event.Reference refs.0 ∷ []) v' → Sees v log refs.0 log' →
       Logged plan seed (all_of (entries_of old.read)) (events_of All e) v' log'
   logged_step is refs none_more first seen =
       logged_one has plan seed (all_of (entries_of old.read)) old.good old.stands none (one_event is refs none_more)
-      (step_law plan seed _ _ _ _ old.good old.stands first) (seen plan seed _ old.good old.stands)
+      (first plan seed _ old.good old.stands) (seen plan seed _ old.good old.stands)
 
-  pub logged_flush : {e : Entry} {v' : SystemValue} {log' : LogText} → e ≡ entry.Flush → FlushesSystem v v' →
+  pub logged_flush : {e : Entry} {v' : SystemValue} {log' : LogText} → e ≡ entry.Flush → ((plan : PlannedCaches) (seed : ℕ) (events : List Event) → SystemStandsFor plan seed events v →
+      SystemStandsFor plan seed (events ++ event.Flush ∷ []) v') →
       ((plan : PlannedCaches) (seed : ℕ) (events : List Event) → SystemStandsFor plan seed events v →
       Saw has log (arrivals_of plan seed events event.Flush) log') →
       Logged plan seed (all_of (entries_of old.read)) (events_of All e) v' log'
   logged_flush is flushed seen =
       logged_one has plan seed (all_of (entries_of old.read)) old.good old.stands none (ap (events_of All) is)
-      (system_flush_law plan seed _ _ _ old.stands flushed) (seen plan seed _ old.stands)
+      (flushed plan seed _ old.stands) (seen plan seed _ old.stands)
 
 -- a call of a reader that returned this reads on
 abbrev ReadsOn : SourceView → SourceView → Progress → Progress → Result (Option (ℕ × Entry)) TraceFault → Type 0

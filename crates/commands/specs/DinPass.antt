@@ -1,5 +1,5 @@
 -- What `din` has stepped its caches through.
-use Rattle.std.specs.Prelude.{ℕ, List, flat_map}
+use Rattle.std.specs.Prelude.{ℕ, List, [], flat_map}
 use Rattle.trace_core.specs.declared.events.Entry.{Entry}
 use Rattle.trace_core.specs.declared.events.Kind.TheVariants.{All}
 use Rattle.trace_core.specs.declared.line.Format.{Format}
@@ -8,7 +8,8 @@ use Rattle.trace_core.specs.Events.{events_of}
 use Rattle.trace_core.specs.Reader.{Progress, Reached}
 use Rattle.trace_core.specs.Task.{entries_of}
 use Rattle.cache_core.specs.SystemSteps.{SystemValue}
-use Rattle.cache_core.specs.SystemStands.{SystemRuns}
+use Rattle.cache_core.specs.Plans.{PlannedCaches, IsPlan}
+use Rattle.cache_core.specs.SystemStands.{SystemStandsFor}
 
 -- these entries were read of a source, and a system was stepped through their events
 pub record StepsThrough (format : Format) (limit : ℕ) (start now : SourceView) (p : Progress) (old new : SystemValue) : Type 0 where
@@ -16,5 +17,6 @@ pub record StepsThrough (format : Format) (limit : ℕ) (start now : SourceView)
   pub read : List (ℕ × Entry)
   -- the reader has come so far
   pub reached : Reached format limit start now read p
-  -- the system too
-  pub runs : SystemRuns old (flat_map (events_of All) (entries_of read)) new
+  -- a new system stands for their events
+  pub stands : (plan : PlannedCaches) (seed : ℕ) → IsPlan plan → SystemStandsFor plan seed [] old
+      → SystemStandsFor plan seed (flat_map (events_of All) (entries_of read)) new

@@ -16,7 +16,7 @@ pub returns-in_err-write_last : goal.returns-in_err-write_last
 returns-in_err-write_last g c =
     Performs-write (err_is c.from_residual-in_err-write_last.ensures.1)
     (din-unfinished c.args.plan c.args.seed c.args.format c.args.max_lines c.in_ok-lines.ensures c.in_ok-stats.ensures.stepped.1
-    c.in_ok-system.ensures.limits c.in_ok-system.ensures.new c.in_ok-stats.ensures.reports c.in_ok-stats.ensures.stepped.2
+    c.in_ok-system.ensures.limits c.in_ok-system.ensures.stands c.in_ok-stats.ensures.reports c.in_ok-stats.ensures.stepped.2
     (c.as_slice.ensures ∙ c.set_report.ensures)
     c.in_err-write_last.ensures)
 
@@ -24,6 +24,6 @@ pub returns : goal.returns
 returns g c =
     Performs-ok tt refl
     (din-finished c.args.plan c.args.seed c.args.format c.args.max_lines c.in_ok-lines.ensures c.in_ok-stats.ensures.stepped.1
-    c.in_ok-system.ensures.limits c.in_ok-system.ensures.new c.in_ok-stats.ensures.reports c.in_ok-stats.ensures.stepped.2
+    c.in_ok-system.ensures.limits c.in_ok-system.ensures.stands c.in_ok-stats.ensures.reports c.in_ok-stats.ensures.stepped.2
     (c.as_slice.ensures ∙ c.set_report.ensures)
     c.in_ok-write_last.ensures)

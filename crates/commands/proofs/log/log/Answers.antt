@@ -11,7 +11,7 @@ use Rattle.commands.proofs.log.log.Goals as goal
 use Rattle.commands.proofs.log.log.Goals.{in-Item+in-Some-second, in-Item+in_default-second, in-Flush}
 
 pub loop-system-init : goal.loop-system-init
-loop-system-init g c = logged_start c.in_ok-lines.ensures c.in_ok-system.ensures.limits c.in_ok-system.ensures.new
+loop-system-init g c = logged_start c.in_ok-lines.ensures c.in_ok-system.ensures.limits c.in_ok-system.ensures.stands
 
 pub loop-system-preserved : goal.loop-system-preserved
 loop-system-preserved g c =
@@ -22,13 +22,13 @@ loop-system-preserved g c =
           let first = w.step_observed.ensures in
           let second = w.step_observed-in-Some-second.ensures in
           rw (w.system-is, w.log-is) (logged_two so_far c.clear.ensures w.in-Item.is w.refs_of-second.ensures w.in-Some-second.is
-          first.step first.seen second.step second.seen)
+          first.stands first.seen second.stands second.seen)
       | in-Item+in_default-second w ↦
           let one = w.step_observed.ensures in
-          rw (w.system-is, w.log-is) (logged_step so_far c.clear.ensures w.in-Item.is w.refs_of-second.ensures w.in_default-second.is one.step one.seen)
+          rw (w.system-is, w.log-is) (logged_step so_far c.clear.ensures w.in-Item.is w.refs_of-second.ensures w.in_default-second.is one.stands one.seen)
       | in-Flush w ↦
           let one = w.flush_observed.ensures in
-          rw (w.system-is, w.log-is) (logged_flush so_far c.clear.ensures w.in-Flush.is one.flush one.seen)
+          rw (w.system-is, w.log-is) (logged_flush so_far c.clear.ensures w.in-Flush.is one.stands one.seen)
     ] in
     logged_more so_far c.next.ensures.reached c.next.ensures.reports c.in_ok-entry.was c.in-Some.is _
     (stands.0, c.as_slice.ensures ∙ stands.1) c.in_ok-write_all.ensures
@@ -50,13 +50,13 @@ returns-in_err-write_all g c =
           let first = w.step_observed.ensures in
           let second = w.step_observed-in-Some-second.ensures in
           rw (w.system-is, w.log-is) (logged_two so_far c.clear.ensures w.in-Item.is w.refs_of-second.ensures w.in-Some-second.is
-          first.step first.seen second.step second.seen)
+          first.stands first.seen second.stands second.seen)
       | in-Item+in_default-second w ↦
           let one = w.step_observed.ensures in
-          rw (w.system-is, w.log-is) (logged_step so_far c.clear.ensures w.in-Item.is w.refs_of-second.ensures w.in_default-second.is one.step one.seen)
+          rw (w.system-is, w.log-is) (logged_step so_far c.clear.ensures w.in-Item.is w.refs_of-second.ensures w.in_default-second.is one.stands one.seen)
       | in-Flush w ↦
           let one = w.flush_observed.ensures in
-          rw (w.system-is, w.log-is) (logged_flush so_far c.clear.ensures w.in-Flush.is one.flush one.seen)
+          rw (w.system-is, w.log-is) (logged_flush so_far c.clear.ensures w.in-Flush.is one.stands one.seen)
     ] in
     Performs-write (err_is c.from_residual-in_err-write_all.ensures.1)
     (log-part so_far c.next.ensures.reached c.next.ensures.reports c.in_ok-entry.was c.in-Some.is _

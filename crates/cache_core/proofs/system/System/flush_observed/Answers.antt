@@ -2,10 +2,11 @@
 use Rattle.std.proofs.Common.{refl, subst, sym}
 use Rattle.cache_core.specs.SystemStands.{SystemStandsFor}
 use Rattle.cache_core.proofs.Observed.{saw_both}
+use Rattle.cache_core.proofs.SystemLaw.{system_flush_law}
 use Rattle.cache_core.proofs.system.System.flush_observed.Goals as goal
 
-pub returns-clause-flush : goal.returns-clause-flush
-returns-clause-flush g c = rw (← c.self.view_is) record {
+pub returns-clause-stands : goal.returns-clause-stands
+returns-clause-stands g c = λ plan seed events stands. system_flush_law plan seed events _ _ stands (rw (← c.self.view_is) record {
   dirty_i = c.empty-i.result;
   dirty_d = c.empty-d.result;
   dirty_u = c.empty-u.result;
@@ -17,7 +18,7 @@ returns-clause-flush g c = rw (← c.self.view_is) record {
   memory = refl;
   bypassed = refl;
   steps = refl;
-}
+})
 
 pub returns-clause-seen : goal.returns-clause-seen
 returns-clause-seen g c = λ plan seed events stands.

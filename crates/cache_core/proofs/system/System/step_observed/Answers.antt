@@ -7,20 +7,31 @@ use Rattle.cache_core.specs.SystemStands.{SystemStandsFor}
 use Rattle.cache_core.specs.SystemSteps.{present_refs}
 use Rattle.cache_core.proofs.Counters.{first_level_grows, all_grow}
 use Rattle.cache_core.proofs.Observed.{saw_both, seen_below, seen_bypassed}
-use Rattle.cache_core.proofs.SystemLaw.{step_sends}
+use Rattle.cache_core.proofs.SystemLaw.{step_law, step_sends}
 use Rattle.cache_core.proofs.system.System.step_observed.Goals as goal
 
 pub invariant_of-self : goal.invariant_of-self
 invariant_of-self g c = grind (arith, first_level_grows, all_grow)
 
-pub returns-in-Some-clause-step : goal.returns-in-Some-clause-step
-returns-in-Some-clause-step g c = rw (← c.self.view_is) record {
-  down = Some c.in-Some.down;
-  first = c.in-Some.ensures.value;
-  lower = c.descend_all.ensures.value;
-  bypassed = omega arith;
-  steps = refl;
-}
+pub returns-in-Some-clause-stands : goal.returns-in-Some-clause-stands
+returns-in-Some-clause-stands g c = λ plan seed events good stands.
+    step_law plan seed events _ c.args.reference _ good stands (rw (← c.self.view_is) record {
+      down = Some c.in-Some.down;
+      first = c.in-Some.ensures.value;
+      lower = c.descend_all.ensures.value;
+      bypassed = omega arith;
+      steps = refl;
+    })
+
+pub returns-in-None-clause-stands : goal.returns-in-None-clause-stands
+returns-in-None-clause-stands g c = λ plan seed events good stands.
+    step_law plan seed events _ c.args.reference _ good stands (rw (← c.self.view_is) record {
+      down = None;
+      first = c.in-None.ensures.value;
+      lower = (refl, refl);
+      bypassed = omega arith;
+      steps = refl;
+    })
 
 pub returns-in-Some-clause-seen : goal.returns-in-Some-clause-seen
 returns-in-Some-clause-seen g c = λ plan seed events good stands.
