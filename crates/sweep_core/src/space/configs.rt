@@ -82,7 +82,8 @@ impl Space {
     /// Its configurations that are greater than `after`, which may be any triple, rising; without
     /// it, all.
     pub fn configs(&self, after: Option<Config>) -> Configs
-        ensures { result ≡ table self.now after }
+        ensures table { result ≡ table self.now after }
+        ensures limits { space_fault self.now ≡ None }
     {
         Configs {
             space: *self,
@@ -100,7 +101,8 @@ impl Space {
     /// The index of the first pair in its ranges, or with blocks as large as those of `after`. No
     /// pair before it has a configuration greater than `after`.
     pub(crate) fn first_pair(&self, after: Option<Config>) -> u32
-        ensures { rows_from self.now after result ≡ table self.now after }
+        ensures rows { rows_from self.now after result ≡ table self.now after }
+        ensures limits { space_fault self.now ≡ None }
     {
         let least = match after {
             None => self.bsize.0,

@@ -13,7 +13,7 @@ use Rattle.sweep_core.proofs.profiles.make_profiles.Goals.{After-link}
 pub loop-rows-init : goal.loop-rows-init
 loop-rows-init c =
     rw c.new-made.ensures.items (subst (λ rows. Making c.args.request.now [] (first_rows c.args.request.now.rows rows))
-    (sym c.first_pair-pair.ensures) (making-start c.args.request.now))
+    (sym c.first_pair-pair.ensures.rows) (making-start c.args.request.now))
 
 pub loop-rows-smaller : goal.loop-rows-smaller
 loop-rows-smaller c = begins-shorter c.in-Some.ensures.rows

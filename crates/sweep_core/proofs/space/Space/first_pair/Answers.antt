@@ -17,7 +17,7 @@ block c d low later =
           omega (arith, w.least-is, w.max-least.ensures, low, more)
     ]
 
-pub returns : goal.returns
-returns c =
+pub returns-clause-rows : goal.returns-clause-rows
+returns-clause-rows c =
     subst (λ (r : Ranges). rows_from r c.args.after c.pair_index.result ≡ table r c.args.after) c.self.view_is
     (rows-first _ c.args.after (block c) c.pair_index.ensures.least)
