@@ -1,4 +1,5 @@
-//! Short callers of the libraries, each proved from the contracts alone: what a caller gets to
+//! Short callers of the libraries, each proved from the contracts (three cite lemmas of the
+//! libraries' proofs): what a caller gets to
 //! know, and how it says so. Each library's page `CALLING.md` names those that show it.
 #![tactic(auto)]
 

@@ -243,7 +243,8 @@ impl Profile {
         }
     }
 
-    /// How many comparisons of a block with an entry of its set's list were made.
+    /// How many comparisons of a block with an entry of its set's list are counted: each that
+    /// `feed` made, and one for each reference that `count_fronts` counts.
     pub fn probes(&self) -> u64
         ensures value { result ≡ self.now.probes }
         ensures trace { (es : List Event) → ProfileStandsFor es self.now
