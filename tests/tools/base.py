@@ -86,6 +86,14 @@ def processes(group):
     return [name for name, state, _, its in states if its == str(group) and state != "Z"]
 
 
+def catches(process, number):
+    """Whether a process catches a signal."""
+    with contextlib.suppress(OSError), open(f"/proc/{process}/status", encoding="ascii") as file:
+        caught = next(line for line in file if line.startswith("SigCgt:"))
+        return bool(int(caught.split()[1], 16) >> (number - 1) & 1)
+    return False
+
+
 @contextlib.contextmanager
 def ended(process):
     """A process that is ended in any case at the end; nobody waits for what it started."""

@@ -409,12 +409,10 @@ class Faults(ByLineTest):
 
     def test_no_room_for_the_table(self):
         """It is told in a line."""
-        for name, text in (("counts", "cell - -1 1 1 1 0\nend\n"), ("cut", "cell - -1 1 1 1 0\n")):
-            self.write(name, text)
-        self.write("objects", "")
-        part, = base.TOOLS.rglob("by_line.py")
-        given = f"PYTHONPATH={base.TOOLS} python3 -B {part} by-line report --objects objects"
-        full, cut = "standard output: No space left on device", "the references can't be counted"
-        for words, fault in (("counts > /dev/full", full), ("cut", cut)):
-            ran = self.run_command("bash", "-c", f"{given} --counts {words}")
-            self.ends(ran, 1, f"by-line: {fault}\n")
+        words = f"by-line - {CACHE}".split()
+        self.on_full_device(*words)
+        base.copy_tools(self.folder, "by-line")
+        self.good(self.run_command(self.folder / "by-line", "--build"))
+        self.executable("out/by-line", "echo cell - -1 1 1 1 0")
+        ran = self.run_command(self.folder / words[0], *words[1:])
+        self.ends(ran, 1, "by-line: the references can't be counted\n")

@@ -60,7 +60,7 @@ class Installing(MakeTest):
         got = program.read_bytes(), program.stat().st_mode & 0o777
         self.assertEqual(got, (PROGRAM.read_bytes(), 0o755))
         self.assertEqual(os.readlink(self.to / "usr/bin/cachesim-best"), "../lib/cachesim/best")
-        for name in ("lib/cachesim/lib/lib.bash", "share/bash-completion/completions/cachesim",
+        for name in ("lib/cachesim/lib/tool.py", "share/bash-completion/completions/cachesim",
                      "share/doc/cachesim/docs/manual.md"):
             self.assertTrue((self.to / "usr" / name).is_file(), name)
         self.assertFalse((self.to / "usr/share/man/man1/cachesim.1.gz").exists())
@@ -135,7 +135,7 @@ class Installing(MakeTest):
         self.assertEqual(self.below(), ["usr", "usr/bin", "usr/bin/other"])
 
     def test_each_c_part_is_compiled(self):
-        parts, called = set(), re.compile(r"^ *compiled ([\w.-]+) ", re.M)
+        parts, called = set(), re.compile(r"\bcompiled\(\"([\w.-]+)\"")
         for path in (TOP / "tools").rglob("*"):
             if path.is_file() and os.access(path, os.X_OK) and path.parent.name != "out":
                 parts |= set(called.findall(path.read_text(errors="replace")))

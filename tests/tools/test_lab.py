@@ -7,7 +7,7 @@ import signal
 import subprocess
 import time
 
-from base import EXAMPLES, PROGRAM, TOP, copy_tools, needs, processes
+from base import EXAMPLES, PROGRAM, TOP, catches, copy_tools, needs, processes
 from lab_base import LAB, STUDENTS, LabTest, StudentTest, comes, is_running
 
 YI = TOP / "tests/cases/inputs/handout.lackey"
@@ -274,7 +274,8 @@ class Trace(LabTest):
     def test_a_failure_of_valgrind(self):
         """With a valgrind that writes what the real one does at an instruction unknown to it."""
         log = r"I  0400d7d4,8\n\nhost stacktrace:\n==1== at 0\n"
-        self.executable("valgrind", f"printf '{log}' >&9", "exit 1")
+        self.executable("valgrind", "for word; do [[ $word = --log-fd=* ]] && to=${word#*=}; done",
+                        f"printf '{log}' >&$to", "exit 1")
         env = {"PATH": f"{self.folder}:{os.environ['PATH']}", "TMPDIR": str(self.private)}
         ran = self.trace("true", env=env)
         said = "lab-trace: Valgrind itself failed; the trace ends there\n"
@@ -289,7 +290,7 @@ class Trace(LabTest):
         for step in range(40):
             command = [LAB / "lab-trace", "true"]
             with subprocess.Popen(command, start_new_session=True, **given) as tool:
-                self.assertTrue(comes(lambda: list(self.private.iterdir())))
+                self.assertTrue(comes(lambda: catches(tool.pid, signal.SIGTERM)))
                 time.sleep(0.0005 * step)
                 tool.terminate()
                 self.assertIn(tool.wait(20), (143, -15))

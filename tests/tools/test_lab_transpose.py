@@ -126,7 +126,7 @@ class Transpose(LabTest):
         command = [LAB / "lab-transpose", "--size", "4x4", TRANS]
         with ended(subprocess.Popen(command, env={**os.environ, **env})) as running:
             try:
-                self.assertTrue(comes(lambda: any(self.private.rglob("*lab-trace*")), 60))
+                self.assertTrue(comes(lambda: any(self.private.rglob("trace")), 60))
                 running.send_signal(number)
                 self.assertEqual(running.wait(60), 128 + number)
                 self.assertTrue(comes(lambda: not those_that_name(self.private), 60))
@@ -137,6 +137,6 @@ class Transpose(LabTest):
 
     @needs("valgrind")
     def test_an_interrupt(self):
-        """As bash starts Valgrind."""
+        """As lab-trace is started."""
         for number in (signal.SIGINT, signal.SIGTERM):
             self.interrupted(number)

@@ -1,4 +1,4 @@
-"""What the tools share in lib.bash and tool.py: signals, packed traces, the program, cut traces."""
+"""What the tools share: signals, packed traces, the program, cut traces."""
 
 import gzip
 import itertools
@@ -22,8 +22,8 @@ READERS = {
     "sweep-parallel": (["2"], SPACE),
     "to-din": (["addresses"], []),
 }
-# those in bash that wait for what runs in front
-BASH = ("three-c", "warm", "second-level", "over-time", "by-page")
+# those that join processes by pipes
+JOINING = ("three-c", "warm", "second-level", "over-time", "by-page")
 TRACES = ("second-level", "to-din")
 LINES = "".join(f"0 {place:x}\n" for place in range(0, 4000, 16)).encode()
 
@@ -97,7 +97,7 @@ class Signals(Shared):
         """Where no line comes, a tool ends at once without a word, and no file or process stays."""
         given = {"stdout": subprocess.DEVNULL, "stderr": subprocess.PIPE,
                  "env": self.in_folder(TMPDIR=str(self.folder))["env"]}
-        for tool, number in itertools.product(BASH, (signal.SIGTERM, signal.SIGHUP)):
+        for tool, number in itertools.product(JOINING, (signal.SIGTERM, signal.SIGHUP)):
             source, writer = os.pipe()
             running = subprocess.Popen(self.reading(tool, "-"), stdin=source, **given)
             os.close(source)
@@ -114,7 +114,7 @@ class Signals(Shared):
         """One line says so, and no line of a script."""
         (self.folder / "trace").write_bytes(LINES)
         env = self.program("kill -KILL $$")
-        for tool in BASH:
+        for tool in JOINING:
             ran = self.read_by(tool, "trace", env=env)
             told = f"{tool}: program ended with signal 9\n"
             self.assertEqual((ran.returncode, ran.stderr.decode()), (1, told))
@@ -152,7 +152,7 @@ class Program(Shared):
         (self.folder / "trace").write_bytes(LINES)
         other = self.executable("other", "echo bsize,sets,assoc,size,hits,misses,evictions")
         lackey = EXAMPLES / "blocks.lackey"
-        calls = [self.reading(tool, "trace") for tool in (*BASH, "sweep-parallel")]
+        calls = [self.reading(tool, "trace") for tool in (*JOINING, "sweep-parallel")]
         calls += [[TOOLS / "pages", "2", *SPACE], [TOOLS / "lab/grade", "/bin/true", lackey],
                   [TOOLS / "lab/lab-csim", *"-s 1 -E 1 -b 4 -t".split(), lackey]]
         for program, (tool, *words) in itertools.product(("/bin/true", str(other)), calls):
@@ -179,7 +179,6 @@ class Program(Shared):
         self.assertEqual(told, self.good(self.run_tool("pages", "2", *SPACE)))
 
     def test_sizes(self):
-        """By both libraries alike."""
         (self.folder / "trace").write_bytes(LINES)
         words = "by-page", "trace", *CACHE, "--page"
         pages = self.good(self.run_tool(*words, "1g"))
@@ -187,12 +186,6 @@ class Program(Shared):
             self.assertEqual(self.good(self.run_tool(*words, size)), pages)
         for size in ("2147483648", "1g1", "", "k", "1.5k"):
             self.refused(self.run_tool(*words, size), 2, "by-page: '")
-        script = '. "$1"; shift; for size; do size_of "$size" && echo "$bytes" || echo none; done'
-        sizes = {"0": 0, "00512": 512, "4294967295g": 4294967295 << 30, "4294967296g": "none",
-                 "9" * 18: 10**18 - 1, "9" * 19: "none", "9007199254740992m": "none", "-1": "none"}
-        words = ("bash", "-c", script, "-", TOOLS / "lib/lib.bash", *sizes)
-        told = self.good(self.run_command(*words))
-        self.assertEqual(told.split(), [str(size) for size in sizes.values()])
 
 
 class Compiling(Shared):
@@ -210,10 +203,9 @@ class Compiling(Shared):
 class Streams(ToolTest):
     def test_help_on_a_full_device(self):
         full = "No space left on device"
-        for tool, told, status in (("warm", "write failed", 1), ("trace", "write failed", 125),
-                                   ("best", full, 1), ("pages", full, 1)):
+        for tool, status in ("warm", 1), ("trace", 125), ("best", 1), ("pages", 1):
             ran = self.run_command("bash", "-c", f"{TOOLS}/{tool} --help > /dev/full", seconds=20)
-            told = f"{tool}: standard output: {told}\n"
+            told = f"{tool}: standard output: {full}\n"
             self.assertEqual((ran.stderr.decode(), ran.returncode), (told, status))
 
     def test_closed_streams(self):
@@ -231,6 +223,7 @@ class Streams(ToolTest):
 
     def test_a_status_of_awk(self):
         """2 of awk, as on a full disk, is no wrong argument."""
-        words = EXAMPLES / "sort.din", *SPACE
+        large = "--bsize 1 --sets 131072 --assoc 1 --size 128k".split()  # awk counts parts for it
+        words = EXAMPLES / "sort.din", *large
         ran = self.run_tool("three-c", *words, env=self.stand_in("awk", "exit 2"))
         self.assertEqual(ran.returncode, 1)

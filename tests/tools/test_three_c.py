@@ -194,19 +194,13 @@ class ThreeC(reading_base.Reading, base.ToolTest):
         ran = self.run_tool("three-c", "t.zst", *self.OPTIONS, env={"PATH": str(self.folder)})
         self.refused(ran, 1, "three-c: zstd is missing: apt-get install zstd\n")
 
-    def test_a_reader_that_fails(self):
-        """Those who wait for it are ended."""
-        env = self.stand_in("tee", "echo 'tee: failed' >&2; exit 1")
-        ran = self.run_tool("three-c", SORT, *self.OPTIONS, env=env, seconds=20)
-        self.refused(ran, 1, "tee: failed\n")
-
     def test_interrupt(self):
         """However far it is, it ends at once without a word, and nothing is left."""
         command = ["env", f"TMPDIR={self.folder}", base.TOOLS / "three-c", "-", *self.OPTIONS]
         for step in range(20):
             pipes = dict.fromkeys(("stdin", "stdout", "stderr"), subprocess.PIPE)
             with base.ended(subprocess.Popen(command, **pipes)) as running:
-                self.assertTrue(base.comes(lambda: list(self.folder.glob("*/whole.pipe"))))
+                self.assertTrue(base.comes(lambda: base.catches(running.pid, signal.SIGTERM)))
                 time.sleep(0.001 * step)
                 running.send_signal(signal.SIGTERM)
                 wrote = running.communicate(b"0 10\n", 20)

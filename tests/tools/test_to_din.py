@@ -427,11 +427,9 @@ class Faults(ToDin):
             ran = self.run_command("bash", "-c", f"{call} >{place}")
             self.refused(ran, 1, f"to-din: write failed: {fault}")
         call += " | head -n 1; echo ${PIPESTATUS[0]}"
-        for before, status, told in (
-            ("", b"141", b""), ("trap '' PIPE;", b"1", b"to-din: write failed: Broken pipe\n")
-        ):
+        for before in "", "trap '' PIPE;":
             ran = self.run_command("bash", "-c", f"{before} {call}")
-            self.assertEqual((ran.stdout, ran.stderr), (b"0 10\n%b\n" % status, told))
+            self.assertEqual((ran.stdout, ran.stderr), (b"0 10\n141\n", b""))
 
     def test_arguments(self):
         see = "; 'to-din --help' explains the arguments\n"

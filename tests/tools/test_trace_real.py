@@ -229,7 +229,7 @@ class ByLackey(Both, TraceTest):
         copy_tools(self.folder, "trace")
         words = ("--with", "lackey", "--program-output", "own", traced("ends"), "spin")
         for way in ("exit 1", "kill -9 $$"):
-            self.executable("to-din", "head -n 1 > /dev/null", "echo 2 401000", way)
+            self.executable("out/to-din", "head -n 1 > /dev/null", "echo 2 401000", way)
             ran = self.run_command(self.folder / "trace", *words)
             self.fault(ran, 125, "the tracer's lines can't be converted")
             self.assertTrue(ran.stdout.startswith(b"2 401000\n"))

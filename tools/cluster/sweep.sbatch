@@ -7,11 +7,7 @@
 #
 #     sbatch --array=1-N --chdir=FOLDER sweep.sbatch TRACE PROGRAM TOOLS
 set -euo pipefail
-trace=$1 cachesim=$2 here=$3
-# shellcheck source=tools/lib/lib.bash
-. "$here/lib/lib.bash"
-
 part=part-$SLURM_ARRAY_TASK_ID
 read -ra arguments < <(sed -n "${SLURM_ARRAY_TASK_ID}p" pages)
-unpacked "$trace" | "$cachesim" sweep "${arguments[@]}" > "$part.tmp"
+CACHESIM=$2 "$3/sweep-parallel" 1 "$1" "${arguments[@]}" > "$part.tmp"
 mv -- "$part.tmp" "$part"           # a part that is there is whole

@@ -1,4 +1,4 @@
-"""What the Python tools share, and the parts of those that have several. Each tool reads something
+"""What the tools share, and the parts of those that have several. Each tool reads something
 of it first: an interrupt while Python reads what else the tool needs then ends it without a
 traceback, as later where it has nothing to end or remove."""
 

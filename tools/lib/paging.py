@@ -16,12 +16,13 @@ def number_of_jobs(word):
     return int(word)
 
 
-def start(command, stdin=0, stdout=1, stderr=2, **given):
-    """Starts a command with these descriptors as its first three. Returns its process's number."""
+def start(command, stdin=0, stdout=1, stderr=2, path=None, **given):
+    """Starts a command, or the program at a path, with these descriptors as its first three.
+    Returns its process's number."""
     # where it is ignored, the end of a process can't be waited for
     signal.signal(signal.SIGCHLD, signal.SIG_DFL)
     ends = [(os.POSIX_SPAWN_DUP2, *end) for end in zip((stdin, stdout, stderr), range(3))]
-    return os.posix_spawnp(command[0], command, os.environ, file_actions=ends, **given)
+    return os.posix_spawnp(path or command[0], command, os.environ, file_actions=ends, **given)
 
 
 class Pair:

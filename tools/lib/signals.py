@@ -1,9 +1,16 @@
 """The signals that end a tool which has something to end or remove then."""
 
+import contextlib
+import os
 import signal
+import stat
 import sys
 
 STOPS = (signal.SIGHUP, signal.SIGINT, signal.SIGTERM)
+
+
+class Stopped(SystemExit):
+    """The end of a tool by a signal, `code` - 128."""
 
 
 def put_off_stops():
@@ -19,7 +26,7 @@ def stop(number, _):
     """Ends the tool at a signal, once, so that what it has begun is ended and removed."""
     for other in STOPS:
         signal.signal(other, signal.SIG_IGN)
-    sys.exit(128 + number)
+    raise Stopped(128 + number)
 
 
 def stop_at_signals():
@@ -27,3 +34,45 @@ def stop_at_signals():
     for number in STOPS:
         if signal.getsignal(number) != signal.SIG_IGN:
             signal.signal(number, stop)
+
+
+@contextlib.contextmanager
+def ends_by_signal():
+    """Within this, a tool that a signal ends is seen to have ended by it."""
+    try:
+        yield
+    except Stopped as end:
+        signal.signal(end.code - 128, signal.SIG_DFL)
+        os.kill(os.getpid(), end.code - 128)
+        sys.exit(end.code)
+
+
+class WholeTrace:
+    """Within this a trace goes to `output`, a file or '-'. If the tool fails, the trace ends in a
+    line that no simulator takes, so that nobody takes a part in a pipe for the whole, or an earlier
+    trace in a file for a new one."""
+
+    def __init__(self, output="-"):
+        self.output = output
+
+    def __enter__(self):
+        return self
+
+    def __exit__(self, _, fault, __):
+        if fault is None or isinstance(fault, SystemExit) and not fault.code:
+            return
+        with contextlib.suppress(OSError):
+            self.spoil(f"{os.path.basename(sys.argv[0])} failed: what stands above is not all\n")
+
+    def spoil(self, line):
+        if self.output == "-":
+            if not os.isatty(1):
+                os.write(1, line.encode())
+            return
+        kind = os.stat(self.output).st_mode
+        if stat.S_ISFIFO(kind) or stat.S_ISREG(kind):
+            # a pipe is opened so that it waits for no reader
+            flags = os.O_RDWR if stat.S_ISFIFO(kind) else os.O_WRONLY | os.O_TRUNC
+            file = os.open(self.output, flags)
+            os.write(file, line.encode())
+            os.close(file)

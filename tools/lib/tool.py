@@ -1,5 +1,5 @@
-"""What the Python tools share: their name, faults and arguments, sizes, the program, and what they
-write. lib.bash has the same for those in bash. A tool in a folder below tools/ reads it so:
+"""What the tools share: their name, faults and arguments, sizes, the program, and what they write.
+A tool in a folder below tools/ reads it so:
 
     sys.path.insert(1, str(pathlib.Path(__file__).resolve().parents[1]))
     tool = importlib.import_module("lib.tool")
@@ -9,6 +9,7 @@ import argparse
 import contextlib
 import os
 import re
+import shutil
 import subprocess
 import sys
 
@@ -20,10 +21,16 @@ failure = None
 UNITS = {"": 0, "k": 10, "m": 20, "g": 30}
 
 
+def end(text, status):
+    """Ends the tool with a message."""
+    with contextlib.suppress(OSError, AttributeError):  # standard error may be closed
+        print(text, file=sys.stderr, flush=True)
+    sys.exit(status)
+
+
 def fail(text, status=FAILED):
     """Ends the tool with one line on standard error."""
-    print(f"{NAME}: {text}", file=sys.stderr)
-    sys.exit(failure or status)
+    end(f"{NAME}: {text}", failure or status)
 
 
 def misused(text):
@@ -60,11 +67,43 @@ class Arguments(argparse.ArgumentParser):
         write_lines(self.format_help().splitlines())
 
 
-def look_for_help(arguments):
-    """Writes the tool's help where it is asked for, for a tool that hands its arguments on."""
+def options(words, flags):
+    """Takes the options off the beginning of the words, up to '--' or the first other word. Each
+    comes with its value, which may begin with a dash, and stands behind '=' or in the next word;
+    but a flag has none."""
+    while words and words[0].startswith("-") and words[0] not in ("-", "--"):
+        name, equals, value = words.pop(0).partition("=")
+        if name not in flags and not equals:
+            if not words:
+                misused(f"{name} is no option, or wants a value")
+            value = words.pop(0)
+        yield name, value
+
+
+def look_for_help(arguments, texts=()):
+    """Writes the tool's help where it is asked for, for a tool that hands its arguments on. A line
+    of it may stand for one of the texts."""
     if "-h" in arguments or "--help" in arguments:
-        write_lines(sys.modules["__main__"].__doc__.strip().splitlines())
+        lines = sys.modules["__main__"].__doc__.strip().splitlines()
+        write_lines(dict(texts).get(line, line) for line in lines)
         sys.exit()
+
+
+def needs(command, package):
+    """Ends the tool where a command is missing, naming Debian's package."""
+    if not shutil.which(command):
+        fail(f"{command} is missing: apt-get install {package}")
+
+
+def is_option(word):
+    """Whether an argument where a trace is wanted is an option, and no file of that name."""
+    return len(word) > 1 and word.startswith("-") and not os.path.exists(word)
+
+
+def readable(trace):
+    """Ends the tool where a trace is neither '-' nor something that can be read."""
+    if trace != "-" and (os.path.isdir(trace) or not os.access(trace, os.R_OK)):
+        fail(f"{trace}: no file that can be read")
 
 
 def size_of(text):

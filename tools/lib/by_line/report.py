@@ -1,21 +1,14 @@
-"""The names in the tables of by-line, which has the help: what lies where before the run, and the
-table behind it.
+"""The tables of by-line, with the names of what was counted."""
 
-    by_line.py NAME objects [--program FILE] [--base HEX] [--map FILE] ..
-    by_line.py NAME report .. --counts FILE --objects FILE
-"""
+from lib import runs, tool
+from lib.by_line import elf
 
-from lib import tool
-
-import argparse
 import collections
 import csv
 import io
 import os
 import sys
 from typing import NamedTuple
-
-import elf
 
 KEYS = ("line", "function", "object")
 COUNTS = ("references", "misses", "compulsory", "capacity", "conflict")
@@ -29,45 +22,6 @@ class Cell(NamedTuple):
     frames: list
     object: str
     counts: list
-
-
-def hexadecimal(text):
-    try:
-        return int(text, 16)
-    except ValueError as fault:
-        raise argparse.ArgumentTypeError(f"{text!r} is no hexadecimal number") from fault
-
-
-def keys(text):
-    found = text.split(",")
-    if not set(found) <= set(KEYS):
-        raise argparse.ArgumentTypeError(
-            f"{text!r} is not one or more of line, function and object, joined by commas")
-    return [key for key in KEYS if key in found]
-
-
-def arguments():
-    parser = tool.Arguments(__doc__, allow_abbrev=False)
-    parser.add_argument("command", choices=("objects", "report"))
-    parser.add_argument("--program")
-    parser.add_argument("--base", type=hexadecimal)
-    parser.add_argument("--map")
-    parser.add_argument("--by", type=keys)
-    parser.add_argument("--evicted-by", action="store_true")
-    parser.add_argument("--annotate")
-    parser.add_argument("--callgrind")
-    parser.add_argument("--counts")
-    parser.add_argument("--objects")
-    parser.add_argument("--only-compulsory", action="store_true")
-    asked = parser.parse_args(sys.argv[2:])
-    if asked.map and (asked.program or asked.base is not None):
-        tool.misused("--map leaves nothing to --program and --base")
-    if asked.base is not None and not asked.program:
-        tool.misused("--base is for a --program")
-    if asked.annotate and (asked.evicted_by or asked.by):
-        tool.misused("--annotate leaves nothing to --by and --evicted-by")
-    asked.by = asked.by or ["line", "function"]
-    return asked
 
 
 class Names:
@@ -107,12 +61,10 @@ def header(by):
     return [text for key in by for text in {"line": ["line", "inlined"]}.get(key, [key])]
 
 
-def read_counts(asked, layout):
+def read_counts(text, objects, layout):
     """The cells, and for each two their misses of blocks that the second had evicted."""
-    with open(asked.objects, **elf.ANY_TEXT) as lines:
-        objects = [line.rstrip("\n").split(" ", 2)[2] for line in lines] + ["(heap)"]
-    with open(asked.counts, encoding="ascii") as lines:
-        rows = [line.split() for line in lines]
+    objects = [place.name for place in objects] + ["(heap)"]
+    rows = [line.split() for line in text.splitlines()]
     if not rows or rows.pop() != ["end"]:
         tool.fail("the references can't be counted")
     counted = [row for row in rows if row[0] == "cell"]
@@ -264,32 +216,18 @@ def lines_of(rows):
     return text.getvalue().split("\n")[:-1]
 
 
-def report(asked, layout):
-    cells, pairs = read_counts(asked, layout)
+def report(asked, text, objects, layout):
+    cells, pairs = read_counts(text, objects, layout)
     if asked.callgrind:
         with tool.faults_of(asked.callgrind), open(asked.callgrind, "w", **elf.ANY_TEXT) as file:
             file.writelines(f"{line}\n" for line in in_callgrind_format(asked, cells))
     if asked.annotate or asked.callgrind or "line" in asked.by:
         warn_of_lines(cells)
-    sys.stdout.reconfigure(**elf.ANY_TEXT)
     if asked.annotate:
-        tool.write_lines(annotated(asked, cells))
+        lines = annotated(asked, cells)
+    elif asked.evicted_by:
+        lines = lines_of(table_of_evictions(asked, cells, pairs))
     else:
-        rows = table_of_evictions(asked, cells, pairs) if asked.evicted_by else table(asked, cells)
-        tool.write_lines(lines_of(rows))
-
-
-def main():
-    tool.NAME = sys.argv[1]
-    asked = arguments()
-    layout = elf.Layout(asked.program, asked.base or 0, asked.map)
-    if asked.command == "report":
-        report(asked, layout)
-        return
-    for path in layout.newer_than(asked.map) if asked.map else ():  # it traced an earlier build
-        warn(f"{path} is newer than {asked.map}: if it was built again since, its names and lines"
-             " are wrong; then trace it again")
-    tool.write_lines(f"{place.start:x} {place.end:x} {place.name}" for place in layout.objects())
-
-
-main()
+        lines = lines_of(table(asked, cells))
+    text = "".join(f"{line}\n" for line in lines)
+    runs.write_out([text.encode(*elf.ANY_TEXT.values())], "standard output: ")

@@ -2,10 +2,10 @@
 //
 //     by-line FORMAT TAKEN PLACE SHIFT OBJECTS TO LOG [TO FULL] < TRACE
 //
-// It hands the trace out to each TO, where `cachesim log` reads it: LOG is what this writes, and
-// FULL the same with a fully associative LRU cache at the PLACE. FORMAT is d or l, and TAKEN is d,
-// i or u: what the first-level caches take. A block has 2^SHIFT bytes. Each line of the file
-// OBJECTS begins with the first address of an object and the first address after it, in
+// It hands the trace out to each descriptor TO, where `cachesim log` reads it: LOG has what this
+// writes, and FULL the same with a fully associative LRU cache at the PLACE. FORMAT is d or l, and
+// TAKEN is d, i or u: what the first-level caches take. A block has 2^SHIFT bytes. Each line of the
+// file OBJECTS begins with the first address of an object and the first address after it, in
 // hexadecimal, by rising addresses. The answer has a line for each pair of a program counter and an
 // object, and then one for each two pairs of which one had evicted the block that the other misses:
 //
@@ -352,7 +352,7 @@ int main(int count, char **words) {
     shift = (unsigned)atoi(words[4]);
     read_objects(words[5]);
     for (char **word = words + 6; word < words + count; word += 2)
-        open_log(&logs[log_count++], word[0], word[1]);
+        take_log(&logs[log_count++], word[0], word[1]);
     // number 0, with an address of no instruction
     number_of_counter(fetched);
     widen(STDIN_FILENO);

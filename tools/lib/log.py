@@ -1,0 +1,85 @@
+"""What the tools that filter `cachesim log` share: their arguments, and the log in pieces."""
+
+import os
+import re
+import sys
+
+from lib import runs, tool
+
+HELPS = {"{caches}": """\
+TRACE is a file, which may end in .gz, .xz or .zst, or - for standard input.
+It is read once. The OPTIONs are those of
+`cachesim din`, but for -t: the caches, -informat and --seed.
+--format is another name for -informat.""", "{cache}": """\
+  --cache CACHE     counts what comes to l1-i, l1-d, l1-u or l2-u; without it, all that the first
+                    level takes"""}
+
+
+def asked(own=None, value=None):
+    """The trace, the options of cachesim, the value of --`own`, and how the name of a cache that
+    counts begins. A tool without options of its own hands all on."""
+    left = sys.argv[1:]
+    tool.look_for_help(left, HELPS)
+    if not left or tool.is_option(left[0]):
+        tool.misused("a trace and the options of 'cachesim din' are needed")
+    trace, options, values = left.pop(0), [], {f"--{own}": value, "--cache": "l1-"} if own else {}
+    while left:
+        word = left.pop(0)
+        name, equals, text = word.partition("=")
+        if word.startswith("-t"):
+            tool.misused("the trace is the first argument, and not given by -t")
+        elif name == "--format":
+            options.append(f"--in{word[2:]}")
+        elif name in values:
+            values[name] = text if equals else left.pop(0) if left else ""
+            if name == "--cache" and not re.fullmatch("l1-[idu]|l2-u", values[name]):
+                tool.misused("--cache is l1-i, l1-d, l1-u or l2-u")
+        else:
+            options.append(word)
+    tool.readable(trace)
+    return trace, options, values.get(f"--{own}"), values.get("--cache")
+
+
+def judge_cache(cache, options):
+    if cache != "l1-" and not any(re.match(f"--?{cache}", word) for word in options):
+        tool.misused(f"no option is of {cache}")
+
+
+class Logging(runs.Process):
+    """The run of `cachesim log`, whose log goes to a pipe. It tells of its end alone where it is
+    not the reader that has ended."""
+
+    def __init__(self, program, options, stdin):
+        self.pipe, write = os.pipe()
+        super().__init__([program, "log", *options], stdin=stdin, stdout=write)
+        os.close(write)
+
+    def message(self):
+        lines = super().message().split("\n")
+        return "\n".join(line for line in lines if not line.endswith(": write failed"))
+
+
+def over(trace, options, take):
+    """Has `take` called with each piece of the log, of whole lines. A fault ends the tool."""
+    runs.keep_places()
+    program = tool.find_cachesim()
+    with runs.Group() as group:
+        source, unpacker = group.start_source(trace)
+        logging = group.start(Logging, program, options, source, ends=(source,))
+        take(logging.pipe)
+        logging.wait()
+        if unpacker:
+            unpacker.wait()
+
+
+def pieces(source):
+    """What is read from a descriptor, in pieces of whole lines."""
+    held = b""
+    while piece := os.read(source, 1 << 18):
+        whole, feed, rest = piece.rpartition(b"\n")
+        if feed:
+            yield held + whole + feed
+            held = b""
+        held += rest
+    if held:
+        yield held

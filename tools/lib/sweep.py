@@ -1,0 +1,52 @@
+"""What the tools share that make a table of their own from those of sweeps: three-c and warm."""
+
+from lib import paging, runs, tool
+from lib.signals import ends_by_signal
+
+
+def options_of(words, place):
+    """The options of a sweep, and those of them that say which references and which rows count. The
+    trace is the argument in that place."""
+    shared, left = [], list(words)
+    while left:
+        word = left.pop(0)
+        if word.startswith("-t"):
+            tool.misused(f"the trace is the {place} argument, and not given by -t")
+        if word in ("--format", "--kind"):
+            shared += [word, *left[:1]]
+        elif word.startswith(("--format=", "--kind=")) or word == "--pow2":
+            shared.append(word)
+    return words, shared
+
+
+class Table:
+    """A table or several: the names of its columns, and rows of numbers. A page has no header."""
+
+    def __init__(self, lines):
+        self.header = lines[0] if lines and not lines[0][:1].isdigit() else None
+        self.rows = [[int(field) if field.isdigit() else field for field in line.split(",")]
+                     for line in lines if line[:1].isdigit()]
+
+    @classmethod
+    def caches(cls, program, options):
+        """The table of an empty trace. Options that the program refuses end the tool."""
+        return cls([line.decode().rstrip("\n") for line in paging.rows_of(program, options)])
+
+    def column(self, name):
+        """That of a sweep's count, among those that the header names."""
+        return self.header.split(",").index(name)
+
+
+def over(trace, program, sweeps):
+    """The tables of sweeps over one reading of a trace. Each is a list of options, and how many
+    lines it gets, if not all; or a command that begins with no option."""
+    name = program.rpartition("/")[2]
+    commands = [(name, words if words[0][:1] != "-" else [program, "sweep", *words], *more)
+                for words, *more in sweeps]
+    with ends_by_signal():
+        texts = runs.over(trace, commands, len(commands), is_read_once=True)
+    return [Table(text.decode().splitlines()) for text in texts]
+
+
+def deliver(lines):
+    runs.write_out(["".join(f"{line}\n" for line in lines).encode()], "standard output: ")

@@ -1,0 +1,60 @@
+"""Where the functions of a program are, by which `trace` begins and stops."""
+
+import re
+import subprocess
+
+from lib import tool
+
+SYMBOL = re.compile(r"([0-9a-f]*) ([tTwWi]) (.*)")
+CODE = re.compile(r" *LOAD +0x\w+ 0x(\w+) 0x\w+ 0x\w+ 0x\w+ ..E ", re.M)
+
+
+def output_of(*command):
+    """What a command of binutils writes; nothing where it can't read its file."""
+    ran = subprocess.run(command, capture_output=True, check=False)
+    return ran.stdout.decode(errors="surrogateescape") if ran.returncode == 0 else ""
+
+
+def symbols(path, *options):
+    """The functions of a file: each as its address, the letter of nm, and its name."""
+    lines = output_of("nm", "--defined-only", *options, "--", path).split("\n")
+    return [match.groups() for match in map(SYMBOL.fullmatch, lines) if match]
+
+
+def start_of_code(path):
+    starts = CODE.findall(output_of("readelf", "-lW", "--", path))
+    return int(starts[0], 16) if starts else 0  # none is no program, which QEMU refuses
+
+
+def address_of(path, name):
+    """The address of a function in the program's own file."""
+    missing = "those of shared libraries can't be named"
+    table = []
+    if not symbols(path):
+        table, missing = ["-D"], "it is stripped"
+    for style in ("--no-demangle", "--demangle"):
+        known = symbols(path, *table, style)
+        found = {at: letter for at, letter, symbol in known
+                 if name in (symbol.partition("@")[0], symbol.partition("(")[0])}
+        if found:
+            break
+    if not found:
+        near = [symbol for *_, symbol in known if name.lower() in symbol.lower()][:3]
+        near = f"; there is {', '.join(near)}" if near else ""
+        tool.fail(f"{path} has no function {name}: {missing}{near}")
+    if len(found) > 1:
+        tool.fail(f"{path} has {len(found)} functions {name}")
+    (address, letter), = found.items()
+    if letter == "i":
+        tool.fail(f"{path} has several functions {name}, of which one is chosen when it is loaded")
+    return int(address, 16)
+
+
+def places(program, names):
+    """The distances of functions from the code's start."""
+    start = start_of_code(program.path)
+    for name in names:
+        address = address_of(program.path, name)
+        if program.machine == "arm":
+            address &= ~1  # which says that it is in Thumb
+        yield address - start
