@@ -414,7 +414,7 @@ class Option:
 
 
 FILE = Option("-t", str)
-OF_A_CACHE = {"size": power, "bsize": power, "assoc": number, "repl": one_of("lfr"),
+OF_A_CACHE = {"size": power, "sets": power, "bsize": power, "assoc": number, "repl": one_of("lfr"),
               "walloc": one_of("an"), "wback": one_of("an")}
 OPTIONS = {
     "csim": [Option(name, number, True) for name in ("-s", "-E", "-b")]
@@ -520,7 +520,9 @@ def din_job(values, texts):
     for cache in CACHES:
         own = {word: values.get(f"-{cache}{word}") for word in OF_A_CACHE}
         if any(value is not None for value in own.values()):
-            if own["size"] is None or own["bsize"] is None:
+            if own["size"] is not None and own["sets"] is not None:
+                raise Fault(f"{cache}: size beside sets", 2)
+            if own["size"] is None and own["sets"] is None or own["bsize"] is None:
                 raise Fault(f"{cache}: size and bsize are needed", 2)
             told = {word: value for word, value in own.items() if value is not None}
             caches[cache] = {"assoc": 1, "repl": "l", "walloc": "a", "wback": "a", **told}
@@ -530,10 +532,11 @@ def din_job(values, texts):
         raise Fault("unified cache beside a split first level", 2)
     machines = {}
     for name, cache in caches.items():
-        ways, size = cache["assoc"], cache["size"]
-        exponents = [(s, b) for s in range(21) for b in range(21) if cache["bsize"] == 2**b]
-        found = [(s, b) for s, b in exponents
-                 if size == ways * 2 ** (b + s) and is_geometry(s, ways, b)]
+        ways = cache["assoc"]
+        found = [(s, b) for s in range(21) for b in range(21)
+                 if cache["bsize"] == 2**b and cache.get("sets", 2**s) == 2**s
+                 and cache.get("size", ways * 2 ** (b + s)) == ways * 2 ** (b + s)
+                 and is_geometry(s, ways, b)]
         if not found:
             raise Fault(f"{name}: bad geometry", 2)
         own = {option: cache[option] for option in ("repl", "walloc", "wback")}

@@ -85,6 +85,8 @@ class Totals(ByLineTest):
                 ("l1-d", f"{data} -l1-drepl f -l1-dwalloc n -l1-dwback n"),
                 ("l1-d", f"{data} -l1-drepl=r --seed 7"),
                 ("l1-u", "-l1-usize 256 -l1-ubsize 16 -l1-uassoc 16"),
+                ("l1-u", "-l1-usets=4 -l1-ubsize 16 -l1-uassoc 3 -l1-urepl f"),
+                ("l1-d", "-l1-dsets 4 -l1-dbsize 16 -l1-dassoc 3 -l2-usets 8 -l2-ubsize 32"),
                 ("l1-i", split),
                 ("l2-u", split),
             ):
@@ -94,12 +96,15 @@ class Totals(ByLineTest):
 
     def test_of_three_c(self):
         for trace in (SORT, self.random_trace()):
-            for sets, assoc in ((8, 2), (1, 16), (16, 1)):
-                swept = f"--kind d --bsize 16 --sets {sets} --assoc {assoc} --size 256".split()
+            for sets, assoc in ((8, 2), (1, 16), (16, 1), (4, 3), (1, 12)):
+                swept = f"--kind d --bsize 16 --sets {sets} --assoc {assoc} --size 0-1k".split()
                 table = self.good(self.run_tool("three-c", trace, *swept))
                 wanted = table.splitlines()[1].split(",")
-                rows = self.rows(trace, *cache(256, 16, "-l1-dassoc", assoc))
-                self.assertEqual(self.sums(rows)[1:], [int(wanted[at]) for at in (5, 7, 8, 9)])
+                given = f"-l1-dsets {sets} -l1-dbsize 16 -l1-dassoc {assoc}".split()
+                caches = [given] + [cache(256, 16, "-l1-dassoc", assoc)] * (sets * assoc == 16)
+                for words in caches:
+                    rows = self.rows(trace, *words)
+                    self.assertEqual(self.sums(rows)[1:], [int(wanted[at]) for at in (5, 7, 8, 9)])
 
     def test_more_lines_than_a_set_may_have(self):
         rows = self.rows(SORT, *cache("8m", 64))

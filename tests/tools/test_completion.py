@@ -11,7 +11,7 @@ import time
 from base import PACKAGING, PROGRAM, ToolTest, needs
 
 # The commands with their options, from the manual
-OF_A_CACHE = ("size", "bsize", "assoc", "repl", "walloc", "wback")
+OF_A_CACHE = ("size", "sets", "bsize", "assoc", "repl", "walloc", "wback")
 ONE_OR_TWO = [f"{cache}{option}" for cache in ("l1-i", "l1-d", "l1-u", "l2-u")
               for option in OF_A_CACHE] + ["informat"]
 OF_SWEEP = "--bsize --sets --assoc --size --kind --format --after --rows --pow2"
@@ -83,13 +83,13 @@ class Generated(ToolTest):
             self.assertEqual(self.offered(command, "-"), options)
         two = {f"--{name}" for name in [*ONE_OR_TWO, "seed", "help"]}
         self.assertEqual(self.offered("din", "--"), two)
-        self.assertEqual(self.offered("din", "-l2-us"), {"-l2-usize"})
-        self.assertEqual(self.offered("din", "--l2-us"), {"--l2-usize"})
+        self.assertEqual(self.offered("din", "-l2-us"), {"-l2-usize", "-l2-usets"})
+        self.assertEqual(self.offered("din", "--l2-usi"), {"--l2-usize"})
 
     def test_each_option_once(self):
         left = self.offered("sweep", "--bsize", "16", "--pow2", "--kind", "=", "d", "")
         self.assertEqual(left, OPTIONS["sweep"] - {"--bsize", "--pow2", "--kind"})
-        others = {"-l1-ubsize", "-l1-uassoc", "-l1-urepl", "-l1-uwalloc", "-l1-uwback"}
+        others = {f"-l1-u{name}" for name in OF_A_CACHE[1:]}
         for given in ("-l1-usize", "--l1-usize"):
             self.assertEqual(self.offered("din", given, "1k", "-l1-u"), others)
             self.assertNotIn("--l1-usize", self.offered("din", given, "1k", "--"))

@@ -96,6 +96,10 @@ class Rows(DinTableTest):
             self.short(), "4 of 16", "-l1-isize 64 -l1-ibsize 16 -l1-dsize 64 -l1-dbsize 16,32 "
             "-l1-dwback n,a -l2-usize 256 -l2-ubsize 16,32 -l2-uassoc 4 -l2-urepl f,r"))
 
+    def test_sets_and_any_number_of_ways(self):
+        self.assertEqual(18, self.agree(
+            self.short(), "", "-l1-usets 1,4,16 -l1-ubsize 16 -l1-uassoc 2,3,12 -l1-urepl l,f"))
+
     def test_seeds(self):
         """Also where the second level alone replaces at random."""
         self.agree(self.short(), "", "-l1-usize 64 -l1-ubsize 16 -l1-uassoc 4 -l1-urepl r,l "

@@ -199,11 +199,13 @@ class Replay(ReplayTest):
     def test_steps_are_those_of_the_log(self):
         """Victims, dirty blocks and what memory gets, by the model; what is bypassed is no step."""
         traces = ORDER * 3 + b"0 ffffffffffffffff\n", start_of("sort.din", 300).encode()
-        names = ("size", "bsize", "assoc", "repl", "walloc", "wback")
-        for trace, place, policies in itertools.product(
-            traces, ("l1-i", "l1-d", "l1-u"), ("laa", "faa", "lna", "fan")
+        names = ("bsize", "assoc", "repl", "walloc", "wback")
+        for trace, place, policies, numbers in itertools.product(
+            traces, ("l1-i", "l1-d", "l1-u"), ("laa", "faa", "lna", "fan"),
+            ("size 64 4", "sets 2 3")
         ):
-            pairs = zip(names, ("64", "8", "4", *policies))
+            first, number, ways = numbers.split()
+            pairs = (first, number), *zip(names, ("8", ways, *policies))
             words = [word for name, value in pairs for word in (f"-{place}{name}", value)]
             written = model.run(["log", *words], lambda: trace, None)[0].splitlines()
             expected = [line for line in written if not line.startswith("bypassed")]
@@ -239,6 +241,10 @@ class Faults(ReplayTest):
             (f"{small} -l1-urepl r", "invalid choice: 'r'"),
             (f"{small} -l2-usize 64", "unrecognized arguments"),
             ("-l1-usize 1g -l1-ubsize 2m", "bad geometry"),
+            ("-l1-usize 48 -l1-ubsize 16 -l1-uassoc 3", "must be powers of two"),
+            ("-l1-usets 3 -l1-ubsize 16", "the sets and the block size must be powers of two"),
+            ("-l1-usets 1 -l1-ubsize 16 -l1-uassoc 0", "a set has a line"),
+            (f"{small} -l1-usets 4", "-l1-usets stands in place of -l1-usize"),
         ):
             with self.subTest(words):
                 self.refused(self.replay(*words.split()), 2, text)

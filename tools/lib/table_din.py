@@ -1,5 +1,6 @@
 """A table of `din-table`, for the tools that read it. Rows that differ in the seed are one case."""
 
+import math
 import re
 import statistics
 from typing import NamedTuple
@@ -7,10 +8,10 @@ from typing import NamedTuple
 from lib.table import WHOLE, BadTable, column_of, number_of
 
 # an option of a cache, as a column has it
-OPTION = re.compile("(l[12]-[diu])(size|bsize|assoc|repl|walloc|wback)")
+OPTION = re.compile("(l[12]-[diu])(size|sets|bsize|assoc|repl|walloc|wback)")
 # a count of the report, or what din-table makes of these: it has a share of the references
 COUNT = re.compile("l[12]-[diu]-.+|memory-(reads|writes)|bypassed")
-NUMBERS = ("size", "bsize", "assoc")
+NUMBERS = ("size", "sets", "bsize", "assoc")
 WORDS = {
     "repl": {"l": "LRU", "f": "FIFO", "r": "random"},
     "walloc": {"a": "write-allocate", "n": "no write-allocate"},
@@ -98,6 +99,15 @@ def share_of(columns, fields, measure, value, references):
     return 100 * value / count if count else value * 0
 
 
+def factors_of(columns):
+    """For each cache where the numbers stand whose product is its size: the size itself, or the
+    sets, block size and ways."""
+    wanted = {"size": ("size",), "sets": ("sets", "bsize", "assoc")}
+    given = [option for option in columns if OPTION.fullmatch(option) and kind(option) in wanted]
+    return [[columns.index(cache(option) + word) for word in wanted[kind(option)]
+             if cache(option) + word in columns] for option in given]
+
+
 def read_rows(lines, name, columns):
     """The fields of each row, which are as many as the columns, and where they stand."""
     options = [column for column in columns if OPTION.fullmatch(column)]
@@ -115,8 +125,7 @@ def read_rows(lines, name, columns):
 
 def judge_columns(columns, measure, name):
     """Refuses a table without a size or, if no measure is asked for, the misses of a cache."""
-    sizes = [column for column in columns if OPTION.fullmatch(column) and kind(column) == "size"]
-    if not measure or not sizes:
+    if not measure or not factors_of(columns):
         raise BadTable(f"{name}: no table of din: a cache's size or misses are not among its "
                        "columns")
 
@@ -128,7 +137,7 @@ def read_table(lines, name, measure=None):
     judge_columns(columns, measure, name)
     measured = column_of(columns, measure, name)
     options = [column for column in columns if OPTION.fullmatch(column)]
-    sizes = [columns.index(option) for option in options if kind(option) == "size"]
+    factors = factors_of(columns)
     found, seen, references = {}, set(), None
     for place, fields in read_rows(lines, name, columns):
         given = tuple(fields[columns.index(option)] for option in options)
@@ -141,7 +150,7 @@ def read_table(lines, name, measure=None):
         if own != references:
             raise BadTable(f"{place}: the rows are not of one trace: {references} references in the"
                            f" first row, {own} here")
-        size = sum(int(fields[at]) for at in sizes)
+        size = sum(math.prod(int(fields[at]) for at in numbers) for numbers in factors)
         first = found.setdefault(given, Case(given, size, (), len(found)))
         value = number_of(fields[measured], measure, place)
         share = share_of(columns, fields, measure, value, references)

@@ -3,3 +3,4 @@ pub mod HelpLemmas
 pub mod NumberLemmas
 pub mod Parsing
 mod Rows
+pub mod SetsLaw

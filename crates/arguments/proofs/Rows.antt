@@ -17,7 +17,7 @@ use Rattle.sweep_core.specs.declared.space.Cause.TheVariants.{NotPower, Limit, R
 use Rattle.trace_core.specs.declared.events.Kind.TheVariants.{All, DataOnly}
 use Rattle.trace_core.specs.declared.line.Format.TheVariants.{Din as Din-format, Lackey}
 use Rattle.arguments.specs.CommandLine.{command_of}
-use Rattle.arguments.specs.Faults.{bad_geometry, incomplete, plan, space, value}
+use Rattle.arguments.specs.Faults.{bad_geometry, incomplete, plan, space, value, size_and_sets}
 use Rattle.arguments.specs.Numbers.{number_of, range_of, scaled_of, triple_of}
 use Rattle.options.specs.Options.{cachesim_app}
 use Rattle.arguments.specs.declared.job.Job.TheVariants.{Csim, Din, Sweep}
@@ -223,6 +223,45 @@ size_48 = refl
 size_0 : command_of (din_arguments (unified (codes "0") (codes "16") [])) ≡ Some (Err (value (codes "-l1-usize")))
 unfolding clap_on_literals is_power ones
 size_0 = refl
+
+-- sets in place of a size: 48 KiB in 12 ways
+twelve_ways : command_of (din_arguments (codes "-l1-dsets" ∷ codes "64" ∷ codes "-l1-dbsize" ∷ codes "64" ∷ codes "-l1-dassoc" ∷ codes "12" ∷ []))
+    ≡ Some (Ok (record {
+      job = Din (record {
+        i = None;
+        d = Some (record { design = record { geometry = record { s = 6; e = 12; b = 6 }; write = Back; allocate = Always }; policy = Lru });
+        u = None;
+        second = None;
+      }) 42 Din-format (2 ^ 40);
+      trace = None;
+    }))
+unfolding clap_on_literals is_power exponent_of ones
+twelve_ways = refl
+
+sets_3 : command_of (din_arguments (codes "-l1-usets" ∷ codes "3" ∷ [])) ≡ Some (Err (value (codes "-l1-usets")))
+unfolding clap_on_literals is_power ones
+sets_3 = refl
+
+-- a size beside sets is judged as a missing size is: after all values, and before any geometry
+size_beside_sets : command_of (din_arguments (unified (codes "16") (codes "32") (codes "--l1-usets" ∷ codes "1" ∷ [])))
+    ≡ Some (Err (size_and_sets L1U))
+unfolding clap_on_literals is_power exponent_of ones
+size_beside_sets = refl
+
+sets_alone : command_of (din_arguments (codes "-l1-usets" ∷ codes "1" ∷ [])) ≡ Some (Err (incomplete L1U))
+unfolding clap_on_literals is_power ones
+sets_alone = refl
+
+no_ways : command_of (din_arguments (codes "-l1-usets" ∷ codes "1" ∷ codes "-l1-ubsize" ∷ codes "16" ∷ codes "-l1-uassoc" ∷ codes "0" ∷ []))
+    ≡ Some (Err (plan (BadGeometry L1U)))
+unfolding clap_on_literals is_power exponent_of ones
+no_ways = refl
+
+-- 2^63 sets of two bytes: no size below 2^64
+too_many_sets : command_of (din_arguments (codes "-l1-usets" ∷ codes "8589934592g" ∷ codes "-l1-ubsize" ∷ codes "2" ∷ []))
+    ≡ Some (Err (plan (BadGeometry L1U)))
+unfolding clap_on_literals is_power exponent_of ones
+too_many_sets = refl
 
 an_incomplete_cache : command_of (din_arguments (codes "-l1-uassoc" ∷ codes "2" ∷ [])) ≡ Some (Err (incomplete L1U))
 unfolding clap_on_literals

@@ -1,11 +1,13 @@
 -- What the arguments after `din` and `log` say.
-use Rattle.std.specs.Prelude.{ℕ, Bool, List, Option, Some, None, Result, Ok, codes, ◌||◌}
-use Rattle.std.specs.Prelude.{if◌then◌else◌, is_some, ok_or, option_and_then, unwrap_or}
+use Rattle.std.specs.Prelude.{◌≡◌, ◌↔◌, ◌^◌, ℕ, Bool, List, Option, Some, None, Result, Ok, Err, codes, ◌||◌}
+use Rattle.std.specs.Prelude.{if◌then◌else◌, is_some, ok_or, option_and_then, option_map, unwrap_or, ◌*◌, ◌&&◌}
+use Rattle.std.specs.Option.{option_or}
 use Rattle.cache_core.specs.Powers.{is_power}
 use Rattle.std.specs.Result.{result_map_both}
 use Rattle.std.specs.Str.{bytes_eq}
 use Rattle.clap.specs.Words.{Row, Text}
-use Rattle.cache_core.specs.Plans.{PlannedCaches, plan_of}
+use Rattle.cache_core.specs.Geometry.{GeometryValue, IsGeometry}
+use Rattle.cache_core.specs.Plans.{PlannedCaches, geometry_for, plan_of}
 use Rattle.trace_core.specs.declared.line.Format.{Format}
 use Rattle.trace_core.specs.declared.line.Format.TheVariants.{Din as DinFormat}
 use Rattle.cache_core.specs.declared.design.AllocMode.{AllocMode}
@@ -17,10 +19,10 @@ use Rattle.cache_core.specs.declared.design.Repl.{Repl}
 use Rattle.cache_core.specs.declared.design.Repl.TheVariants.{Lru, Fifo, Random}
 use Rattle.cache_core.specs.declared.design.WriteMode.{WriteMode}
 use Rattle.cache_core.specs.declared.design.WriteMode.TheVariants.{Back, Through}
-use Rattle.arguments.specs.Faults.{JobFault, incomplete, plan}
+use Rattle.arguments.specs.Faults.{JobFault, incomplete, plan, size_and_sets}
 use Rattle.arguments.specs.Job.{longest_trace}
-use Rattle.arguments.specs.Numbers.{number_of, scaled_of}
-use Rattle.options.specs.Options.{assoc_option_of, bsize_option_of, informat_option, repl_option_of, seed_option, size_option_of}
+use Rattle.arguments.specs.Numbers.{number_of, scaled_of, within_u64}
+use Rattle.options.specs.Options.{assoc_option_of, bsize_option_of, informat_option, repl_option_of, seed_option, sets_option_of, size_option_of}
 use Rattle.options.specs.Options.{walloc_option_of, wback_option_of}
 use Rattle.arguments.specs.Readings.{and_then, format_named, optional_value, value_or}
 use Rattle.arguments.specs.declared.din_job.CacheReading.{CacheReading}
@@ -48,10 +50,11 @@ abbrev pub wback_named : Text → Option WriteMode
 wback_named text = if bytes_eq text (codes "a") then Some Back
     else (if bytes_eq text (codes "n") then Some Through else None)
 
--- the six options of a cache, in the table's order
+-- the seven options of a cache, in the table's order
 abbrev pub reading_of : CacheName → List Row → Result CacheReading JobFault
 reading_of cache rows =
     and_then (optional_value (size_option_of cache).id power_of rows) (λ size.
+    and_then (optional_value (sets_option_of cache).id power_of rows) (λ sets.
     and_then (optional_value (bsize_option_of cache).id power_of rows) (λ bsize.
     and_then (optional_value (assoc_option_of cache).id number_of rows) (λ assoc.
     and_then (optional_value (repl_option_of cache).id repl_named rows) (λ repl.
@@ -59,17 +62,27 @@ reading_of cache rows =
     and_then (optional_value (wback_option_of cache).id wback_named rows) (λ wback.
     Ok (record {
       size = size;
+      sets = sets;
       bsize = bsize;
       assoc = assoc;
       repl = repl;
       walloc = walloc;
       wback = wback;
-    })))))))
+    }))))))))
 
--- one of the six was given
+-- one of the seven was given
 abbrev pub is_given : CacheReading → Bool
-is_given r = is_some r.size || (is_some r.bsize || (is_some r.assoc || (is_some r.repl
-    || (is_some r.walloc || is_some r.wback))))
+is_given r = is_some r.size || (is_some r.sets || (is_some r.bsize || (is_some r.assoc || (is_some r.repl
+    || (is_some r.walloc || is_some r.wback)))))
+
+-- the size of so many sets, blocks of this size and lines per set; from 2^64 on it is 0, which no cache has either
+abbrev pub size_of_sets : ℕ → ℕ → ℕ → ℕ
+size_of_sets sets bsize assoc = unwrap_or (option_and_then (λ row. within_u64 (row * assoc)) (within_u64 (sets * bsize))) 0
+
+-- the size as it was given, or else by the number of sets
+abbrev pub size_given : CacheReading → Option ℕ
+size_given r = option_or r.size (option_and_then
+    (λ sets. option_map (λ bsize. size_of_sets sets bsize (unwrap_or r.assoc 1)) r.bsize) r.sets)
 
 -- the cache with its defaults; none without size and block size
 abbrev pub spec_with : Option ℕ → Option ℕ → CacheReading → Option CacheSpec
@@ -83,13 +96,14 @@ spec_with (Some size) (Some bsize) r = Some (record {
 })
 spec_with _ _ r = None
 
--- a cache is there exactly if one of its options was given, and then needs size and bsize
+-- A cache is there exactly if one of its options was given, and then needs bsize and size, or in its place sets. Sets are this project's.
 abbrev pub cache_of : CacheName → CacheReading → Result (Option CacheSpec) JobFault
 cache_of cache r = if is_given r
-    then and_then (ok_or (spec_with r.size r.bsize r) (incomplete cache)) (λ spec. Ok (Some spec))
+    then (if is_some r.size && is_some r.sets then Err (size_and_sets cache)
+    else and_then (ok_or (spec_with (size_given r) r.bsize r) (incomplete cache)) (λ spec. Ok (Some spec)))
     else Ok None
 
--- The plan of what was given of the four caches, or the first fault: caches that lack size or bsize, then the plan's.
+-- The plan of what was given of the four caches, or the first fault: caches that lack size or bsize, or have size and sets; then the plan's.
 abbrev pub plan_given : CacheReadings → Result PlannedCaches JobFault
 plan_given caches =
     and_then (cache_of L1I caches.i) (λ i.
@@ -123,3 +137,15 @@ din_of rows = and_then (options_given rows) (λ o. Ok (Din o.0 o.1 o.2 longest_t
 -- the job of `log`, or the first fault
 abbrev pub log_of : List Row → Result Job JobFault
 log_of rows = and_then (options_given rows) (λ o. Ok (Log o.0 o.1 o.2 longest_trace))
+
+-- the geometry of a cache that is asked for, with this number of sets
+pub record IsGeometryWith (spec : CacheSpec) (number : ℕ) (g : GeometryValue) : Type 0 where
+  pub sets : number ≡ 2 ^ g.s
+  pub bsize : spec.bsize ≡ 2 ^ g.b
+  pub assoc : spec.assoc ≡ g.e
+  pub limits : IsGeometry g
+
+-- a cache that is asked for by its sets has the geometry of exactly these, if one is within the limits
+abbrev pub SetsLaw : Type 0
+SetsLaw = (spec : CacheSpec) (sets : ℕ) (g : GeometryValue) → spec.size ≡ size_of_sets sets spec.bsize spec.assoc
+    → (geometry_for spec ≡ Some g) ↔ IsGeometryWith spec sets g

@@ -2,6 +2,7 @@
 ghost use Rattle.std.specs.Prelude.{◌≡◌, IfOk, Some};
 ghost use Rattle.arguments.specs.DinJob.{cache_of, caches_given, din_of, log_of, options_given};
 ghost use Rattle.arguments.specs.DinJob.{plan_given, power_of, reading_of};
+ghost use Rattle.arguments.specs.DinJob.{size_given, size_of_sets};
 ghost use Rattle.arguments.specs.DinJob.{repl_named, walloc_named, wback_named};
 ghost use Rattle.arguments.specs.Faults.{job_result};
 ghost use Rattle.arguments.specs.Job.{max_lines_of};
@@ -24,6 +25,7 @@ use trace_core::reader::MAX_LINES;
 #[derive(Clone, Copy)]
 pub struct CacheReading {
     size: Option<u64>,
+    sets: Option<u64>,
     bsize: Option<u64>,
     assoc: Option<u64>,
     repl: Option<Repl>,
@@ -103,13 +105,14 @@ fn plan_given(caches: &CacheReadings) -> Result<Plan, WordsFault>
     Ok(Plan::new(first, second)?)
 }
 
-/// What was given of the six options of a cache.
+/// What was given of the seven options of a cache.
 fn read_cache(matches: &ArgMatches<'_>, cache: CacheName) -> Result<CacheReading, WordsFault>
     ensures { job_result result ≡ Some (reading_of cache (rows_given matches.now)) }
 {
     let options = cache_options(cache);
     Ok(CacheReading {
         size: power_at(matches, options.size.name)?,
+        sets: power_at(matches, options.sets.name)?,
         bsize: power_at(matches, options.bsize.name)?,
         assoc: optional_number_at(matches, options.assoc.name)?,
         repl: repl_at(matches, options.repl.name)?,
@@ -122,15 +125,21 @@ fn read_cache(matches: &ArgMatches<'_>, cache: CacheName) -> Result<CacheReading
 fn complete(cache: CacheName, reading: &CacheReading) -> Result<Option<CacheSpec>, WordsFault>
     ensures { job_result result ≡ Some (cache_of cache reading.now) }
 {
-    match *reading {
-        CacheReading {
-            size: Some(size),
-            bsize: Some(bsize),
-            assoc,
-            repl,
-            walloc,
-            wback,
-        } => Ok(Some(CacheSpec {
+    if reading.size.is_some() && reading.sets.is_some() {
+        return Err(WordsFault::SizeAndSets { cache });
+    }
+    match (size_given(reading), *reading) {
+        (
+            Some(size),
+            CacheReading {
+                bsize: Some(bsize),
+                assoc,
+                repl,
+                walloc,
+                wback,
+                ..
+            },
+        ) => Ok(Some(CacheSpec {
             size,
             bsize,
             assoc: assoc.unwrap_or(1),
@@ -138,15 +147,49 @@ fn complete(cache: CacheName, reading: &CacheReading) -> Result<Option<CacheSpec
             wback: wback.unwrap_or(WriteMode::Back),
             walloc: walloc.unwrap_or(AllocMode::Always),
         })),
-        CacheReading {
-            size: None,
-            bsize: None,
-            assoc: None,
-            repl: None,
-            walloc: None,
-            wback: None,
-        } => Ok(None),
+        (
+            None,
+            CacheReading {
+                sets: None,
+                bsize: None,
+                assoc: None,
+                repl: None,
+                walloc: None,
+                wback: None,
+                ..
+            },
+        ) => Ok(None),
         _ => Err(WordsFault::Incomplete { cache }),
+    }
+}
+
+/// The size as it was given, or else by the number of sets.
+fn size_given(reading: &CacheReading) -> Option<u64>
+    ensures { result ≡ size_given reading.now }
+{
+    match *reading {
+        CacheReading {
+            size: Some(size),
+            ..
+        } => Some(size),
+        CacheReading {
+            sets: Some(sets),
+            bsize: Some(bsize),
+            assoc,
+            ..
+        } => Some(size_of_sets(sets, bsize, assoc.unwrap_or(1))),
+        _ => None,
+    }
+}
+
+/// The size of so many sets, blocks of this size and lines per set. From 2^64 on it is 0, which no
+/// cache has either: so `Plan::new` refuses it as a geometry, in its turn.
+fn size_of_sets(sets: u64, bsize: u64, assoc: u64) -> u64
+    ensures { result ≡ size_of_sets sets bsize assoc }
+{
+    match sets.checked_mul(bsize) {
+        Some(row) => row.checked_mul(assoc).unwrap_or(0),
+        None => 0,
     }
 }
 

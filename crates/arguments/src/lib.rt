@@ -5,6 +5,7 @@ mod csim_job;
 mod din_job;
 pub mod faults;
 pub mod job;
+pub mod laws;
 pub mod numbers;
 pub mod parse;
 mod readings;

@@ -59,7 +59,7 @@ verbose_option = flag (by_letter (codes "-v") 118)
 abbrev pub csim_rules : List Rule
 csim_rules = set_bits_option ∷ lines_option ∷ block_bits_option ∷ lackey_file_option ∷ verbose_option ∷ []
 
--- ---- the options of `din` and of `log`: those of the caches and -informat are Dinero IV's
+-- ---- the options of `din` and of `log`: those of the caches and -informat are Dinero IV's, but for the number of sets
 
 abbrev pub informat_option : Rule
 informat_option = optional (by_name (codes "-") (codes "informat"))
@@ -77,6 +77,9 @@ cache_option cache ending = optional (by_name (codes "-") (cache_name cache ++ e
 abbrev pub size_option_of : CacheName → Rule
 size_option_of cache = cache_option cache (codes "size")
 
+abbrev pub sets_option_of : CacheName → Rule
+sets_option_of cache = cache_option cache (codes "sets")
+
 abbrev pub bsize_option_of : CacheName → Rule
 bsize_option_of cache = cache_option cache (codes "bsize")
 
@@ -92,9 +95,9 @@ walloc_option_of cache = cache_option cache (codes "walloc")
 abbrev pub wback_option_of : CacheName → Rule
 wback_option_of cache = cache_option cache (codes "wback")
 
--- the six options of a cache
+-- the seven options of a cache
 abbrev pub cache_rules : CacheName → List Rule
-cache_rules cache = size_option_of cache ∷ bsize_option_of cache ∷ assoc_option_of cache
+cache_rules cache = size_option_of cache ∷ sets_option_of cache ∷ bsize_option_of cache ∷ assoc_option_of cache
     ∷ repl_option_of cache ∷ walloc_option_of cache ∷ wback_option_of cache ∷ []
 
 abbrev pub din_rules : List Rule
@@ -197,13 +200,14 @@ app_and_global c = (app_of c, (out-Command c).has_globals)
 abbrev pub own_leaf : Shape → App × Bool
 own_leaf s = (record { top = s; subs = [] }, false)
 
--- the six entries of a cache are its options, by name and by rule
+-- the seven entries of a cache are its options, by name and by rule
 pub record IsOptionsOf (cache : CacheName) (o : CacheOptions) : Type 0 where
   pub size : o.size.name.now ≡ (size_option_of cache).id
+  pub sets : o.sets.name.now ≡ (sets_option_of cache).id
   pub bsize : o.bsize.name.now ≡ (bsize_option_of cache).id
   pub assoc : o.assoc.name.now ≡ (assoc_option_of cache).id
   pub repl : o.repl.name.now ≡ (repl_option_of cache).id
   pub walloc : o.walloc.name.now ≡ (walloc_option_of cache).id
   pub wback : o.wback.name.now ≡ (wback_option_of cache).id
   pub rules : map rule_of_option
-      (o.size ∷ o.bsize ∷ o.assoc ∷ o.repl ∷ o.walloc ∷ o.wback ∷ []) ≡ cache_rules cache
+      (o.size ∷ o.sets ∷ o.bsize ∷ o.assoc ∷ o.repl ∷ o.walloc ∷ o.wback ∷ []) ≡ cache_rules cache

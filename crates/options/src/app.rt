@@ -153,7 +153,7 @@ fn din_args<'a>(alloc: Global) -> Result<Vec<Arg<'a>>, AllocError>
     for &(cache, heading) in &DIN_CACHES {
         let of = cache_options(cache);
         let options = [
-            &of.size, &of.bsize, &of.assoc, &of.repl, &of.walloc, &of.wback,
+            &of.size, &of.sets, &of.bsize, &of.assoc, &of.repl, &of.walloc, &of.wback,
         ];
         push_options(alloc, &mut args, Some(heading), &options)?;
     }

@@ -1,4 +1,4 @@
-//! The options of the caches of `din` and `log`: six for each.
+//! The options of the caches of `din` and `log`: seven for each.
 ghost use Rattle.options.specs.Options.{IsOptionsOf};
 
 use crate::table::CommandOption;
@@ -6,9 +6,10 @@ use crate::table::Presence::Optional;
 use crate::table::Spelling::Long;
 use cache_core::plan::CacheName;
 
-/// The six options of one cache.
+/// The seven options of one cache. The number of sets may stand in place of the size.
 pub struct CacheOptions {
     pub size: CommandOption,
+    pub sets: CommandOption,
     pub bsize: CommandOption,
     pub assoc: CommandOption,
     pub repl: CommandOption,
@@ -16,12 +17,14 @@ pub struct CacheOptions {
     pub wback: CommandOption,
 }
 
-// What help says of each of the six.
+// What help says of each of the seven.
 const SIZE: &str = "Total size in bytes, a power of two, such as 16k";
+
+const SETS: &str = "Number of sets, a power of two, in place of the size";
 
 const BSIZE: &str = "Block size in bytes, a power of two";
 
-const ASSOC: &str = "Lines per set, a power of two [default: 1]";
+const ASSOC: &str = "Lines per set, with a size a power of two [default: 1]";
 
 const REPL: &str = "Replacement policy: l LRU, f FIFO, r random [default: l]";
 
@@ -41,11 +44,12 @@ macro_rules! cache_option {
     };
 }
 
-/// The six options of the cache of this name.
-macro_rules! six_options {
+/// The seven options of the cache of this name.
+macro_rules! seven_options {
     ($cache:literal) => {
         CacheOptions {
             size: cache_option!($cache, "size", "BYTES", SIZE),
+            sets: cache_option!($cache, "sets", "SETS", SETS),
             bsize: cache_option!($cache, "bsize", "BYTES", BSIZE),
             assoc: cache_option!($cache, "assoc", "N", ASSOC),
             repl: cache_option!($cache, "repl", "POLICY", REPL),
@@ -55,15 +59,15 @@ macro_rules! six_options {
     };
 }
 
-static L1I_OPTIONS: CacheOptions = six_options!("l1-i");
+static L1I_OPTIONS: CacheOptions = seven_options!("l1-i");
 
-static L1D_OPTIONS: CacheOptions = six_options!("l1-d");
+static L1D_OPTIONS: CacheOptions = seven_options!("l1-d");
 
-static L1U_OPTIONS: CacheOptions = six_options!("l1-u");
+static L1U_OPTIONS: CacheOptions = seven_options!("l1-u");
 
-static L2U_OPTIONS: CacheOptions = six_options!("l2-u");
+static L2U_OPTIONS: CacheOptions = seven_options!("l2-u");
 
-/// The six options of one cache.
+/// The seven options of one cache.
 pub fn cache_options(cache: CacheName) -> &'static CacheOptions
     ensures { IsOptionsOf cache result.now }
 {

@@ -121,11 +121,13 @@ pub const DIN_ABOUT: &str =
 pub const DIN: &str = help_text!(
     "\
 The options of a cache and -informat may be written with one dash, as Dinero IV has them, or with
-two. A cache exists if one of its options is given; its size and bsize must then be given. The
-first level is a unified cache, or an instruction cache, a data cache or both. BYTES is a decimal
-number; k, m or g at the end multiplies by 2^10, 2^20 or 2^30. N is a decimal number. A block has
-at most 1m bytes, and a cache at most 1m sets, 64k lines per set and 4m lines in all. The blocks of
-the second level are no smaller than those of the first.
+two. A cache exists if one of its options is given; its size and bsize must then be given. In place
+of the size its number of sets may be given, which Dinero IV does not have; its size is then sets *
+bsize * assoc, and need not be a power of two. The first level is a unified cache, or an instruction
+cache, a data cache or both. BYTES and SETS are decimal numbers; k, m or g at the end multiplies by
+2^10, 2^20 or 2^30. N is a decimal number. A block has at most 1m bytes, and a cache at most 1m
+sets, 64k lines per set and 4m lines in all. The blocks of the second level are no smaller than
+those of the first.
 
 The report has a line for each cache: its fetches, reads and writes, the misses of each, the
 evicted blocks (evictions), and the dirty blocks that were evicted or flushed (copybacks). Then
@@ -134,6 +136,9 @@ what came to memory, and the references that no first-level cache takes.
 A split first level of 32 KiB each above a second level of 1 MiB:
   cachesim din -l1-isize 32k -l1-ibsize 64 -l1-iassoc 8 -l1-dsize 32k -l1-dbsize 64 -l1-dassoc 8 \\
       -l2-usize 1m -l2-ubsize 64 -l2-uassoc 16 -informat l -t trace.txt
+
+A data cache of 48 KiB with 12 lines per set:
+  cachesim din -l1-dsets 64 -l1-dbsize 64 -l1-dassoc 12 -t trace.din
 
 A din trace has one reference per line: 0 data read, 1 data write or 2 instruction fetch, and the
 address in hexadecimal, such as '0 7ffe10'; 3 is skipped, and 4 flushes the caches. Valgrind writes

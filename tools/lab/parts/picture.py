@@ -10,16 +10,12 @@ class Cache(NamedTuple):
     """A cache, and its options for `cachesim log`."""
 
     place: str
-    size: int
+    sets: int
     block: int
     ways: int
     repl: str = "l"
     walloc: str = "a"
     wback: str = "a"
-
-    @property
-    def sets(self):
-        return self.size // max(1, self.block * self.ways)
 
     @property
     def set_bits(self):
@@ -32,19 +28,12 @@ class Cache(NamedTuple):
     def set_of(self, address):
         return address // self.block % self.sets
 
-    @property
-    def has_log(self):
-        """Whether `cachesim log` takes it."""
-        return self.ways.bit_count() == 1
-
     def is_possible(self):
-        """Whether blocks and sets are powers of two, and the sets fill the size."""
-        numbers = (self.block, self.sets)
-        return self.sets * self.ways * self.block == self.size and all(
-            number.bit_count() == 1 for number in numbers)
+        """Whether blocks and sets are powers of two, and a set has a line."""
+        return self.ways > 0 and self.block.bit_count() == self.sets.bit_count() == 1
 
     def options(self):
-        given = {"size": self.size, "bsize": self.block, "assoc": self.ways}
+        given = {"sets": self.sets, "bsize": self.block, "assoc": self.ways}
         given.update(repl=self.repl, walloc=self.walloc, wback=self.wback)
         return [word for name, value in given.items()
                 for word in (f"-{self.place}{name}", str(value))]
@@ -156,7 +145,7 @@ class Picture:
 
     def victim_of(self, step):
         """What the log says of an evicted block."""
-        if not step.evicted or not self.cache.has_log:
+        if not step.evicted:
             return ""
         address = (step.evicted.tag * self.cache.sets + step.set) * self.cache.block
         return f" {address:x}{' dirty' * step.evicted.dirty}"

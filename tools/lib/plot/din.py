@@ -4,13 +4,14 @@ import html
 import re
 
 from lib.plot import pictures
-from lib.plot.pictures import (MOST_LINES, Line, Measure, Picture, Point, bytes_text, short,
-                               ways_text)
+from lib.plot.pictures import (MOST_LINES, Line, Measure, Picture, Point, bytes_text, sets_text,
+                               short, ways_text)
 from lib.table import pareto
 from lib.table_din import NUMBERS, WORDS, cache, kind, usual_measure
 from lib.tool import fail
 
-ACROSS = {"size": "cache size in bytes", "bsize": "block size in bytes", "assoc": "ways"}
+ACROSS = {"size": "cache size in bytes", "sets": "sets", "bsize": "block size in bytes",
+          "assoc": "ways"}
 
 
 def varied(table):
@@ -26,11 +27,11 @@ def across_of(asked, options, several, name):
             numbers = [option for option in options if kind(option) in NUMBERS]
             fail(f"{name}: no option {asked.across} with numbers; there are {', '.join(numbers)}")
         return asked.across
-    for wanted in (("size",), NUMBERS):
+    for wanted in (("size", "sets"), NUMBERS):
         for option in reversed(several or options):
             if kind(option) in wanted:
                 return option
-    return next(option for option in options if kind(option) == "size")
+    return next(option for option in options if kind(option) in ("size", "sets"))
 
 
 def of_measure(table, several):
@@ -67,8 +68,8 @@ def value_text(option, value, has_caches):
         text = WORDS[word].get(value, value)
     else:
         number = int(value)
-        text = {"size": bytes_text(number), "bsize": f"blocks of {short(number)}",
-                "assoc": ways_text(number)}[word]
+        text = {"size": bytes_text(number), "sets": sets_text(number),
+                "bsize": f"blocks of {short(number)}", "assoc": ways_text(number)}[word]
     return f"{cache(option)} {text}" if has_caches else text
 
 
@@ -131,7 +132,8 @@ def by_across(asked, table, across, several, measure):
         cases = {int(case.given[at]): case for case in reversed(cases)}
         points = [point(table, cases[x], x, several, has_caches) for x in sorted(cases)]
         lines.append(Line(name, [points]))
-    what = {"size": "cache size", "bsize": "block size", "assoc": "ways"}[kind(across)]
+    what = {"size": "cache size", "sets": "sets", "bsize": "block size", "assoc": "ways"}
+    what = what[kind(across)]
     title = ": ".join([f"{measure.name} by {what}", *[", ".join(remarks)] * bool(remarks)])
     words = f"{ACROSS[kind(across)]} ({cache(across)})" if has_caches else ACROSS[kind(across)]
     return Picture("size", 0, title, words, "", lines)
@@ -139,7 +141,7 @@ def by_across(asked, table, across, several, measure):
 
 def by_front(table, several, measure):
     """The cases of which none as small is as good, by the size of all caches, before all others."""
-    sizes = [option for option in table.options if kind(option) == "size"]
+    sizes = [option for option in table.options if kind(option) in ("size", "sets")]
     lines = [option for option in several if kind(option) != "size" or len(sizes) > 1]
     has_caches = len({cache(option) for option in lines}) > 1
     cloud = [point(table, case, case.size, lines, has_caches) for case in table.cases]

@@ -102,6 +102,10 @@ def ways_text(ways):
     return "1 way" if ways == 1 else f"{ways} ways"
 
 
+def sets_text(sets):
+    return "1 set" if sets == 1 else f"{short(sets)} sets"
+
+
 def bytes_text(size):
     return "1 byte" if size == 1 else f"{short(size)} bytes"
 
