@@ -30,12 +30,14 @@ STORED = "./proofs/lib/Half/of/Answers.antt"
 IN_ANSWER = f"{STORED}:7:3: error: `invariant_of-self-in-New-2`: types differ\n"
 GONE = f"{STORED}:9:3: error: `returns-clause-value`: record has no field `x`\n"
 REFUSED, PROVED = "logic=not-proved\n", "logic=proved functions=1\n"
-# What is said of a source that has the mutant in it, and of the others
+# What is said of a source that has the mutant in it, its control, or neither
 RT = """\
 #!/bin/sh
 echo "$PWD $*" >> "$STAND_IN/calls"
-grep -q 'number / 3' src/lib.rt && said=mutant || said=whole
-[ $said = whole ] || [ -e proofs/lib/Half/of/Answers.antt ] || said=alone
+said=whole
+grep -q 'number / 3' src/lib.rt && said=mutant
+grep -q 'number >> 1' src/lib.rt && said=control
+[ $said != mutant ] || [ -e proofs/lib/Half/of/Answers.antt ] || said=alone
 cat -- "$STAND_IN/$said"
 ! grep -q '^logic=not' "$STAND_IN/$said"
 """
@@ -127,7 +129,7 @@ class Mutants(ToolTest):
         self.assertEqual((lines[1], status), ("1 passed, 0 failed", 0))
 
     def test_at_its_goal(self):
-        for said in (IN_CODE, FALSE + IN_CODE, IN_ANSWER + GONE + IN_CODE):
+        for said in (IN_CODE, FALSE + IN_CODE, IN_ANSWER + IN_CODE):
             self.passes(said + REFUSED, "Half::of value")
 
     def test_elsewhere_or_not_at_all(self):
@@ -176,6 +178,104 @@ class Mutants(ToolTest):
         for said in (IN_ANSWER, GONE):
             self.passes(said + REFUSED, "Half::of value, without its stored proof too")
 
+    def of_control(self, said, mutant=FALSE + IN_CODE + REFUSED, more=""):
+        """What is said of the control, and the sum, where the prover says this of it."""
+        control = EDIT + "right:         number >> 1\n" + more
+        self.mutant.write_text("goal: Half::of value\n" + control)
+        (self.folder / "control").write_text(said)
+        lines, status = self.tried(mutant, "--controls")
+        self.assertEqual(lines[1], f"{1 - status} passed, {status} failed")
+        return re.sub(r" \(\d+ s\)", "", lines[0])
+
+    def test_controls(self):
+        """A control must be proved: only what its mutant means is wrong, and not its form."""
+        name, small = "low a_third, control", FALSE + REFUSED
+        self.assertEqual(self.of_control(PROVED), f"ok {name} proved")
+        self.assertEqual(self.of_control(small), f"FAILED {name}: refused at Half::of small")
+        unread = "error: a mismatched type\n"
+        self.assertIn("it did not reach the prover", self.of_control(unread))
+        lines, status = self.tried(IN_CODE + REFUSED)  # the mutant and its control
+        self.assertEqual((lines[1], status), ("1 passed, 1 failed", 1))
+        self.of_control(PROVED)
+        lines, status = self.tried(IN_CODE + REFUSED)
+        self.assertEqual((lines[1], status), ("2 passed, 0 failed", 0))
+
+    def test_controls_that_cannot_be_proved(self):
+        """One with a reason must be refused at fewer goals, and not at its mutant's."""
+        name, why = "low a_third, control", "control: no proof is kept of it\n"
+        small = FALSE + REFUSED
+        fewer = f"ok {name} refused at Half::of small, and no longer at its mutant's goal"
+        self.assertEqual(self.of_control(small, more=why), fewer)
+        for said, of_mutant, told in (
+            (PROVED, FALSE + IN_CODE, "proved, so that 'control:' is wrong"),
+            (IN_CODE + REFUSED, FALSE + IN_CODE, "refused at Half::of value"),
+            (small, IN_CODE, "refused at Half::of small"),
+            (REFUSED, FALSE + IN_CODE, "refused at no goal"),
+        ):
+            seen = self.of_control(said, of_mutant + REFUSED, why)
+            self.assertEqual(seen, f"FAILED {name}: {told}")
+
+    def test_a_control_that_is_lacking(self):
+        """A mutant of the gate must have one, and a reason is one of a control."""
+        gate = self.top / "crates/low/must-fail/no_half.edit"
+        gate.write_text("goal: Half::of value\n" + EDIT)
+        lines, status = self.tried(IN_CODE + REFUSED, "--controls", "no_half")
+        told = "FAILED low no_half, control: the gate's mutant has none"
+        self.assertEqual((lines, status), ([told, "0 passed, 1 failed"], 1))
+        for more, told in (
+            ("control: none is known\n", "it says why it has no proved control, and has none"),
+            ("right:         number / 3\n", "its control is the mutant itself"),
+        ):
+            gate.write_text("goal: Half::of value\n" + EDIT + more)
+            lines, status = self.tried("", "--list", "no_half")
+            self.assertEqual((lines[-1][-len(told) - 10:], status), (f"(FAILED: {told})", 1))
+
+    def test_a_change_without_its_right(self):
+        """It is in the control as it is in the mutant."""
+        self.mutant.write_text("goal: Half::of value\nfile: src/lib.rt\nold:         number / 2\n"
+                               "new: HALF\nold: HALF\nnew: number / 3\nright: number >> 1\n")
+        (self.folder / "control").write_text(PROVED)
+        lines, _ = self.tried(IN_CODE + REFUSED, "--controls")
+        self.assertEqual(lines[1], "1 passed, 0 failed")
+
+    def test_the_reason_of_a_refusal(self):
+        """It must not be a function without a contract, and is shown where it may be a proof."""
+        lines, _ = self.tried(FALSE + IN_CODE + GONE + REFUSED)
+        self.assertEqual(lines[0], "LOOK low a_third: a stored proof of its function no longer fits"
+                         ", and no values make the goal false")
+        self.passes(IN_CODE + FALSE.replace("small", "value") + GONE + REFUSED, "Half::of value")
+        self.assertEqual(self.of_control(PROVED), "ok low a_third, control proved")
+        lines, _ = self.tried(FALSE + IN_CODE + GONE + REFUSED)
+        self.assertRegex(lines[0], "^ok ")
+        source = self.top / "crates/low/src/lib.rt"
+        adds = EDIT.replace("number / 3", "fn third() {} number / 3")
+        for text, edit, told in (
+            (SOURCE.replace("        ensures value { result ≡ number / 2 }\n", ""), EDIT,
+             "Half::of has no contract, and the mutant no control"),
+            (SOURCE, adds, "it adds third, which has no contract, and has no control"),
+        ):
+            source.write_text(text)
+            self.mutant.write_text("goal: Half::of value\n" + edit)
+            lines, status = self.tried(IN_CODE + REFUSED)
+            self.assertEqual((lines[0], status), (f"FAILED low a_third: {told}", 1))
+
+    def test_sections(self):
+        """The mutants of a crate may be sections of one file."""
+        self.mutant.unlink()
+        self.mutant.parent.rmdir()
+        file = self.top / "tests/mutants/low.edits"
+        whole = f"== a_third\ngoal: Half::of value\n{EDIT}\n== half\n{EDIT}"
+        file.write_text(whole)
+        lines, _ = self.tried("", "--list")
+        self.assertEqual(lines, [
+            "low a_third: Half::of: a third. Refused at: Half::of value",
+            "low half: Half::of: half. Refused at: no goal named",
+        ])
+        lines, _ = self.tried(IN_CODE + REFUSED, "--write-goals")
+        self.assertEqual(lines[1], "2 passed, 0 failed")
+        goal = "== half\ngoal: Half::of value\n"
+        self.assertEqual(file.read_text(), whole.replace("== half\n", goal))
+
     def test_a_crate_that_is_not_proved(self):
         (self.folder / "whole").write_text(IN_CODE + REFUSED)
         lines, status = self.tried(IN_CODE + REFUSED)
@@ -201,13 +301,14 @@ class Mutants(ToolTest):
 
     def test_names_and_list(self):
         gate = self.top / "crates/low/must-fail/no_half.edit"
-        gate.write_text(EDIT)
+        gate.write_text(EDIT + "right:         number >> 1\n")
+        (self.folder / "control").write_text(PROVED)
         lines, _ = self.tried("", "--list")
         self.assertEqual(lines, [
             "low a_third: Half::of: a third. Refused at: Half::of value",
-            "low no_half (gate): Half::of: no half. Refused at: no goal named",
+            "low no_half (gate): Half::of: no half. Refused at: no goal named, with a control",
         ])
-        for arguments, count in (([], 2), (["low"], 2), (["no_half"], 1)):
+        for arguments, count in (([], 3), (["low"], 3), (["no_half"], 2), (["a_third"], 1)):
             lines, _ = self.tried(IN_CODE + REFUSED, *arguments)
             self.assertEqual(lines[1], f"{count} passed, 0 failed")
         lines, status = self.tried("", "nosuch")
