@@ -2,6 +2,7 @@
 
 import argparse
 import contextlib
+import hashlib
 import os
 import pathlib
 import re
@@ -15,6 +16,8 @@ TOP = pathlib.Path(__file__).resolve().parent.parent
 PROGRAM = TOP / "crates/cachesim/out/cachesim"
 UNPROVED = PROGRAM.with_name("cachesim.unproved")  # make demo leaves it
 RT = os.environ.get("RT", "rt")
+# how many cases each script of the gate runs, and what its last run had
+SUMS, LEFT = TOP / "tests/sums", TOP / "out/sums"
 # a definition of a specification: a record or data type, or another name
 DEFINITION = re.compile(r"^(?:(?:abbrev|unfoldable|pub) )*(?:(?:record|data) (\w+)|(\w+) :)", re.M)
 
@@ -99,30 +102,62 @@ class Sum:
 
     def __init__(self):
         self.passed = self.failed = 0
+        self.names = []
 
     def add(self, passed, failed):
         self.passed, self.failed = self.passed + passed, self.failed + failed
 
-    def judge(self, name, good, seen=""):
-        """Counts a test and shows it, with what was seen where it failed."""
+    def judge(self, name, good, seen="", measured="", is_shown=True):
+        """Counts a test and shows it, with what was measured, and with what was seen where it
+        failed. The name is the same in each run; a test that is not shown is, where it failed."""
         self.add(bool(good), not good)
-        print(f"ok {name}" if good else f"FAILED {name}: {seen}", flush=True)
+        self.names.append(name)
+        told = f"{name}: {measured}" if measured else name
+        if is_shown or not good:
+            print(f"ok {told}" if good else f"FAILED {told}: {seen}", flush=True)
 
-    def equal(self, name, got, wanted):
-        self.judge(name, got == wanted, f"wanted {wanted}, got {got}")
+    def equal(self, name, got, wanted, **given):
+        self.judge(name, got == wanted, f"wanted {wanted}, got {got}", **given)
 
-    def end(self):
-        """Prints the last line, and returns the exit status: 1 also where nothing was tested."""
+    def keep(self, script, count):
+        """Compares how many cases a script has run, and under which names, with tests/sums: one
+        that is lost fails. What was run is left in out/sums for tests/ledger --write."""
+        names = f", {sum_of(chr(10).join(sorted(self.names)))}" if self.names else ""
+        ran = f"tests/{script}: {count} cases{names}"
+        with contextlib.suppress(OSError):
+            LEFT.mkdir(parents=True, exist_ok=True)
+            (LEFT / script).write_text(f"{ran}\n")
+        kept = kept_sums().get(f"tests/{script}", "nothing")
+        if f"tests/{script}: {kept}" != ran:
+            told = f"kept is {kept}; after a look, tests/ledger --write keeps what was run"
+            self.judge(ran, False, told)
+
+    def end(self, script=None):
+        """Prints the last line, and returns the exit status: 1 also where nothing was tested. A
+        script that has run all its cases gives its name, and how many they were is compared."""
         if not self.passed + self.failed:
             print("FAILED: nothing was tested")
             self.failed = 1
+        elif script and not self.failed:
+            self.keep(script, self.passed)
         print(f"{self.passed} passed, {self.failed} failed")
         return 1 if self.failed else 0
 
 
+def kept_sums():
+    """The lines of tests/sums by what they are of."""
+    lines = SUMS.read_text().splitlines() if SUMS.exists() else ()
+    return dict(line.split(": ", 1) for line in lines)
+
+
+def sum_of(text):
+    """A sum of a text that another text doesn't have."""
+    return hashlib.sha256(text.encode()).hexdigest()[:16]
+
+
 def run(program, arguments, **given):
-    """What a run writes to standard output and to standard error, and its status, or none if it
-    takes too long."""
+    """What a run writes to standard output and to standard error, and its status: a number, which
+    no run has that was ended by a signal, and none if it takes too long."""
     stdin = {} if "input" in given else {"stdin": subprocess.DEVNULL}
     streams = {"stdout": subprocess.PIPE, "stderr": subprocess.PIPE}
     given = {**streams, **stdin, "timeout": 120, **given}
@@ -130,7 +165,8 @@ def run(program, arguments, **given):
         ran = subprocess.run([program, *arguments], **given)
     except subprocess.TimeoutExpired:
         return b"", b"not done after %d seconds" % given["timeout"], None
-    return ran.stdout or b"", ran.stderr, ran.returncode
+    ended = ran.returncode if ran.returncode >= 0 else f"signal {-ran.returncode}"
+    return ran.stdout or b"", ran.stderr, ended
 
 
 def timed(command, **given):

@@ -1,7 +1,8 @@
-"""Numbers and options that documents tell, against what they are of."""
+"""Numbers, options and statuses that documents tell, against what they are of."""
 
 import csv
 import itertools
+import os
 import re
 import unittest
 
@@ -16,6 +17,11 @@ HELP = re.compile(r"^ +(-\w|--[\w-]+)(?: <.+?>)? {2,}(.*?)(?: \[default: (\w+)\]
 def section(text, heading):
     """What stands below a heading of a document."""
     return text.split(f"\n## {heading}\n")[1].split("\n## ")[0]
+
+
+def flat(name):
+    """The text of a document without its line breaks."""
+    return " ".join((base.TOP / name).read_text().split())
 
 
 def constant(crate, source, name):
@@ -75,6 +81,84 @@ class Manual(base.ToolTest):
         told = f"{int(sizes[0]) // 1024} KiB"
         self.assertIn(f"buffered in pieces of {told}", MANUAL)
         self.assertIn(f"two buffers of {told}", (base.TOP / "docs/speed.md").read_text())
+
+
+class Sentences(base.ToolTest):
+    """What sentences of the manual say, and what the program does."""
+
+    def says(self, *sentences, name="docs/manual.md"):
+        text = flat(name)
+        for sentence in sentences:
+            self.assertEqual(text.count(sentence), 1, f"{name}: {sentence}")
+
+    def test_no_rows(self):
+        """With --rows 0 the trace is checked, and the header written."""
+        self.says("`--rows 0` only checks the trace and writes the header.")
+        told = {path.name for path in sorted((base.TOP / "docs").glob("*.md"))
+                if "--rows 0" in path.read_text()}
+        self.assertEqual(told, {"manual.md", "proofs.md"}, "sentences that nothing compares")
+        words = "--bsize", "16", "--sets", "1", "--assoc", "1", "--size", "16", "--rows", "0"
+        header = "bsize,sets,assoc,size,hits,misses,evictions\n"
+        self.assertEqual(self.sweep(*words, stdin=b"0 10\n"), header)
+        ran = self.run_command(base.PROGRAM, "sweep", *words, stdin=b"0 10\nx\n")
+        self.ends(ran, 1, "cachesim: line 2: bad label\n")
+
+    def test_statuses(self):
+        """Of help, the manual and the program."""
+        self.says("0: done, or help (`-h`, `--help`), which goes to standard output. 1: a fault of "
+                  "the run. 2: a fault of the arguments.",
+                  "Faults of the arguments (exit status 2), in the order of the checks, before any "
+                  "file is opened:", "Faults of the run (exit status 1):")
+        line = ("Exit status: 0 done or help, 1 the trace, the output or the memory failed, "
+                "2 wrong arguments.")
+        for command in ([], ["sweep"], ["csim"], ["din"], ["log"]):
+            text = self.good(self.run_command(base.PROGRAM, *command, "--help"))
+            self.assertEqual(re.findall("(?i).*exit status.*", text), [line])
+        for words, status in (("-h", 0), ("log --help", 0), ("log", 2), ("swep", 2),
+                              ("din -l1-usize 16 -l1-ubsize 16 -t /", 1),
+                              ("csim -s 1 -E 1 -b 1 -t /absent", 1)):
+            ran = self.run_command(base.PROGRAM, *words.split())
+            self.assertEqual((ran.returncode, bool(ran.stdout)), (status, not status), words)
+
+    def test_what_is_checked_before_a_file_is_opened(self):
+        """To open this file would take until somebody writes to it."""
+        os.mkfifo(self.folder / "trace")
+        cache = "-l1-usize 16 -l1-ubsize 16"
+        for words in ("swep", "sweep --bsize 16", f"din {cache} -l1-urepl x", f"log {cache} 1",
+                      "csim -s 21 -E 1 -b 0", f"din {cache} -l2-usize 8 -l2-ubsize 8",
+                      "sweep --bsize 3 --sets 1 --assoc 1 --size 1"):
+            ran = self.run_command(base.PROGRAM, *words.split(), "-t", "trace", seconds=20)
+            self.assertEqual((ran.stdout, ran.returncode), (b"", 2), words)
+
+
+class Times(unittest.TestCase):
+    """What the documents tell of times, against the measurements in docs/speed.md."""
+
+    def test_of_the_readme(self):
+        readme, speed = flat("README.md"), flat("docs/speed.md")
+        whole = r"`sweep`, typical space \| din, ([\d,]+) lines \| ([\d.]+) s \| ([\d,]+) KiB"
+        lines, seconds, memory = re.search(whole, speed).groups()
+        caches = re.search(r"^typical \|.*?\| (\d+) \|", (base.TOP / "docs/speed.md").read_text(),
+                           re.M)[1]
+        parallel = re.search(r"`tools/sweep-parallel 4`, the same \| the same \| ([\d.]+) s", speed)
+        told = re.search(r"A sweep of (\d+) caches over (\w+) million references takes ([\d.]+) "
+                         r"seconds and ([\d.]+) MB, and with four processes ([\d.]+) seconds",
+                         readme)
+        self.assertEqual((told[1], told[2], lines), (caches, "ten", "10,000,000"))
+        self.assertEqual((told[3], float(told[5])), (seconds, float(parallel[1])))
+        # a unit of 1,000 or of 1,024 KiB
+        least, most = (int(memory.replace(",", "")) / size for size in (1024, 1e6 / 1024))
+        self.assertTrue(least - 0.05 <= float(told[4]) <= most + 0.05, (told[4], least, most))
+
+    def test_of_the_build(self):
+        """How many minutes make takes, on every page that says so."""
+        pages = {name: flat(name) for name in ("README.md", "Makefile", "tests/README.md")}
+        minutes = re.search(r"make # (\w+) minutes on four processors", pages["README.md"])[1]
+        self.assertIn(f"proves and builds the program ({minutes} minutes on four processors)",
+                      pages["Makefile"].replace("# ", ""))
+        self.assertIn(f"{minutes} minutes on four processors", flat("package/build"))
+        test = re.search(r"make test # (\d+ minutes):", pages["README.md"])[1]
+        self.assertRegex(pages["tests/README.md"], rf"`all` \| [^|]* \| {test} ")
 
 
 class Ledger(unittest.TestCase):

@@ -37,30 +37,35 @@ class Gate(ToolTest):
         self.judge(["rt: FAILED: sweep_core"], 1, (0, 1))
         self.judge([ALL], 1, (CRATES + EDITS, 1))
 
-    def test_it_runs_each_script(self):
-        """On what one of the compilers made the cases, and on what the other made all."""
-        gate, ran = script("all"), []
+    def ended(self, failed=0, **others):
+        """The status of the whole gate, where each of its parts passes, or one fails."""
+        gate, removed = script("all"), []
+        gate.common.LEFT = self.folder
 
-        def judged(*command):
-            ran.append(command[1:])
-            return 1, 0
+        class Program(type(TOP)):
+            def unlink(self, **_):
+                removed.append(self.name)
 
-        # in the place of those that the gate removes first
-        program, second = mock.MagicMock(), mock.MagicMock()
-        for it, name in ((program, "first"), (second, "second")):
-            it.relative_to.return_value = name
-            it.__str__.return_value = name
-        stand_ins = {"judged": judged, "gate": lambda: (2, 0), "PROGRAM": program, "SECOND": second}
+        stand_ins = {"judged": lambda *_: (1, failed), "gate": mock.Mock(return_value=(2, 0)),
+                     "PROGRAM": Program(gate.PROGRAM), "SECOND": Program(gate.SECOND), **others}
+        stand_ins["gate"].__name__ = "gate"
         told = io.StringIO()
         with mock.patch.multiple(gate, **stand_ins), mock.patch.object(sys, "argv", ["all"]):
             with contextlib.redirect_stdout(told):
-                self.assertEqual(gate.main(), 0)
-        wanted = [("tests/spec-names",), ("tests/run", "--program", "second")]
-        for name, *arguments in (
-            ["run"], ["fuzz", "--cases", "10000"], ["refusals"], ["devices"], ["limits"],
-            ["test-tools", "--plain"],
-        ):
-            wanted.append((f"tests/{name}", "--program", "first", *arguments))
-        self.assertEqual(ran, wanted)
-        self.assertTrue(told.getvalue().endswith(f"\n{2 + len(wanted)} passed, 0 failed\n"))
-        self.assertEqual([it.unlink.call_count for it in (program, second)], [1, 1])
+                status = gate.main()
+        # what an earlier run left is not what this one proves
+        self.assertEqual(removed, [gate.PROGRAM.name, gate.SECOND.name])
+        return status, told.getvalue().splitlines()
+
+    def test_a_part_that_is_left_out(self):
+        """Its parts are those that tests/sums keeps, with their arguments and their program."""
+        self.assertEqual(self.ended()[0], 0)
+        scripts = script("all").SCRIPTS
+        fewer = [["fuzz", "--cases", "9999"] if name == "fuzz" else [name, *words]
+                 for name, *words in scripts]
+        for wrong in (scripts[1:], fewer):
+            status, lines = self.ended(SCRIPTS=wrong)
+            self.assertEqual(status, 1)
+            self.assertRegex(lines[-2], "^FAILED tests/all: ")
+        self.assertEqual(self.ended(failed=1), (1, mock.ANY))
+

@@ -1,9 +1,11 @@
 """What the ledger names is there, and says what it said: tests/ledger, and what it sees."""
 
+import contextlib
+import io
 import re
 import shutil
 
-from base import TOP, ToolTest
+from base import PROGRAM, TOP, ToolTest, script
 
 ROWS, WORKED = "cache_core/proofs/WindowRows.antt", "worked_examples/src/profiles.rt"
 EDIT = "crates/sweep_core/must-fail/named_row_again.edit"
@@ -19,7 +21,7 @@ class TheLedger(ToolTest):
     def copy(self):
         """A copy of the contracts, the ledger, and what it counts."""
         ignored = shutil.ignore_patterns("out")
-        for name in ("crates", "tests/cases"):
+        for name in ("crates", "tests/cases", "tests/mutants"):
             shutil.copytree(TOP / name, self.folder / name, ignore=ignored, dirs_exist_ok=True)
         for name in ("tests/ledger", "tests/common.py", "docs/proofs.md"):
             (self.folder / name).parent.mkdir(exist_ok=True)
@@ -53,7 +55,7 @@ class TheLedger(ToolTest):
         ):
             self.fails_after(LAWS, old, new, text)
         self.fails_after("cache_core/specs/Windows.antt", r"nat_lt \(", "nat_le (",
-                         rf"FAILED cache_core.Windows \w+: {again}")
+                         f"FAILED cache_core.Windows: {again}")
 
     def test_names_without_a_clause(self):
         """A function, a record or a definition that a row names, and that has another name now."""
@@ -70,7 +72,7 @@ class TheLedger(ToolTest):
         """A clause's words may mean another thing: by a view, a constant, an import, a comment."""
         self.copy()
         self.fails_after(READ, r"W\.contents s\.writer else None", "None else None",
-                         r"FAILED trace_core.io ToWrite view: new or changed")
+                         "FAILED trace_core.io: new or changed")
         self.fails_after("trace_core/src/limits.rt", "1_099_511_627_776", "1_099_511_627_775",
                          "FAILED trace_core.limits MAX_LINES: new")
         some = r"OnOk}\nuse Rattle.trace_core.proofs.Runs.{IfSome}"
@@ -83,16 +85,34 @@ class TheLedger(ToolTest):
         size = r" +ensures \{ result ≡ size_of self\.now \}\n"
         self.fails_after("cache_core/src/geometry.rt", size, "", "cache_core::Geometry::size: gone")
 
-    def test_what_is_counted(self):
-        """A file of cases, a case, a worked row of each kind, an edit, a condition are missed."""
+    def test_clauses_that_no_row_names(self):
+        """They are as they were, those of a function that nobody may call from outside too."""
         self.copy()
-        for name in ("tests/cases/log.cases", EDIT):
+        for file, old, name in (
+            ("profile_core/src/profile.rt", r"ensures value \{ result ≡ held_of [^}]*\}\n",
+             "profile_core.profile"),
+            ("cache_core/src/simulation.rt", r"ensures counted \{[^}]*\}\n",
+             "cache_core.simulation"),
+            ("trace_core/src/line.rt", r"ensures meant \{[^}]*\}\n", "trace_core.line"),
+        ):
+            self.fails_after(file, old, "", f"FAILED {name}: new or changed")
+        self.fails_after("callers/src/policies.rt", r"ensures ", "requires ",
+                         "FAILED crates/callers: new or changed")
+
+    def test_what_is_counted(self):
+        """A file of cases, a case, a worked row of each kind, a mutant, a condition are missed."""
+        self.copy()
+        for name, of in (("tests/cases/log.cases",) * 2, (EDIT, EDIT.rpartition("/")[0])):
             path = self.folder / name
             path.rename(self.folder / "away")
             ran = self.run_command(self.folder / "tests/ledger")
             self.assertEqual(ran.returncode, 1)
-            self.assertIn(f"FAILED {name}: gone or changed", ran.stdout.decode())
+            self.assertIn(f"FAILED {of}: gone or changed", ran.stdout.decode())
             (self.folder / "away").rename(path)
+        # a mutant that has the name of another change, and another number in a case
+        self.fails_after(f"../{EDIT}", "old: ", "old:  ", "FAILED crates/sweep_core/must-fail: new")
+        self.fails_after("../tests/cases/din.cases", "fetches=0", "fetches=1",
+                         "FAILED tests/cases/din.cases: new")
         self.fails_after("../tests/cases/din.cases", r"== din-lru\n.*?\n\n", "",
                          "FAILED tests/cases/din.cases: new")
         rows = f"FAILED crates/{ROWS}: new or changed"
@@ -114,3 +134,58 @@ class TheLedger(ToolTest):
             self.assertEqual(ran.returncode, 0)
         clauses = (self.folder / "tests/clauses").read_text()
         self.assertIn("trace_core::Finished.flushes: sink'.flushes ≤", clauses)
+
+
+class Sums(ToolTest):
+    """As many cases as a script of the gate has run before, and under the same names."""
+
+    def setUp(self):
+        super().setUp()
+        self.common = script("common.py")
+        self.common.SUMS, self.common.LEFT = self.folder / "sums", self.folder / "out"
+
+    def ended(self, *names, failed=0, script="limits"):
+        """The status of a script that has run cases of these names."""
+        total = self.common.Sum()
+        for name in names:
+            total.judge(name, True, is_shown=False)
+        total.add(0, failed)
+        with contextlib.redirect_stdout(io.StringIO()) as told:
+            status = total.end(script)
+        return status, told.getvalue()
+
+    def test_a_case_that_is_lost(self):
+        status, told = self.ended("one", "at most 2")
+        self.assertEqual(status, 1)
+        self.assertIn("FAILED tests/limits: 2 cases, ", told)
+        shutil.copy(self.folder / "out/limits", self.folder / "sums")
+        self.assertEqual(self.ended("at most 2", "one"), (0, "2 passed, 0 failed\n"))
+        for names in ("one",), ("one", "at most 2", "three"), ("one", "at most 3"):
+            self.assertEqual(self.ended(*names)[0], 1)
+        # of a run of some cases, or one that has failed, nothing is compared or left
+        shutil.rmtree(self.folder / "out")
+        self.assertEqual(self.ended("one", script=None)[0], 0)
+        self.assertEqual(self.ended("one", failed=1), (1, "1 passed, 1 failed\n"))
+        self.assertFalse((self.folder / "out").exists())
+
+    def test_scripts_are_compared(self):
+        """Where a line of tests/sums is another one, the run fails, and tests/ledger mends it."""
+        for name in ("spec-names", "run", "common.py", "documents.py", "ledger"):
+            (self.folder / "tests").mkdir(exist_ok=True)
+            shutil.copy(TOP / "tests" / name, self.folder / "tests")
+        self.write("tests/sums", "tests/run: 3 cases\ntests/limits: 9 cases\n")
+        (self.folder / "tests/cases/inputs").mkdir(parents=True)
+        self.write("tests/cases/one.cases", "== one\n$ cachesim --help\n>~ sweep\n")
+        (self.folder / "examples").mkdir()
+        run = self.folder / "tests/run", "--program", PROGRAM
+        ran = self.run_command(*run)
+        self.assertEqual(ran.returncode, 1)
+        self.assertEqual(ran.stdout.decode(), "FAILED tests/run: 1 cases: kept is 3 cases; after a "
+                         "look, tests/ledger --write keeps what was run\n1 passed, 1 failed\n")
+        (self.folder / "docs").mkdir()
+        self.write("docs/proofs.md", "## Promises\n")
+        self.assertEqual(self.run_command(self.folder / "tests/ledger", "--write").returncode, 0)
+        kept = (self.folder / "tests/sums").read_text().splitlines()
+        self.assertEqual(kept[:2], ["tests/limits: 9 cases", "tests/run: 1 cases"])
+        self.assertEqual(self.run_command(*run).returncode, 0)
+        self.assertEqual(self.run_command(*run, "one").returncode, 0)

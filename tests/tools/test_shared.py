@@ -22,8 +22,8 @@ READERS = {
     "sweep-parallel": (["2"], SPACE),
     "to-din": (["addresses"], []),
 }
-# those that join processes by pipes
-JOINING = ("three-c", "warm", "second-level", "over-time", "by-page")
+# those that join processes by pipes, and how many there are while they read
+JOINING = {"three-c": 4, "warm": 3, "second-level": 3, "over-time": 2, "by-page": 2}
 TRACES = ("second-level", "to-din")
 LINES = "".join(f"0 {place:x}\n" for place in range(0, 4000, 16)).encode()
 
@@ -102,7 +102,7 @@ class Signals(Shared):
             running = subprocess.Popen(self.reading(tool, "-"), stdin=source, **given)
             os.close(source)
             os.write(writer, LINES)
-            comes(lambda: len(self.waiting()) >= 4)
+            self.assertTrue(comes(lambda: len(self.waiting()) == JOINING[tool]), tool)
             running.send_signal(number)
             told = running.communicate(timeout=5)[1]
             self.assertEqual((running.returncode, told), (-number, b""), tool)

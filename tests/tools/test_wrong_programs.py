@@ -11,7 +11,7 @@ import unittest
 import base
 
 # what passed and what failed, without what was seen
-SEEN = r": (?:wanted |at most |no refusal|\(|\d+ KiB|\d+\.\d+ s|\d+ growths).*"
+SEEN = r": (?:wanted |at most |as the manual|no refusal|\(|\d+ KiB|\d+\.\d+ s|\d+ growths).*"
 NAMED = re.compile(rf"^(ok|FAILED) (.*?)(?:{SEEN})?$", re.M)
 SUM = re.compile(r"(\d+) passed, (\d+) failed\n\Z")
 
@@ -148,9 +148,27 @@ class Others(Wrong):
 
     def test_refusals(self):
         """Nothing passes but what is compared with itself: growths of runs that read the same."""
+        refusals = base.script("refusals")
         good, bad = self.named("refusals", ["MESSAGE", "KEEPS", "PIECES"])
-        self.assertEqual([name[:9] for name in good], ["four rows"] * 2)
-        self.assertEqual(len(bad), 2 * len(base.script("refusals").RUNS) + 4 + 2 + 4)
+        self.assertEqual([name[:9] for name in good], ["four rows"] * 2 + ["each of t", "each faul"])
+        words = len(refusals.WORDS) * len([*refusals.of_a_word("")])
+        told = len(refusals.FAULTS) + words
+        self.assertEqual(len(bad), 2 * len(refusals.RUNS) + 4 + 2 + 4 + told)
+
+    def test_a_program_that_crashes(self):
+        """Where a signal ends it behind its last word, all that it does is wrong; of two runs on
+        endless traces the end isn't waited for."""
+        for script, *arguments in (("devices", "--commands", "din"), ("limits", "--tries", 1),
+                                   ("run", "csim", "help", "examples.cases", "manual.md"),
+                                   ("fuzz", "--cases", 15, "--commands", "log,din")):
+            with self.subTest(script):
+                text = self.fails(script, ["CRASH"], *arguments)
+                passed = 2 if script == "devices" else 0
+                self.assertEqual(int(SUM.search(text)[1]), passed, text[-2000:])
+                self.assertEqual(text.count(" without end, and no more memory for them"), passed)
+        # the run without a refusal is as wrong as the others
+        text = self.fails("refusals", ["CRASH"], "csim", "help")
+        self.assertRegex(text, "(?m)^    N = 0: .*'signal 9'")
 
     def test_limits(self):
         """Each kind of limit is found: of tables, times, memory and calls."""
@@ -159,6 +177,8 @@ class Others(Wrong):
             "441 pairs of block size and set count", "65536 associativities",
             "100,000 verbose lines, and none", "plain lines, and lines with every check",
             "a sweep of eight block sizes and 2^20 sets", "din with 2^20 sets",
+            "a sweep of eight block sizes and 2^20 sets, in all", "din with 2^20 sets, in all",
+            "csim with 2^20 sets, in all",
             "csim with 2^20 sets", "a table of 65,536 rows", "20,000 references of log",
         ):
             self.assertIn(name, bad)

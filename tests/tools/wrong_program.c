@@ -15,10 +15,12 @@
    GREEDY     with 2^20 sets among its arguments the program takes four megabytes more than it needs
    PIECES     no read and no write moves more than 4,096 bytes
    LATE       the program ends a hundred seconds after it is done
+   CRASH      once it is done, a signal ends the program
    SLOW       the 300th read takes 0.3 s of the processor, and -v a second */
 #define _GNU_SOURCE
 #include <ctype.h>
 #include <dlfcn.h>
+#include <signal.h>
 #include <stdio.h>
 #include <stdlib.h>
 #include <string.h>
@@ -76,6 +78,7 @@ static void end(int status, void *unused) {
 
 __attribute__((destructor)) static void delay(void) {
     if (HAS(LATE)) sleep(100);
+    if (HAS(CRASH)) raise(SIGKILL);
 }
 
 __attribute__((constructor)) static void begin(int argc, char **argv) {
