@@ -68,6 +68,15 @@ class TheTable(ToolTest):
         self.assertEqual(sorted(rows), sorted(edits))
         self.assertEqual([row for row in self.rows if len(row) != 3], [])
 
+    def test_a_row_is_of_its_edit(self):
+        """Both are of one thing: the row has a word of the edit's name."""
+        short = {"a", "as", "at", "by", "every", "for", "is", "it", "no", "of", "the"}
+        for told, edit, *_ in self.rows:
+            if "/" in edit.split(",")[0]:
+                words = {word[:4] for word in edit.strip("`").split("/")[1].split("_")} - short
+                found = {word[:4] for word in re.findall(r"\w+", told.lower())}
+                self.assertNotEqual(words & found, set(), (told, edit))
+
     def test_each_test_is_there(self):
         tests = [found for row in self.rows for found in re.findall(r"`(\w+)::(\w+)`", row[1])]
         self.assertGreater(len(tests), 0)
@@ -77,7 +86,8 @@ class TheTable(ToolTest):
             self.assertIn(f'"{module}::{name}"', (TOP / "tests/refusals-library").read_text())
 
     def test_a_name_is_in_one_place(self):
-        named = collections.Counter((it.crate, it.name) for it in script("try-mutants").all_mutants())
+        mutants = script("try-mutants").all_mutants()
+        named = collections.Counter((it.crate, it.name) for it in mutants)
         self.assertGreater(len(named), 300)
         self.assertEqual([it for it, count in named.items() if count > 1], [])
 
@@ -221,11 +231,14 @@ class Mutants(ToolTest):
         lines, status = self.tried(IN_CODE + REFUSED, "--controls", "no_half")
         told = "FAILED low no_half, control: the gate's mutant has none"
         self.assertEqual((lines, status), ([told, "0 passed, 1 failed"], 1))
-        for more, told in (
-            ("control: none is known\n", "it says why it has no proved control, and has none"),
-            ("right:         number / 3\n", "its control is the mutant itself"),
+        same = EDIT.replace("number / 3", "number / 2")
+        for text, told in (
+            (EDIT + "control: none\n", "it says why it has no proved control, and has none"),
+            (EDIT + "right:         number / 3\n", "its control is the mutant itself"),
+            (EDIT + "right:         number / 2\n", "its control changes nothing"),
+            (same, "it changes nothing"),
         ):
-            gate.write_text("goal: Half::of value\n" + EDIT + more)
+            gate.write_text("goal: Half::of value\n" + text)
             lines, status = self.tried("", "--list", "no_half")
             self.assertEqual((lines[-1][-len(told) - 10:], status), (f"(FAILED: {told})", 1))
 

@@ -1,6 +1,7 @@
 """The runners of cases and of tests, tests/run and tests/test-tools: what fails and what passes."""
 
 import re
+import shutil
 import sys
 
 from base import PROGRAM, TOP, ToolTest
@@ -70,6 +71,39 @@ class TestTools(ToolTest):
         told = self.good(self.run_tests("worked-rows.WorkedRows.test_what_is_found"))
         self.assertIn("ok test_worked_rows.WorkedRows.test_what_is_found\n", told)
         self.assertTrue(told.endswith("\n1 passed, 0 failed\n"), told)
+
+    def test_an_error_counts(self):
+        """Of a test that ends in an exception, one that is left out, and one that is passed."""
+        (self.folder / "tests/tools").mkdir(parents=True)
+        for name in ("test-tools", "common.py"):
+            shutil.copy(TOP / "tests" / name, self.folder / "tests")
+        self.write("tests/tools/test_bad.py", """\
+import unittest
+
+
+class Bad(unittest.TestCase):
+    def test_error(self):
+        raise KeyError(1)
+
+    @unittest.skip("it needs what is not there")
+    def test_left_out(self):
+        pass
+
+    def test_passed(self):
+        pass
+
+
+class Fails(Bad):
+    @classmethod
+    def setUpClass(cls):
+        raise KeyError(2)
+""")
+        for option, passed, failed in ((), 1, 5), (("--plain",), 1, 4):
+            words = ("--program", PROGRAM, *option, "bad")
+            ran = self.run_command(self.folder / "tests/test-tools", *words)
+            self.assertEqual(ran.returncode, 1)
+            last = f"\n{passed} passed, {failed} failed\n"
+            self.assertTrue(ran.stdout.decode().endswith(last), ran.stdout)
 
     def test_a_name_without_tests(self):
         ran = self.run_tests("table", "by-lime", "absent.Reading")

@@ -150,7 +150,7 @@ class Others(Wrong):
         """Nothing passes but what is compared with itself: growths of runs that read the same."""
         refusals = base.script("refusals")
         good, bad = self.named("refusals", ["MESSAGE", "KEEPS", "PIECES"])
-        self.assertEqual([name[:9] for name in good], ["four rows"] * 2 + ["each of t", "each faul"])
+        self.assertEqual([name[:9] for name in good], ["four rows"] * 2 + ["each faul"])
         words = len(refusals.WORDS) * len([*refusals.of_a_word("")])
         told = len(refusals.FAULTS) + words
         self.assertEqual(len(bad), 2 * len(refusals.RUNS) + 4 + 2 + 4 + told)
