@@ -68,4 +68,3 @@ class Gate(ToolTest):
             self.assertEqual(status, 1)
             self.assertRegex(lines[-2], "^FAILED tests/all: ")
         self.assertEqual(self.ended(failed=1), (1, mock.ANY))
-
