@@ -36,7 +36,8 @@ MISTAKES = {
         'if any(value is not None for word, value in own.items() if word != "wback")'),
     "a mixed first level is judged after the geometries": (
         "din", 'if "l1-u" in caches and (',
-        'if all(it["size"] >= it["bsize"] for it in caches.values()) and "l1-u" in caches and ('),
+        'if all(it.get("size", 2**64) >= it["bsize"] for it in caches.values()) '
+        'and "l1-u" in caches and ('),
     "smaller blocks below are judged before the geometries": (
         "din", "    machines = {}\n    for name, cache in caches.items():\n",
         "    machines = {}\n    for name, cache in caches.items():\n"
