@@ -12,7 +12,7 @@ use Rattle.trace_core.specs.Fields.{is_blank, is_trailing, without_trailing, fie
 use Rattle.trace_core.specs.Line.{meaning, din_op, entry_of_label, lackey_op, is_comma, is_message}
 use Rattle.memchr.specs.Find.{IsFirstByte, is_byte}
 use Rattle.trace_core.specs.Lines.{is_line_feed, HoldsNoFeed}
-use Rattle.trace_core.specs.FastLine.{BeginsLine, BeginsLabel}
+use Rattle.trace_core.specs.FastLine.{BeginsLine, BeginsLabel, EndsLine}
 use Rattle.trace_core.specs.declared.events.Entry.TheVariants as entry
 use Rattle.trace_core.specs.declared.events.Item.{Item}
 use Rattle.trace_core.specs.declared.events.Op.{Op}
@@ -264,18 +264,27 @@ feed-index u z unfed = (
     unfed-before j lt = ap (λ c. c == 10) (get_or_append_left u (10 ∷ z) 0 j lt) ∙ unfed-at u j unfed lt
 
 -- the line of a text, whose front ends in a field
-pub line-end : (f : Format) (text rest : List ℕ) (item : Item) (k at : ℕ) → BeginsLine f text rest item → IsFirstByte (is_byte 10) rest (Some k)
-    → ends_field (take k rest) ≡ true
-    → at ≡ length text - length rest + k → IsFirstByte (is_byte 10) text (Some at) × (meaning f (take at text) ≡ Ok (Some (entry.Item item)))
-line-end f text rest item k at begun found ends place =
+pub line-end : (f : Format) (text rest : List ℕ) (item : Item) (at : ℕ) → BeginsLine f text rest item → EndsLine text rest at
+    → IsFirstByte (is_byte 10) text (Some at) × (meaning f (take at text) ≡ Ok (Some (entry.Item item)))
+line-end f text rest item at begun end =
+    let k = end.after in
     let line = begun.front ++ take k rest in
     let after = drop (k + 1) rest in
     let split : text ≡ line ++ 10 ∷ after =
-    begun.splits ∙ ap (λ r. begun.front ++ r) (line-split rest k found) ∙ sym (append_assoc begun.front (take k rest) (10 ∷ after)) in
-    let long : length (take k rest) ≡ k = length-take-le k rest (omega (arith, found.0.high)) in
+    begun.splits ∙ ap (λ r. begun.front ++ r) (line-split rest k end.line_feed) ∙ sym (append_assoc begun.front (take k rest) (10 ∷ after)) in
+    let long : length (take k rest) ≡ k = length-take-le k rest (omega (arith, end.line_feed.0.high)) in
     let is : at ≡ length line =
-    omega (arith, place, long, ap length begun.splits, length-append begun.front rest, length-append begun.front (take k rest)) in (
-      rw (is, split) (feed-index line after (unfed-append begun.front (take k rest) begun.no_line_feed (line-before rest k found))),
+    omega (arith, end.place, long, ap length begun.splits, length-append begun.front rest, length-append begun.front (take k rest)) in (
+      rw (is, split) (feed-index line after (unfed-append begun.front (take k rest) begun.no_line_feed (line-before rest k end.line_feed))),
       ap (λ t. meaning f (take at t)) split ∙ ap (λ n. meaning f (take n (line ++ 10 ∷ after))) is
-          ∙ ap (meaning f) (take-append_seam line (10 ∷ after)) ∙ begun.means (take k rest) ends,
+          ∙ ap (meaning f) (take-append_seam line (10 ∷ after)) ∙ begun.means (take k rest) end.ends,
     )
+
+-- a line that ends where the rest begins
+pub ends-here : (text rest : List ℕ) (at : ℕ) → 1 ≤ length rest → get_or rest 0 0 ≡ 10 → at ≡ length text - length rest → EndsLine text rest at
+ends-here text rest at some byte place = record {
+  after = 0;
+  line_feed = search (rules, tests);
+  ends = refl;
+  place = omega (arith, place);
+}

@@ -58,6 +58,12 @@ line-split u k found =
 pub no-line : (u : List ℕ) → IsFirstByte (is_byte 10) u None → HoldsNoFeed u
 no-line u none = NoFeed-from_places u (fails-all is_line_feed u none)
 
+-- a scan with bytes left is open
+pub stays-open : (s : ReaderState) (u : List ℕ) → ((s ≡ state.Open → ⊥) → u ≡ []) → 0 < length u → s ≡ state.Open
+stays-open state.Open u stopped some = refl
+stays-open state.Ended u stopped some = absurd (omega (arith, some, ap length (stopped (λ same. cc))))
+stays-open (state.Failed x) u stopped some = absurd (omega (arith, some, ap length (stopped (λ same. cc))))
+
 -- an open scan
 module _ (reported : Option (List ℕ)) (scan : Scan) (opened : scan.state ≡ state.Open) where
   abbrev f : Format

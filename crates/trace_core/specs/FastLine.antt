@@ -1,5 +1,6 @@
 -- The front of a line, which decides what it means.
-use Rattle.std.specs.Prelude.{◌≡◌, true, false, ℕ, List, [], ◌∷◌, ◌++◌, Some, Ok}
+use Rattle.std.specs.Prelude.{◌≡◌, true, false, ℕ, List, [], ◌∷◌, ◌++◌, Some, Ok, take, length, ◌+◌, ◌-◌}
+use Rattle.memchr.specs.Find.{IsFirstByte, is_byte}
 use Rattle.trace_core.specs.Fields.{is_trailing, without_trailing, fields, ends_field}
 use Rattle.trace_core.specs.Lines.{is_line_feed, HoldsNoFeed}
 use Rattle.trace_core.specs.Line.{meaning}
@@ -21,3 +22,10 @@ pub record BeginsLabel (text rest : List ℕ) (label : ℕ) : Type 0 where
   pub splits : text ≡ front ++ rest
   pub no_line_feed : is_line_feed label ≡ false → HoldsNoFeed front
   pub first : (more : List ℕ) → is_trailing label ≡ false → fields (without_trailing (front ++ more)) ≡ (label ∷ []) ∷ fields (without_trailing more)
+
+-- The line that a text begins with ends at this index: its LF is there, and a field ends where this rest of the text begins.
+pub record EndsLine (text rest : List ℕ) (at : ℕ) : Type 0 where
+  pub after : ℕ
+  pub line_feed : IsFirstByte (is_byte 10) rest (Some after)
+  pub ends : ends_field (take after rest) ≡ true
+  pub place : at ≡ length text - length rest + after

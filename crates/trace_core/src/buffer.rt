@@ -64,6 +64,13 @@ impl Buffer {
         self.start += count;
     }
 
+    /// Drops all bytes.
+    pub(crate) fn clear(&mut self)
+        ensures { self.new ≡ [] }
+    {
+        self.start = self.end;
+    }
+
     /// Reads as many bytes as still fit, and returns how many came.
     pub(crate) fn refill<S: Source>(&mut self, source: &mut S) -> Result<usize, DeviceFault>
         requires { length self.old < CAPACITY }

@@ -10,8 +10,9 @@ use std::simd::prelude::*;
 /// The number that 1 to 16 hexadecimal digits in front write, and what follows them.
 #[inline(always)]
 pub(crate) fn split_hexadecimal(text: &[u8]) -> Option<(u64, &[u8])>
-    ensures { IfSome result (λ parts. (digits : List ℕ) × (text.now ≡ digits ++ parts.1.now)
+    ensures parts { IfSome result (λ parts. (digits : List ℕ) × (text.now ≡ digits ++ parts.1.now)
         × (number_written 16 16 digits ≡ Some parts.0)) }
+    ensures near { IfSome result (λ parts. length text.now ≤ length parts.1.now + 16) }
 {
     let (value, len) = read_hexadecimal(text);
     if len == 0 {
@@ -30,6 +31,7 @@ pub(crate) fn split_number(radix: u8, most: usize, text: &[u8]) -> Option<(u64, 
     ensures parts { IfSome result (λ parts. (digits : List ℕ) × (text.now ≡ digits ++ parts.1.now)
         × (number_written radix most digits ≡ Some parts.0)) }
     ensures bound { IfSome result (λ parts. parts.0 < radix ^ most) }
+    ensures near { IfSome result (λ parts. length text.now ≤ length parts.1.now + most) }
 {
     let (value, len) = read_digits(radix, most, text);
     if len == 0 {

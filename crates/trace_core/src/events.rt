@@ -31,21 +31,6 @@ pub enum Entry {
     Flush,
 }
 
-impl Entry {
-    /// The same entry, put together from its fields. What a call that is not inlined returns lies
-    /// in memory, and so does what is merged with it; a cold call's result goes through here, so
-    /// that the hot one stays in registers.
-    #[inline(always)]
-    pub(crate) fn rebuilt(self) -> Entry
-        ensures { result ≡ self }
-    {
-        match self {
-            Entry::Item(Item { op, addr, size }) => Entry::Item(Item { op, addr, size }),
-            Entry::Flush => Entry::Flush,
-        }
-    }
-}
-
 /// How a cache is accessed.
 #[derive(Clone, Copy, Debug, PartialEq, Eq)]
 pub enum Access {

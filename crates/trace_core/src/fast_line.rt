@@ -4,11 +4,12 @@
 //! This way is for speed alone. A reader that never took it would meet each contract, and read most
 //! traces several times slower: only `tests/limits` sees that.
 ghost use Rattle.std.specs.Prelude.{◌^◌, ◌<◌, ◌≡◌, ℕ, ◌≤◌, List, ◌++◌, true, Ok, Some, IfSome, take};
+ghost use Rattle.std.specs.Prelude.{length, ◌+◌};
 ghost use Rattle.std.specs.List.{list_all};
 ghost use Rattle.memchr.specs.Find.{IsFirstByte, is_byte};
-ghost use Rattle.trace_core.specs.Fields.{is_blank, ends_field, number_written};
+ghost use Rattle.trace_core.specs.Fields.{is_blank, number_written};
 ghost use Rattle.trace_core.specs.Line.{meaning};
-ghost use Rattle.trace_core.specs.FastLine.{BeginsLine, BeginsLabel};
+ghost use Rattle.trace_core.specs.FastLine.{BeginsLine, BeginsLabel, EndsLine};
 ghost use Rattle.trace_core.specs.declared.events.Entry.TheVariants as entry;
 
 use crate::digits::{split_hexadecimal, split_number};
@@ -22,7 +23,8 @@ use memchr::memchr;
 const PLAIN_ROOM: usize = 64;
 
 /// The item of the line that a text begins with, and the index of the line's LF, if the line has
-/// the usual form: the label and the blanks as tracers write them.
+/// the usual form: the label and the blanks as tracers write them. A line that ends after its
+/// fields has at most 30 bytes, so its length needs no test.
 #[inline(always)]
 pub(crate) fn read_plain_line(format: Format, text: &[u8]) -> Option<(Item, usize)>
     ensures line { IfSome result (λ found. IsFirstByte (is_byte 10) text.now (Some found.1)) }
@@ -33,8 +35,13 @@ pub(crate) fn read_plain_line(format: Format, text: &[u8]) -> Option<(Item, usiz
     if text.len() < PLAIN_ROOM {
         return None;
     }
-    let (label, rest) = split_plain_label(format, text)?;
-    read_labelled(format, text, label, rest)
+    let (label, fields) = split_plain_label(format, text)?;
+    let (item, rest) = read_item(format, label, fields)?;
+    let end = match rest {
+        [b'\n', ..] => text.len() - rest.len(),
+        _ => late_end(text, rest)?,
+    };
+    Some((item, end))
 }
 
 /// The same with any blanks beside the label. Without it a sweep of one cache over two million
@@ -46,57 +53,42 @@ pub(crate) fn read_spaced_line(format: Format, text: &[u8]) -> Option<(Item, usi
     ensures item { IfSome result (λ found.
         meaning format (take found.1 text.now) ≡ Ok (Some (Entry.Item found.0))) }
 {
-    let (label, rest) = split_label(text)?;
-    read_labelled(format, text, label, rest)
-}
-
-/// The same for a text that begins with this label and has its other fields from `fields` on.
-/// `None` also for a line that is malformed or too long.
-#[inline(always)]
-fn read_labelled(format: Format, text: &[u8], label: u8, fields: &[u8]) -> Option<(Item, usize)>
-    requires { BeginsLabel text.now fields.now label }
-    ensures line { IfSome result (λ found. IsFirstByte (is_byte 10) text.now (Some found.1)) }
-    ensures short { IfSome result (λ found. found.1 ≤ MAX_LINE) }
-    ensures item { IfSome result (λ found.
-        meaning format (take found.1 text.now) ≡ Ok (Some (Entry.Item found.0))) }
-{
+    let (label, fields) = split_label(text)?;
     let (item, rest) = read_item(format, label, fields)?;
     let len = text.len() - rest.len();
-    if let [b'\n', ..] = rest {
-        return if len <= MAX_LINE {
-            Some((item, len))
-        } else {
-            None
-        };
-    }
-    let end = late_end(rest)?;
-    let at = len + end;
-    if at <= MAX_LINE {
-        Some((item, at))
-    } else {
-        None
-    }
+    let end = match rest {
+        [b'\n', ..] if len <= MAX_LINE => len,
+        _ => late_end(text, rest)?,
+    };
+    Some((item, end))
 }
 
-/// The index of a line's LF in what follows its last field that matters, if it comes after a CR,
-/// or after a blank and a comment.
+/// The index of a line's LF in its text, if it comes after a CR, or after a blank and a comment.
+/// What follows the line's last field that matters is `rest`.
 #[inline(never)]
-fn late_end(rest: &[u8]) -> Option<usize>
-    ensures line { IfSome result (λ end. IsFirstByte (is_byte 10) rest.now (Some end)) }
-    ensures ends { IfSome result (λ end. ends_field (take end rest.now) ≡ true) }
+fn late_end(text: &[u8], rest: &[u8]) -> Option<usize>
+    requires { length rest.now ≤ length text.now }
+    ensures line { IfSome result (λ end. EndsLine text.now rest.now end) }
+    ensures short { IfSome result (λ end. end ≤ MAX_LINE) }
 {
-    match rest {
-        [b'\r', b'\n', ..] => Some(1),
-        [b' ' | b'\t', ..] => memchr(b'\n', rest),
-        _ => None,
+    let after = match rest {
+        [b'\r', b'\n', ..] => 1,
+        [b' ' | b'\t', ..] => memchr(b'\n', rest)?,
+        _ => return None,
+    };
+    let end = text.len() - rest.len() + after;
+    if end > MAX_LINE {
+        return None;
     }
+    Some(end)
 }
 
 /// The item of a line with this label, if a field ends where the returned rest begins.
 #[inline(always)]
 fn read_item(format: Format, label: u8, rest: &[u8]) -> Option<(Item, &[u8])>
-    ensures { IfSome result (λ found. (text : List ℕ) → BeginsLabel text rest.now label →
+    ensures begins { IfSome result (λ found. (text : List ℕ) → BeginsLabel text rest.now label →
         BeginsLine format text found.1.now found.0) }
+    ensures near { IfSome result (λ found. length rest.now ≤ length found.1.now + 26) }
 {
     match format {
         Format::Din => read_din_item(label, rest),
@@ -107,8 +99,9 @@ fn read_item(format: Format, label: u8, rest: &[u8]) -> Option<(Item, &[u8])>
 /// The item of a din line: an address follows the label.
 #[inline(always)]
 fn read_din_item(label: u8, rest: &[u8]) -> Option<(Item, &[u8])>
-    ensures { IfSome result (λ found. (text : List ℕ) → BeginsLabel text rest.now label →
+    ensures begins { IfSome result (λ found. (text : List ℕ) → BeginsLabel text rest.now label →
         BeginsLine Format.Din text found.1.now found.0) }
+    ensures near { IfSome result (λ found. length rest.now ≤ length found.1.now + 26) }
 {
     let op = din_op(label)?;
     let (addr, rest) = split_hexadecimal(without_0x(rest))?;
@@ -118,8 +111,9 @@ fn read_din_item(label: u8, rest: &[u8]) -> Option<(Item, &[u8])>
 /// The item of a lackey line: an address, a comma and a size follow the label.
 #[inline(always)]
 fn read_lackey_item(label: u8, rest: &[u8]) -> Option<(Item, &[u8])>
-    ensures { IfSome result (λ found. (text : List ℕ) → BeginsLabel text rest.now label →
+    ensures begins { IfSome result (λ found. (text : List ℕ) → BeginsLabel text rest.now label →
         BeginsLine Format.Lackey text found.1.now found.0) }
+    ensures near { IfSome result (λ found. length rest.now ≤ length found.1.now + 26) }
 {
     let op = lackey_op(label)?;
     let (addr, rest) = split_hexadecimal(rest)?;
@@ -137,6 +131,7 @@ fn split_size(text: &[u8]) -> Option<(u64, &[u8])>
     ensures parts { IfSome result (λ parts. (digits : List ℕ) × (text.now ≡ digits ++ parts.1.now)
         × (number_written 10 9 digits ≡ Some parts.0)) }
     ensures bound { IfSome result (λ parts. parts.0 < 10 ^ 9) }
+    ensures near { IfSome result (λ parts. length text.now ≤ length parts.1.now + 9) }
 {
     if let [digit @ b'0'..=b'9', rest @ ..] = text {
         if let [b'\n', ..] = rest {
@@ -149,7 +144,8 @@ fn split_size(text: &[u8]) -> Option<(u64, &[u8])>
 /// A label with the blanks beside it that tracers write, and what comes after them.
 #[inline(always)]
 fn split_plain_label(format: Format, text: &[u8]) -> Option<(u8, &[u8])>
-    ensures { IfSome result (λ parts. BeginsLabel text.now parts.1.now parts.0) }
+    ensures begins { IfSome result (λ parts. BeginsLabel text.now parts.1.now parts.0) }
+    ensures near { IfSome result (λ parts. length text.now ≤ length parts.1.now + 3) }
 {
     match (format, text) {
         (Format::Din, [label, b' ', rest @ ..]) => Some((*label, rest)),

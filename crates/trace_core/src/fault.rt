@@ -56,8 +56,7 @@ impl From<TraceFault> for RunFault {
     }
 }
 
-/// A device's failure that comes to a run is its sink's: a reader reports that of its source as a
-/// fault of the trace.
+/// A `DeviceFault` here comes from the sink; a source's failure arrives as `TraceFault::Read`.
 impl From<DeviceFault> for RunFault {
     ghost from_gives = { λ _ fault. fault ≡ Write };
 

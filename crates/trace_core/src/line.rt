@@ -1,5 +1,5 @@
 //! Judging one line.
-ghost use Rattle.std.specs.Prelude.{◌≡◌, ◌≤◌, [], ◌∷◌, length, MatchOption, Some};
+ghost use Rattle.std.specs.Prelude.{◌≡◌, ◌+◌, ◌≤◌, [], ◌∷◌, length, MatchOption, Some};
 ghost use Rattle.std.specs.List.{position_or_len, before_first, after_first};
 ghost use Rattle.trace_core.specs.Fields.{is_blank, is_field_byte, is_trailing};
 ghost use Rattle.trace_core.specs.Fields.{without_trailing, fields};
@@ -114,7 +114,8 @@ fn read_din_address(rest: &[u8]) -> Option<u64>
 /// The text without a `0x` or `0X` in front.
 #[inline(always)]
 pub(crate) fn without_0x(text: &[u8]) -> &[u8]
-    ensures { result.now ≡ without_0x text.now }
+    ensures value { result.now ≡ without_0x text.now }
+    ensures near { length text.now ≤ length result.now + 2 }
 {
     match text {
         [b'0', b'x' | b'X', digits @ ..] => digits,

@@ -3,7 +3,7 @@ ghost use Rattle.std.specs.Prelude.{◌≡◌, ◌≢◌, ℕ, ◌<◌, ◌≤�
 ghost use Rattle.trace_core.specs.Device.{SourceView, failures_after};
 
 use crate::buffer::Buffer;
-use crate::events::Entry;
+use crate::events::{Entry, Item, Op};
 use crate::fault::TraceFault;
 use crate::io::Source;
 pub use crate::limits::{MAX_LINE, MAX_LINES};
@@ -48,6 +48,11 @@ impl Lines {
                 lines: 0,
                 buffer: Buffer::new(alloc)?,
                 state: ReaderState::Open,
+                item: Item {
+                    op: Op::Load,
+                    addr: 0,
+                    size: 0,
+                },
             },
         })
     }
@@ -59,8 +64,7 @@ impl Lines {
     /// was delivered. What was delivered is checked before a failure that comes after it.
     #[inline(always)]
     pub fn next<S: Source>(&mut self, source: &mut S) -> Result<Option<(u64, Entry)>, TraceFault>
-        // A reader that has returned the entries `xs` of a source has then returned these and this
-        // call's entry.
+        // If the reader had returned `xs`, it has now returned `xs` and this call's entry, if any.
         ensures reached { (format : Format) (limit : ℕ) (start : SourceView)
             (xs : List (ℕ × Entry)) → Reached format limit start (S.view source.old) xs self.old →
             Reached format limit start (S.view source.new)

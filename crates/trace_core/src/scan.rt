@@ -1,14 +1,18 @@
-//! The lines of what a source delivers, checked one by one.
+//! The loop of a reader: it takes the lines that a source delivers one by one, and asks for more
+//! bytes. What a line means is decided in `line`, and for the usual forms in `fast_line`; `reader`
+//! shows the whole to callers.
 ghost use Rattle.std.specs.Prelude.{◌≡◌, ◌≢◌, ℕ, ◌+◌, ◌<◌, ◌≤◌, List, [], Option, None, Some};
-ghost use Rattle.std.specs.Prelude.{length, drop, IfNone, OnSome};
+ghost use Rattle.std.specs.Prelude.{length, drop, IfNone, IfSome, OnSome};
 ghost use Rattle.std.specs.Option.{option_to_list};
 ghost use Rattle.std.specs.Io.KnownBytes.{IsAtEnd};
 ghost use Rattle.memchr.specs.Find.{IsFirstByte, is_byte};
-ghost use Rattle.trace_core.specs.Device.{failures_after};
+ghost use Rattle.trace_core.specs.Device.{SourceView, failures_after};
+ghost use Rattle.trace_core.specs.declared.events.Entry.TheVariants as entry;
 ghost use Rattle.trace_core.specs.declared.limits.TheConstants.{MAX_LINES};
+ghost use Rattle.trace_core.specs.declared.state.ReaderState.TheVariants as reader;
 
 use crate::buffer::Buffer;
-use crate::events::Entry;
+use crate::events::{Entry, Item};
 use crate::fast_line::{read_plain_line, read_spaced_line};
 use crate::fault::TraceFault;
 use crate::io::{DeviceFault, Source};
@@ -17,7 +21,8 @@ use crate::line::{Format, read_line};
 use crate::state::ReaderState;
 use memchr::memchr;
 
-/// The fields of `Lines`, apart from its model, so that the contracts of its steps can name them.
+/// The fields of `Lines`. They stand apart from its model, since the contracts of the steps name
+/// them.
 #[derive(Drop)]
 pub(crate) struct Scan {
     /// How lines are read.
@@ -26,22 +31,105 @@ pub(crate) struct Scan {
     pub(crate) limit: u64,
     /// How many lines were read, skipped ones among them.
     pub(crate) lines: u64,
-    /// The bytes that were delivered and not yet read.
+    /// The bytes that were delivered and not yet read; none once it has stopped.
     pub(crate) buffer: Buffer,
     /// Whether it goes on, and why not.
     pub(crate) state: ReaderState,
+    /// The last item that `search` found.
+    pub(crate) item: Item,
     ghost limited: { limit ≤ MAX_LINES },
     ghost within: { lines ≤ limit },
+    ghost stopped: { state ≢ reader.Open → buffer ≡ [] },
+}
+
+/// The result of `search`. The item itself is in the scan, since a result that fits in a register
+/// costs nothing where the next line is of the plain form.
+#[derive(Clone, Copy)]
+pub(crate) enum Found {
+    Item,
+    Flush,
+    Nothing,
 }
 
 impl Scan {
     ghost use Rattle.trace_core.specs.Scan.{progress, left_to_limit, Reads, StepsScan, Judges};
-    ghost use Rattle.trace_core.specs.Scan.{KeepsTask, BearsLine};
+    ghost use Rattle.trace_core.specs.Scan.{KeepsTask, BearsLine, found_in};
     ghost use Rattle.trace_core.specs.Reader.{Advances, device_failed};
 
     /// Reads on to the next entry. Without one, the state says why.
     #[inline(always)]
     pub(crate) fn next<S: Source>(&mut self, source: &mut S) -> Option<(u64, Entry)>
+        ensures advances { Reads (S.view source.old) (S.view source.new) self.old self.new result }
+        ensures at_end { self.old.state ≡ ReaderState.Open → self.new.state ≡ ReaderState.Ended →
+            IsAtEnd (S.view source.new).remaining }
+        ensures counted { self.old.state ≡ ReaderState.Open → (S.view source.new).failures
+            ≡ failures_after (device_failed self.new.state) (S.view source.old).failures }
+        ensures stopped { self.old.state ≢ ReaderState.Open → (source.new ≡ source.old)
+            × (self.new ≡ self.old) × (result ≡ None) }
+        ensures same { KeepsTask self.old self.new }
+        ensures entry { BearsLine self.old self.new result }
+        ensures goes_on { OnSome result ((f : TraceFault) → self.new.state ≢ ReaderState.Failed f) }
+        ensures none { IfNone result (self.new.state ≢ ReaderState.Open) }
+    {
+        if let Some(item) = self.plain_line() {
+            return Some((self.lines, Entry::Item(item)));
+        }
+        match self.search(source) {
+            Found::Item => Some((self.lines, Entry::Item(self.item))),
+            Found::Flush => Some((self.lines, Entry::Flush)),
+            Found::Nothing => None,
+        }
+    }
+
+    /// Takes a line of the plain form, if one comes next. Most lines are read here. A scan that has
+    /// stopped needs no test, since it holds no bytes.
+    #[inline(always)]
+    fn plain_line(&mut self) -> Option<Item>
+        ensures advances { IfSome result (λ item. (v : SourceView) →
+            Reads v v self.old self.new (Some (self.new.lines, entry.Item item))) }
+        ensures steps { IfSome result (λ item. (v : SourceView) →
+            StepsScan v v self.old self.new (Some (self.new.lines, entry.Item item))) }
+        ensures open { IfSome result (λ _. self.old.state ≡ ReaderState.Open) }
+        ensures none { IfNone result (self.new ≡ self.old) }
+    {
+        if self.lines == self.limit {
+            return None;
+        }
+        let (item, end) = read_plain_line(self.format, self.buffer.as_slice())?;
+        self.pass_line(end + 1);
+        Some(item)
+    }
+
+    /// Reads on to the next entry, through lines of any form.
+    #[inline(never)]
+    fn search<S: Source>(&mut self, source: &mut S) -> Found
+        ensures advances { Reads (S.view source.old) (S.view source.new) self.old self.new
+            (found_in self.new result) }
+        ensures at_end { self.old.state ≡ ReaderState.Open → self.new.state ≡ ReaderState.Ended →
+            IsAtEnd (S.view source.new).remaining }
+        ensures counted { self.old.state ≡ ReaderState.Open → (S.view source.new).failures
+            ≡ failures_after (device_failed self.new.state) (S.view source.old).failures }
+        ensures stopped { self.old.state ≢ ReaderState.Open → (source.new ≡ source.old)
+            × (self.new ≡ self.old) × (found_in self.new result ≡ None) }
+        ensures same { KeepsTask self.old self.new }
+        ensures entry { BearsLine self.old self.new (found_in self.new result) }
+        ensures goes_on { OnSome (found_in self.new result)
+            ((f : TraceFault) → self.new.state ≢ ReaderState.Failed f) }
+        ensures none { IfNone (found_in self.new result) (self.new.state ≢ ReaderState.Open) }
+    {
+        match self.next_any(source) {
+            Some((_, Entry::Item(item))) => {
+                self.item = item;
+                Found::Item
+            }
+            Some((_, Entry::Flush)) => Found::Flush,
+            None => Found::Nothing,
+        }
+    }
+
+    /// Takes one step after another, up to an entry.
+    #[inline(always)]
+    fn next_any<S: Source>(&mut self, source: &mut S) -> Option<(u64, Entry)>
         ensures advances { Reads (S.view source.old) (S.view source.new) self.old self.new result }
         ensures at_end { self.old.state ≡ ReaderState.Open → self.new.state ≡ ReaderState.Ended →
             IsAtEnd (S.view source.new).remaining }
@@ -62,7 +150,7 @@ impl Scan {
         None
     }
 
-    /// Takes a line that was delivered, or asks for more. Most lines are read by the first arm.
+    /// Takes a line that was delivered, or asks for more.
     #[inline(always)]
     fn step<S: Source>(&mut self, source: &mut S) -> Option<(u64, Entry)>
         requires { self.old.state ≡ ReaderState.Open }
@@ -71,26 +159,9 @@ impl Scan {
     {
         let unread = self.buffer.as_slice();
         if self.lines == self.limit && !unread.is_empty() {
-            self.state = ReaderState::Failed(TraceFault::TooManyLines { limit: self.limit });
+            self.stop(ReaderState::Failed(TraceFault::TooManyLines { limit: self.limit }));
             return None;
         }
-        match read_plain_line(self.format, unread) {
-            Some((item, at)) => Some((self.pass_line(at + 1), Entry::Item(item))),
-            None => self
-                .step_any(source)
-                .map(|(line, entry)| (line, entry.rebuilt())),
-        }
-    }
-
-    /// Takes a line of any form, or asks for more.
-    #[inline(never)]
-    fn step_any<S: Source>(&mut self, source: &mut S) -> Option<(u64, Entry)>
-        requires open { self.old.state ≡ ReaderState.Open }
-        requires below { 0 < length self.old.buffer → self.old.lines < self.old.limit }
-        ensures advances { Reads (S.view source.old) (S.view source.new) self.old self.new result }
-        ensures steps { StepsScan (S.view source.old) (S.view source.new) self.old self.new result }
-    {
-        let unread = self.buffer.as_slice();
         match read_spaced_line(self.format, unread) {
             Some((item, at)) => Some((self.pass_line(at + 1), Entry::Item(item))),
             None => match memchr(b'\n', unread) {
@@ -98,6 +169,17 @@ impl Scan {
                 None => self.refill(source),
             },
         }
+    }
+
+    /// Stops for the reason that a state says, and drops the bytes that are left.
+    fn stop(&mut self, state: ReaderState)
+        ensures state { self.new.state ≡ state }
+        ensures buffer { self.new.buffer ≡ [] }
+        ensures same { KeepsTask self.old self.new }
+        ensures lines { self.new.lines ≡ self.old.lines }
+    {
+        self.buffer.clear();
+        self.state = state;
     }
 
     /// Passes over a line of so many bytes, the LF included, and returns its number.
@@ -137,7 +219,7 @@ impl Scan {
                 entry.map(|entry| (line, entry))
             }
             Err(fault) => {
-                self.state = ReaderState::Failed(fault);
+                self.stop(ReaderState::Failed(fault));
                 None
             }
         }
@@ -156,14 +238,14 @@ impl Scan {
     {
         let line = self.lines + 1;
         if self.buffer.as_slice().len() > MAX_LINE {
-            self.state = ReaderState::Failed(TraceFault::TooLong { line });
+            self.stop(ReaderState::Failed(TraceFault::TooLong { line }));
             return None;
         }
         match self.buffer.refill(source) {
             Ok(0) => self.finish(),
             Ok(_) => None,
             Err(DeviceFault) => {
-                self.state = ReaderState::Failed(TraceFault::Read { line });
+                self.stop(ReaderState::Failed(TraceFault::Read { line }));
                 None
             }
         }
@@ -185,18 +267,18 @@ impl Scan {
     {
         let unread = self.buffer.as_slice();
         if unread.is_empty() {
-            self.state = ReaderState::Ended;
+            self.stop(ReaderState::Ended);
             return None;
         }
         let line = self.lines + 1;
         match judge(self.format, line, unread) {
             Ok(entry) => {
                 self.lines = line;
-                self.state = ReaderState::Ended;
+                self.stop(ReaderState::Ended);
                 entry.map(|entry| (line, entry))
             }
             Err(fault) => {
-                self.state = ReaderState::Failed(fault);
+                self.stop(ReaderState::Failed(fault));
                 None
             }
         }

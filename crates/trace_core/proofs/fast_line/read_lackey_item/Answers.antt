@@ -5,9 +5,9 @@ use Rattle.trace_core.proofs.Fronts.{one-front}
 use Rattle.trace_core.proofs.FastLines.{lackey-front}
 use Rattle.trace_core.proofs.fast_line.read_lackey_item.Goals as goal
 
-pub returns : goal.returns
-returns c = λ text begun.
-    let address = c.in_ok-addr.ensures in
+pub returns-clause-begins : goal.returns-clause-begins
+returns-clause-begins c = λ text begun.
+    let address = c.in_ok-addr.ensures.parts in
     let size = c.in_ok-size.ensures.parts in
     let rest = c.in_ok-addr.rest.now in
     let more = take (length rest - 1) (drop 1 rest) in

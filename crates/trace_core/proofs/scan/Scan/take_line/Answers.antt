@@ -21,4 +21,4 @@ pub returns-in-Err-clause-advances : goal.returns-in-Err-clause-advances
 returns-in-Err-clause-advances c = λ reported.
     let s = c.args.self.now in
     steps-bad_line reported s c.requires.open _ c.args.at c.in-Err.fault c.requires.line
-    (judged-as reported s c.requires.open _ _ _ _ (ap (take c.args.at) c.as_slice.ensures.value) c.judge.ensures c.in-Err.is c.requires.below) refl
+    (judged-as reported s c.requires.open _ _ _ _ (ap (take c.args.at) c.as_slice.ensures.value) c.judge.ensures c.in-Err.is c.requires.below) c.stop.ensures.state

@@ -2,7 +2,7 @@
 use Rattle.std.proofs.Common.{◌≡◌, ◌≢◌}
 use Rattle.trace_core.specs.declared.state.ReaderState.TheVariants as state
 use Rattle.trace_core.proofs.Turns.{Skips, turns}
-use Rattle.trace_core.proofs.scan.Scan.next.Given as goal
+use Rattle.trace_core.proofs.scan.Scan.next_any.Given as goal
 
 abbrev pub invariant-loop-self : goal.invariant-loop-self
 invariant-loop-self g l =
