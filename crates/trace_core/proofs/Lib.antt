@@ -18,5 +18,7 @@ pub mod SixteenBytes
 pub mod Tasks
 pub mod Written
 pub mod Performing
+pub mod EntryEvents
+pub mod WholeTraces
 pub mod Judging
 pub mod Hexadecimal

@@ -3,7 +3,7 @@ use Rattle.std.specs.Prelude.{◌≡◌, ℕ, List, [], ◌++◌, map, Option, N
 use Rattle.std.specs.Io.KnownBytes.{Appends, IsAtEnd}
 use Rattle.trace_core.specs.Device.{SourceView, SinkView, WritesPrefix, one_more, failures_after, FlushesAfter, FlushesAtMostOnce}
 use Rattle.trace_core.specs.Reading.{Reading, reading, cut_reading}
-use Rattle.trace_core.specs.Reader.{device_failed}
+use Rattle.trace_core.specs.Reader.{Progress, Reached, device_failed}
 use Rattle.trace_core.specs.declared.events.Entry.{Entry}
 use Rattle.trace_core.specs.declared.line.Format.{Format}
 use Rattle.trace_core.specs.declared.fault.TraceFault.{TraceFault}
@@ -27,6 +27,14 @@ pub record Task : Type 0 where
 -- entries without the numbers of their lines
 abbrev pub entries_of : List (ℕ × Entry) → List Entry
 entries_of xs = map (λ x. x.1) xs
+
+-- These entries were read of a source, and this holds of them.
+pub record HasRead (format : Format) (limit : ℕ) (start now : SourceView) (p : Progress) (Holds : List Entry → Type 0) : Type 0 where
+  -- the entries, with the numbers of their lines
+  pub read : List (ℕ × Entry)
+  -- the reader has come so far
+  pub reached : Reached format limit start now read p
+  pub holds : Holds (entries_of read)
 
 -- the entries of a reading
 abbrev pub entries_in : Reading → List Entry
