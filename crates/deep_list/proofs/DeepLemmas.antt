@@ -6,9 +6,10 @@ use Rattle.std.specs.List.{remove}
 use Rattle.std.proofs.lemmas.Bool.{cases_eq, cases_lt, false≢true}
 use Rattle.std.proofs.lemmas.List.{take_all, length-take-le, get_or_past, nil_from_length, length-replicate}
 use Rattle.std.proofs.lemmas.List.Sums.{sum_by-set, sum_by_more, sum_by-take-le}
-use Rattle.deep_list.specs.Slots.{SlotsValue, AreFlags, kept, filled, vacated, IsAt}
-use Rattle.deep_list.specs.Buckets.{BucketsValue, IsBuckets, AreFiled, IsFiled, NoneHas}
+use Rattle.deep_list.specs.Slots.{SlotsValue, AreFlags, kept, filled, vacated, IsAt, NoneHas}
+use Rattle.deep_list.specs.Chains.{ChainsValue, AreChains, AreFiled, AreFiledFrom, IsFiled, chain_of, with_slot}
 use Rattle.deep_list.specs.Deep.{Deep, index_of, is_in, place_of, IsOnce, IsRanked, IsDeep, IsGathering, IsGathered}
+use Rattle.deep_list.proofs.ChainLemmas.{chain_small, chains_more, filed_more, same_all, same_most, zeros}
 use Rattle.deep_list.proofs.SlotLemmas.{sum_take-set_above, flags_set, flags_sum}
 use Rattle.deep_list.proofs.KeptLemmas.{kept-vacate, kept-fill, kept-move, kept-dead, length-kept, sum-dead, is_in-kept, absent-kept, index-kept, sum-some, remove-last, remove-end, once-take, once-remove, index-absent}
 
@@ -39,10 +40,10 @@ place_found x i xs inside at = ap (λ j. Some j) (sym at) ∙ sym (ap (λ b. con
 pub place_none : (x : ℕ) (xs : List ℕ) → is_in x xs ≡ false → None ≡ place_of x xs
 place_none x xs absent = sym (ap (λ b. cond b (Some (index_of x xs)) None) absent)
 
-module _ {top end : ℕ} {slots : SlotsValue} {buckets : BucketsValue} (r : IsRanked top end slots buckets) where
+module _ {top end : ℕ} {slots : SlotsValue} {chains : ChainsValue} (r : IsRanked top end slots chains) where
   -- a slot vacated
   pub vacated_ranked : (s end' : ℕ) → top ≤ end' → end' ≤ end → ((k : ℕ) → end' ≤ k → get_or (set slots.live s 0) k 0 ≡ 0)
-      → IsRanked top end' (vacated slots s) buckets
+      → IsRanked top end' (vacated slots s) chains
   vacated_ranked s end' order less behind = record {
     same = r.same ∙ sym (length-set slots.live s 0);
     small = omega (arith, r.small, length-set slots.live s 0);
@@ -51,11 +52,11 @@ module _ {top end : ℕ} {slots : SlotsValue} {buckets : BucketsValue} (r : IsRa
     within = omega (arith, less, r.within, length-set slots.live s 0);
     before = λ k lt. zero_set slots.live s k (r.before k lt);
     behind = behind;
-    buckets_are = let P : ℕ → Type 0 = λ n. IsBuckets n buckets in subst P (sym (length-set slots.live s 0)) r.buckets_are;
+    chains_are = let P : ℕ → Type 0 = λ n. AreChains top n chains in subst P (sym (length-set slots.live s 0)) r.chains_are;
     filed = λ k one. r.filed k (one_set slots.live s k one);
   }
 
-  pub vacated_any : (s : ℕ) → IsRanked top end (vacated slots s) buckets
+  pub vacated_any : (s : ℕ) → IsRanked top end (vacated slots s) chains
   vacated_any s = vacated_ranked s end r.order (omega arith) (λ k le. zero_set slots.live s k (r.behind k le))
 
   pub behind_last : (s : ℕ) → ((k : ℕ) → s < k → k < end → get_or slots.live k 0 ≡ 1 → ⊥) → (k : ℕ) → s < k → get_or slots.live k 0 ≡ 0
@@ -63,7 +64,7 @@ module _ {top end : ℕ} {slots : SlotsValue} {buckets : BucketsValue} (r : IsRa
       elim (cases_lt k end) [ inl inside ↦ dead_flag slots.live k r.flags (none k past inside) | inr le ↦ r.behind k le ]
 
   pub vacated_last : (s : ℕ) → get_or slots.live s 0 ≡ 1 → s < end → ((k : ℕ) → s < k → k < end → get_or slots.live k 0 ≡ 1 → ⊥)
-      → IsRanked top s (vacated slots s) buckets
+      → IsRanked top s (vacated slots s) chains
   vacated_last s one lt none =
       vacated_ranked s s
       (elim (cases_lt s top) [ inl before ↦ absurd (omega (arith, r.before s before, one)) | inr le ↦ le ])
@@ -90,34 +91,33 @@ module _ {top end : ℕ} {slots : SlotsValue} {buckets : BucketsValue} (r : IsRa
     pub filled_sum : sum (set slots.live t 1) ≡ sum slots.live + 1
     filled_sum = omega (arith, sum_by-set (λ x. x) slots.live t 1 0 lt, free t (omega arith))
 
-    filled_filed : (buckets' : BucketsValue) → IsFiled buckets' (get_or (set slots.blocks t x) t 0) t
-        → ((s : ℕ) → get_or (set slots.live t 1) s 0 ≡ 1 → IsFiled buckets (get_or (set slots.blocks t x) s 0) s
-        → IsFiled buckets' (get_or (set slots.blocks t x) s 0) s)
-        → AreFiled buckets' (filled slots t x)
-    filled_filed buckets' here others s one =
-        elim (cases_eq s t) [
-          | inl same ↦ let P : ℕ → Type 0 = λ j. IsFiled buckets' (get_or (set slots.blocks t x) j 0) j in subst P (sym same) here
-          | inr other ↦ others s one
-              (let P : ℕ → Type 0 = λ y. IsFiled buckets y s in
-              subst P (sym (get_or-set_other slots.blocks t s x 0 other)) (r.filed s (sym (get_or-set_other slots.live t s 1 0 other) ∙ one)))
-        ]
+    filled_filed : AreFiledFrom top chains (filled slots t x)
+    filled_filed s le one =
+        let other : (s ≡ t → ⊥) = λ same. omega (arith, le, same, next) in
+        let P : ℕ → Type 0 = λ y. IsFiled chains y s in
+        subst P (sym (get_or-set_other slots.blocks t s x 0 other)) (r.filed s (sym (get_or-set_other slots.live t s 1 0 other) ∙ one))
 
-    pub filled_ranked : (buckets' : BucketsValue) → IsBuckets (length (set slots.live t 1)) buckets'
-        → IsFiled buckets' (get_or (set slots.blocks t x) t 0) t
-        → ((s : ℕ) → get_or (set slots.live t 1) s 0 ≡ 1 → IsFiled buckets (get_or (set slots.blocks t x) s 0) s
-        → IsFiled buckets' (get_or (set slots.blocks t x) s 0) s)
-        → IsRanked t end (filled slots t x) buckets'
-    filled_ranked buckets' are here others = record {
-      same = length-set slots.blocks t x ∙ r.same ∙ sym (length-set slots.live t 1);
-      small = omega (arith, r.small, length-set slots.live t 1);
-      flags = flags_set slots.live t 1 (omega arith) r.flags;
-      order = omega (arith, r.order);
-      within = omega (arith, r.within, length-set slots.live t 1);
-      before = λ k lt. get_or-set_other slots.live t k 1 0 (omega arith) ∙ free k (omega arith);
-      behind = λ k le. get_or-set_other slots.live t k 1 0 (omega (arith, r.order)) ∙ r.behind k le;
-      buckets_are = are;
-      filed = filled_filed buckets' here others;
-    }
+    pub filled_ranked : IsRanked t end (filled slots t x) (with_slot chains t (chain_of (length chains.heads) x))
+    filled_ranked =
+        let here : get_or (set slots.blocks t x) t 0 ≡ x = get_or-set_same slots.blocks t x 0 (omega (arith, lt, r.same)) in
+        let Q : ℕ → Type 0 = λ y. AreFiledFrom t (with_slot chains t (chain_of (length chains.heads) y)) (filled slots t x) in
+        let from = subst Q here (filed_more r.chains_are t next lt (filled slots t x) filled_filed) in
+        let P : ℕ → Type 0 = λ n. AreChains t n (with_slot chains t (chain_of (length chains.heads) x)) in
+        record {
+          same = length-set slots.blocks t x ∙ r.same ∙ sym (length-set slots.live t 1);
+          small = omega (arith, r.small, length-set slots.live t 1);
+          flags = flags_set slots.live t 1 (omega arith) r.flags;
+          order = omega (arith, r.order);
+          within = omega (arith, r.within, length-set slots.live t 1);
+          before = λ k lt. get_or-set_other slots.live t k 1 0 (omega arith) ∙ free k (omega arith);
+          behind = λ k le. get_or-set_other slots.live t k 1 0 (omega (arith, r.order)) ∙ r.behind k le;
+          chains_are = subst P (sym (length-set slots.live t 1)) (chains_more r.chains_are t next lt (chain_of (length chains.heads) x)
+              (chain_small (length chains.heads) x r.chains_are.some));
+          filed = λ s one. elim (cases_lt s t) [
+            | inl past ↦ absurd (omega (arith, get_or-set_other slots.live t s 1 0 (omega arith), free s (omega arith), one))
+            | inr le ↦ from s le one
+          ];
+        }
 
 -- the moves to the end
 pub gathering_none : (v : SlotsValue) → length v.blocks ≡ length v.live → AreFlags v.live → IsGathering (length v.live) (length v.live) v v
@@ -186,9 +186,9 @@ gathered {from} {to} {v} {w} g none = record {
   top_is = omega (arith, g.left, ap (λ j. sum (take j w.live)) none);
 }
 
-pub gathered_ranked : {top : ℕ} {v w : SlotsValue} (buckets : BucketsValue) → IsGathered top v w → length w.live ≤ 2 ^ 24
-    → IsBuckets (length w.live) buckets → AreFiled buckets w → IsRanked top (length w.live) w buckets
-gathered_ranked {top} {v} {w} buckets g small are filed = record {
+pub gathered_ranked : {top : ℕ} {v w : SlotsValue} (chains : ChainsValue) → IsGathered top v w → length w.live ≤ 2 ^ 24
+    → AreChains top (length w.live) chains → AreFiled chains w → IsRanked top (length w.live) w chains
+gathered_ranked {top} {v} {w} chains g small are filed = record {
   same = g.same;
   small = small;
   flags = g.flags;
@@ -196,14 +196,9 @@ gathered_ranked {top} {v} {w} buckets g small are filed = record {
   within = omega arith;
   before = g.dead;
   behind = λ s le. get_or_past w.live s 0 le;
-  buckets_are = are;
+  chains_are = are;
   filed = filed;
 }
-
-zeros : (n k : ℕ) → get_or {A = ℕ} (replicate n 0) k 0 ≡ 0
-zeros zero k = refl
-zeros (suc n) zero = refl
-zeros (suc n) (suc k) = zeros n k
 
 -- no live slot
 module _ (cap n : ℕ) (slots : SlotsValue) (long : length slots.blocks ≡ n) (none : slots.live ≡ replicate n 0) where
@@ -216,8 +211,8 @@ module _ (cap n : ℕ) (slots : SlotsValue) (long : length slots.blocks ≡ n) (
   pub none_kept : kept slots.blocks slots.live ≡ []
   none_kept = kept-dead slots.blocks slots.live dead
 
-  pub none_deep : (buckets : BucketsValue) → 1 ≤ cap → cap < n → n ≤ 2 ^ 24 → IsBuckets n buckets → IsDeep cap 0 n n slots buckets
-  none_deep buckets some room small are = record {
+  pub none_deep : (chains : ChainsValue) → 1 ≤ cap → cap < n → n ≤ 2 ^ 24 → AreChains n n chains → IsDeep cap 0 n n slots chains
+  none_deep chains some room small are = record {
     some = some;
     room = omega (arith, size, room);
     at_most = omega arith;
@@ -231,20 +226,23 @@ module _ (cap n : ℕ) (slots : SlotsValue) (long : length slots.blocks ≡ n) (
       within = omega (arith, size);
       before = λ k lt. dead k;
       behind = λ k le. dead k;
-      buckets_are = let P : ℕ → Type 0 = λ m. IsBuckets m buckets in subst P (sym size) are;
+      chains_are = let P : ℕ → Type 0 = λ m. AreChains n m chains in subst P (sym size) are;
       filed = λ k one. absurd (omega (arith, dead k, one));
     };
   }
 
-pub buckets_none : (n count : ℕ) (v : BucketsValue) → 1 ≤ n → 1 ≤ count → count ≤ 2 ^ 24 → v.entries ≡ replicate (count * 8) 0 → v.spilled ≡ replicate count 0 → IsBuckets n v
-buckets_none n count v some one few entries spilled = record {
-  some = omega (arith, ap length spilled, length-replicate {A = ℕ} count 0, one);
-  few = omega (arith, ap length spilled, length-replicate {A = ℕ} count 0, few);
-  eight = omega (arith, ap length entries, ap length spilled, length-replicate {A = ℕ} (count * 8) 0, length-replicate {A = ℕ} count 0);
-  within = λ j. omega (arith, ap (λ xs. get_or xs j 0) entries, zeros (count * 8) j, some);
+pub chains_none : (n count : ℕ) (v : ChainsValue) → 1 ≤ count → count ≤ 2 ^ 24 → v.heads ≡ replicate count n → v.next ≡ replicate n 0 → AreChains n n v
+chains_none n count v one few heads next = record {
+  some = omega (arith, ap length heads, length-replicate {A = ℕ} count n, one);
+  few = omega (arith, ap length heads, length-replicate {A = ℕ} count n, few);
+  long = ap length next ∙ length-replicate {A = ℕ} n 0;
+  heads_from = λ k lt. omega (arith, ap (λ xs. get_or xs k 0) heads, same_all count n k (omega (arith, lt, ap length heads, length-replicate {A = ℕ} count n)));
+  heads_within = λ k. omega (arith, ap (λ xs. get_or xs k 0) heads, same_most count n k);
+  next_from = λ s le lt. absurd (omega arith);
+  next_within = λ s. omega (arith, ap (λ xs. get_or xs s 0) next, zeros n s);
 }
 
-module _ {cap held top end : ℕ} {slots : SlotsValue} {buckets : BucketsValue} (d : IsDeep cap held top end slots buckets) where
+module _ {cap held top end : ℕ} {slots : SlotsValue} {chains : ChainsValue} (d : IsDeep cap held top end slots chains) where
   pub held_length : held ≡ length (kept slots.blocks slots.live)
   held_length = d.held_is ∙ sym (length-kept slots.blocks slots.live d.ranked.same d.ranked.flags)
 
@@ -256,11 +254,11 @@ module _ {cap held top end : ℕ} {slots : SlotsValue} {buckets : BucketsValue} 
     pub vacated_kept : kept slots.blocks (set slots.live s 0) ≡ remove (kept slots.blocks slots.live) (sum (take s slots.live))
     vacated_kept = kept-vacate slots.blocks slots.live s d.ranked.same d.ranked.flags one
 
-    pub vacated_deep : (end' : ℕ) (w : SlotsValue) → w ≡ vacated slots s → IsRanked top end' (vacated slots s) buckets
-        → IsDeep cap (held - 1) top end' w buckets
+    pub vacated_deep : (end' : ℕ) (w : SlotsValue) → w ≡ vacated slots s → IsRanked top end' (vacated slots s) chains
+        → IsDeep cap (held - 1) top end' w chains
     vacated_deep end' w is ranked =
         let sums = vacated_sum d.ranked s one in
-        let P : SlotsValue → Type 0 = λ v. IsDeep cap (held - 1) top end' v buckets in
+        let P : SlotsValue → Type 0 = λ v. IsDeep cap (held - 1) top end' v chains in
         subst P (sym is) (record {
           some = d.some;
           room = omega (arith, d.room, length-set slots.live s 0);
@@ -302,13 +300,13 @@ pub without_absent : (x : ℕ) (xs : List ℕ) → is_in x xs ≡ false → remo
 without_absent x xs absent = remove-end xs (index_of x xs) (index-absent x xs absent)
 
 -- a list of which one slot more is live, that before all live ones
-pub filled_deep : {cap held top0 end0 top end : ℕ} {slots0 slots : SlotsValue} {buckets0 buckets : BucketsValue}
-    → IsDeep cap held top0 end0 slots0 buckets0 → IsRanked top end slots buckets → kept slots.blocks slots.live ≡ kept slots0.blocks slots0.live
+pub filled_deep : {cap held top0 end0 top end : ℕ} {slots0 slots : SlotsValue} {chains0 chains : ChainsValue}
+    → IsDeep cap held top0 end0 slots0 chains0 → IsRanked top end slots chains → kept slots.blocks slots.live ≡ kept slots0.blocks slots0.live
     → length slots.live ≡ length slots0.live → (x t : ℕ) → t + 1 ≡ top → is_in x (kept slots0.blocks slots0.live) ≡ false
-    → length (kept slots0.blocks slots0.live) < cap → (w : SlotsValue) (buckets' : BucketsValue) → w ≡ filled slots t x
-    → IsRanked t end (filled slots t x) buckets' → IsDeep cap (held + 1) t end w buckets'
-filled_deep {cap} {held} {top0} {end0} {top} {end} {slots0} {slots} d r same long x t next absent short w buckets' is ranked =
-    let P : SlotsValue → Type 0 = λ v. IsDeep cap (held + 1) t end v buckets' in
+    → length (kept slots0.blocks slots0.live) < cap → (w : SlotsValue) (chains' : ChainsValue) → w ≡ filled slots t x
+    → IsRanked t end (filled slots t x) chains' → IsDeep cap (held + 1) t end w chains'
+filled_deep {cap} {held} {top0} {end0} {top} {end} {slots0} {slots} d r same long x t next absent short w chains' is ranked =
+    let P : SlotsValue → Type 0 = λ v. IsDeep cap (held + 1) t end v chains' in
     let Q : List ℕ → Type 0 = IsOnce in
     let once : IsOnce (x ∷ kept slots.blocks slots.live) = (ap (is_in x) same ∙ absent, subst Q (sym same) d.once) in
     subst P (sym is) (record {
@@ -332,7 +330,7 @@ pub record IsHeld (cap held : ℕ) (v : Deep) : Type 0 where
   pub at_most : held ≤ cap
   pub length_is : length v.blocks ≡ held
 
-pub held_is : {cap held top end : ℕ} {slots : SlotsValue} {buckets : BucketsValue} (v : Deep) → IsDeep cap held top end slots buckets
+pub held_is : {cap held top end : ℕ} {slots : SlotsValue} {chains : ChainsValue} (v : Deep) → IsDeep cap held top end slots chains
     → record { cap = cap; blocks = kept slots.blocks slots.live } ≡ v → IsHeld cap held v
 held_is v d is = record {
   cap_is = ap (λ w. w.cap) is;

@@ -2,7 +2,7 @@
 use Rattle.std.proofs.Common.{◌≡◌, ℕ, zero, suc, ◌+◌, ◌-◌, ◌*◌, ◌/◌, ◌<◌, ◌≤◌, ◌^◌, List, [], ◌∷◌, length, take, drop, get_or, set, sum}
 use Rattle.std.proofs.Common.{refl, sym, ◌∙◌, ap, arith, add-one, length-set, ◌⊎◌, inl, inr}
 use Rattle.std.proofs.lemmas.Bool.{cases_lt}
-use Rattle.std.proofs.lemmas.List.{take-set-le, take-take, drop-take, set_past}
+use Rattle.std.proofs.lemmas.List.{take-set-le, take-take, drop-take, get_or-drop}
 use Rattle.std.proofs.lemmas.List.Sums.{sum_by-cons, sum_by-take-le, sum_by_more, sum_by-take-drop}
 use Rattle.deep_list.specs.Slots.{AreFlags, IsCounted}
 
@@ -35,6 +35,14 @@ flags_set (x ∷ xs) (suc s) v le h (suc k) = flags_set xs s v le (λ j. h (suc 
 pub flags_sum : (xs : List ℕ) → AreFlags xs → sum xs ≤ length xs
 flags_sum [] h = omega arith
 flags_sum (x ∷ xs) h = omega (arith, sum-cons x xs, h 0, flags_sum xs (flags_tail x xs h))
+
+flags_drop : (n : ℕ) (xs : List ℕ) → AreFlags xs → AreFlags (drop n xs)
+flags_drop n xs h k = omega (arith, get_or-drop n xs k 0, h (n + k))
+
+sum_take_most : (n : ℕ) (xs : List ℕ) → AreFlags xs → sum (take n xs) ≤ n
+sum_take_most zero xs h = omega arith
+sum_take_most (suc n) [] h = omega arith
+sum_take_most (suc n) (x ∷ xs) h = omega (arith, sum-cons x (take n xs), h 0, sum_take_most n xs (flags_tail x xs h))
 
 module _ {blocks live counts : List ℕ} (h : IsCounted blocks live counts) where
   pub at_chunk : (s : ℕ) → s < length live → s / 256 < length counts
@@ -101,3 +109,8 @@ module _ {blocks live counts : List ℕ} (h : IsCounted blocks live counts) wher
 
   pub sum_small : (n : ℕ) → sum (take n live) < 2 ^ 32
   sum_small n = omega (arith, sum_by-take-le (λ x. x) live n, flags_sum live h.flags, h.small)
+
+  -- the flags before a slot that share its count
+  pub part_small : (s : ℕ) → sum (take (s - s / 256 * 256) (drop (s / 256 * 256) live)) < 2 ^ 8
+  part_small s =
+      omega (arith, sum_take_most (s - s / 256 * 256) (drop (s / 256 * 256) live) (flags_drop (s / 256 * 256) live h.flags))

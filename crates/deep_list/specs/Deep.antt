@@ -2,7 +2,7 @@
 use Rattle.std.specs.Prelude.{ℕ, ◌≡◌, ◌≤◌, ◌<◌, ◌+◌, ◌-◌, ◌==◌, ◌^◌, Bool, true, false, if◌then◌else◌, Option, Some, None, List, [], ◌∷◌, length, take, sum, slice_index}
 use Rattle.std.specs.List.{list_any, position_or_len, remove}
 use Rattle.deep_list.specs.Slots.{SlotsValue, AreFlags, kept}
-use Rattle.deep_list.specs.Buckets.{BucketsValue, IsBuckets, AreFiled}
+use Rattle.deep_list.specs.Chains.{ChainsValue, AreChains, AreFiled}
 
 -- the index of x in a list, or the list's length
 abbrev pub index_of : ℕ → List ℕ → ℕ
@@ -34,8 +34,8 @@ without d x = record d { blocks = remove d.blocks (index_of x d.blocks) }
 abbrev pub exchanged : Deep → ℕ → ℕ → Deep
 exchanged d x y = record d { blocks = take d.cap (y ∷ remove d.blocks (index_of x d.blocks)) }
 
--- slots whose live ones are from top on and before end, and are found by their blocks
-pub record IsRanked (top end : ℕ) (slots : SlotsValue) (buckets : BucketsValue) : Type 0 where
+-- slots whose live ones are from top on and before end, and are on the chains of their blocks
+pub record IsRanked (top end : ℕ) (slots : SlotsValue) (chains : ChainsValue) : Type 0 where
   pub same : length slots.blocks ≡ length slots.live
   pub small : length slots.live ≤ 2 ^ 24
   pub flags : AreFlags slots.live
@@ -43,17 +43,17 @@ pub record IsRanked (top end : ℕ) (slots : SlotsValue) (buckets : BucketsValue
   pub within : end ≤ length slots.live
   pub before : (s : ℕ) → s < top → slice_index slots.live s ≡ 0
   pub behind : (s : ℕ) → end ≤ s → slice_index slots.live s ≡ 0
-  pub buckets_are : IsBuckets (length slots.live) buckets
-  pub filed : AreFiled buckets slots
+  pub chains_are : AreChains top (length slots.live) chains
+  pub filed : AreFiled chains slots
 
 -- what is true of the fields of every list
-pub record IsDeep (cap held top end : ℕ) (slots : SlotsValue) (buckets : BucketsValue) : Type 0 where
+pub record IsDeep (cap held top end : ℕ) (slots : SlotsValue) (chains : ChainsValue) : Type 0 where
   pub some : 1 ≤ cap
   pub room : cap < length slots.live
   pub at_most : held ≤ cap
   pub held_is : held ≡ sum slots.live
   pub once : IsOnce (kept slots.blocks slots.live)
-  pub ranked : IsRanked top end slots buckets
+  pub ranked : IsRanked top end slots chains
 
 -- what moves the live slots to the end, when those from `from` on were moved: those before `to` of them are free
 pub record IsGathering (from to : ℕ) (before slots : SlotsValue) : Type 0 where

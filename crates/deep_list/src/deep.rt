@@ -4,20 +4,13 @@
 ghost use Rattle.std.specs.Prelude.{◌≡◌, ◌+◌, ◌-◌, ◌<◌, ◌≤◌, ◌^◌, ◌≢◌, ℕ, false, [], ◌∷◌, length, sum, take};
 ghost use Rattle.std.specs.Prelude.{IfOk, MatchOption, slice_index};
 ghost use Rattle.deep_list.specs.Slots.{SlotsValue, AreFlags, filled, vacated, kept};
-ghost use Rattle.deep_list.specs.Buckets.{IsBuckets, AreFiled};
+ghost use Rattle.deep_list.specs.Chains.{AreChains, AreFiled};
 ghost use Rattle.deep_list.specs.Deep.{is_in, place_of, without, exchanged, IsRanked, IsGathered};
 
-use crate::buckets::Buckets;
-use crate::slots::Slots;
+use crate::chains::Chains;
+use crate::slots::{Slots, Span};
 use std::alloc::{AllocError, Global};
 use std::marker::Model;
-
-/// The slots of a list: all live ones are from `top` on and before `end`.
-#[derive(Clone, Copy, Debug)]
-struct Span {
-    top: usize,
-    end: usize,
-}
 
 /// A list of at most `cap` different blocks. The blocks of the live slots are the list. A block that
 /// comes to the front takes the slot before all live ones; when there is none, all are moved to the
@@ -28,7 +21,7 @@ pub struct DeepList {
     held: usize,
     span: Span,
     slots: Slots,
-    buckets: Buckets,
+    chains: Chains,
 }
 
 impl Model for DeepList {
@@ -39,18 +32,18 @@ impl Model for DeepList {
 
     ghost view = { λ d. record { cap = d.cap; blocks = kept d.slots.blocks d.slots.live } };
 
-    ghost invariant = { λ d. IsDeep d.cap d.held d.span.top d.span.end d.slots d.buckets };
+    ghost invariant = { λ d. IsDeep d.cap d.held d.span.top d.span.end d.slots d.chains };
 }
 
 impl DeepList {
-    /// An empty list. It takes all its memory here: two slots for each block, of 9 bytes each, and a
-    /// bucket of 33 bytes for each two blocks.
+    /// An empty list. It takes all its memory here: three slots for each two blocks, of 13 bytes each,
+    /// and 4 bytes for each chain, of which there is one for each two blocks.
     pub fn new(alloc: Global, cap: usize) -> Result<DeepList, AllocError>
         requires some { 1 ≤ cap }
         requires small { cap ≤ 2 ^ 22 }
         ensures { IfOk result (λ d. d ≡ record { cap = cap; blocks = [] }) }
     {
-        let count = 2 * cap;
+        let count = cap + cap / 2 + 1;
         Ok(DeepList {
             cap,
             held: 0,
@@ -59,7 +52,7 @@ impl DeepList {
                 end: count,
             },
             slots: Slots::new(alloc, count)?,
-            buckets: Buckets::new(alloc, cap / 2 + 1)?,
+            chains: Chains::new(alloc, cap / 2 + 1, count)?,
         })
     }
 
@@ -88,7 +81,7 @@ impl DeepList {
         ensures found { result ≡ place_of block self.old.blocks }
         ensures moved { self.new ≡ without self.old block }
     {
-        match self.buckets.find(&self.slots, block) {
+        match self.chains.find(&self.slots, self.span, block) {
             Some(slot) => {
                 let place = self.slots.live_before(slot);
                 self.slots.vacate(slot);
@@ -128,34 +121,21 @@ impl DeepList {
         requires room { length self.old.blocks < self.old.cap }
         ensures { self.new ≡ record self.old { blocks = block ∷ self.old.blocks } }
     {
-        self.span = make_room(&mut self.slots, &mut self.buckets, self.span);
+        self.span = make_room(&mut self.slots, &mut self.chains, self.span);
         let slot = self.span.top - 1;
         self.slots.fill(slot, block);
-        self.buckets.add(&self.slots, slot);
+        self.chains.add(slot, block);
         self.span.top = slot;
         self.held += 1;
     }
 
-    /// Empties the list. It goes over all slots, unless the list is empty.
+    /// Empties the list. It goes over the slots that were taken since it was empty.
     pub fn clear(&mut self)
         ensures { self.new ≡ record self.old { blocks = [] } }
     {
-        if self.held > 0 {
-            self.empty();
+        while self.len() > 0 {
+            self.drop_last();
         }
-    }
-
-    /// Empties the list.
-    fn empty(&mut self)
-        ensures { self.new ≡ record self.old { blocks = [] } }
-    {
-        self.slots.clear();
-        let count = self.slots.len();
-        self.span = Span {
-            top: count,
-            end: count,
-        };
-        self.held = 0;
     }
 }
 
@@ -177,10 +157,10 @@ fn last_live(slots: &Slots, end: usize) -> Option<usize>
 }
 
 /// Sees to it that a slot before the live ones is free, by moving them if there is none.
-fn make_room(slots: &mut Slots, buckets: &mut Buckets, span: Span) -> Span
-    requires ranked { IsRanked span.top span.end slots.old buckets.old }
+fn make_room(slots: &mut Slots, chains: &mut Chains, span: Span) -> Span
+    requires ranked { IsRanked span.top span.end slots.old chains.old }
     requires room { sum slots.old.live < length slots.old.live }
-    ensures ranked { IsRanked result.top result.end slots.new buckets.new }
+    ensures ranked { IsRanked result.top result.end slots.new chains.new }
     ensures free { 1 ≤ result.top }
     ensures kept_same { kept slots.new.blocks slots.new.live ≡ kept slots.old.blocks slots.old.live }
     ensures long { length slots.new.live ≡ length slots.old.live }
@@ -189,7 +169,7 @@ fn make_room(slots: &mut Slots, buckets: &mut Buckets, span: Span) -> Span
         return span;
     }
     let top = gather(slots);
-    file_all(buckets, slots);
+    file_all(chains, slots, top);
     Span {
         top,
         end: slots.len(),
@@ -228,19 +208,20 @@ fn shift(slots: &mut Slots, from: usize, to: usize)
     slots.fill(to, block);
 }
 
-/// Files all live slots anew.
-fn file_all(buckets: &mut Buckets, slots: &Slots)
-    requires buckets { IsBuckets (length slots.now.live) buckets.old }
+/// Puts all live slots anew on the chains of their blocks: these are all from `top` on.
+fn file_all(chains: &mut Chains, slots: &Slots, top: usize)
+    requires chains { AreChains 0 (length slots.now.live) chains.old }
+    requires small { length slots.now.live ≤ 2 ^ 24 }
     requires same { length slots.now.blocks ≡ length slots.now.live }
-    requires few { length slots.now.live ≤ 2 ^ 24 }
-    requires some { 1 ≤ length slots.now.live }
-    ensures buckets { IsBuckets (length slots.now.live) buckets.new }
-    ensures filed { AreFiled buckets.new slots.now }
+    requires order { top ≤ length slots.now.live }
+    requires before { (s : ℕ) → s < top → slice_index slots.now.live s ≡ 0 }
+    ensures chains { AreChains top (length slots.now.live) chains.new }
+    ensures filed { AreFiled chains.new slots.now }
 {
-    buckets.clear();
-    for slot in 0..slots.len() {
-        if slots.is_live(slot) {
-            buckets.add(slots, slot);
-        }
+    chains.clear();
+    let mut slot = slots.len();
+    while slot > top {
+        slot -= 1;
+        chains.add(slot, slots.block(slot));
     }
 }

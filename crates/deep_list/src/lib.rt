@@ -2,7 +2,7 @@
 //! the list.
 #![tactic(auto)]
 
-mod buckets;
+mod chains;
 pub mod deep;
 mod slots;
 

@@ -1,13 +1,20 @@
 //! Slots for blocks, and how many of the slots before one are live.
 ghost use Rattle.std.specs.Prelude.{◌≡◌, ◌+◌, ◌<◌, ◌≤◌, ◌^◌, ◌*◌, ℕ, length, sum, take, drop, replicate, slice_set};
 ghost use Rattle.std.specs.Prelude.{IfOk, MatchOption, slice_index, nat_eq, IsTrue, ◌↔◌};
-ghost use Rattle.deep_list.specs.Slots.{SlotsValue, IsAt, filled, vacated};
+ghost use Rattle.deep_list.specs.Slots.{SlotsValue, IsAt, NoneHas, AreWithin, filled, vacated};
 
 use std::alloc::{AllocError, Global};
 use std::marker::Model;
 
 /// How many slots share a count.
 const CHUNK: usize = 256;
+
+/// Part of the slots: from `top` on and before `end`.
+#[derive(Clone, Copy, Debug)]
+pub struct Span {
+    pub top: usize,
+    pub end: usize,
+}
 
 /// Slots, each with a block, and with 1 if it is live and else 0; `counts` has for each `CHUNK` slots
 /// how many of them are live.
@@ -108,20 +115,17 @@ impl Slots {
         self.counts[slot / CHUNK] -= 1;
     }
 
-    /// Vacates all slots.
-    pub fn clear(&mut self)
-        ensures { self.new ≡ record self.old { live = replicate (length self.old.live) 0 } }
-    {
-        self.live.fill(0);
-        self.counts.fill(0);
-    }
-
-    /// The live slot that has a block, by a walk over all slots.
-    pub fn search(&self, block: u64) -> Option<usize>
-        ensures { MatchOption result ((slot : ℕ) → slot < length self.now.live → IsAt self.now block slot → ⊥)
+    /// The live slot that has a block, by a walk over a span that has all live slots.
+    #[inline(never)]
+    pub fn search(&self, span: Span, block: u64) -> Option<usize>
+        requires order { span.top ≤ span.end }
+        requires end { span.end ≤ length self.now.live }
+        requires within { AreWithin span.top span.end self.now.live }
+        requires same { length self.now.blocks ≡ length self.now.live }
+        ensures { MatchOption result (NoneHas self.now block)
             (λ slot. (slot < length self.now.live) × IsAt self.now block slot) }
     {
-        for slot in 0..self.live.len() {
+        for slot in span.top..span.end {
             if self.has(slot, block) {
                 return Some(slot);
             }
@@ -143,13 +147,13 @@ fn total(counts: &[u32]) -> u32
 }
 
 /// The sum of flags.
-fn total_flags(flags: &[u8]) -> u32
-    requires { sum flags.now < 2 ^ 32 }
+fn total_flags(flags: &[u8]) -> u8
+    requires { sum flags.now < 2 ^ 8 }
     ensures { result ≡ sum flags.now }
 {
     let mut total = 0;
     for flag in flags {
-        total += u32::from(*flag);
+        total += *flag;
     }
     total
 }

@@ -301,6 +301,8 @@ module _ {near : Lists} {beyond : ℕ} {far : List Deep} (s : IsStacked near bey
               ∙ ap (λ d. row_of j ++ d.blocks) (others j other)))
               (s.once j)
         ];
+        shallow = s.shallow;
+        deep = s.deep;
       }
 
   -- a block that comes to the front of its row, and no other leaves the row
@@ -503,6 +505,19 @@ module _ {near : Lists} {beyond : ℕ} {far : List Deep} {x k held last : ℕ} (
         ∙ ap (set (joined near.lists far) k)
         (sym moved ∙ ap (λ zs. take (near.depth + beyond) (move_to_front x zs)) (sym (whole_at f.stacked k f.is_set)))
 
+-- whether blocks may stand behind rows, by the depth
+pub none_beyond : {near : Lists} {beyond : ℕ} {far : List Deep} (s : IsStacked near beyond far) (v : Lists)
+    → record { depth = near.depth + beyond; lists = joined near.lists far } ≡ v → v.depth ≤ 256 → beyond ≡ 0
+none_beyond {near} {beyond} {far} s v is le =
+    elim s.sets [ inl none ↦ none.0 | inr all ↦ absurd (omega (arith, s.deep all.0, ap (λ w. w.depth) is, le)) ]
+
+pub some_beyond : {near : Lists} {beyond : ℕ} {far : List Deep} (s : IsStacked near beyond far) (v : Lists)
+    → record { depth = near.depth + beyond; lists = joined near.lists far } ≡ v → 256 < v.depth → (beyond ≡ 0 → ⊥)
+some_beyond s v is lt none = omega (arith, s.shallow none, ap (λ w. w.depth) is, lt, none)
+
+pub two_near : {near : Lists} {beyond : ℕ} {far : List Deep} (s : IsStacked near beyond far) → (beyond ≡ 0 → ⊥) → 2 ≤ near.depth
+two_near s some = elim s.sets [ inl none ↦ absurd (some none.0) | inr all ↦ all.2 ]
+
 -- where all blocks are in their rows
 pub all_stay : {near : Lists} {beyond : ℕ} {far : List Deep} (s : IsStacked near beyond far) (x k : ℕ) (lt : k < length near.lists) → beyond ≡ 0
     → StaysIn s x k lt
@@ -523,8 +538,9 @@ joined_empty (suc n) (d ∷ far) none =
 pub stacked_none : (near : Lists) (beyond n : ℕ) (far : List Deep) → near.lists ≡ replicate n [] → ((k : ℕ) → rest_of far k ≡ [])
     → ((k : ℕ) → k < length far → (get_or far k nothing).cap ≡ beyond)
     → ((beyond ≡ 0) × (length far ≡ 0)) ⊎ ((1 ≤ beyond) × (length far ≡ length near.lists) × (2 ≤ near.depth))
-    → near.depth + beyond ≤ 2 ^ 22 → length near.lists * (near.depth + beyond) ≤ 2 ^ 22 → IsStacked near beyond far
-stacked_none near beyond n far none rest caps sets small all_small =
+    → near.depth + beyond ≤ 2 ^ 22 → length near.lists * (near.depth + beyond) ≤ 2 ^ 22 → (beyond ≡ 0 → near.depth ≤ 256)
+    → (1 ≤ beyond → 256 < near.depth + beyond) → IsStacked near beyond far
+stacked_none near beyond n far none rest caps sets small all_small shallow deep =
     let row : (k : ℕ) → get_or near.lists k [] ≡ [] = λ k. ap (λ ls. get_or ls k []) none ∙ nils n k in
     let L : List ℕ → Type 0 = IsOnce in
     record {
@@ -536,6 +552,8 @@ stacked_none near beyond n far none rest caps sets small all_small =
       rest_short = λ k. omega (arith, ap length (rest k));
       full = λ k some. absurd (some (rest k));
       once = λ k. subst L (sym (ap (λ xs. xs ++ rest_of far k) (row k) ∙ rest k)) tt;
+      shallow = shallow;
+      deep = deep;
     }
 
 -- emptied
@@ -562,7 +580,8 @@ stacked_cleared {near} {beyond} {far} s near' far' is far_is =
       | inl none ↦ inl (none.0, long ∙ none.1)
       | inr all ↦ inr (all.0, long ∙ all.1 ∙ sym count, omega (arith, all.2, depth))
     ])
-    (omega (arith, s.small, depth)) (subst M (sym count) (subst N (sym depth) s.all_small))
+    (omega (arith, s.small, depth)) (subst M (sym count) (subst N (sym depth) s.all_small)) (λ none. omega (arith, s.shallow none, depth))
+    (λ some. omega (arith, s.deep some, depth))
 
 pub cleared_lists : (near near' : Lists) (far far' : List Deep) → near' ≡ record { depth = near.depth; lists = replicate (length near.lists) [] }
     → far' ≡ map emptied far → joined near'.lists far' ≡ replicate (length (joined near.lists far)) []
@@ -613,8 +632,8 @@ empty_rest (suc n) cap zero = refl
 empty_rest (suc n) cap (suc k) = empty_rest n cap k
 
 pub stacked_new : (near : Lists) (sets beyond : ℕ) (far : List Deep) → near ≡ record { depth = 64; lists = replicate sets [] }
-    → far ≡ replicate sets (record { cap = beyond; blocks = [] }) → 1 ≤ beyond → 1 ≤ sets → sets * (64 + beyond) ≤ 2 ^ 22 → IsStacked near beyond far
-stacked_new near sets beyond far is far_is some filled small =
+    → far ≡ replicate sets (record { cap = beyond; blocks = [] }) → 1 ≤ sets → sets * (64 + beyond) ≤ 2 ^ 22 → 256 < 64 + beyond → IsStacked near beyond far
+stacked_new near sets beyond far is far_is filled small deep =
     let lists : near.lists ≡ replicate sets [] = ap (λ v. v.lists) is in
     let depth : near.depth ≡ 64 = ap (λ v. v.depth) is in
     let count : length near.lists ≡ sets = ap length lists ∙ length-replicate sets [] in
@@ -624,8 +643,9 @@ stacked_new near sets beyond far is far_is some filled small =
     let N : ℕ → Type 0 = λ n. sets * (n + beyond) ≤ 2 ^ 22 in
     stacked_none near beyond sets far lists (λ k. ap (λ ds. rest_of ds k) far_is ∙ empty_rest sets beyond k)
     (λ k lt. ap (λ ds. (get_or ds k nothing).cap) far_is ∙ ap (λ d. d.cap) (empty_at sets beyond k (omega (arith, lt, long))))
-    (inr (some, long ∙ sym count, omega (arith, depth)))
+    (inr (omega (arith, deep), long ∙ sym count, omega (arith, depth)))
     (omega (arith, depth_small sets (64 + beyond) filled small, depth)) (subst M (sym count) (subst N (sym depth) small))
+    (λ none. absurd (omega (arith, none, deep))) (λ some. omega (arith, deep, depth))
 
 pub new_lists : (near : Lists) (sets beyond : ℕ) (far : List Deep) → near ≡ record { depth = 64; lists = replicate sets [] }
     → far ≡ replicate sets (record { cap = beyond; blocks = [] }) → joined near.lists far ≡ replicate sets []

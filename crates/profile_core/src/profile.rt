@@ -12,7 +12,7 @@ ghost use Rattle.profile_core.specs.Moves.{is_second};
 ghost use Rattle.profile_core.specs.ProfileStandsFor.{ProfileStandsFor};
 
 use crate::recency::Touch;
-use crate::stacks::Stacks;
+use crate::stacks::{SHALLOW, Stacks};
 use cache_core::geometry::Geometry;
 use cache_core::outcome::Counts;
 use std::alloc::{AllocError, Global};
@@ -192,7 +192,31 @@ impl Profile {
         requires further { is_second block (list_of self.old set) ≡ false }
         ensures { self.new ≡ after_reference self.old block }
     {
+        if !self.lists.in_rows() {
+            return self.feed_deep(set, block);
+        }
         match self.lists.bring(set, block) {
+            Touch::Behind(distance) => {
+                self.probes += distance as u64 + 1;
+                self.behind[distance] += 1;
+            }
+            Touch::New(held) => {
+                self.probes += held as u64;
+                self.misses_by_occupancy[held] += 1;
+            }
+        }
+    }
+
+    /// The same, where lists may be longer than their rows. It stands apart, so that the path of
+    /// the others stays short.
+    #[inline(never)]
+    fn feed_deep(&mut self, set: usize, block: u64)
+        requires next { IsNext self.old set block }
+        requires further { is_second block (list_of self.old set) ≡ false }
+        requires deep { SHALLOW < self.old.geometry.e }
+        ensures { self.new ≡ after_reference self.old block }
+    {
+        match self.lists.bring_far(set, block) {
             Touch::Behind(distance) => {
                 self.probes += distance as u64 + 1;
                 self.behind[distance] += 1;

@@ -1,7 +1,7 @@
 //! A recency list for each set, the most recent block first: its first blocks in a row, and those
 //! behind them, if lists may be long, in a list that is not walked.
 ghost use Rattle.std.specs.Prelude.{◌≡◌, ◌*◌, ◌^◌, ◌<◌, ◌≤◌, [], ◌∷◌, true, false, length, replicate, sum_by, map};
-ghost use Rattle.std.specs.Prelude.{IfOk, slice_index_or};
+ghost use Rattle.std.specs.Prelude.{IfOk, IsTrue, ◌↔◌, slice_index_or};
 ghost use Rattle.deep_list.specs.Deep.{exchanged};
 ghost use Rattle.profile_core.specs.Moves.{is_in, is_front, is_second, touch_of};
 ghost use Rattle.profile_core.specs.Stacks.{rest_touch_of, in_row_of, emptied};
@@ -12,7 +12,10 @@ use deep_list::DeepList;
 use std::alloc::{AllocError, Global};
 use std::marker::Model;
 
-/// How many blocks of a list stand in its row, if it may be longer than that.
+/// The depth up to which lists stand in their rows alone.
+pub const SHALLOW: usize = 256;
+
+/// How many blocks of a list stand in its row, if it may be longer than `SHALLOW`.
 const ROW: usize = 64;
 
 /// What a row tells of a block that comes to its front: where it stands in the list, or, if it is
@@ -52,7 +55,7 @@ impl Stacks {
         requires small { sets * depth ≤ 2 ^ 22 }
         ensures { IfOk result (λ r. r ≡ record { depth = depth; lists = replicate sets [] }) }
     {
-        if depth <= ROW {
+        if depth <= SHALLOW {
             return Ok(Stacks {
                 near: RecencyLists::new(alloc, sets, depth)?,
                 beyond: 0,
@@ -63,6 +66,14 @@ impl Stacks {
         let near = RecencyLists::new(alloc, sets, ROW)?;
         let far = far_lists(alloc, sets, beyond)?;
         Ok(Stacks { near, beyond, far })
+    }
+
+    /// Whether all lists stand in their rows alone.
+    #[inline(always)]
+    pub fn in_rows(&self) -> bool
+        ensures { IsTrue result ↔ (self.now.depth ≤ SHALLOW) }
+    {
+        self.beyond == 0
     }
 
     /// Whether a block is the front of a set's list. Only block 0 has to look at the length. A
@@ -98,36 +109,29 @@ impl Stacks {
     }
 
     /// Brings a block that is neither the front nor the second of a set's list to the front,
-    /// wherever it is.
+    /// wherever it is. All lists stand in their rows alone.
     #[inline(always)]
     pub fn bring(&mut self, set: usize, block: u64) -> Touch
         requires within { set < length self.old.lists }
+        requires shallow { self.old.depth ≤ SHALLOW }
         requires behind { is_front block (slice_index_or self.old.lists set []) ≡ false }
         requires further { is_second block (slice_index_or self.old.lists set []) ≡ false }
         ensures found { result ≡ touch_of block (slice_index_or self.old.lists set []) }
         ensures moved { self.new ≡ brought self.old set block }
     {
-        if self.beyond == 0 {
-            self.near.bring(set, block)
-        } else {
-            self.bring_far(set, block)
-        }
+        self.near.bring(set, block)
     }
 
-    /// The same, where lists may be longer than their rows. It stands apart, so that the path of
-    /// the others stays short.
-    #[inline(never)]
-    fn bring_far(&mut self, set: usize, block: u64) -> Touch
+    /// The same, where lists may be longer than their rows.
+    #[inline(always)]
+    pub fn bring_far(&mut self, set: usize, block: u64) -> Touch
         requires within { set < length self.old.lists }
+        requires deep { SHALLOW < self.old.depth }
         requires behind { is_front block (slice_index_or self.old.lists set []) ≡ false }
         requires further { is_second block (slice_index_or self.old.lists set []) ≡ false }
         ensures found { result ≡ touch_of block (slice_index_or self.old.lists set []) }
         ensures moved { self.new ≡ brought self.old set block }
     {
-        // Its caller knows this to be false, but no contract can say so.
-        if self.beyond == 0 {
-            return self.near.bring(set, block);
-        }
         match bring_near(&mut self.near, set, block) {
             InRow::Settled(touch) => touch,
             InRow::Full(held, last) => exchange(&mut self.far[set], held, block, last),
@@ -173,7 +177,7 @@ fn held_by(far: &[DeepList]) -> u64
 }
 
 /// Brings a block to the front of its row.
-#[inline(never)]
+#[inline(always)]
 fn bring_near(near: &mut RecencyLists, set: usize, block: u64) -> InRow
     requires within { set < length near.old.lists }
     requires two { 2 ≤ near.old.depth }

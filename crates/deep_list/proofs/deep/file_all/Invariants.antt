@@ -1,8 +1,11 @@
-use Rattle.std.proofs.Common.{ℕ, ◌<◌, ◌≡◌, length, get_or}
-use Rattle.deep_list.specs.Buckets.{IsBuckets, IsFiled}
+use Rattle.std.proofs.Common.{◌≤◌, length}
+use Rattle.deep_list.specs.Chains.{AreChains, AreFiledFrom}
 use Rattle.deep_list.proofs.deep.file_all.Given as goal
 
 abbrev pub invariant-loop-slot : goal.invariant-loop-slot
 invariant-loop-slot l =
-    IsBuckets (length l.slots.live) l.buckets
-    × ((s : ℕ) → s < l.slot → get_or l.slots.live s 0 ≡ 1 → IsFiled l.buckets (get_or l.slots.blocks s 0) s)
+    (l.top ≤ l.slot) × (l.slot ≤ length l.slots.live) × AreChains l.slot (length l.slots.live) l.chains
+    × AreFiledFrom l.slot l.chains l.slots
+
+abbrev pub decreases-loop-slot : goal.decreases-loop-slot
+decreases-loop-slot l = l.slot

@@ -1,6 +1,6 @@
 use Rattle.std.proofs.Common.{◌≡◌, ◌+◌, ◌-◌, ◌<◌, ◌≤◌, ◌∙◌, [], ◌∷◌, length, get_or, set, sym, ap, List, ℕ, arith, subst}
 use Rattle.deep_list.specs.Slots.{SlotsValue, kept, filled}
-use Rattle.deep_list.specs.Buckets.{BucketsValue, IsBuckets, IsFiled}
+use Rattle.deep_list.specs.Chains.{ChainsValue}
 use Rattle.deep_list.specs.Deep.{Deep, IsDeep, is_in, IsRanked}
 use Rattle.deep_list.proofs.DeepLemmas.{filled_kept, filled_deep, filled_ranked}
 use Rattle.deep_list.proofs.deep.DeepList.put_first.Goals as goal
@@ -16,16 +16,11 @@ invariant_of-self c =
     let at = next (goal.at.invariant_of-self c).After-make_room-self-inside in
     let w : SlotsValue = filled room.new.slots t c.args.block in
     let is : c.fill.new.self ≡ w = c.fill.ensures in
-    let E : SlotsValue → Type 0 = λ v. IsBuckets (length v.live) c.add.new.self in
-    let F : SlotsValue → Type 0 = λ v. IsFiled c.add.new.self (get_or v.blocks t 0) t in
-    let G : SlotsValue → Type 0 = λ v. (s : ℕ) → get_or v.live s 0 ≡ 1 → IsFiled room.new.buckets (get_or v.blocks s 0) s
-    → IsFiled c.add.new.self (get_or v.blocks s 0) s in
+    let P : ChainsValue → Type 0 = λ v. IsRanked t room.result.end w v in
     filled_deep c.self.invariant room.ensures.ranked room.ensures.kept_same room.ensures.long c.args.block t at
     (ap (λ v. is_in c.args.block v.blocks) c.self.view_is ∙ c.requires.other)
     (omega (arith, c.requires.room, ap (λ v. length v.blocks) c.self.view_is, ap (λ v. v.cap) c.self.view_is))
-    c.fill.new.self c.add.new.self is
-    (filled_ranked room.ensures.ranked c.args.block t at c.add.new.self (subst E is c.add.ensures.buckets) (subst F is c.add.ensures.filed)
-    (subst G is c.add.ensures.others))
+    c.fill.new.self c.add.new.self is (subst P (sym c.add.ensures) (filled_ranked room.ensures.ranked c.args.block t at))
 
 pub returns : goal.returns
 returns c =

@@ -1,7 +1,7 @@
 use Rattle.std.proofs.Common.{◌≡◌, ◌+◌, ◌-◌, ◌*◌, ◌/◌, ◌<◌, ◌≤◌, ◌^◌, ◌∙◌, ap, sym, subst, sum, take, drop, arith, length, ℕ, List}
 use Rattle.std.proofs.lemmas.List.{drop-take}
 use Rattle.std.proofs.lemmas.List.Sums.{sum_by-take-drop}
-use Rattle.deep_list.proofs.SlotLemmas.{live_before, sum_small, at_chunk}
+use Rattle.deep_list.proofs.SlotLemmas.{live_before, sum_small, at_chunk, part_small}
 use Rattle.deep_list.proofs.slots.Slots.live_before.Goals as goal
 
 pub total-before-requires : goal.total-before-requires
@@ -17,12 +17,9 @@ total-before-requires c =
 
 pub total_flags-within-requires : goal.total_flags-within-requires
 total_flags-within-requires c =
-    let lt : c.args.slot < length c.self.inside.live.items = omega (arith, c.requires, ap (λ v. length v.live) c.self.view_is) in
-    let i = c.self.invariant in
     omega (
       arith,
-      live_before i c.args.slot lt,
-      sum_small i c.args.slot,
+      part_small c.self.invariant c.args.slot,
       ap (λ xs. sum (take (c.args.slot - c.args.slot / 256 * 256) (drop (c.args.slot / 256 * 256) xs))) c.deref-2.ensures.value,
     )
 

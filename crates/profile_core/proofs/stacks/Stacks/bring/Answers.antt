@@ -4,7 +4,7 @@ use Rattle.deep_list.specs.Deep.{Deep, exchanged}
 use Rattle.profile_core.specs.Moves.{is_front, is_second, is_in, move_to_front, touch_of}
 use Rattle.profile_core.specs.Slab.{Lists, brought}
 use Rattle.profile_core.specs.Stacks.{joined, nothing, rest_touch_of}
-use Rattle.profile_core.proofs.StackLemmas.{length-joined, front_is, second_is, all_stay, stays_stacked, stays_lists, stays_touch, settled_stays, settled_touch}
+use Rattle.profile_core.proofs.StackLemmas.{length-joined, front_is, second_is, all_stay, none_beyond, stays_stacked, stays_lists, stays_touch, settled_stays, settled_touch}
 use Rattle.profile_core.proofs.stacks.Stacks.bring.Goals as goal
 use Rattle.profile_core.proofs.stacks.Stacks.bring.Goals.{After-self}
 
@@ -21,6 +21,9 @@ second : (c : After-self) → is_second c.args.block (get_or c.self.inside.near.
 second c =
     second_is c.self.invariant c.args.block c.args.set (lt c) ∙ ap (λ v. is_second c.args.block (get_or v.lists c.args.set [])) c.self.view_is
     ∙ c.requires.further
+
+none : (c : After-self) → c.self.inside.beyond ≡ 0
+none c = none_beyond c.self.invariant c.args.self.now c.self.view_is c.requires.shallow
 
 touch_is : (c : After-self) → touch_of c.args.block (get_or (joined c.self.inside.near.lists c.self.inside.far.items) c.args.set [])
     ≡ touch_of c.args.block (get_or c.args.self.now.lists c.args.set [])
@@ -49,19 +52,19 @@ bring-requires-clause-further c = second (goal.at.bring-requires-clause-further 
 pub invariant_of-self : goal.invariant_of-self
 invariant_of-self c =
     let at = (goal.at.invariant_of-self c).After-self in
-    stays_stacked c.self.invariant c.args.block c.args.set (lt at) (all_stay c.self.invariant c.args.block c.args.set (lt at) c.if-self-eq0.true)
+    stays_stacked c.self.invariant c.args.block c.args.set (lt at) (all_stay c.self.invariant c.args.block c.args.set (lt at) (none at))
     c.bring.new.self c.bring.ensures.moved
 
-pub returns-then-self-eq0-clause-found : goal.returns-then-self-eq0-clause-found
-returns-then-self-eq0-clause-found c =
-    let at = (goal.at.returns-then-self-eq0-clause-found c).After-self in
+pub returns-clause-found : goal.returns-clause-found
+returns-clause-found c =
+    let at = (goal.at.returns-clause-found c).After-self in
     c.bring.ensures.found
-    ∙ stays_touch c.self.invariant c.args.block c.args.set (lt at) (all_stay c.self.invariant c.args.block c.args.set (lt at) c.if-self-eq0.true)
+    ∙ stays_touch c.self.invariant c.args.block c.args.set (lt at) (all_stay c.self.invariant c.args.block c.args.set (lt at) (none at))
     ∙ touch_is at
 
-pub returns-then-self-eq0-clause-moved : goal.returns-then-self-eq0-clause-moved
-returns-then-self-eq0-clause-moved c =
-    let at = (goal.at.returns-then-self-eq0-clause-moved c).After-self in
+pub returns-clause-moved : goal.returns-clause-moved
+returns-clause-moved c =
+    let at = (goal.at.returns-clause-moved c).After-self in
     moved at c.bring.new.self c.self.inside.far.items c.bring.ensures.moved
-    (stays_lists c.self.invariant c.args.block c.args.set (lt at) (all_stay c.self.invariant c.args.block c.args.set (lt at) c.if-self-eq0.true)
+    (stays_lists c.self.invariant c.args.block c.args.set (lt at) (all_stay c.self.invariant c.args.block c.args.set (lt at) (none at))
     c.bring.new.self c.bring.ensures.moved)

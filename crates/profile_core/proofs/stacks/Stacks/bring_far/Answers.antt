@@ -4,7 +4,7 @@ use Rattle.deep_list.specs.Deep.{Deep, exchanged}
 use Rattle.profile_core.specs.Moves.{is_front, is_second, is_in, move_to_front, touch_of}
 use Rattle.profile_core.specs.Slab.{Lists, brought}
 use Rattle.profile_core.specs.Stacks.{joined, nothing, rest_touch_of}
-use Rattle.profile_core.proofs.StackLemmas.{length-joined, front_is, second_is, all_stay, stays_stacked, stays_lists, stays_touch, settled_stays, settled_touch}
+use Rattle.profile_core.proofs.StackLemmas.{length-joined, front_is, second_is, some_beyond, two_near, stays_stacked, stays_lists, settled_stays, settled_touch}
 use Rattle.profile_core.proofs.StackLemmas.{IsFull, full_is, far_read, last_apart, held_small, rest_small, full_touch, full_stacked, full_lists}
 use Rattle.profile_core.proofs.stacks.Stacks.bring_far.Goals as goal
 use Rattle.profile_core.proofs.stacks.Stacks.bring_far.Goals.{After-self, After-index_mut}
@@ -38,34 +38,13 @@ moved c near' far' is lists =
     ap (λ v. record { depth = v.depth + c.self.inside.beyond; lists = joined near'.lists far' }) is ∙ ap made lists
     ∙ ap (λ v. brought v c.args.set c.args.block) c.self.view_is
 
-pub bring-requires-clause-within : goal.bring-requires-clause-within
-bring-requires-clause-within c = lt (goal.at.bring-requires-clause-within c).After-self
+some : (c : After-self) → (c.self.inside.beyond ≡ 0 → ⊥)
+some c = some_beyond c.self.invariant c.args.self.now c.self.view_is c.requires.deep
 
-pub bring-requires-clause-behind : goal.bring-requires-clause-behind
-bring-requires-clause-behind c = front (goal.at.bring-requires-clause-behind c).After-self
-
-pub bring-requires-clause-further : goal.bring-requires-clause-further
-bring-requires-clause-further c = second (goal.at.bring-requires-clause-further c).After-self
-
-pub invariant_of-self : goal.invariant_of-self
-invariant_of-self c =
-    let at = (goal.at.invariant_of-self c).After-self in
-    stays_stacked c.self.invariant c.args.block c.args.set (lt at) (all_stay c.self.invariant c.args.block c.args.set (lt at) c.if-self-eq0.true)
-    c.bring.new.self c.bring.ensures.moved
-
-pub returns-then-self-eq0-clause-found : goal.returns-then-self-eq0-clause-found
-returns-then-self-eq0-clause-found c =
-    let at = (goal.at.returns-then-self-eq0-clause-found c).After-self in
-    c.bring.ensures.found
-    ∙ stays_touch c.self.invariant c.args.block c.args.set (lt at) (all_stay c.self.invariant c.args.block c.args.set (lt at) c.if-self-eq0.true)
-    ∙ touch_is at
-
-pub returns-then-self-eq0-clause-moved : goal.returns-then-self-eq0-clause-moved
-returns-then-self-eq0-clause-moved c =
-    let at = (goal.at.returns-then-self-eq0-clause-moved c).After-self in
-    moved at c.bring.new.self c.self.inside.far.items c.bring.ensures.moved
-    (stays_lists c.self.invariant c.args.block c.args.set (lt at) (all_stay c.self.invariant c.args.block c.args.set (lt at) c.if-self-eq0.true)
-    c.bring.new.self c.bring.ensures.moved)
+pub bring_near-requires-clause-two : goal.bring_near-requires-clause-two
+bring_near-requires-clause-two c =
+    let at = (goal.at.bring_near-requires-clause-two c).After-self in
+    two_near c.self.invariant (some at)
 
 pub bring_near-requires-clause-within : goal.bring_near-requires-clause-within
 bring_near-requires-clause-within c = lt (goal.at.bring_near-requires-clause-within c).After-self
@@ -76,9 +55,9 @@ bring_near-requires-clause-behind c = front (goal.at.bring_near-requires-clause-
 pub bring_near-requires-clause-further : goal.bring_near-requires-clause-further
 bring_near-requires-clause-further c = second (goal.at.bring_near-requires-clause-further c).After-self
 
-pub invariant_of-self-in-Settled : goal.invariant_of-self-in-Settled
-invariant_of-self-in-Settled c =
-    let at = (goal.at.invariant_of-self-in-Settled c).After-self in
+pub invariant_of-self : goal.invariant_of-self
+invariant_of-self c =
+    let at = (goal.at.invariant_of-self c).After-self in
     stays_stacked c.self.invariant c.args.block c.args.set (lt at)
     (settled_stays c.self.invariant c.args.block c.args.set (lt at) c.in-Settled.touch c.in-Settled.ensures.found)
     c.bring_near.new.near c.in-Settled.ensures.moved
@@ -100,7 +79,8 @@ full : (c : After-index_mut) → IsFull c.self.inside.near c.self.inside.beyond 
 full c =
     let lt : c.args.set < length c.self.inside.near.lists =
     omega (arith, c.requires.within, ap (λ v. length v.lists) c.self.view_is, length-joined c.self.inside.near.lists c.self.inside.far.items) in
-    full_is c.self.invariant c.args.block c.args.set c.in-Full.held c.in-Full.last lt c.if-self-eq0.false c.in-Full.ensures.found
+    full_is c.self.invariant c.args.block c.args.set c.in-Full.held c.in-Full.last lt
+    (some_beyond c.self.invariant c.args.self.now c.self.view_is c.requires.deep) c.in-Full.ensures.found
 
 read : (c : After-index_mut) → c.index_mut.result.now ≡ get_or c.self.inside.far.items c.args.set nothing
 read c = far_read (full c) c.index_mut.result.now c.index_mut.ensures.value

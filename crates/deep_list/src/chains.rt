@@ -1,0 +1,98 @@
+//! Chains of slots, by which the slot of a block is found. A chain may lead over slots that are no
+//! longer live; that a live slot isn't on the chain of its block is never so.
+ghost use Rattle.std.specs.Prelude.{◌≡◌, ◌<◌, ◌≤◌, ◌^◌, length, replicate};
+ghost use Rattle.std.specs.Prelude.{IfOk, MatchOption};
+ghost use Rattle.deep_list.specs.Slots.{IsAt, NoneHas};
+ghost use Rattle.deep_list.specs.Chains.{chain_of, with_slot, cleared};
+ghost use Rattle.deep_list.specs.Deep.{IsRanked};
+
+use crate::slots::{Slots, Span};
+use std::alloc::{AllocError, Global};
+use std::marker::Model;
+
+/// How many slots of a chain are looked at. Where a chain is longer, which takes many blocks that
+/// were chosen for it, the slots are searched in order, which is faster.
+const LONGEST: usize = 32;
+
+/// Each block has one of the chains. `heads` has the first slot of each chain, and `next` for each
+/// slot the one after it on its chain; the number of slots stands for none.
+#[derive(Drop)]
+pub struct Chains {
+    heads: Vec<u32>,
+    next: Vec<u32>,
+}
+
+impl Model for Chains {
+    ghost use Rattle.deep_list.specs.Chains.{ChainsValue};
+
+    ghost Value = { ChainsValue };
+
+    ghost view = { λ c. record { heads = c.heads.items; next = c.next.items } };
+
+    ghost invariant = { λ c. Unit {0} };
+}
+
+impl Chains {
+    /// Empty chains, for a number of slots.
+    pub fn new(alloc: Global, count: usize, slots: usize) -> Result<Chains, AllocError>
+        requires { slots ≤ 2 ^ 24 }
+        ensures { IfOk result (λ c. c ≡ record { heads = replicate count slots; next = replicate slots 0 }) }
+    {
+        Ok(Chains {
+            heads: vec![in alloc; slots as u32; count]?,
+            next: vec![in alloc; 0; slots]?,
+        })
+    }
+
+    /// The chain of a block: blocks at a stride of any power of two are spread over all.
+    #[inline(always)]
+    fn chain_of(&self, block: u64) -> usize
+        requires some { 1 ≤ length self.now.heads }
+        requires few { length self.now.heads ≤ 2 ^ 24 }
+        ensures { result ≡ chain_of (length self.now.heads) block }
+    {
+        let mixed = block.wrapping_mul(0x9E37_79B9_7F4A_7C15) / 0x1_0000_0000;
+        (mixed * self.heads.len() as u64 / 0x1_0000_0000) as usize
+    }
+
+    /// The live slot that has a block, or none.
+    pub fn find(&self, slots: &Slots, span: Span, block: u64) -> Option<usize>
+        requires { IsRanked span.top span.end slots.now self.now }
+        ensures { MatchOption result (NoneHas slots.now block)
+            (λ slot. (slot < length slots.now.live) × IsAt slots.now block slot) }
+    {
+        let mut slot = self.heads[self.chain_of(block)] as usize;
+        for step in 0..LONGEST {
+            if slot == slots.len() {
+                return None;
+            }
+            if slots.has(slot, block) {
+                return Some(slot);
+            }
+            slot = self.next[slot] as usize;
+        }
+        slots.search(span, block)
+    }
+
+    /// Puts a slot in front of the chain of its block.
+    pub fn add(&mut self, slot: usize, block: u64)
+        requires some { 1 ≤ length self.old.heads }
+        requires few { length self.old.heads ≤ 2 ^ 24 }
+        requires within { slot < length self.old.next }
+        requires small { length self.old.next ≤ 2 ^ 24 }
+        ensures { self.new ≡ with_slot self.old slot (chain_of (length self.old.heads) block) }
+    {
+        let chain = self.chain_of(block);
+        self.next[slot] = self.heads[chain];
+        self.heads[chain] = slot as u32;
+    }
+
+    /// Empties all chains.
+    pub fn clear(&mut self)
+        requires { length self.old.next ≤ 2 ^ 24 }
+        ensures { self.new ≡ cleared self.old }
+    {
+        let none = self.next.len() as u32;
+        self.heads.fill(none);
+    }
+}
