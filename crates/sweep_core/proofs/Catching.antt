@@ -288,7 +288,7 @@ linked-stands r xs h = record {
 
     fed-kept : (ys : List PairProfile) → Each (WasFed (configs_of r) []) ys → Each (WasFed (configs_of r) []) (linked ys)
     fed-kept [] h = tt
-    fed-kept (y ∷ ys) h = (record { sound = h.0.sound; is = h.0.is }, fed-kept ys h.1)
+    fed-kept (y ∷ ys) h = (record { some = h.0.some; sound = h.0.sound; is = h.0.is }, fed-kept ys h.1)
 
 pub linked-items : (made now rest : List PairProfile) (n : ℕ) → n ≡ length made → now ≡ linked made → take n (now ++ rest) ≡ linked made
 linked-items made now rest n len is = take_at now rest n (ap length is ∙ length-linked made ∙ sym len) ∙ is

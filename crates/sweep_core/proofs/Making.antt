@@ -1,6 +1,6 @@
 -- The profiles of a sweep, made one after another as its pairs come.
 use Rattle.std.proofs.Common.{◌≡◌, ℕ, zero, suc, true, false, not, List, [], ◌∷◌, ◌++◌, map, refl, sym, ap, ◌∙◌, Option, None, Some}
-use Rattle.std.proofs.Common.{append-nil, append_assoc, subst, arith, ◌-◌}
+use Rattle.std.proofs.Common.{append-nil, append_assoc, subst, arith, ◌-◌, ◌≤◌}
 use Rattle.std.specs.Prelude.{filter, flat_map, Bool}
 use Rattle.std.specs.List.{AllByRecursion as Each}
 use Rattle.std.proofs.lemmas.Bool.{cond-false, not_from_true, not_from_false}
@@ -63,11 +63,12 @@ pub making-start : (r : Request) → Making r [] (rows_of r)
 making-start r = record { pairs = refl; rows = refl; fed = tt; belong = rows-belong r }
 
 -- a new profile of a pair, as deep as the pair
-pub new-fed : (r : Request) (x : PairProfile) {depth s b : ℕ} → HasDepth r.space x.first depth → is_after r.after x.first ≡ true → IsLimited r.space
+pub new-fed : (r : Request) (x : PairProfile) {depth s b : ℕ} → 1 ≤ x.rows → HasDepth r.space x.first depth → is_after r.after x.first ≡ true → IsLimited r.space
     → s ≡ log2 x.first.sets → b ≡ log2 x.first.bsize → x.profile ≡ empty (geometry_value s depth b) → WasFed (configs_of r) [] x
-new-fed r x {depth = n} d later limits sets bsize new =
+new-fed r x {depth = n} some d later limits sets bsize new =
     let deep = depth-is r.space r.after x.first n limits d.valid later d.reached d.greatest in
     record {
+      some = some;
       sound = subst IsGeometry (same-geometry refl (sym deep) refl) (geometry-of r.space (record x.first { assoc = n }) limits d.reached);
       is = new ∙ ap empty (same-geometry sets (sym deep) bsize);
     }

@@ -39,4 +39,4 @@ work-is all rows es xs are fed = sum-same 0 xs fed ∙ ap (sum_by (λ p. probes 
 -- new profiles, after some events
 pub fed-after : (all : List Config) (es : List Event) (xs : List PairProfile) → Each (WasFed all []) xs → Each (WasFed all es) (all_after es xs)
 fed-after all es [] h = tt
-fed-after all es (x ∷ xs) h = (record { sound = h.0.sound; is = ap (λ p. fold after_event p es) h.0.is }, fed-after all es xs h.1)
+fed-after all es (x ∷ xs) h = (record { some = h.0.some; sound = h.0.sound; is = ap (λ p. fold after_event p es) h.0.is }, fed-after all es xs h.1)

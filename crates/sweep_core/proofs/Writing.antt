@@ -8,7 +8,8 @@ use Rattle.trace_core.proofs.Written.{Wrote-none, Wrote-more, WrotePart-after, W
 use Rattle.cache_core.specs.declared.outcome.Counts.{Counts}
 use Rattle.sweep_core.specs.declared.space.Config.{Config}
 use Rattle.sweep_core.specs.Space.{bytes_of}
-use Rattle.sweep_core.specs.SweepText.{rows_text, row_of, row_counts}
+use Rattle.sweep_core.specs.SweepText.{rows_text, csv_rows, row_of, row_counts}
+use Rattle.sweep_core.specs.Rows.{counted_rows}
 
 -- the bytes of a row, as they are put together
 pub row-pieces : {l₀ l₁ l₂ l₃ l₄ l₅ l₆ l₇ : List ℕ} (c : Config) (size : ℕ) (n : Counts) → size ≡ bytes_of c → l₀ ≡ []
@@ -18,51 +19,47 @@ pub row-pieces : {l₀ l₁ l₂ l₃ l₄ l₅ l₆ l₇ : List ℕ} (c : Confi
     → l₇ ≡ l₆ ++ decimal n.evictions ++ 10 ∷ [] → l₇ ≡ row_of c n
 row-pieces c size n z y a b d e f g h = rw (h, g, f, e, d, b, a, y, z) (simp append_assoc)
 
--- the text of some rows, and then of more
-rows-append : (es : List Event) (cs ds : List Config) → rows_text es (cs ++ ds) ≡ rows_text es cs ++ rows_text es ds
-unfolding rows_text
-rows-append es cs ds = flat_map-append (λ d. row_of d (row_counts es d)) cs ds
+-- the text of rows with their counts is that of the configurations over a trace
+pub csv-counted : (es : List Event) (cs : List Config) → csv_rows (counted_rows es cs) ≡ rows_text es cs
+unfolding csv_rows rows_text
+csv-counted es [] = refl
+csv-counted es (c ∷ cs) = ap (λ l. row_of c (row_counts es c) ++ l) (csv-counted es cs)
 
--- the text of one row
-one-row : (es : List Event) (c : Config) → rows_text es (c ∷ []) ≡ row_of c (row_counts es c)
-unfolding rows_text
-one-row es c = append-nil (row_of c (row_counts es c))
+-- the text of one row more
+csv-more : (rows left : List (Config × Counts)) (row : Config × Counts) → csv_rows (rows ++ row ∷ left) ≡ csv_rows rows ++ (row_of row.0 row.1 ++ csv_rows left)
+unfolding csv_rows
+csv-more rows left row = flat_map-append (λ x. row_of x.0 x.1) rows (row ∷ left)
 
--- Of some rows over a trace those before some that are left were written.
-pub record WroteBefore (rows : List Config) (es : List Event) (old new : SinkView) (left : List Config) : Type 0 where
-  pub front : List Config
+csv-one : (rows : List (Config × Counts)) (row : Config × Counts) → csv_rows (rows ++ row ∷ []) ≡ csv_rows rows ++ row_of row.0 row.1
+unfolding csv_rows
+csv-one rows row = csv-more rows [] row ∙ ap (λ l. csv_rows rows ++ l) (append-nil (row_of row.0 row.1))
+
+-- Of some rows those before some that are left were written.
+pub record WroteBefore (rows : List (Config × Counts)) (old new : SinkView) (left : List (Config × Counts)) : Type 0 where
+  pub front : List (Config × Counts)
   pub whole : rows ≡ front ++ left
-  pub wrote : Wrote old new (rows_text es front)
+  pub wrote : Wrote old new (csv_rows front)
 
-pub rows-begin : (rows : List Config) (es : List Event) (v : SinkView) → WroteBefore rows es v v rows
-unfolding rows_text
-rows-begin rows es v = record { front = []; whole = refl; wrote = Wrote-none v }
+pub rows-begin : (rows : List (Config × Counts)) (v : SinkView) → WroteBefore rows v v rows
+unfolding csv_rows
+rows-begin rows v = record { front = []; whole = refl; wrote = Wrote-none v }
 
--- some more were written
-pub rows-more : {rows : List Config} {es : List Event} {a b d : SinkView} (cs left : List Config)
-    → WroteBefore rows es a b (cs ++ left) → Wrote b d (rows_text es cs) → WroteBefore rows es a d left
-rows-more {es = es} {a = a} {d = d} cs left w more = record {
-  front = w.front ++ cs;
-  whole = w.whole ∙ sym (append_assoc w.front cs left);
-  wrote = subst (Wrote a d) (sym (rows-append es w.front cs)) (Wrote-more w.wrote more);
-}
+module _ {rows left rest : List (Config × Counts)} {row : Config × Counts} {a b d : SinkView} (w : WroteBefore rows a b left) (is : left ≡ row ∷ rest) where
+  -- one more was written
+  pub rows-more : Wrote b d (row_of row.0 row.1) → WroteBefore rows a d rest
+  rows-more more = record {
+    front = w.front ++ row ∷ [];
+    whole = w.whole ∙ ap (λ l. w.front ++ l) is ∙ sym (append_assoc w.front (row ∷ []) rest);
+    wrote = subst (Wrote a d) (sym (csv-one w.front row)) (Wrote-more w.wrote more);
+  }
 
-pub row-more : {rows : List Config} {es : List Event} {a b d : SinkView} (c : Config) (left : List Config)
-    → WroteBefore rows es a b (c ∷ left) → Wrote b d (row_of c (row_counts es c)) → WroteBefore rows es a d left
-row-more {es = es} {b = b} {d = d} c left w more = rows-more (c ∷ []) left w (subst (Wrote b d) (sym (one-row es c)) more)
+  -- the sink failed while it took it
+  pub rows-failed : WrotePart b d (row_of row.0 row.1) → WrotePart a d (csv_rows rows)
+  rows-failed part =
+      subst (WrotePart a d) (sym (ap csv_rows (w.whole ∙ ap (λ l. w.front ++ l) is) ∙ csv-more w.front rest row
+      ∙ sym (append_assoc (csv_rows w.front) (row_of row.0 row.1) (csv_rows rest))))
+      (WrotePart-more (csv_rows rest) (WrotePart-after w.wrote part))
 
-pub rows-written : {rows : List Config} {es : List Event} {a b : SinkView} → WroteBefore rows es a b [] → Wrote a b (rows_text es rows)
-rows-written {es = es} {a = a} {b = b} w =
-    subst (λ l. Wrote a b (rows_text es l)) (sym (w.whole ∙ append-nil w.front)) w.wrote
-
--- the sink failed while it took the first that are left
-pub rows-failed : {rows : List Config} {es : List Event} {a b d : SinkView} (cs left : List Config)
-    → WroteBefore rows es a b (cs ++ left) → WrotePart b d (rows_text es cs) → WrotePart a d (rows_text es rows)
-rows-failed {es = es} {a = a} {d = d} cs left w part =
-    subst (WrotePart a d) (sym (ap (rows_text es) (w.whole ∙ sym (append_assoc w.front cs left))
-    ∙ rows-append es (w.front ++ cs) left ∙ ap (λ l. l ++ rows_text es left) (rows-append es w.front cs)))
-    (WrotePart-more (rows_text es left) (WrotePart-after w.wrote part))
-
-pub row-failed : {rows : List Config} {es : List Event} {a b d : SinkView} (c : Config) (left : List Config)
-    → WroteBefore rows es a b (c ∷ left) → WrotePart b d (row_of c (row_counts es c)) → WrotePart a d (rows_text es rows)
-row-failed {es = es} {b = b} {d = d} c left w part = rows-failed (c ∷ []) left w (subst (WrotePart b d) (sym (one-row es c)) part)
+pub rows-written : {rows left : List (Config × Counts)} {a b : SinkView} → WroteBefore rows a b left → left ≡ [] → Wrote a b (csv_rows rows)
+rows-written {a = a} {b = b} w none =
+    subst (λ l. Wrote a b (csv_rows l)) (sym (w.whole ∙ ap (λ l. w.front ++ l) none ∙ append-nil w.front)) w.wrote

@@ -5,5 +5,6 @@ pub mod SweepText
 pub mod Pages
 pub mod Work
 pub mod Runs
+pub mod Rows
 pub mod Pass
 pub mod Implied

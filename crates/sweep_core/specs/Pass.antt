@@ -1,5 +1,5 @@
 -- What the profiles of a sweep hold.
-use Rattle.std.specs.Prelude.{◌≡◌, ℕ, None, List, map, filter, flat_map, fold, Result, Ok, Err}
+use Rattle.std.specs.Prelude.{◌≡◌, ◌≤◌, ℕ, None, List, map, filter, flat_map, fold, Result, Ok, Err}
 use Rattle.std.specs.List.{AllByRecursion}
 use Rattle.trace_core.specs.declared.events.Ref.{Ref}
 use Rattle.trace_core.specs.declared.events.Event.{Event}
@@ -44,9 +44,10 @@ kept_events kind refs = map event.Reference (filter (λ r. keeps kind r.access) 
 abbrev pub all_after : List Event → List PairProfile → List PairProfile
 all_after es xs = map (pair_after_events es) xs
 
--- a profile was made for its pair, within the limits and as deep as the greatest associativity of the pair in all,
+-- a profile was made for the rows of its pair, within the limits and as deep as the greatest associativity of the pair in all,
 -- and was fed some events
 pub record WasFed (all : List Config) (es : List Event) (x : PairProfile) : Type 0 where
+  pub some : 1 ≤ x.rows
   pub sound : IsGeometry (geometry_of_pair all (pair_of x.first))
   pub is : x.profile ≡ fold after_event (empty (geometry_of_pair all (pair_of x.first))) es
 

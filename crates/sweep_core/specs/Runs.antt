@@ -1,13 +1,13 @@
 -- The rows of a pair: configurations of one block size and set count, whose associativities follow one another.
-use Rattle.std.specs.Prelude.{◌≡◌, ℕ, zero, suc, ◌+◌, ◌*◌, ◌^◌, ◌<◌, ◌≤◌, if◌then◌else◌, Bool, false, List, [], ◌∷◌, ◌++◌}
+use Rattle.std.specs.Prelude.{◌≡◌, ℕ, zero, suc, ◌+◌, ◌*◌, ◌^◌, ◌≤◌, if◌then◌else◌, Bool, false, List, [], ◌∷◌, ◌++◌}
+use Rattle.std.specs.Prelude.{Option, None, Some, IfSome, map, flat_map}
 use Rattle.std.specs.List.{AllByRecursion}
-use Rattle.trace_core.specs.declared.events.Event.{Event}
-use Rattle.cache_core.specs.Geometry.{geometry_value}
-use Rattle.profile_core.specs.ProfileStandsFor.{ProfileStandsFor}
+use Rattle.cache_core.specs.declared.outcome.Counts.{Counts}
+use Rattle.profile_core.specs.State.{ProfileState, counts_at, hit_sums_at}
 use Rattle.sweep_core.specs.declared.space.Config.{Config}
 use Rattle.sweep_core.specs.declared.profiles.PairProfile.{PairProfile}
-use Rattle.sweep_core.specs.Space.{bytes_of}
-use Rattle.cache_core.specs.Powers.{log2}
+use Rattle.sweep_core.specs.declared.rows.PairWalk.{PairWalk}
+use Rattle.sweep_core.specs.Space.{HasSize, most_ways}
 use Rattle.sweep_core.specs.Work.{pair_of, has_pair}
 
 -- the associativity after another: the next number, or if powers of two alone count, the next of these
@@ -33,14 +33,38 @@ pub record BeginsWith (powers : Bool) (rows : List Config) (run : Config × ℕ)
   pub whole : rows ≡ run_of powers run.0 run.1 ++ left
   pub apart : AllByRecursion (λ d. has_pair (pair_of d) run.0 ≡ false) left
 
--- a profile has the counts of a row, whose size fits
-pub record Serves (x : PairProfile) (c : Config) : Type 0 where
-  pub some : 1 ≤ c.assoc
-  pub deep : c.assoc ≤ x.profile.geometry.e
-  pub fits : (c.bsize * c.sets < 2 ^ 64) × (bytes_of c < 2 ^ 64)
+-- n configurations from one on, each with what a profile counts for it
+abbrev pub counted_run : Bool → ProfileState → Config → ℕ → List (Config × Counts)
+counted_run powers v c n = map (λ d. (d, counts_at v d.assoc)) (run_of powers c n)
 
--- a profile stands for a trace, has the geometry of its pair, and serves its rows
-pub record ServesRows (powers : Bool) (es : List Event) (x : PairProfile) : Type 0 where
-  pub stands : ProfileStandsFor es x.profile
-  pub geometry : x.profile.geometry ≡ geometry_value (log2 x.first.sets) x.profile.geometry.e (log2 x.first.bsize)
-  pub rows : AllByRecursion (Serves x) (rows_of_profile powers x)
+-- the rows of some profiles, each with its counts
+abbrev pub counted_profiles : Bool → List PairProfile → List (Config × Counts)
+counted_profiles powers xs = flat_map (λ x. counted_run powers x.profile x.first x.rows) xs
+
+-- a profile has the counts of a row, whose size fits
+pub record Serves (v : ProfileState) (c : Config) : Type 0 where
+  pub some : 1 ≤ c.assoc
+  pub deep : c.assoc ≤ v.geometry.e
+  pub few : c.assoc ≤ most_ways
+  pub fits : HasSize c
+
+-- a profile serves its rows, of which there is one at least
+pub record ServesRows (powers : Bool) (x : PairProfile) : Type 0 where
+  pub some : 1 ≤ x.rows
+  pub rows : AllByRecursion (Serves x.profile) (rows_of_profile powers x)
+
+-- a walk over the rows of a pair serves those that are left, from the associativity to which its sums came
+pub record IsWalk (powers : Bool) (w : PairWalk) : Type 0 where
+  pub summed : w.sums ≡ hit_sums_at w.profile.now w.sums.ways
+  pub rising : w.sums.ways ≤ w.next.assoc
+  pub serves : AllByRecursion (Serves w.profile.now) (run_of powers w.next w.left)
+
+-- the rows that are left: those of a pair that is walked, and then those of other pairs
+abbrev pub rows_to_come : Bool → Option PairWalk → List PairProfile → List (Config × Counts)
+rows_to_come powers None later = counted_profiles powers later
+rows_to_come powers (Some w) later = counted_run powers w.profile.now w.next w.left ++ counted_profiles powers later
+
+-- they can be had
+pub record MayCome (powers : Bool) (pair : Option PairWalk) (later : List PairProfile) : Type 0 where
+  pub walks : IfSome pair (λ w. (1 ≤ w.left) × IsWalk powers w)
+  pub serve : AllByRecursion (ServesRows powers) later

@@ -1,5 +1,5 @@
 -- Which configurations a space has, and which ranges make a space.
-use Rattle.std.specs.Prelude.{ℕ, ◌*◌, ◌^◌, ◌&&◌, ◌||◌, not, nat_lt, nat_le, Bool, Option, None, Some, Result, Ok, Err, List, []}
+use Rattle.std.specs.Prelude.{ℕ, ◌<◌, ◌*◌, ◌^◌, ◌&&◌, ◌||◌, not, nat_lt, nat_le, Bool, Option, None, Some, Result, Ok, Err, List, []}
 use Rattle.std.specs.Prelude.{◌∷◌, if◌then◌else◌, codes}
 use Rattle.cache_core.specs.Powers.{is_power}
 use Rattle.sweep_core.specs.declared.space.Config.{Config}
@@ -55,6 +55,10 @@ config bsize sets assoc = record { bsize = bsize; sets = sets; assoc = assoc }
 -- the bytes of all lines
 abbrev pub bytes_of : Config → ℕ
 bytes_of c = c.bsize * c.sets * c.assoc
+
+-- the size of a configuration fits in 64 bits, and so does that of one way
+abbrev pub HasSize : Config → Type 0
+HasSize c = (c.bsize * c.sets < 2 ^ 64) × (bytes_of c < 2 ^ 64)
 
 -- whether a configuration is one of a space
 abbrev pub is_valid : Ranges → Config → Bool

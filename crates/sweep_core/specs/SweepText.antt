@@ -29,6 +29,10 @@ csv_line numbers = join_with_byte 44 (map decimal numbers) ++ 10 ∷ []
 abbrev pub row_of : Config → Counts → List ℕ
 row_of c n = csv_line (c.bsize ∷ c.sets ∷ c.assoc ∷ bytes_of c ∷ n.hits ∷ n.misses ∷ n.evictions ∷ [])
 
+-- the text of some rows
+unfoldable pub csv_rows : List (Config × Counts) → List ℕ
+csv_rows rows = flat_map (λ row. row_of row.0 row.1) rows
+
 -- the header, which is written only if a sweep begins at the first configuration
 abbrev pub header_of : Option Config → List ℕ
 header_of None = codes "bsize,sets,assoc,size,hits,misses,evictions\n"

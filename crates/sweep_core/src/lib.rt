@@ -6,11 +6,13 @@ mod pass;
 mod profiles;
 pub mod request;
 mod row_text;
+pub mod rows;
 pub mod space;
 pub mod sweep;
 mod table;
 
 pub use request::Request;
+pub use rows::{Rows, SweepCounts};
 pub use space::configs::Configs;
 pub use space::{Cause, Config, Space, SpaceFault, Which};
 pub use sweep::SweepFault;

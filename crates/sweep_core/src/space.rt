@@ -21,13 +21,13 @@ pub struct Config {
 }
 
 impl Config {
-    ghost use Rattle.sweep_core.specs.Space.{bytes_of};
-    ghost use Rattle.std.specs.Prelude.{◌≡◌, ◌<◌, ◌*◌, ◌^◌};
+    ghost use Rattle.std.specs.Prelude.{◌≡◌};
+    ghost use Rattle.sweep_core.specs.Space.{bytes_of, HasSize};
 
-    /// The bytes of all its lines.
-    pub(crate) fn bytes(&self) -> u64
-        requires pair { self.now.bsize * self.now.sets < 2 ^ 64 }
-        requires all { bytes_of self.now < 2 ^ 64 }
+    /// The bytes of all its lines, which have to be fewer than 2^64. The configurations of a space
+    /// have at most 2^42.
+    pub fn bytes(&self) -> u64
+        requires { HasSize self.now }
         ensures { result ≡ bytes_of self.now }
     {
         self.bsize * self.sets * self.assoc

@@ -4,14 +4,13 @@ ghost use Rattle.trace_core.specs.Task.{Performs};
 ghost use Rattle.sweep_core.specs.SweepText.{sweep_task};
 ghost use Rattle.sweep_core.specs.Work.{sweep_work};
 
-use crate::pass::read_trace;
-use crate::profiles::{make_profiles, total_probes};
 use crate::request::Request;
+use crate::rows::SweepCounts;
 use crate::table::write_table;
 use std::alloc::Global;
 use trace_core::fault::RunFault;
 use trace_core::io::{Sink, Source};
-use trace_core::reader::{Lines, MAX_LINES};
+use trace_core::reader::MAX_LINES;
 
 /// Why a sweep stopped before its end. It takes all its memory before it reads, and reads the whole
 /// trace before it writes.
@@ -50,9 +49,7 @@ pub fn sweep<S: Source, K: Sink>(
     ensures work { IfOk result (λ compared. IfSome (S.view source.old).remaining (λ text.
         compared ≡ sweep_work request.now text)) }
 {
-    let mut lines = Lines::new(alloc, request.format, request.max_lines)?;
-    let mut profiles = make_profiles(alloc, request)?;
-    read_trace(&mut lines, request.kind, source, &mut profiles)?;
-    write_table(sink, request, &profiles)?;
-    Ok(total_probes(&profiles))
+    let counts = SweepCounts::read(alloc, request, source)?;
+    write_table(sink, request.after, &counts)?;
+    Ok(counts.comparisons())
 }

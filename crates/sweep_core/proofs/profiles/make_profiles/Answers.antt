@@ -29,7 +29,7 @@ loop-rows-preserved c =
     let later = (making-first r c.loop-rows.invariant c.in-Some.ensures.rows).1 in
     rw c.in_ok-push.ensures.items
     (making-more r c.loop-rows.invariant c.in-Some.ensures.rows _ refl refl
-    (new-fed r _ c.in-Some.ensures.depth later (space-limited r.space c.take_pair.ensures.limits)
+    (new-fed r _ c.in-Some.ensures.rows.some c.in-Some.ensures.depth later (space-limited r.space c.take_pair.ensures.limits)
     c.bits_of-in-Some.ensures c.bits_of.ensures c.in_ok-new.ensures))
 
 -- what is made is linked

@@ -1,14 +1,10 @@
--- The rows of the profiles so far were written.
-use Rattle.std.proofs.Common.{List, drop}
-use Rattle.std.specs.Prelude.{flat_map}
-use Rattle.trace_core.specs.declared.events.Event.{Event}
-use Rattle.sweep_core.specs.SweepText.{rows_of}
-use Rattle.sweep_core.specs.Runs.{rows_of_profile}
-use Rattle.sweep_core.specs.Pass.{SweepStandsFor}
+-- The rows so far were written, and the sizes of the others fit.
+use Rattle.std.specs.List.{AllByRecursion}
+use Rattle.sweep_core.specs.Space.{HasSize}
 use Rattle.sweep_core.proofs.Writing.{WroteBefore}
 use Rattle.sweep_core.proofs.table.write_rows.Given as goal
 
-abbrev pub invariant-loop-pair : goal.invariant-loop-pair
-invariant-loop-pair g l =
-    (es : List Event) → SweepStandsFor l.request es l.profiles → WroteBefore (rows_of l.request) es (g.K.Sink.view l.initial.sink) (g.K.Sink.view l.sink)
-    (flat_map (rows_of_profile l.request.space.powers) (drop l.pair-index l.profiles))
+abbrev pub invariant-loop-config : goal.invariant-loop-config
+invariant-loop-config g l =
+    AllByRecursion (λ row. HasSize row.0) l.config-iterator
+    × WroteBefore l.fn.rows (g.K.Sink.view l.initial.sink) (g.K.Sink.view l.sink) l.config-iterator
