@@ -19,6 +19,7 @@ pub mod DirtyLaw
 pub mod DownLaw
 pub mod LruSet
 pub mod LruRun
+pub mod MoreWays
 pub mod Pushes
 pub mod Simulating
 pub mod Exponents

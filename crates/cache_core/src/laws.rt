@@ -1,11 +1,13 @@
 //! Laws over the definitions: each is the contract of a function with no code, so that the gate
-//! proves it. Proofs of other crates may cite the lemma that proves it.
-ghost use Rattle.std.specs.Prelude.{◌≡◌, ◌↔◌, true, List, [], ◌∷◌, ◌++◌};
+//! proves it. A caller uses a law by calling its function, which costs nothing: below the call the
+//! law is known. A proof may cite the lemma that a law names instead.
+ghost use Rattle.std.specs.Prelude.{ℕ, ◌≡◌, ◌≤◌, ◌*◌, ◌↔◌, true, List, [], ◌∷◌, ◌++◌};
 ghost use Rattle.trace_core.specs.declared.events.Ref.{Ref};
 ghost use Rattle.trace_core.specs.declared.events.Event.{Event};
 ghost use Rattle.trace_core.specs.declared.events.Event.TheVariants as event;
 ghost use Rattle.cache_core.specs.Geometry.{GeometryValue, IsGeometry, is_geometry};
-ghost use Rattle.cache_core.specs.Windows.{window, window_after, occurrences};
+ghost use Rattle.cache_core.specs.Geometry.{geometry_value};
+ghost use Rattle.cache_core.specs.Windows.{window, window_after, occurrences, counts};
 ghost use Rattle.cache_core.specs.Stands.{StartLaw, AccessLaw, FlushLaw, RunLaw, OrderLaw, DownLaw};
 ghost use Rattle.cache_core.specs.AnyPolicy.{TouchKeeps, PlaceKeeps};
 ghost use Rattle.cache_core.specs.AnyPolicy.{AnyStartLaw, AnyAccessLaw, AnyFlushLaw};
@@ -93,6 +95,20 @@ pub fn window_is_machine()
 pub fn inclusion()
     ensures hits { HitInclusion }
     ensures held { HeldInclusion }
+{}
+
+/// With more lines in each of as many sets an LRU cache hits no less, and misses and evicts no more
+/// (Mattson and others 1970); so a fully associative cache of twice the lines misses no more.
+pub fn more_ways_miss_no_more()
+    ensures hits { (g : GeometryValue) (ways : ℕ) (events : List Event) → g.e ≤ ways →
+        (counts g events).hits ≤ (counts (record g { e = ways }) events).hits }
+    ensures misses { (g : GeometryValue) (ways : ℕ) (events : List Event) → g.e ≤ ways →
+        (counts (record g { e = ways }) events).misses ≤ (counts g events).misses }
+    ensures evictions { (g : GeometryValue) (ways : ℕ) (events : List Event) → g.e ≤ ways →
+        (counts (record g { e = ways }) events).evictions ≤ (counts g events).evictions }
+    ensures doubled { (e b : ℕ) (events : List Event) →
+        (counts (geometry_value 0 (e * 2) b) events).misses
+        ≤ (counts (geometry_value 0 e b) events).misses }
 {}
 
 /// The test of a geometry is that its limits hold.

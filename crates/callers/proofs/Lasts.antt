@@ -1,7 +1,8 @@
--- A full set that gives up its last slot.
-use Rattle.std.proofs.Common.{◌≡◌, ℕ, ◌+◌, ◌-◌, ◌<◌, List, [], ◌∷◌, ◌++◌, Some, None, length, take, arith, ap, sym, ◌∙◌, length-take, length-set}
-use Rattle.std.specs.Prelude.{slice_index_or, slice_set}
-use Rattle.std.proofs.lemmas.List.{take_all, take_more, take_more_set}
+-- A set that takes a slot in, and gives up its last one if it is full.
+use Rattle.std.proofs.Common.{◌≡◌, ℕ, ◌+◌, ◌-◌, ◌<◌, List, [], ◌∷◌, ◌++◌, Some, None, length, take, arith, ap, sym, ◌∙◌, length-take, length-set, get_or-set_same}
+use Rattle.std.specs.Prelude.{slice_get, slice_index_or, slice_set}
+use Rattle.std.proofs.lemmas.List.{get_or-take, take_all, take_more, take_more_set}
+use Rattle.std.proofs.lemmas.Option.{slice_get-get_or}
 use Rattle.std.proofs.lemmas.List.Sorted.{IsPermutation-sym, IsPermutation-to_front}
 use Rattle.cache_core.specs.declared.outcome.Slot.{Slot}
 use Rattle.cache_core.specs.Order.{TakesIn}
@@ -20,3 +21,9 @@ last_exchanged s n slot none e h =
       omega (arith, e, length-take n s),
       (take i s, rw before (IsPermutation-to_front (take i s) _), rw after (IsPermutation-sym _ _ (IsPermutation-to_front (take i s) slot))),
     )
+
+-- what was written among the first n stands there
+pub written : (n : ℕ) (xs : List Slot) (i : ℕ) (x : Slot) → i < length xs → i < n → slice_get (take n (slice_set xs i x)) i ≡ Some x
+written n xs i x h lt =
+    slice_get-get_or (take n (slice_set xs i x)) i x (omega (arith, length-take n (slice_set xs i x), length-set xs i x))
+    ∙ ap Some (get_or-take n (slice_set xs i x) i x lt ∙ get_or-set_same xs i x x h)

@@ -1,1 +1,4 @@
 mod Lasts
+pub mod Choosing
+pub mod Touching
+pub mod Fed

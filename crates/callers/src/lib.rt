@@ -1,14 +1,16 @@
-//! Short callers of the libraries, each proved from the contracts (three cite lemmas of the
-//! libraries' proofs): what a caller gets to
-//! know, and how it says so. Each library's page `CALLING.md` names those that show it.
+//! Short callers of the libraries, each proved from the contracts and laws alone: what a caller gets
+//! to know, and how it says so. Each library's page `CALLING.md` prints one, and names the others.
 #![tactic(auto)]
 
+pub mod doubling;
 pub mod observers;
+pub mod pages;
 pub mod policies;
 pub mod profiles;
 pub mod readers;
 pub mod runs;
 pub mod simulations;
+pub mod smallest;
 pub mod spaces;
 pub mod sweeps;
 pub mod words;

@@ -2,6 +2,7 @@
 ghost use Rattle.std.specs.Prelude.{◌≡◌, ◌≤◌, IfOk};
 ghost use Rattle.cache_core.specs.Slab.{empty_sets};
 
+use cache_core::laws::slots_are_kept;
 use cache_core::{AllocMode, Cache, Geometry, Lru, Replacement, Slot, WriteMode};
 use std::alloc::{AllocError, Global};
 
@@ -12,10 +13,12 @@ pub struct LruInsertion;
 
 impl Replacement for LruInsertion {
     fn touch(&mut self, set: &mut [Slot], at: usize) -> usize {
+        slots_are_kept();
         Lru::new().touch(set, at)
     }
 
     fn place(&mut self, set: &mut [Slot], filled: usize, new: Slot) -> (usize, Option<Slot>) {
+        slots_are_kept();
         if filled < set.len() {
             set[filled] = new;
             return (filled, None);

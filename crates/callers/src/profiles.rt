@@ -4,6 +4,7 @@ ghost use Rattle.profile_core.specs.State.{counts_at};
 
 use cache_core::Counts;
 use profile_core::Profile;
+use profile_core::laws::more_ways_miss_no_more;
 
 /// The counts of a profile's references at two associativities. A cache with more lines in each set
 /// hits at least as often, and misses and evicts no more (inclusion: Mattson and others 1970).
@@ -18,5 +19,6 @@ pub fn counts_at_two(profile: &Profile, few: u64, many: u64) -> (Counts, Counts)
     ensures evictions { result.1.evictions ≤ result.0.evictions }
     ensures all { result.0.hits + result.0.misses ≡ result.1.hits + result.1.misses }
 {
+    more_ways_miss_no_more();
     (profile.counts(few), profile.counts(many))
 }

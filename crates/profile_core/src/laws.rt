@@ -1,15 +1,16 @@
 //! Laws over the definitions: each is the contract of a function with no code, so that the gate
-//! proves it. Proofs of other crates may cite the lemma that proves it.
+//! proves it. A caller uses a law by calling its function, which costs nothing: below the call the
+//! law is known. A proof may cite the lemma that a law names instead.
 
-ghost use Rattle.std.specs.Prelude.{ℕ, ◌≡◌, true, ◌≤◌, ◌*◌, List, ◌++◌, ◌∷◌, [], length, fold};
+ghost use Rattle.std.specs.Prelude.{ℕ, ◌≡◌, true, ◌≤◌, ◌+◌, ◌*◌, List, ◌++◌, ◌∷◌, [], length, fold};
 ghost use Rattle.trace_core.specs.declared.events.Ref.{Ref};
 ghost use Rattle.trace_core.specs.declared.events.Event.{Event};
 ghost use Rattle.trace_core.specs.declared.events.Event.TheVariants as event;
 ghost use Rattle.cache_core.specs.Geometry.{GeometryValue, IsGeometry, block_of};
-ghost use Rattle.cache_core.specs.Windows.{occurrences, probes, has_last, distance};
+ghost use Rattle.cache_core.specs.Windows.{occurrences, counts, probes, has_last, distance};
 ghost use Rattle.cache_core.specs.LruLaws.{occurrence_after};
 ghost use Rattle.profile_core.specs.State.{ProfileState, empty, after_reference, after_flush};
-ghost use Rattle.profile_core.specs.State.{after_event};
+ghost use Rattle.profile_core.specs.State.{after_event, fed_of, counts_at};
 ghost use Rattle.profile_core.specs.Fronts.{finds_front, is_refined};
 ghost use Rattle.profile_core.specs.ProfileStandsFor.{ProfileStandsFor};
 
@@ -54,4 +55,35 @@ pub fn distance_0_is_refined()
 pub fn probes_bounded()
     ensures { (g : GeometryValue) (es : List Event)
         → probes g es ≤ length (occurrences g es) * g.e }
+{}
+
+/// Events keep a profile's geometry.
+pub fn events_keep_the_geometry()
+    ensures { (v : ProfileState) (es : List Event)
+        → (fold after_event v es).geometry ≡ v.geometry }
+{}
+
+/// A new profile was fed no reference.
+pub fn new_profile_was_fed_nothing()
+    ensures { (g : GeometryValue) → fed_of (empty g) ≡ 0 }
+{}
+
+/// The counts of a profile are those of separate LRU caches of as many sets and of each number of
+/// lines up to its depth.
+pub fn counts_are_those_of_caches()
+    ensures { (es : List Event) (v : ProfileState) (ways : ℕ) → ProfileStandsFor es v
+        → ways ≤ v.geometry.e → counts_at v ways ≡ counts (record v.geometry { e = ways }) es }
+{}
+
+/// With more lines per set a profile counts no fewer hits, and no more misses and evictions, of as
+/// many references.
+pub fn more_ways_miss_no_more()
+    ensures hits { (v : ProfileState) (few many : ℕ) → few ≤ many
+        → (counts_at v few).hits ≤ (counts_at v many).hits }
+    ensures misses { (v : ProfileState) (few many : ℕ) → few ≤ many
+        → (counts_at v many).misses ≤ (counts_at v few).misses }
+    ensures evictions { (v : ProfileState) (few many : ℕ) → few ≤ many
+        → (counts_at v many).evictions ≤ (counts_at v few).evictions }
+    ensures references { (v : ProfileState) (ways : ℕ)
+        → (counts_at v ways).hits + (counts_at v ways).misses ≡ fed_of v }
 {}

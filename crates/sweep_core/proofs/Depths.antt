@@ -1,20 +1,20 @@
 -- The depth of a pair is the greatest valid associativity, and gives a geometry.
-use Rattle.std.proofs.Common.{◌≡◌, ℕ, ◌*◌, ◌^◌, ◌≤◌, Bool, true, ◌&&◌, List, map, refl, ap, ◌∙◌, arith, Option, inl, inr, subst}
+use Rattle.std.proofs.Common.{◌≡◌, ℕ, ◌*◌, ◌^◌, ◌≤◌, Bool, true, ◌&&◌, List, map, refl, ap, ◌∙◌, arith, Option, Some, inl, inr, subst}
 use Rattle.std.specs.Prelude.{filter}
 use Rattle.std.specs.List.{AllByRecursion as Each}
-use Rattle.std.proofs.lemmas.Bool.{and_parts, and_from, eqb-true, eq-eqb, cases_lt}
+use Rattle.std.proofs.lemmas.Bool.{and_parts, and_from, eqb-true, eq-eqb, le-leb, cases_lt}
 use Rattle.std.proofs.lemmas.Nat.{pow-add}
 use Rattle.std.proofs.Math.Nat.{mul_comm}
 use Rattle.sweep_core.proofs.Lists.{Member, Each-weaker, Each-both, Each-map, Each-filter, Member-map, passes-all, kept-of, max-is, max-above}
 use Rattle.cache_core.proofs.PowersOfTwo.{log2-pow, log2-is}
 use Rattle.cache_core.specs.Geometry.{IsGeometry, geometry_value, size_of}
 use Rattle.sweep_core.specs.declared.space.Config.{Config}
-use Rattle.sweep_core.specs.Space.{Ranges, is_valid, bytes_of, config}
+use Rattle.sweep_core.specs.Space.{Ranges, is_valid, bytes_of, HasSize, config}
 use Rattle.cache_core.specs.Powers.{log2}
 use Rattle.sweep_core.specs.Table.{is_after, table, all_configs}
-use Rattle.sweep_core.specs.SweepText.{geometry_of_config}
+use Rattle.sweep_core.specs.SweepText.{geometry_of_config, config_geometry}
 use Rattle.sweep_core.specs.Work.{depth, has_pair}
-use Rattle.sweep_core.proofs.Validity.{IsLimited, valid_of, power-exponent}
+use Rattle.sweep_core.proofs.Validity.{IsLimited, valid_of, power-exponent, products}
 use Rattle.sweep_core.proofs.Rising.{valid-member}
 use Rattle.sweep_core.proofs.Orders.{is_less-from, later_after}
 
@@ -41,6 +41,18 @@ bytes-are space c h =
     ∙ ap (λ x. c.assoc * (x * 2 ^ log2 c.bsize)) (log2-is c.sets v.set_power)
     ∙ ap (λ x. c.assoc * (c.sets * x)) (log2-is c.bsize v.block_power)
     ∙ mul_comm c.assoc (c.sets * c.bsize) ∙ ap (λ x. x * c.assoc) (mul_comm c.sets c.bsize)
+
+pub geometry-tested : (space : Ranges) (c : Config) → IsLimited space → is_valid space c ≡ true → config_geometry c ≡ Some (geometry_of_config c)
+geometry-tested space c l h =
+    let v = valid_of space c h in
+    let g = geometry-of space c l h in
+    rw (v.block_power, v.set_power, le-leb _ _ g.sets, le-leb _ _ g.blocks, le-leb _ _ g.some, le-leb _ _ g.ways, le-leb _ _ g.lines) refl
+
+pub size-fits : (space : Ranges) (c : Config) → IsLimited space → is_valid space c ≡ true → HasSize c
+size-fits space c l h =
+    let v = valid_of space c h in
+    let p = products space c.bsize c.sets c.assoc l v.bsize v.sets v.assoc in
+    (p.1, p.2)
 
 wider-after : (after : Option Config) (c : Config) (n : ℕ) → is_after after c ≡ true → c.assoc ≤ n → is_after after (config c.bsize c.sets n) ≡ true
 wider-after after c n h w =

@@ -1,12 +1,12 @@
 -- What a sweep writes.
-use Rattle.std.specs.Prelude.{ℕ, false, Option, None, Some, List, [], ◌∷◌, ◌++◌, map, flat_map, decimal, codes}
+use Rattle.std.specs.Prelude.{ℕ, ◌&&◌, if◌then◌else◌, false, Option, None, Some, List, [], ◌∷◌, ◌++◌, map, flat_map, decimal, codes}
 use Rattle.std.specs.List.{join_with_byte}
 use Rattle.trace_core.specs.declared.events.Event.{Event}
 use Rattle.trace_core.specs.Reading.{events}
 use Rattle.trace_core.specs.Task.{Task}
 use Rattle.cache_core.specs.declared.outcome.Counts.{Counts}
-use Rattle.cache_core.specs.Geometry.{GeometryValue, geometry_value}
-use Rattle.cache_core.specs.Powers.{log2}
+use Rattle.cache_core.specs.Geometry.{GeometryValue, geometry_value, geometry_of}
+use Rattle.cache_core.specs.Powers.{is_power, log2}
 use Rattle.cache_core.specs.Windows.{counts}
 use Rattle.sweep_core.specs.declared.space.Config.{Config}
 use Rattle.sweep_core.specs.declared.request.Request.{Request}
@@ -16,6 +16,11 @@ use Rattle.sweep_core.specs.Table.{table, first_rows}
 -- the geometry of a configuration
 abbrev pub geometry_of_config : Config → GeometryValue
 geometry_of_config c = geometry_value (log2 c.sets) c.assoc (log2 c.bsize)
+
+-- the geometry of a configuration, if it has one: its block size and set count are powers of two, and it is within the limits
+abbrev pub config_geometry : Config → Option GeometryValue
+config_geometry c =
+    if is_power c.bsize && is_power c.sets then geometry_of (log2 c.sets) c.assoc (log2 c.bsize) else None
 
 -- the counts of a configuration over a trace
 abbrev pub row_counts : List Event → Config → Counts

@@ -1,5 +1,6 @@
 //! Laws over the definitions: each is the contract of a function with no code, so that the gate
-//! proves it. Proofs of other crates may cite the lemma that proves it.
+//! proves it. A caller uses a law by calling its function, which costs nothing: below the call the
+//! law is known. A proof may cite the lemma that a law names instead.
 ghost use Rattle.std.specs.Prelude.{◌≡◌, ◌≢◌, ◌≤◌, ◌*◌, ◌^◌, ℕ};
 ghost use Rattle.std.specs.Prelude.{List, [], ◌∷◌, ◌++◌, flat_map, length};
 ghost use Rattle.std.specs.Prelude.{true, Option, None, Some, ◌↔◌, IsTrue, Contains, AllPairs};
@@ -8,10 +9,11 @@ ghost use Rattle.trace_core.specs.Events.{references_in};
 ghost use Rattle.cache_core.specs.Geometry.{IsGeometry, size_of};
 ghost use Rattle.sweep_core.specs.declared.space.Config.{Config};
 ghost use Rattle.sweep_core.specs.declared.request.Request.{Request};
-ghost use Rattle.sweep_core.specs.Space.{Ranges, is_valid, space_fault, bytes_of};
+ghost use Rattle.sweep_core.specs.Space.{Ranges, is_valid, space_fault, bytes_of, HasSize};
+ghost use Rattle.sweep_core.specs.Rows.{counted_sweep};
 ghost use Rattle.cache_core.specs.Powers.{is_power, log2};
 ghost use Rattle.sweep_core.specs.Table.{table, first_rows, more_rows, is_less, is_after, IsRising};
-ghost use Rattle.sweep_core.specs.SweepText.{geometry_of_config, sweep_text};
+ghost use Rattle.sweep_core.specs.SweepText.{geometry_of_config, config_geometry, sweep_text, header_of, csv_rows};
 ghost use Rattle.sweep_core.specs.SweepText.{configs_of, rows_of};
 ghost use Rattle.sweep_core.specs.Pages.{ArePages};
 ghost use Rattle.sweep_core.specs.Work.{pair_of, pairs, depth, total_depth, sweep_work};
@@ -50,6 +52,18 @@ pub fn configs_are_geometries()
     ensures bytes { (space : Ranges) (c : Config) →
         space_fault space ≡ None → is_valid space c ≡ true →
         size_of (geometry_of_config c) ≡ bytes_of c }
+    ensures tested { (space : Ranges) (c : Config) →
+        space_fault space ≡ None → is_valid space c ≡ true →
+        config_geometry c ≡ Some (geometry_of_config c) }
+    ensures fits { (space : Ranges) (c : Config) →
+        space_fault space ≡ None → is_valid space c ≡ true → HasSize c }
+{}
+
+/// What a sweep writes is the header, if it begins at the first configuration, and the text of the
+/// rows that it counts.
+pub fn table_is_text_of_rows()
+    ensures { (r : Request) (text : List ℕ) → sweep_text r text
+        ≡ header_of r.after ++ csv_rows (counted_sweep r (events r.format r.kind text)).rows }
 {}
 
 /// Pages: a sweep of `n` rows, the last of which is `c`, and then a sweep of `m` rows after `c`,

@@ -6,7 +6,8 @@ ghost use Rattle.sweep_core.specs.Space.{is_in_range};
 ghost use Rattle.cache_core.specs.Powers.{is_power};
 ghost use Rattle.sweep_core.specs.Space.{order_cause, limit_cause, power_cause};
 
-use cache_core::geometry::{MAX_BITS, MAX_CACHE_LINES, MAX_WAYS};
+use crate::space::configs::bits_of;
+use cache_core::geometry::{Geometry, MAX_BITS, MAX_CACHE_LINES, MAX_WAYS};
 use cache_core::powers::is_power;
 use std::fmt;
 use std::marker::Model;
@@ -23,6 +24,19 @@ pub struct Config {
 impl Config {
     ghost use Rattle.std.specs.Prelude.{◌≡◌};
     ghost use Rattle.sweep_core.specs.Space.{bytes_of, HasSize};
+    ghost use Rattle.sweep_core.specs.SweepText.{config_geometry};
+
+    /// Its geometry, if it has one: its block size and set count are powers of two, and it is
+    /// within the limits. Each configuration of a space has one.
+    pub fn geometry(&self) -> Option<Geometry>
+        ensures { result ≡ config_geometry self.now }
+    {
+        if is_power(self.bsize) && is_power(self.sets) {
+            Geometry::new(bits_of(self.sets), self.assoc, bits_of(self.bsize))
+        } else {
+            None
+        }
+    }
 
     /// The bytes of all its lines, which have to be fewer than 2^64. The configurations of a space
     /// have at most 2^42.

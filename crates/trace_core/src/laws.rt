@@ -1,6 +1,7 @@
 //! Laws over the definitions: each is the contract of a function with no code, so that the gate
-//! proves it. Proofs of other crates may cite the lemma that proves it.
-ghost use Rattle.std.specs.Prelude.{◌≡◌, ℕ, List, [], ◌++◌, None, Some, Err, false, ◌↔◌};
+//! proves it. A caller uses a law by calling its function, which costs nothing: below the call the
+//! law is known. A proof may cite the lemma that a law names instead.
+ghost use Rattle.std.specs.Prelude.{◌≡◌, ℕ, List, [], ◌∷◌, ◌++◌, None, Some, Err, false, ◌↔◌};
 ghost use Rattle.std.specs.Prelude.{All, IsOk, is_ok, slice_get, take, drop, ◌+◌, filter_map};
 ghost use Rattle.std.specs.Prelude.{flat_map};
 ghost use Rattle.std.specs.List.{enumerate_from, prefix_len, slice_split};
@@ -97,6 +98,31 @@ pub fn ended_reader_has_read_all()
         (given : List (ℕ × Entry)) (reader : Progress) →
         start.remaining ≡ Some text → Reached format limit start now given reader →
         reader.state ≡ ReaderState.Ended → now.remaining ≡ Some [] }
+{}
+
+/// What a whole trace gives: a reader at its end has returned the entries of a text without a fault,
+/// and they give a cache the events of the text.
+pub fn whole_trace_gives_its_events()
+    ensures faultless { (format : Format) (limit : ℕ) (text : List ℕ) (start now : SourceView)
+        (given : List (ℕ × Entry)) (reader : Progress) →
+        start.remaining ≡ Some text → Reached format limit start now given reader →
+        reader.state ≡ ReaderState.Ended → first_fault format limit text ≡ None }
+    ensures entries { (format : Format) (limit : ℕ) (text : List ℕ) (start now : SourceView)
+        (given : List (ℕ × Entry)) (reader : Progress) →
+        start.remaining ≡ Some text → Reached format limit start now given reader →
+        reader.state ≡ ReaderState.Ended → entries_of given ≡ entries format text }
+    ensures events { (format : Format) (limit : ℕ) (kind : Kind) (text : List ℕ)
+        (start now : SourceView) (given : List (ℕ × Entry)) (reader : Progress) →
+        start.remaining ≡ Some text → Reached format limit start now given reader →
+        reader.state ≡ ReaderState.Ended →
+        flat_map (events_of kind) (entries_of given) ≡ events format kind text }
+{}
+
+/// What one more entry gives a cache comes after what those before it give.
+pub fn events_come_entry_by_entry()
+    ensures { (kind : Kind) (given : List (ℕ × Entry)) (next : ℕ × Entry) →
+        flat_map (events_of kind) (entries_of (given ++ next ∷ []))
+        ≡ flat_map (events_of kind) (entries_of given) ++ events_of kind next.1 }
 {}
 
 /// A reader that met a fault of the trace met the first fault of the text, and has returned the

@@ -1,0 +1,48 @@
+-- The smallest cache of some rows, and of one row more.
+use Rattle.std.proofs.Common.{◌≡◌, ◌≤◌, ◌<◌, ℕ, List, [], ◌∷◌, ◌++◌, None, Some, Option, refl, arith}
+use Rattle.std.specs.Prelude.{IfSome, Contains}
+use Rattle.std.specs.List.{AllByRecursion as Each}
+use Rattle.std.proofs.lemmas.List.Elements.{Contains-append_left, Contains-append_right}
+use Rattle.cache_core.specs.declared.outcome.Counts.{Counts}
+use Rattle.sweep_core.specs.Space.{bytes_of}
+use Rattle.sweep_core.specs.declared.space.Config.{Config}
+use Rattle.callers.specs.Smallest.{IsSmallest, IsSmallestIfAny}
+
+-- what is true of each row so far and of the next
+one_more : (P Q : Config × Counts → Type 0) (rows : List (Config × Counts)) (row : Config × Counts) → ((r : Config × Counts) → P r → Q r)
+    → Each P rows → Q row → Each Q (rows ++ row ∷ [])
+one_more P Q [] row weaker each new = (new, tt)
+one_more P Q (r ∷ rows) row weaker each new = (weaker r each.0, one_more P Q rows row weaker each.1 new)
+
+abbrev TooMany : ℕ → Config × Counts → Type 0
+TooMany most row = most < row.1.misses
+
+abbrev AtLeast : ℕ → Config → Config × Counts → Type 0
+AtLeast most c row = row.1.misses ≤ most → bytes_of c ≤ bytes_of row.0
+
+-- the next one is chosen
+pub chosen : (most : ℕ) (rows : List (Config × Counts)) (best : Option Config) (c : Config) (n : Counts) → IsSmallestIfAny most rows best
+    → n.misses ≤ most → IfSome best (λ b. bytes_of c < bytes_of b) → Contains ((c, n) ∷ []) (c, n) → IsSmallestIfAny most (rows ++ (c, n) ∷ []) (Some c)
+chosen most rows None c n so_far few less here = record {
+  counts = n;
+  among = Contains-append_right rows ((c, n) ∷ []) (c, n) here;
+  few = few;
+  least = one_more (TooMany most) (AtLeast most c) rows (c, n) (λ row above low. absurd (omega (arith, above, low))) so_far (λ _. omega arith);
+}
+chosen most rows (Some b) c n so_far few less here = record {
+  counts = n;
+  among = Contains-append_right rows ((c, n) ∷ []) (c, n) here;
+  few = few;
+  least = one_more (AtLeast most b) (AtLeast most c) rows (c, n) (λ row above low. omega (arith, above low, less)) so_far.least (λ _. omega arith);
+}
+
+-- it misses too often, or is no smaller
+pub kept : (most : ℕ) (rows : List (Config × Counts)) (best : Option Config) (c : Config) (n : Counts) → IsSmallestIfAny most rows best
+    → (best ≡ None → most < n.misses) → IfSome best (λ b. n.misses ≤ most → bytes_of b ≤ bytes_of c) → IsSmallestIfAny most (rows ++ (c, n) ∷ []) best
+kept most rows None c n so_far none some = one_more (TooMany most) (TooMany most) rows (c, n) (λ row above. above) so_far (none refl)
+kept most rows (Some b) c n so_far none some = record {
+  counts = so_far.counts;
+  among = Contains-append_left rows ((c, n) ∷ []) (b, so_far.counts) so_far.among;
+  few = so_far.few;
+  least = one_more (AtLeast most b) (AtLeast most b) rows (c, n) (λ row above. above) so_far.least some;
+}
