@@ -16,6 +16,7 @@ pub mod FlushLaw
 pub mod SoundLaw
 pub mod RunLaw
 pub mod DirtyLaw
+pub mod FrontLaw
 pub mod DownLaw
 pub mod LruSet
 pub mod LruRun

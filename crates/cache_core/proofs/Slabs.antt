@@ -61,7 +61,7 @@ pub slab_read : (ways : ℕ) (filled : List ℕ) (k : ℕ) (slots : List Slot) �
     segment_slots ways filled k slots ≡ get_or (sets_of ways slots filled) k []
 slab_read ways filled k slots h a = grind (arith, take-take, get_or-sets_of)
 
-start_le : (k ways sets : ℕ) → k < sets → k * ways + ways ≤ ways * sets
+pub start_le : (k ways sets : ℕ) → k < sets → k * ways + ways ≤ ways * sets
 start_le k ways sets h = grind arith
 
 -- A segment that is written back to its set, the first n slots of it filled.

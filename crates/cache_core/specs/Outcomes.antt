@@ -73,3 +73,7 @@ two_options (x ∷ y ∷ _) = Some x ∷ Some y ∷ []
 -- an effect as an outcome of the code
 abbrev pub outcome_of : Effect → Outcome
 outcome_of a = record { hit = a.hit; evicted = a.evicted; placed = a.placed; down = two_options a.down }
+
+-- the outcome of a hit that sends nothing down
+abbrev pub hit_in_front : Outcome
+hit_in_front = record { hit = true; evicted = None; placed = false; down = None ∷ None ∷ [] }

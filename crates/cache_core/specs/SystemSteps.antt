@@ -43,6 +43,10 @@ AllDescend [] second memory lower after = (lower ≡ second) × (after ≡ memor
 AllDescend (ref ∷ refs) second memory lower after =
     (mid : Option SystemCache) × (half : Memory) × Descends ref second memory mid half × AllDescend refs mid half lower after
 
+-- no reference
+abbrev pub nothing_down : List (Option Ref)
+nothing_down = None ∷ None ∷ []
+
 -- what a first-level cache does with a reference, and what it sends down; none if it isn't there
 abbrev pub AccessesFirst : Option SystemCache → Ref → Option (List (Option Ref)) → Option SystemCache → Type 0
 AccessesFirst cache ref None next = (cache ≡ None) × (next ≡ None)

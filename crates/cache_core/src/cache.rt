@@ -1,9 +1,10 @@
 //! One cache, under any policy.
 ghost use Rattle.std.specs.Prelude.{◌≡◌, ◌≤◌, ◌<◌, ◌+◌, ◌*◌, ◌^◌, ℕ, length, take, Some};
 ghost use Rattle.std.specs.Prelude.{IfOk, All, Option, IfSome, option_to_list, count_by};
-ghost use Rattle.std.specs.Prelude.{replicate};
+ghost use Rattle.std.specs.Prelude.{replicate, IsTrue, ◌↔◌, None};
+ghost use Rattle.cache_core.specs.declared.design.Repl.{Repl};
 ghost use Rattle.cache_core.specs.Geometry.{IsGeometry, address_of};
-ghost use Rattle.cache_core.specs.Outcomes.{outcome_of, on_hit, on_placing, on_passing, dirties};
+ghost use Rattle.cache_core.specs.Outcomes.{outcome_of, on_hit, on_placing, on_passing, dirties, hit_in_front};
 ghost use Rattle.cache_core.specs.Outcomes.{allocates, writes_through, block_load_access};
 ghost use Rattle.cache_core.specs.Order.{Touches, Visits, position_of, Accesses, FlushesCache};
 ghost use Rattle.cache_core.specs.Order.{with_dirty_at, dirty_slots, DirtiesByWrites};
@@ -108,6 +109,21 @@ impl<P: Replacement> Cache<P> {
         )
     }
 
+    /// Makes an access that finds its block in the first slot of its set and sends nothing down, as
+    /// most do, and returns its outcome. Of another access it does nothing.
+    #[inline(always)]
+    pub(crate) fn access_in_front(&mut self, reference: Ref) -> Option<Outcome>
+        ensures step { IfSome result (λ outcome.
+            Accesses (contents_of P.policy P.words self.old) reference outcome
+            (contents_of P.policy P.words self.new)) }
+        ensures dirty { IfSome result (λ outcome.
+            DirtiesByWrites self.old.sets reference outcome self.new.sets) }
+        ensures outcome { IfSome result (λ outcome. outcome ≡ hit_in_front) }
+        ensures kept { result ≡ None → self.new ≡ self.old }
+    {
+        visit_front(self.design, &mut self.slots, &self.filled, reference)
+    }
+
     /// Its geometry.
     #[inline(always)]
     pub fn geometry(&self) -> Geometry
@@ -159,6 +175,57 @@ fn visit_slab<P: Replacement>(
     filled[number] = count as u32;
     touched.add_grown(number, before, count as u32);
     outcome
+}
+
+/// One access to the first slot of its set, in the slab of all sets, if its block is there and it
+/// sends nothing down. The slot stays first under every policy.
+#[inline(always)]
+fn visit_front(
+    design: Design,
+    slots: &mut [Slot],
+    filled: &[u32],
+    reference: Ref,
+) -> Option<Outcome>
+    requires slab { IsCacheSlab design slots.old filled.now }
+    ensures slab { IsCacheSlab design slots.new filled.now }
+    ensures access { (policy : Option Repl) (numbers : ℕ → ℕ) → IfSome result (λ outcome.
+        Accesses (slab_contents design policy numbers slots.old filled.now) reference outcome
+        (slab_contents design policy numbers slots.new filled.now)) }
+    ensures dirty { IfSome result (λ outcome.
+        DirtiesByWrites (sets_of design.geometry.e slots.old filled.now) reference outcome
+        (sets_of design.geometry.e slots.new filled.now)) }
+    ensures outcome { IfSome result (λ outcome. outcome ≡ hit_in_front) }
+    ensures kept { result ≡ None → slots.new ≡ slots.old }
+{
+    let block = design.geometry.block_of(reference.addr);
+    let ways = design.geometry.e() as usize;
+    let number = design.geometry.set_of(reference.addr) as usize;
+    let start = number * ways;
+    let outcome = hit_outcome(design.write, reference);
+    if outcome.down[0].is_some() || !is_in_front(&slots[start..start + filled[number] as usize], block) {
+        return None;
+    }
+    mark_front(&mut slots[start..start + ways], dirties_line(design.write, reference.access));
+    Some(outcome)
+}
+
+/// Whether a block is that of the first slot.
+#[inline(always)]
+fn is_in_front(slots: &[Slot], block: u64) -> bool
+    ensures { IsTrue result ↔ (position_of block slots.now ≡ Some 0) }
+{
+    slots.first().is_some_and(|slot| slot.block == block)
+}
+
+/// Marks the first slot dirty if it is to be.
+#[inline(always)]
+fn mark_front(slots: &mut [Slot], dirty: bool)
+    requires { 1 ≤ length slots.old }
+    ensures { slots.new ≡ with_dirty_at dirty slots.old 0 }
+{
+    if dirty {
+        slots[0].dirty = true;
+    }
 }
 
 /// One access, in the slots of its set. Also returns how many of them are filled then.

@@ -1,10 +1,10 @@
 //! A system of caches.
 ghost use Rattle.std.specs.Prelude.{◌≡◌, ◌≤◌, ◌<◌, ◌+◌, ◌^◌, ℕ, List, length, ◌∷◌, [], IfOk};
-ghost use Rattle.std.specs.Prelude.{Option, ◌++◌};
+ghost use Rattle.std.specs.Prelude.{Option, ◌++◌, Some, MatchBool};
 ghost use Rattle.cache_core.specs.SystemSteps.{present_refs, all_reach, Descends, AllDescend};
 ghost use Rattle.cache_core.specs.SystemSteps.{AccessesFirst, AccessesFirstLevel, EmptiesCache};
 ghost use Rattle.cache_core.specs.SystemSteps.{accesses_of, memory_accesses, stats_held};
-ghost use Rattle.cache_core.specs.SystemSteps.{IsNewCache};
+ghost use Rattle.cache_core.specs.SystemSteps.{IsNewCache, nothing_down};
 ghost use Rattle.cache_core.specs.SystemStands.{PlannedCacheStandsFor};
 ghost use Rattle.cache_core.specs.Arrivals.{Saw, arrives, arrivals_below, all_arrivals_below};
 ghost use Rattle.cache_core.specs.Arrivals.{at_memory, first_arrivals, flushes};
@@ -97,7 +97,25 @@ impl System {
     /// Makes one reference at the first-level cache that takes it; what this cache sends on goes to
     /// the second level, or else to memory. A reference that no cache takes is bypassed. Steps and
     /// flushes together may be at most `MAX_STEPS`.
+    #[inline(always)]
     pub fn step(&mut self, reference: Ref)
+        requires { self.old.steps < MAX_STEPS }
+        ensures stands { (plan : PlannedCaches) (seed : ℕ) (events : List Event) → IsPlan plan →
+            SystemStandsFor plan seed events self.old →
+            SystemStandsFor plan seed (events ++ event.Reference reference ∷ []) self.new }
+        ensures steps { self.new.steps ≡ self.old.steps + 1 }
+    {
+        if access_first_level_in_front(&mut self.i, &mut self.d, &mut self.u, reference) {
+            self.steps += 1;
+        } else {
+            self.step_further(reference);
+        }
+    }
+
+    /// The same step, whatever it comes to. It stands apart, so that the path of the many
+    /// references that find their block in the first slot of its set stays short.
+    #[inline(never)]
+    fn step_further(&mut self, reference: Ref)
         requires { self.old.steps < MAX_STEPS }
         ensures stands { (plan : PlannedCaches) (seed : ℕ) (events : List Event) → IsPlan plan →
             SystemStandsFor plan seed events self.old →
@@ -262,6 +280,42 @@ fn first_level<O: Observer>(
         return access_first(CacheName::L1I, i, reference, observer);
     }
     access_first(CacheName::L1D, d, reference, observer)
+}
+
+/// One reference at a first-level cache, if it is there and finds the block in the first slot of
+/// its set and sends nothing down.
+#[inline(always)]
+fn access_first_in_front(cache: &mut Option<SystemCache>, reference: Ref) -> bool
+    requires { accesses_of cache.old < 2 ^ 62 }
+    ensures { MatchBool result (AccessesFirst cache.old reference (Some nothing_down) cache.new)
+        (cache.new ≡ cache.old) }
+{
+    match cache {
+        Some(cache) => cache.access_in_front(reference),
+        None => false,
+    }
+}
+
+/// The same at the first level.
+#[inline(always)]
+fn access_first_level_in_front(
+    i: &mut Option<SystemCache>,
+    d: &mut Option<SystemCache>,
+    u: &mut Option<SystemCache>,
+    reference: Ref,
+) -> bool
+    requires { accesses_of i.old + accesses_of d.old + accesses_of u.old < 2 ^ 62 }
+    ensures { MatchBool result
+        (AccessesFirstLevel i.old d.old u.old reference (Some nothing_down) i.new d.new u.new)
+        ((i.new ≡ i.old) × (d.new ≡ d.old) × (u.new ≡ u.old)) }
+{
+    if u.is_some() {
+        return access_first_in_front(u, reference);
+    }
+    if reference.access == Access::Fetch {
+        return access_first_in_front(i, reference);
+    }
+    access_first_in_front(d, reference)
 }
 
 /// A reference arrives at the second level, or at memory.

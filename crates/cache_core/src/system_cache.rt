@@ -1,7 +1,8 @@
 //! A cache of a system, with what it counted. Its policy is chosen at run time.
-ghost use Rattle.std.specs.Prelude.{◌≡◌, ◌≤◌, ◌<◌, ◌+◌, ◌^◌, ◌∷◌, [], Some, IfOk};
+ghost use Rattle.std.specs.Prelude.{◌≡◌, ◌≤◌, ◌<◌, ◌+◌, ◌^◌, ◌∷◌, [], Some, IfOk, MatchBool};
 ghost use Rattle.cache_core.specs.Arrivals.{Saw, arrival_at};
 ghost use Rattle.cache_core.specs.Order.{dirty_slots};
+ghost use Rattle.cache_core.specs.Outcomes.{hit_in_front};
 ghost use Rattle.cache_core.specs.CacheStats.{accesses, IsCounted};
 ghost use Rattle.cache_core.specs.SystemCaches.{policy_of, random_numbers_of};
 ghost use Rattle.cache_core.specs.Systems.{random_numbers_for};
@@ -89,6 +90,23 @@ impl SystemCache {
         )?;
         let stats = CacheStats::default();
         Ok(SystemCache { cache, stats })
+    }
+
+    /// One reference enters, and is counted by its kind, if it finds its block in the first slot of
+    /// its set and sends nothing down. Of another reference it does nothing.
+    #[inline(always)]
+    pub(crate) fn access_in_front(&mut self, reference: Ref) -> bool
+        requires { accesses self.old.stats < 2 ^ 62 }
+        ensures { MatchBool result (Enters self.old reference hit_in_front self.new)
+            (self.new ≡ self.old) }
+    {
+        match self.cache.access_in_front(reference) {
+            Some(outcome) => {
+                self.stats.count_access(reference.access, &outcome);
+                true
+            }
+            None => false,
+        }
     }
 
     /// One reference enters, is counted by its kind, and is seen at the cache of this name.
