@@ -520,8 +520,6 @@ def din_job(values, texts):
     for cache in CACHES:
         own = {word: values.get(f"-{cache}{word}") for word in OF_A_CACHE}
         if any(value is not None for value in own.values()):
-            if own["size"] is not None and own["sets"] is not None:
-                raise Fault(f"{cache}: size beside sets", 2)
             if own["size"] is None and own["sets"] is None or own["bsize"] is None:
                 raise Fault(f"{cache}: size and bsize are needed", 2)
             told = {word: value for word, value in own.items() if value is not None}

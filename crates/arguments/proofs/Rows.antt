@@ -1,5 +1,5 @@
 -- Worked rows, computed from the definitions.
-use Rattle.std.proofs.Common.{◌≡◌, refl, true, false, List, [], ◌∷◌, Some, None, Ok, Err, codes, ◌^◌}
+use Rattle.std.proofs.Common.{◌≡◌, refl, true, false, List, [], ◌∷◌, ◌++◌, Some, None, Ok, Err, codes, ◌^◌}
 use lib.Count.{ones}
 use Rattle.clap.proofs.OnLiterals.{clap_on_literals}
 use Rattle.clap.specs.Words.{Text, takes}
@@ -17,7 +17,7 @@ use Rattle.sweep_core.specs.declared.space.Cause.TheVariants.{NotPower, Limit, R
 use Rattle.trace_core.specs.declared.events.Kind.TheVariants.{All, DataOnly}
 use Rattle.trace_core.specs.declared.line.Format.TheVariants.{Din as Din-format, Lackey}
 use Rattle.arguments.specs.CommandLine.{command_of}
-use Rattle.arguments.specs.Faults.{bad_geometry, incomplete, plan, space, value, size_and_sets}
+use Rattle.arguments.specs.Faults.{bad_geometry, incomplete, plan, space, value}
 use Rattle.arguments.specs.Numbers.{number_of, range_of, scaled_of, triple_of}
 use Rattle.options.specs.Options.{cachesim_app}
 use Rattle.arguments.specs.declared.job.Job.TheVariants.{Csim, Din, Sweep}
@@ -242,11 +242,36 @@ sets_3 : command_of (din_arguments (codes "-l1-usets" ∷ codes "3" ∷ [])) ≡
 unfolding clap_on_literals is_power ones
 sets_3 = refl
 
--- a size beside sets is judged as a missing size is: after all values, and before any geometry
-size_beside_sets : command_of (din_arguments (unified (codes "16") (codes "32") (codes "--l1-usets" ∷ codes "1" ∷ [])))
-    ≡ Some (Err (size_and_sets L1U))
+abbrev both : Text → Text → Text → Text → List Text
+both size sets bsize assoc = unified size bsize (codes "--l1-usets" ∷ sets ∷ codes "--l1-uassoc" ∷ assoc ∷ [])
+
+-- a size and sets that agree
+size_and_sets : command_of (din_arguments (both (codes "1k") (codes "8") (codes "64") (codes "2"))) ≡ Some (Ok (record {
+  job = Din (record {
+    i = None;
+    d = None;
+    u = Some (record { design = record { geometry = record { s = 3; e = 2; b = 6 }; write = Back; allocate = Always }; policy = Lru });
+    second = None;
+  }) 42 Din-format (2 ^ 40);
+  trace = None;
+}))
 unfolding clap_on_literals is_power exponent_of ones
-size_beside_sets = refl
+size_and_sets = refl
+
+-- and some that do not: 16 sets of 2 lines would be 2 KiB
+size_against_sets : command_of (din_arguments (both (codes "1k") (codes "16") (codes "64") (codes "2"))) ≡ Some (Err (plan (BadGeometry L1U)))
+unfolding clap_on_literals is_power exponent_of ones
+size_against_sets = refl
+
+-- such a pair is judged in the plan's order: here two kinds of first level come before it
+mixed_before_sizes : command_of (din_arguments (both (codes "1k") (codes "16") (codes "64") (codes "2")
+    ++ codes "-l1-isize" ∷ codes "16" ∷ codes "-l1-ibsize" ∷ codes "16" ∷ [])) ≡ Some (Err (plan MixedFirst))
+unfolding clap_on_literals is_power exponent_of ones
+mixed_before_sizes = refl
+
+size_and_sets_alone : command_of (din_arguments (codes "-l1-usets" ∷ codes "1" ∷ codes "-l1-usize" ∷ codes "16" ∷ [])) ≡ Some (Err (incomplete L1U))
+unfolding clap_on_literals is_power ones
+size_and_sets_alone = refl
 
 sets_alone : command_of (din_arguments (codes "-l1-usets" ∷ codes "1" ∷ [])) ≡ Some (Err (incomplete L1U))
 unfolding clap_on_literals is_power ones

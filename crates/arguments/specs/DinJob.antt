@@ -1,7 +1,6 @@
 -- What the arguments after `din` and `log` say.
-use Rattle.std.specs.Prelude.{◌≡◌, ◌↔◌, ◌^◌, ℕ, Bool, List, Option, Some, None, Result, Ok, Err, codes, ◌||◌}
-use Rattle.std.specs.Prelude.{if◌then◌else◌, is_some, ok_or, option_and_then, option_map, unwrap_or, ◌*◌, ◌&&◌}
-use Rattle.std.specs.Option.{option_or}
+use Rattle.std.specs.Prelude.{◌≡◌, ◌↔◌, ◌^◌, ℕ, Bool, List, Option, Some, None, Result, Ok, codes, ◌||◌}
+use Rattle.std.specs.Prelude.{if◌then◌else◌, is_some, ok_or, option_and_then, option_map, unwrap_or, ◌*◌, ◌==◌, IfSome}
 use Rattle.cache_core.specs.Powers.{is_power}
 use Rattle.std.specs.Result.{result_map_both}
 use Rattle.std.specs.Str.{bytes_eq}
@@ -19,7 +18,7 @@ use Rattle.cache_core.specs.declared.design.Repl.{Repl}
 use Rattle.cache_core.specs.declared.design.Repl.TheVariants.{Lru, Fifo, Random}
 use Rattle.cache_core.specs.declared.design.WriteMode.{WriteMode}
 use Rattle.cache_core.specs.declared.design.WriteMode.TheVariants.{Back, Through}
-use Rattle.arguments.specs.Faults.{JobFault, incomplete, plan, size_and_sets}
+use Rattle.arguments.specs.Faults.{JobFault, incomplete, plan}
 use Rattle.arguments.specs.Job.{longest_trace}
 use Rattle.arguments.specs.Numbers.{number_of, scaled_of, within_u64}
 use Rattle.options.specs.Options.{assoc_option_of, bsize_option_of, informat_option, repl_option_of, seed_option, sets_option_of, size_option_of}
@@ -75,35 +74,38 @@ abbrev pub is_given : CacheReading → Bool
 is_given r = is_some r.size || (is_some r.sets || (is_some r.bsize || (is_some r.assoc || (is_some r.repl
     || (is_some r.walloc || is_some r.wback)))))
 
--- the size of so many sets, blocks of this size and lines per set; from 2^64 on it is 0, which no cache has either
+-- a size that no cache has: it stands for numbers that give no size
+abbrev pub no_size : ℕ
+no_size = 0
+
+-- the size of so many sets, blocks of this size and lines per set; none from 2^64 on
 abbrev pub size_of_sets : ℕ → ℕ → ℕ → ℕ
-size_of_sets sets bsize assoc = unwrap_or (option_and_then (λ row. within_u64 (row * assoc)) (within_u64 (sets * bsize))) 0
+size_of_sets sets bsize assoc = unwrap_or (within_u64 (sets * bsize * assoc)) no_size
 
--- the size as it was given, or else by the number of sets
-abbrev pub size_given : CacheReading → Option ℕ
-size_given r = option_or r.size (option_and_then
-    (λ sets. option_map (λ bsize. size_of_sets sets bsize (unwrap_or r.assoc 1)) r.bsize) r.sets)
+-- The size that was given, or that of the sets. Where both are given and differ, it is one that no cache has. Sets are this project's.
+abbrev pub size_asked : Option ℕ → Option ℕ → ℕ → ℕ → Option ℕ
+size_asked size None bsize assoc = size
+size_asked None (Some sets) bsize assoc = Some (size_of_sets sets bsize assoc)
+size_asked (Some size) (Some sets) bsize assoc = Some (if size == size_of_sets sets bsize assoc then size else no_size)
 
--- the cache with its defaults; none without size and block size
-abbrev pub spec_with : Option ℕ → Option ℕ → CacheReading → Option CacheSpec
-spec_with (Some size) (Some bsize) r = Some (record {
+-- the cache with its defaults; none without a block size, and none without both a size and sets
+abbrev pub spec_asked : CacheReading → Option CacheSpec
+spec_asked r = option_and_then (λ bsize. option_map (λ size. record {
   size = size;
   bsize = bsize;
   assoc = unwrap_or r.assoc 1;
   repl = unwrap_or r.repl Lru;
   wback = unwrap_or r.wback Back;
   walloc = unwrap_or r.walloc Always;
-})
-spec_with _ _ r = None
+}) (size_asked r.size r.sets bsize (unwrap_or r.assoc 1))) r.bsize
 
--- A cache is there exactly if one of its options was given, and then needs bsize and size, or in its place sets. Sets are this project's.
+-- A cache is there exactly if one of its options was given. It then needs a block size, and a size or sets.
 abbrev pub cache_of : CacheName → CacheReading → Result (Option CacheSpec) JobFault
 cache_of cache r = if is_given r
-    then (if is_some r.size && is_some r.sets then Err (size_and_sets cache)
-    else and_then (ok_or (spec_with (size_given r) r.bsize r) (incomplete cache)) (λ spec. Ok (Some spec)))
+    then and_then (ok_or (spec_asked r) (incomplete cache)) (λ spec. Ok (Some spec))
     else Ok None
 
--- The plan of what was given of the four caches, or the first fault: caches that lack size or bsize, or have size and sets; then the plan's.
+-- The plan of what was given of the four caches, or the first fault: caches that lack size or bsize, then the plan's.
 abbrev pub plan_given : CacheReadings → Result PlannedCaches JobFault
 plan_given caches =
     and_then (cache_of L1I caches.i) (λ i.
@@ -138,14 +140,16 @@ din_of rows = and_then (options_given rows) (λ o. Ok (Din o.0 o.1 o.2 longest_t
 abbrev pub log_of : List Row → Result Job JobFault
 log_of rows = and_then (options_given rows) (λ o. Ok (Log o.0 o.1 o.2 longest_trace))
 
--- the geometry of a cache that is asked for, with this number of sets
-pub record IsGeometryWith (spec : CacheSpec) (number : ℕ) (g : GeometryValue) : Type 0 where
+-- the geometry with this number of sets, bytes in a block and ways, and with the size that was given beside them, if one was
+pub record IsGeometryWith (given : Option ℕ) (number bytes ways : ℕ) (g : GeometryValue) : Type 0 where
   pub sets : number ≡ 2 ^ g.s
-  pub bsize : spec.bsize ≡ 2 ^ g.b
-  pub assoc : spec.assoc ≡ g.e
+  pub bsize : bytes ≡ 2 ^ g.b
+  pub assoc : ways ≡ g.e
+  pub size : IfSome given (λ size. size ≡ number * bytes * ways)
   pub limits : IsGeometry g
 
--- a cache that is asked for by its sets has the geometry of exactly these, if one is within the limits
+-- a cache that is asked for by its sets has the geometry of exactly these, if one is within the limits and fits the size beside them
 abbrev pub SetsLaw : Type 0
-SetsLaw = (spec : CacheSpec) (sets : ℕ) (g : GeometryValue) → spec.size ≡ size_of_sets sets spec.bsize spec.assoc
-    → (geometry_for spec ≡ Some g) ↔ IsGeometryWith spec sets g
+SetsLaw = (spec : CacheSpec) (size : Option ℕ) (sets : ℕ) (g : GeometryValue)
+    → size_asked size (Some sets) spec.bsize spec.assoc ≡ Some spec.size
+    → (geometry_for spec ≡ Some g) ↔ IsGeometryWith size sets spec.bsize spec.assoc g

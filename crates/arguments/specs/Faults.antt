@@ -11,7 +11,6 @@ use Rattle.arguments.specs.declared.faults.WordsFault.TheVariants as fault
 pub data JobFault : Type 0 where
   value : Text → JobFault
   incomplete : CacheName → JobFault
-  size_and_sets : CacheName → JobFault
   bad_geometry : JobFault
   plan : PlanFault → JobFault
   space : SpaceFault → JobFault
@@ -22,7 +21,6 @@ job_fault_of fault.Memory = None
 job_fault_of (fault.Usage text help) = None
 job_fault_of (fault.Value option) = Some (value option.now)
 job_fault_of (fault.Incomplete cache) = Some (incomplete cache)
-job_fault_of (fault.SizeAndSets cache) = Some (size_and_sets cache)
 job_fault_of fault.BadShape = Some bad_geometry
 job_fault_of (fault.Plan p) = Some (plan p)
 job_fault_of (fault.Space s) = Some (space s)

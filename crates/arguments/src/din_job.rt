@@ -2,7 +2,7 @@
 ghost use Rattle.std.specs.Prelude.{◌≡◌, IfOk, Some};
 ghost use Rattle.arguments.specs.DinJob.{cache_of, caches_given, din_of, log_of, options_given};
 ghost use Rattle.arguments.specs.DinJob.{plan_given, power_of, reading_of};
-ghost use Rattle.arguments.specs.DinJob.{size_given, size_of_sets};
+ghost use Rattle.arguments.specs.DinJob.{size_asked, size_of_sets, spec_asked};
 ghost use Rattle.arguments.specs.DinJob.{repl_named, walloc_named, wback_named};
 ghost use Rattle.arguments.specs.Faults.{job_result};
 ghost use Rattle.arguments.specs.Job.{max_lines_of};
@@ -125,65 +125,56 @@ fn read_cache(matches: &ArgMatches<'_>, cache: CacheName) -> Result<CacheReading
 fn complete(cache: CacheName, reading: &CacheReading) -> Result<Option<CacheSpec>, WordsFault>
     ensures { job_result result ≡ Some (cache_of cache reading.now) }
 {
-    if reading.size.is_some() && reading.sets.is_some() {
-        return Err(WordsFault::SizeAndSets { cache });
-    }
-    match (size_given(reading), *reading) {
-        (
-            Some(size),
-            CacheReading {
-                bsize: Some(bsize),
-                assoc,
-                repl,
-                walloc,
-                wback,
-                ..
-            },
-        ) => Ok(Some(CacheSpec {
-            size,
-            bsize,
-            assoc: assoc.unwrap_or(1),
-            repl: repl.unwrap_or(Repl::Lru),
-            wback: wback.unwrap_or(WriteMode::Back),
-            walloc: walloc.unwrap_or(AllocMode::Always),
-        })),
-        (
-            None,
-            CacheReading {
-                sets: None,
-                bsize: None,
-                assoc: None,
-                repl: None,
-                walloc: None,
-                wback: None,
-                ..
-            },
-        ) => Ok(None),
-        _ => Err(WordsFault::Incomplete { cache }),
+    match reading {
+        CacheReading {
+            size: None,
+            sets: None,
+            bsize: None,
+            assoc: None,
+            repl: None,
+            walloc: None,
+            wback: None,
+        } => Ok(None),
+        _ => match spec_asked(reading) {
+            Some(spec) => Ok(Some(spec)),
+            None => Err(WordsFault::Incomplete { cache }),
+        },
     }
 }
 
-/// The size as it was given, or else by the number of sets.
-fn size_given(reading: &CacheReading) -> Option<u64>
-    ensures { result ≡ size_given reading.now }
+/// The cache with its defaults. `None` without a block size, or without both a size and sets.
+fn spec_asked(reading: &CacheReading) -> Option<CacheSpec>
+    ensures { result ≡ spec_asked reading.now }
 {
-    match *reading {
-        CacheReading {
-            size: Some(size),
-            ..
-        } => Some(size),
-        CacheReading {
-            sets: Some(sets),
-            bsize: Some(bsize),
-            assoc,
-            ..
-        } => Some(size_of_sets(sets, bsize, assoc.unwrap_or(1))),
-        _ => None,
+    let bsize = reading.bsize?;
+    let assoc = reading.assoc.unwrap_or(1);
+    let size = size_asked(reading.size, reading.sets, bsize, assoc)?;
+    Some(CacheSpec {
+        size,
+        bsize,
+        assoc,
+        repl: reading.repl.unwrap_or(Repl::Lru),
+        wback: reading.wback.unwrap_or(WriteMode::Back),
+        walloc: reading.walloc.unwrap_or(AllocMode::Always),
+    })
+}
+
+/// The size that was given, or that of the sets; 0 where both are given and differ. No cache has
+/// this size, so `Plan::new` refuses it as a geometry, in its turn.
+fn size_asked(size: Option<u64>, sets: Option<u64>, bsize: u64, assoc: u64) -> Option<u64>
+    ensures { result ≡ size_asked size sets bsize assoc }
+{
+    let Some(sets) = sets else {
+        return size;
+    };
+    let of_sets = size_of_sets(sets, bsize, assoc);
+    match size {
+        Some(size) if size != of_sets => Some(0),
+        _ => Some(of_sets),
     }
 }
 
-/// The size of so many sets, blocks of this size and lines per set. From 2^64 on it is 0, which no
-/// cache has either: so `Plan::new` refuses it as a geometry, in its turn.
+/// The size of so many sets, blocks of this size and lines per set; 0 from 2^64 on.
 fn size_of_sets(sets: u64, bsize: u64, assoc: u64) -> u64
     ensures { result ≡ size_of_sets sets bsize assoc }
 {

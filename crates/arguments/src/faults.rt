@@ -21,12 +21,9 @@ pub enum WordsFault {
     /// The value of an option can't be read. The option is named as the tables of options do.
     #[error("{option}: bad value")]
     Value { option: &'static str },
-    /// A cache of `din` has an option, but not both of its size (or number of sets) and block size.
+    /// A cache of `din` has an option, but no block size, or neither a size nor a number of sets.
     #[error("{cache}: size and bsize are needed")]
     Incomplete { cache: CacheName },
-    /// A cache of `din` has its size, and its number of sets in place of the size.
-    #[error("{cache}: size beside sets")]
-    SizeAndSets { cache: CacheName },
     /// No cache of `csim` has these numbers.
     #[error("bad geometry")]
     BadShape,

@@ -35,8 +35,8 @@ pub struct Command {
 /// The job that the arguments ask for. The first argument is the program's name. No file is opened.
 ///
 /// Errors, the first that applies: `Usage` for what `clap` refuses or for help; `Value` for the
-/// first bad value, in the order of the manual's tables; `Incomplete` or `SizeAndSets`, cache by
-/// cache; then `BadShape`, `Plan` or `Space`. `Memory` wherever memory is refused.
+/// first bad value, in the order of the manual's tables; `Incomplete`; then `BadShape`, `Plan` or
+/// `Space`. `Memory` wherever memory is refused.
 pub fn parse(alloc: Global, arguments: &[String]) -> Result<Command, WordsFault>
     // But for lack of memory and for what clap refuses, it returns what the arguments mean, and
     // clap refuses nothing.

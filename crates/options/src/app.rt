@@ -30,6 +30,7 @@ pub fn cachesim_command<'a>(alloc: Global) -> Result<Command<'a>, AllocError>
     let commands = leaf_commands(alloc, &COMMANDS)?;
     Command::new(alloc, "cachesim")
         .about(help::ABOUT)
+        .override_usage(help::USAGE)
         .after_help(help::PROGRAM)
         .subcommand_required(true)
         .disable_help_subcommand(true)
@@ -44,10 +45,12 @@ pub enum OptionsOf {
     Sweep,
 }
 
-/// A command: its name, what help says of it before and after its options, and these options.
+/// A command: its name, what help says of it before and after its options, its usage line, and
+/// these options.
 pub struct CommandText {
     pub name: &'static str,
     pub about: &'static str,
+    pub usage: &'static str,
     pub after_help: &'static str,
     pub options: OptionsOf,
 }
@@ -57,24 +60,28 @@ static COMMANDS: [CommandText; 4] = [
     CommandText {
         name: "csim",
         about: help::CSIM_ABOUT,
+        usage: help::CSIM_USAGE,
         after_help: help::CSIM,
         options: OptionsOf::Csim,
     },
     CommandText {
         name: "din",
         about: help::DIN_ABOUT,
+        usage: help::DIN_USAGE,
         after_help: help::DIN,
         options: OptionsOf::Din,
     },
     CommandText {
         name: "log",
         about: help::LOG_ABOUT,
+        usage: help::LOG_USAGE,
         after_help: help::LOG,
         options: OptionsOf::Din,
     },
     CommandText {
         name: "sweep",
         about: help::SWEEP_ABOUT,
+        usage: help::SWEEP_USAGE,
         after_help: help::SWEEP,
         options: OptionsOf::Sweep,
     },
@@ -99,6 +106,7 @@ fn leaf_command<'a>(alloc: Global, text: &CommandText) -> Result<Command<'a>, Al
     let args = args_of(alloc, text.options)?;
     Command::new(alloc, text.name)
         .about(text.about)
+        .override_usage(text.usage)
         .after_help(text.after_help)
         .args(args)
 }

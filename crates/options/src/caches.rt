@@ -24,7 +24,7 @@ const SETS: &str = "Number of sets, a power of two, in place of the size";
 
 const BSIZE: &str = "Block size in bytes, a power of two";
 
-const ASSOC: &str = "Lines per set, with a size a power of two [default: 1]";
+const ASSOC: &str = "Lines per set; if the size is given, a power of two [default: 1]";
 
 const REPL: &str = "Replacement policy: l LRU, f FIFO, r random [default: l]";
 

@@ -21,6 +21,12 @@ macro_rules! help_text {
 /// What the program does.
 pub const ABOUT: &str = "Simulates processor caches over a trace of memory references";
 
+/// How the program is called. Also shown beside a fault of the arguments: so it says where the
+/// version is.
+pub const USAGE: &str = "cachesim <COMMAND> [OPTIONS]
+       cachesim --help, which also tells the version
+       cachesim <COMMAND> --help";
+
 /// The text after the list of the commands.
 pub const PROGRAM: &str = help_text!(
     "\
@@ -35,6 +41,10 @@ How to get a trace: Valgrind writes that of any program in the lackey format.
 /// What `sweep` does.
 pub const SWEEP_ABOUT: &str =
     "Counts hits, misses and evictions of every LRU cache in a range, in one pass over a trace";
+
+/// How `sweep` is called. It says how the trace is given, though `-t` may be left out.
+pub const SWEEP_USAGE: &str = "cachesim sweep [OPTIONS] --bsize <RANGE> --sets <RANGE> \
+    --assoc <RANGE> --size <RANGE> [-t <FILE>]";
 
 /// The text after the options of `sweep`.
 pub const SWEEP: &str = help_text!(
@@ -69,6 +79,9 @@ Valgrind writes it: ' L 7ffe10,8'; a modify is a read and a write.
 /// What `csim` does.
 pub const CSIM_ABOUT: &str = "Runs the data references of a lackey trace through one LRU cache";
 
+/// How `csim` is called.
+pub const CSIM_USAGE: &str = "cachesim csim [-v] -s <N> -E <N> -b <N> -t <FILE>";
+
 /// The text after the options of `csim`.
 pub const CSIM: &str = help_text!(
     "\
@@ -86,6 +99,9 @@ A trace of a program, and a cache of 64 sets of 8 lines of 64 bytes:
 /// What `log` does.
 pub const LOG_ABOUT: &str =
     "Writes a line for each access of each cache of 'cachesim din', in order";
+
+/// How `log` is called.
+pub const LOG_USAGE: &str = "cachesim log [OPTIONS] [-t <FILE>]";
 
 /// The text after the options of `log`.
 pub const LOG: &str = help_text!(
@@ -117,17 +133,20 @@ Valgrind writes a lackey trace:
 pub const DIN_ABOUT: &str =
     "Runs a trace through one or two levels of caches, with some options of Dinero IV";
 
+/// How `din` is called.
+pub const DIN_USAGE: &str = "cachesim din [OPTIONS] [-t <FILE>]";
+
 /// The text after the options of `din`.
 pub const DIN: &str = help_text!(
     "\
 The options of a cache and -informat may be written with one dash, as Dinero IV has them, or with
 two. A cache exists if one of its options is given; its size and bsize must then be given. In place
-of the size its number of sets may be given, which Dinero IV does not have; its size is then sets *
-bsize * assoc, and need not be a power of two. The first level is a unified cache, or an instruction
-cache, a data cache or both. BYTES and SETS are decimal numbers; k, m or g at the end multiplies by
-2^10, 2^20 or 2^30. N is a decimal number. A block has at most 1m bytes, and a cache at most 1m
-sets, 64k lines per set and 4m lines in all. The blocks of the second level are no smaller than
-those of the first.
+of the size its number of sets may be given, which Dinero IV does not have: then assoc may be any
+number, and the size is sets * bsize * assoc. If both are given, they must agree. The first level is
+a unified cache, or an instruction cache, a data cache or both. BYTES and SETS are decimal numbers;
+k, m or g at the end multiplies by 2^10, 2^20 or 2^30. N is a decimal number. A block has at most 1m
+bytes, and a cache at most 1m sets, 64k lines per set and 4m lines in all. The blocks of the second
+level are no smaller than those of the first.
 
 The report has a line for each cache: its fetches, reads and writes, the misses of each, the
 evicted blocks (evictions), and the dirty blocks that were evicted or flushed (copybacks). Then
