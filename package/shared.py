@@ -1,14 +1,31 @@
-"""What the Python scripts here share: the tools, what all of them share, and runs of a command."""
+"""What the scripts here share: the tools, what all say with --help, and the versions."""
 
-import importlib
+import datetime
 import os
 import pathlib
+import re
 import subprocess
 import sys
 
 TOP = pathlib.Path(__file__).resolve().parents[1]
 sys.path.insert(1, str(TOP / "tools"))
-tool = importlib.import_module("lib.tool")
+from lib import tool  # noqa: E402
+
+# the words that a first argument may be, in a help: the program's commands, or a tool's formats
+FIRST = re.compile(r"^(?:Commands:\n|\w+ is one of those below.*?\n\n)(.*?)\n\n", re.M | re.S)
+WORD = re.compile(r"^ {2}(\w+) {2,}(.*)", re.M)
+ENTRY = re.compile(r"^## (\d+\.\d+\.\d+) \((\d{4}-\d\d-\d\d)\)\n", re.M)
+
+
+def said(*command, text=""):
+    """What a command writes, which must end well."""
+    # argparse makes its lines as long as the terminal
+    known = {**os.environ, "COLUMNS": "100", "LC_ALL": "C.UTF-8"}
+    try:
+        return subprocess.run(command, input=text, capture_output=True, encoding="utf-8",
+                              timeout=60, check=True, env=known).stdout
+    except (OSError, subprocess.SubprocessError) as fault:
+        return tool.fail(str(fault))
 
 
 def tools():
@@ -19,28 +36,16 @@ def tools():
     return {path.name: path.relative_to(top) for path in sorted(paths, key=lambda path: path.name)}
 
 
-def run(*command, text=""):
-    """What a command writes, which must end well."""
-    # argparse makes its lines as long as the terminal
-    known = {**os.environ, "COLUMNS": "100", "LC_ALL": "C.UTF-8"}
-    try:
-        ran = subprocess.run(command, input=text, capture_output=True, encoding="utf-8", timeout=60,
-                             check=True, env=known)
-    except FileNotFoundError:
-        package = ": apt-get install lowdown" * (command[0] == "lowdown")
-        tool.fail(f"{command[0]} is missing{package}")
-    except OSError as fault:
-        tool.fail(f"{command[0]}: {fault.strerror}")
-    except subprocess.SubprocessError as fault:
-        tool.fail(str(fault))
-    return ran.stdout
+def words_in(text):
+    """The words that a command's first argument may be, each with its meaning, by its help."""
+    found = FIRST.search(text)
+    return WORD.findall(found[1]) if found else []
 
 
-def quoted(text):
-    """A text as one word for bash and zsh."""
-    return "'" + text.replace("'", "'\\''") + "'"
-
-
-def version_and_date():
-    """Those of the top entry of CHANGELOG.md."""
-    return (run(str(TOP / "package/version"), *options).strip() for options in ([], ["--date"]))
+def changes():
+    """The version, the day and the text of each entry of CHANGELOG.md, the latest first."""
+    head, *parts = ENTRY.split((TOP / "CHANGELOG.md").read_text(encoding="utf-8"))
+    if not parts or re.search("^## ", head, re.M):
+        tool.fail("the top entry of CHANGELOG.md is not as '## 1.0.0 (2026-11-23)'")
+    days = (datetime.datetime.fromisoformat(f"{day}T00:00:00+00:00") for day in parts[1::3])
+    return list(zip(parts[::3], days, parts[2::3]))

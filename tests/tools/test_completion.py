@@ -1,14 +1,13 @@
 """The completion of bash, zsh and fish, for the program and for the tools."""
 
-import functools
 import os
 import pty
 import re
 import select
-import subprocess
 import time
 
-from base import PACKAGING, PROGRAM, ToolTest, needs
+from base import ToolTest, needs
+from test_install import installed
 
 # The commands with their options, from the manual
 OF_A_CACHE = ("size", "sets", "bsize", "assoc", "repl", "walloc", "wback")
@@ -29,18 +28,13 @@ ONE_OF = {
 }
 
 
-@functools.cache
-def written(shell, *options):
-    """The completion of the program for a shell, or with --tools that of the tools."""
-    words = [PACKAGING / "completion", *options, shell, PROGRAM]
-    return subprocess.run(words, stdout=subprocess.PIPE, check=True, text=True, timeout=120).stdout
+PLACES = {"bash": "bash-completion/completions/cachesim", "zsh": "zsh/site-functions/_cachesim",
+          "fish": "fish/vendor_completions.d/cachesim.fish"}
 
 
-def called(function, words):
-    """A line of bash in which a function completes the last of these words."""
-    quoted = " ".join(f"'{word}'" for word in words)
-    words = f"COMP_WORDS=({quoted}) COMP_CWORD={len(words) - 1}"
-    return f"{words}; {function}\necho \"${{COMPREPLY[@]}}\""
+def written(shell):
+    """The completion for a shell, as it is installed."""
+    return (installed() / "share" / PLACES[shell]).read_text()
 
 
 def on_terminal(words, env, *typed):
@@ -64,14 +58,19 @@ def on_terminal(words, env, *typed):
     return shown.decode(errors="replace")
 
 
-class Generated(ToolTest):
-    """What is written for the shells, without them."""
+class Offered(ToolTest):
+    """What the function for bash offers, called by this test."""
 
-    def offered(self, *words):
-        """What the function for bash offers for the last of these words behind the program's."""
-        script = f"{written('bash')}\n{called('_cachesim', ('cachesim', *words))}"
+    def offered(self, *words, command="cachesim"):
+        """What is offered for the last of these words, FILES for files."""
+        quoted = " ".join(f"'{word}'" for word in (command, *words))
+        script = f"{written('bash')}\ncompopt() {{ [[ $* != '-o default' ]] || echo FILES; }}\n"
+        script += f"COMP_WORDS=({quoted}) COMP_CWORD={len(words)}; _cachesim\n"
+        script += 'echo "${COMPREPLY[@]}"'
         return set(self.good(self.run_command("bash", "-c", script)).split())
 
+
+class OfTheProgram(Offered):
     def test_commands(self):
         self.assertEqual(self.offered(""), {"sweep", "csim", "din", "log", "-h", "--help"})
         self.assertEqual(self.offered("sw"), {"sweep"})
@@ -101,6 +100,7 @@ class Generated(ToolTest):
             self.assertEqual(self.offered(*option.split(), "=", letters[0]), {letters[0]})
         for option in ("sweep --bsize", "sweep --after", "csim -b", "din -l1-usize", "din --seed"):
             self.assertEqual(self.offered(*option.split(), ""), set())
+        self.assertEqual(self.offered("csim", "-t", ""), {"FILES"})
         # the trace is no option
         self.assertEqual(self.offered("csim", "-t", "s", "-"), OPTIONS["csim"] - {"-t"})
 
@@ -111,12 +111,6 @@ class Generated(ToolTest):
             self.assertEqual(options - found, set(), shell)
         for option in options:
             self.assertRegex(written("fish"), rf" -[slo] {option.lstrip('-')} ")
-
-    def test_a_program_without_such_a_help(self):
-        completion = PACKAGING / "completion"
-        for program, text in (("/bin/true", "tells no command"), (self.folder / "none", "none")):
-            self.refused(self.run_command(completion, "bash", program), 1, "completion: ", text)
-        self.refused(self.run_command(completion, "csh", PROGRAM), 2, "csh")
 
 
 class Shells(ToolTest):
@@ -207,80 +201,76 @@ OF_TOOLS = {
 FORMATS = "pin champsim memtrace drmemtrace execlog spike gem5 lackey addresses"
 
 
-class ForTools(ToolTest):
-    """What is written for the tools, as the shells take it."""
-
+class OfTheTools(Offered):
     LINES = {
-        "cachesim-best --fr": "--front",
-        "cachesim-trace --with ": "qemu lackey",
-        "cachesim-trace --kind=d --wi": "--with",
-        "cachesim-plot --only ": "size block pareto curve",
-        "cachesim-pages 4 --s": "--sets --size",
-        "cachesim-warm 1000 t.din --kind ": "u d i",
-        "cachesim-to-din p": "pin",
-        "cachesim-by-line t.din -l1-dw": "-l1-dwalloc -l1-dwback",
-        "cachesim-by-page t.din --l1-dw": "--l1-dwalloc --l1-dwback",
-        "cachesim-second-level t.din -l2-urepl ": "l f r",
-        "cachesim-over-time t.din --format ": "d l",
-        "cachesim-din-table auto t.din -l1-ibsize 16 -l1-ib": "",
-        "cachesim-grade ./csim --geometry 1,1,1 --geo": "--geometry",
+        "best --fr": "--front",
+        "trace --with ": "qemu lackey",
+        "trace --kind=d --wi": "--with",
+        "plot --only ": "size block pareto curve",
+        "pages 4 --s": "--sets --size",
+        "warm 1000 t.din --kind ": "u d i",
+        "to-din p": "pin",
+        "by-line t.din -l1-dw": "-l1-dwalloc -l1-dwback",
+        "by-page t.din --l1-dw": "--l1-dwalloc --l1-dwback",
+        "second-level t.din -l2-urepl ": "l f r",
+        "over-time t.din --format ": "d l",
+        "din-table auto t.din -l1-ibsize 16 -l1-ib": "",
+        "grade ./csim --geometry 1,1,1 --geo": "--geometry",
     }
-
-    def offered(self, *words):
-        """What is offered for the last word, FILES for files."""
-        files = "compopt() { [[ $* != '-o default' ]] || echo FILES; }"
-        script = f"{written('bash', '--tools')}\n{files}\n{called('_cachesim_tool', words)}"
-        return set(self.good(self.run_command("bash", "-c", script)).split())
 
     def test_bash(self):
         for name, options in OF_TOOLS.items():
-            words = set(options.split())
+            words, command = set(options.split()), f"cachesim-{name}"
             two = {option for option in words if option.startswith("--")}
             one_dash = words - {option for option in two if option[1:] in words}
-            self.assertEqual(self.offered(f"cachesim-{name}", "a", "-"), one_dash | {"FILES"})
-            self.assertEqual(self.offered(f"/b/cachesim-{name}", "a", "--"), two | {"FILES"})
-            self.assertEqual(self.offered(f"cachesim-{name}", "a", ""), {"FILES"})
+            files, path = {"FILES"}, f"/b/{command}"
+            self.assertEqual(self.offered("a", "-", command=command), one_dash | files)
+            self.assertEqual(self.offered("a", "--", command=path), two | files)
+            self.assertEqual(self.offered("a", "", command=command), files)
         for line, wanted in self.LINES.items():
-            self.assertEqual(self.offered(*line.split(" ")) - {"FILES"}, set(wanted.split()), line)
-        self.assertEqual(self.offered("cachesim-trace", "--with", "=", "q"), {"qemu"})
-        self.assertEqual(self.offered("cachesim-to-din", ""), {*FORMATS.split(), "-h", "--help"})
-        self.assertEqual(self.offered("cachesim-by-page", "t.din", "-l1-dsize", ""), set())
-        self.assertEqual(self.offered("cachesim-trace", "--output", ""), {"FILES"})
-        for command in ("cachesim-grade", "cachesim-lab-csim", "cachesim-lab-trace"):
-            self.assertIn("--help", self.offered(command, "-"))
+            name, *words = line.split(" ")
+            found = self.offered(*words, command=f"cachesim-{name}") - {"FILES"}
+            self.assertEqual(found, set(wanted.split()), line)
+        for words, wanted in {
+            "trace --with = q": {"qemu"},
+            "to-din ": {*FORMATS.split(), "-h", "--help"},
+            "by-page t.din -l1-dsize ": set(),
+            "trace --output ": {"FILES"},
+        }.items():
+            name, *words = words.split(" ")
+            self.assertEqual(self.offered(*words, command=f"cachesim-{name}"), wanted)
+        for name in ("grade", "lab-csim", "lab-trace"):
+            self.assertIn("--help", self.offered("-", command=f"cachesim-{name}"))
 
     def by_fish(self, line, before=""):
         """What fish offers behind a line."""
-        script = f"source tools.fish; {before} complete -C '{line}'"
+        script = f"source tools.fish; {before} complete -C 'cachesim-{line}'"
         lines = self.good(self.run_command("fish", "-N", "-c", script)).splitlines()
         return {line.partition("\t")[0] for line in lines}
 
     @needs("fish")
     def test_fish(self):
-        self.write("tools.fish", written("fish", "--tools"))
+        self.write("tools.fish", written("fish"))
         for line, wanted in self.LINES.items():
             given = set(line.split(" ")[:-1])  # an option is offered again
             self.assertEqual(self.by_fish(line) - given, set(wanted.split()) - given, line)
-        found = self.by_fish("cachesim-to-din ", before="touch file;")
-        self.assertEqual(found, set(FORMATS.split()))
-        script = "source tools.fish; complete -C 'cachesim-to-din pin fi'"
-        ran = self.run_command("fish", "-N", "-c", script)
-        self.assertEqual(self.good(ran), "file\n")
+        self.assertEqual(self.by_fish("to-din ", before="touch file;"), set(FORMATS.split()))
+        self.assertEqual(self.by_fish("to-din pin fi"), {"file"})
 
     @needs("zsh")
     def test_zsh(self):
         """Each tool has its options, and the whole is read without a fault."""
-        (self.folder / "_cachesim-tools").write_text(written("zsh", "--tools"))
-        self.good(self.run_command("zsh", "-n", "_cachesim-tools"))
+        (self.folder / "_cachesim").write_text(written("zsh"))
+        self.good(self.run_command("zsh", "-n", "_cachesim"))
         stub = '_arguments() { print -l -- "$@" }'
         for name, options in OF_TOOLS.items():
-            script = f"{stub}; service=cachesim-{name}; source ./_cachesim-tools"
+            script = f"{stub}; service=cachesim-{name} CURRENT=3 words=(a b c); source ./_cachesim"
             told = self.good(self.run_command("zsh", "-f", "-c", script))
             found = re.findall(r"(?m)^(?:\(.*?\)|\*)(--?[\w-]+)[=+]?\[", told)
             self.assertEqual(set(found), set(options.split()))
             self.assertIn("*:file:_files\n", told)
-        text = written("zsh", "--tools")
+        text = written("zsh")
         self.assertIn("'1:word:((pin\\:\"Pin", text)
         self.assertIn(":value:(qemu lackey)'", text)
-        start = "#compdef cachesim-best cachesim-by-line cachesim-by-page "
+        start = "#compdef cachesim cachesim-best cachesim-by-line cachesim-by-page "
         self.assertTrue(text.startswith(start))

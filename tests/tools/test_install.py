@@ -9,7 +9,7 @@ import shutil
 import subprocess
 import tempfile
 
-from base import PROGRAM, TOP, ToolTest
+from base import PROGRAM, TOP, ToolTest, comes, ended
 from test_make import MakeTest, copy_repository, put_program
 
 
@@ -115,24 +115,37 @@ class Installing(MakeTest):
         self.assertEqual(self.below(), [])
 
     def test_a_fault_on_the_way_harms_nothing_else(self):
+        """After it, as where files grow too large or one is in the way, both can be done again."""
         self.few_tools()
-        self.install()
-        (self.to / "usr/bin/other").touch()
-        failing = self.folder / "failing"
-        env = {"PATH": f"{failing}:{self.path['PATH']}", "TMPDIR": str(failing)}
-        kill = "kill -TERM $PPID"
-        faults = ("rmdir", "--*", "exit 1"), ("rmdir", "--*", kill), ("cp", "-P", "exit 1")
-        for command, arguments, end in faults:
-            start = f'[[ $1 != {arguments} ]] && exec {shutil.which(command)} "$@"'
-            stand_in = self.executable(failing / command, start, end)
-            ran = self.make("install", f"DESTDIR={self.to}", "PREFIX=/usr", env=env)
-            self.assertEqual(ran.returncode, 2)
-            self.assertTrue((self.to / "usr/bin/other").exists())
-            stand_in.unlink()
-            self.assertEqual(os.listdir(failing), [])
+        (self.to / "usr/share").mkdir(parents=True)
+        (self.to / "usr/share/man").touch()
+        before = self.below()
+        line = f'ulimit -f 9; make -C "{self.top}" install DESTDIR="{self.to}" PREFIX=/usr'
+        ran = self.run_command("bash", "-c", line, env=self.known(self.path))
+        self.assertIn("install: ", ran.stderr.decode())
+        self.assertEqual((ran.returncode, self.below()), (2, before))
+        ran = self.make("install", f"DESTDIR={self.to}", "PREFIX=/usr", env=self.path)
+        self.assertEqual(ran.returncode, 2)
+        self.assertIn("File exists", ran.stderr)
+        self.assertTrue((self.to / "usr/bin/cachesim").exists())
+        self.uninstall()
+        self.assertEqual(self.below(), before)
+        (self.to / "usr/share/man").unlink()
         self.install()
         self.uninstall()
-        self.assertEqual(self.below(), ["usr", "usr/bin", "usr/bin/other"])
+        self.assertEqual(self.below(), before[:2])
+
+    def test_a_signal_leaves_no_temporary_file(self):
+        for command, words in ("install", [self.to]), ("deb", [self.to]):
+            temporary = self.folder / f"for {command}"
+            temporary.mkdir()
+            env = {**self.known(), "TMPDIR": str(temporary)}
+            running = subprocess.Popen([self.top / "package" / command, *words], env=env)
+            with ended(running):
+                self.assertTrue(comes(lambda: list(temporary.rglob("cachesim*"))))
+                running.terminate()
+                self.assertEqual(running.wait(20), 143)
+            self.assertEqual(list(temporary.iterdir()), [])
 
     def test_each_c_part_is_compiled(self):
         parts, called = set(), re.compile(r"\bcompiled\(\"([\w.-]+)\"")
@@ -146,23 +159,24 @@ class Installing(MakeTest):
 
     def test_without_a_compiler_tools_are_left_out(self):
         self.few_tools()
-        self.executable(self.top / "tools/needs-c", "# needs-c    does much",
-                        "[ \"$*\" != --build ] || exit 1", "sed -n '2s/# //p' \"$0\"")
+        shutil.copy(TOP / "tools/to-din", self.top / "tools")
+        self.path["CC"] = "absent-cc"
         ran = self.install()
-        told = "(?m)^stage: left out, since their C parts are not compiled:.* needs-c"
-        self.assertRegex(ran.stderr, told)
-        self.assertFalse((self.to / "usr/bin/cachesim-needs-c").exists())
+        self.assertIn("absent-cc is missing: apt-get install absent-cc\n", ran.stderr)
+        told = "install: left out, since their C parts are not compiled: to-din\n"
+        self.assertIn(told, ran.stderr)
+        self.assertFalse([path for path in self.below() if "to-din" in path])
 
     def test_no_program_is_built(self):
         (self.top / "crates/cachesim/out/cachesim").unlink()
-        ran = self.run_command(self.top / "package/stage", self.folder / "tree")
-        self.refused(ran, 1, "stage: no program ", "crates/cachesim/out/cachesim: make builds it\n")
+        ran = self.run_command(self.top / "package/install", self.to)
+        self.refused(ran, 1, "install: no program ", "crates/cachesim/out/cachesim: make builds it")
 
     def test_a_place_that_cannot_be_written(self):
         self.few_tools()
         ran = self.make("install", "PREFIX=/proc/cachesim", env=self.path)
         self.assertEqual(ran.returncode, 2)
-        self.assertIn("install: /proc/cachesim can't be made", ran.stderr)
+        self.assertIn("install: /proc/cachesim: No such file or directory", ran.stderr)
 
 
 class Installed(ToolTest):
@@ -209,17 +223,14 @@ class Installed(ToolTest):
             (("bin/cachesim-replay", *replayed), shown),
             (("bin/cachesim-grade", lab / "lab-csim", lackey), right),
             ((grade, installed() / "bin/cachesim-lab-csim", lackey), right),
-            ((grade, lab / "lab-csim"), "90 of 90 right\n"),
         ):
             ran = self.run_command(installed() / arguments[0], *arguments[1:], env=env)
             self.ends(ran, 0, "", text)
 
     def test_tools_are_named_as_they_are_called(self):
-        """In what grade says of a program that takes each hit for a miss."""
-        folder = installed()
-        csim = f"{folder}/bin/cachesim-lab-csim"
-        wrong = self.executable("wrong", f"{csim} \"$@\" | sed 's/ hit/ miss/; s/hits:/hits:1/'")
-        ran = self.run_command(folder / "lib/cachesim/lab/grade", wrong)
+        """In what grade says of a wrong program, on the traces of hard-traces."""
+        wrong = self.executable("wrong", "echo L 0,1 hit", "echo hits:0 misses:0 evictions:0")
+        ran = self.run_command(installed() / "lib/cachesim/lab/grade", wrong)
         self.assertEqual((ran.returncode, ran.stderr), (1, b""))
         self.assertIn(b"\n    see cachesim-replay -s ", ran.stdout)
         self.assertIn(b"\nnote: 'cachesim-hard-traces .' writes the traces", ran.stdout)

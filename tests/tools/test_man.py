@@ -1,14 +1,27 @@
 """The manual pages of the program and of the tools."""
 
+import gzip
+import importlib
 import os
 import re
-import shutil
+import sys
+from unittest import mock
 
-from base import PACKAGING, PROGRAM, TOOLS, TOP, ToolTest, needs
-from test_make import copy_repository
+from base import PACKAGING, TOOLS, TOP, ToolTest, needs
+from test_install import installed
 
+sys.path.append(str(PACKAGING))
+pages = importlib.import_module("pages")
 # as a terminal of 80 columns shows a page
 SHOWN = {"MANWIDTH": "80", "LC_ALL": "C.UTF-8", "MANROFFOPT": "", "MANPAGER": "cat"}
+# a file of the repository
+FILE = re.compile(r"\b(?:crates|docs|examples|package|tests|tools)/[\w.][\w./-]*\w")
+
+
+def page_of(name):
+    """A page that is installed."""
+    page = installed() / f"share/man/man1/{name}.1.gz"
+    return gzip.decompress(page.read_bytes()).decode()
 
 
 class Page(ToolTest):
@@ -16,7 +29,7 @@ class Page(ToolTest):
 
     def shown(self):
         """The name and what it does, as whatis finds them, and the lines of the page."""
-        self.write("cachesim.1", self.good(self.run_command(PACKAGING / "man-page", PROGRAM)))
+        self.write("cachesim.1", page_of("cachesim"))
         named = self.good(self.run_command("lexgrog", "cachesim.1"))
         page = self.good(self.run_command("man", "--warnings", "-l", "cachesim.1", env=SHOWN))
         return named, re.sub(".\b", "", page).splitlines()
@@ -56,34 +69,23 @@ class Page(ToolTest):
         code = {line.strip() for line in manual.splitlines() if line.startswith("    ")}
         self.assertEqual({line.strip() for line in lines if len(line) > 80} - code, set())
 
-    def test_lowdown_is_missing(self):
-        for name in ("python3", "bash", "grep", "sed", "readlink", "dirname"):
-            (self.folder / name).symlink_to(shutil.which(name))
-        ran = self.run_command(PACKAGING / "man-page", PROGRAM, env={"PATH": str(self.folder)})
-        self.refused(ran, 1, "man-page: lowdown is missing: apt-get install lowdown\n")
-
-    @needs("lowdown")
     def test_a_manual_of_another_shape(self):
-        top = self.folder / "copy"
-        copy_repository(top)
-        (top / "docs/manual.md").write_text("# The manual\n\nIt begins otherwise.\n")
-        ran = self.run_command(top / "package/man-page", PROGRAM)
-        self.refused(ran, 1, "man-page: docs/manual.md doesn't begin with")
+        self.write("docs.md", "# The manual\n\nIt begins otherwise.\n")
+        (self.folder / "docs").mkdir()
+        (self.folder / "docs.md").rename(self.folder / "docs/manual.md")
+        with mock.patch.object(pages, "TOP", self.folder), \
+                mock.patch.object(pages.tool, "fail", side_effect=SystemExit) as fail:
+            self.assertRaises(SystemExit, pages.of_program, {}, "")
+        self.assertIn("docs/manual.md doesn't begin with", fail.call_args[0][0])
 
 
 class ToolPages(ToolTest):
     """The pages of the tools."""
 
-    def tool(self, text):
-        return self.executable("some-tool", f"cat << 'END'\n{text}END")
-
-    def page(self, tool):
-        return self.good(self.run_command(PACKAGING / "tool-page", tool))
-
     def judge(self, text, *parts, end=""):
         """The page of a tool with this help has some parts, in which roff has a backslash before
         each dash, and an end."""
-        page = self.page(self.tool(text))
+        page = pages.of_tool("some-tool", text, "best|plot|trace")
         for part in parts:
             self.assertIn(part.replace("-", "\\-"), page)
         self.assertTrue(page.endswith(end), page)
@@ -134,15 +136,16 @@ class ToolPages(ToolTest):
         )
 
     def test_where_the_examples_are(self):
-        self.judge("some-tool FILE    does it\n\n    some-tool examples/sort.din\n",
-                   end="\nThe folder examples is in share/doc/cachesim, beside the share/man of "
-                   "this page.\n")
+        for name in "examples/sort.din", "tests/cases/inputs/handout.lackey":
+            self.judge(f"some-tool FILE    does it\n\n    some-tool {name}\n",
+                       end="\nThe folders examples and tests are in share/doc/cachesim, beside the "
+                       "share/man of this page.\n")
 
     def test_a_help_that_tells_nothing(self):
         for text in ("", "another-tool    does it\n", "some-tool\n"):
-            ran = self.run_command(PACKAGING / "tool-page", self.tool(text))
-            self.refused(ran, 1, "tool-page: ")
-        self.refused(self.run_command(PACKAGING / "tool-page", "/bin/false"), 1, "tool-page: ")
+            with mock.patch.object(pages.tool, "fail", side_effect=SystemExit) as fail:
+                self.assertRaises(SystemExit, pages.of_tool, "some-tool", text, "best")
+            self.assertIn("some-tool: the help begins with no call", fail.call_args[0][0])
 
     @needs("man-db")
     def test_each_tool_has_a_page(self):
@@ -151,7 +154,16 @@ class ToolPages(ToolTest):
         self.assertTrue(tools)
         for tool in tools:
             with self.subTest(tool.name):
-                self.write("page.1", self.page(tool))
+                self.write("page.1", page_of(f"cachesim-{tool.name}"))
                 named = self.good(self.run_command("lexgrog", "page.1"))
                 self.assertIn(f'"cachesim-{tool.name} - ', named)
                 self.good(self.run_command("man", "--warnings", "-l", "page.1", env=SHOWN))
+
+    def test_each_file_that_is_named_is_there(self):
+        named, documents = 0, installed() / "share/doc/cachesim"
+        for page in installed().glob("share/man/man1/*"):
+            text = gzip.decompress(page.read_bytes()).decode().replace("\\-", "-")
+            for name in FILE.findall(text):
+                self.assertTrue((documents / name).exists(), (page.name, name))
+                named += 1
+        self.assertGreater(named, 20)

@@ -1,17 +1,27 @@
 """The version, and the Debian package."""
 
 import gzip
+import importlib
+import importlib.machinery
+import importlib.util
 import os
 import pathlib
 import re
 import shutil
 import subprocess
+import sys
 import tempfile
 import unittest
+from unittest import mock
 
 from base import EXAMPLES, PACKAGES, PACKAGING, PROGRAM, TOOLS, TOP, ToolTest, needs
 from test_make import MakeTest, copy_repository, put_program
 
+sys.path.append(str(PACKAGING))
+shared = importlib.import_module("shared")
+loader = importlib.machinery.SourceFileLoader("deb", str(PACKAGING / "deb"))
+deb = importlib.util.module_from_spec(importlib.util.spec_from_loader("deb", loader))
+loader.exec_module(deb)
 SPACE = ["--bsize", "16-32", "--sets", "1-8", "--assoc", "1-2", "--size", "64-256"]
 
 
@@ -29,37 +39,39 @@ def crates():
 
 
 class Version(ToolTest):
+    def changes(self, text):
+        """What the package finds in a CHANGELOG.md, as whole days."""
+        self.write("CHANGELOG.md", text)
+        with mock.patch.object(shared, "TOP", self.folder):
+            return [(version, str(day.date()), text) for version, day, text in shared.changes()]
+
     def test_the_program_and_the_changes_name_the_same(self):
-        version = self.good(self.run_command(PACKAGING / "version")).strip()
-        self.assertRegex(version, r"^\d+\.\d+\.\d+$")
+        version, day, _ = self.changes((TOP / "CHANGELOG.md").read_text())[0]
         helped = self.good(self.run_command(PROGRAM, "--help"))
         self.assertEqual(re.findall(r"(?m)^cachesim [\d.]+$", helped), [f"cachesim {version}"])
+        cited = (TOP / "CITATION.cff").read_text()
+        self.assertIn(f"\nversion: {version}\ndate-released: {day}\n", cited)
 
     def test_the_top_entry_counts(self):
-        top = self.folder / "copy"
-        (top / "package").mkdir(parents=True)
-        for name in ("version", "lib.bash"):
-            shutil.copy(PACKAGING / name, top / "package")
-        changes, tool = top / "CHANGELOG.md", top / "package/version"
         older = "## 1.0.0 (2026-11-23)\n"
-        for text, version, date in (
-            (f"# Changes\n\n## 1.2.3 (2027-01-31)\n\n- x\n\n{older}", "1.2.3\n", "2027-01-31\n"),
-            ("## 10.0.0 (2027-12-01)\n", "10.0.0\n", "2027-12-01\n"),
-        ):
-            changes.write_text(text)
-            self.assertEqual(self.good(self.run_command(tool)), version)
-            self.assertEqual(self.good(self.run_command(tool, "--date")), date)
+        self.assertEqual(self.changes(f"# Changes\n\n## 1.2.3 (2027-01-31)\n\n- x\n\n{older}"),
+                         [("1.2.3", "2027-01-31", "\n- x\n\n"), ("1.0.0", "2026-11-23", "")])
+        entry = "10.0.0", "2027-12-01", ""
+        self.assertEqual(self.changes("## 10.0.0 (2027-12-01)\n"), [entry])
         for text in ("# Changes\n", f"## Unreleased\n\n{older}", "## 1.0 (2026-11-23)\n",
-                     "## 1.0.0\n"):
-            changes.write_text(text)
-            self.refused(self.run_command(tool), 1, "version: ", "CHANGELOG.md")
+                     "## 1.0.0\n", "## 1.0.0 (2026-11-23) and more\n"):
+            with mock.patch.object(shared.tool, "fail", side_effect=SystemExit) as fail:
+                self.assertRaises(SystemExit, self.changes, text)
+            self.assertIn("CHANGELOG.md", fail.call_args[0][0])
 
     def test_each_change_is_in_the_packages_history(self):
         entries = (TOP / "CHANGELOG.md").read_text().partition("\n## ")[2].split("\n")
         points = [line for line, before in zip(entries[1:], entries)
-                  if line[:2] == "- " or line and not before and line[0] != "#"]
-        text = self.good(self.run_command(PACKAGING / "changelog", "A Name <name@example.org>"))
-        self.assertEqual(text.count("\n  * "), len(points))
+                  if line[:2] == "- " or line and not before]
+        text = "\n".join(deb.changelog("A Name <name@example.org>"))
+        self.assertEqual(text.count("\n  * "), len([line for line in points if line[0] != "#"]) +
+                         len([line for line in points if line[:4] == "### "]))
+        self.assertLessEqual(max(map(len, text.split("\n"))), 80)
 
     def test_copyright_names_what_is_linked(self):
         """Of the kit's ports it names those whose code the program has, and those of crates.txt."""
@@ -99,7 +111,7 @@ class Package(unittest.TestCase):
         cls.top = cls.folder / "copy"
         copy_repository(cls.top)
         put_program(cls.top)
-        cls.version = run(PACKAGING / "version").stdout.strip()
+        cls.version = shared.changes()[0][0]
         cls.made = cls.make("out")
         cls.package = cls.top / "out" / f"cachesim_{cls.version}_amd64.deb"
 

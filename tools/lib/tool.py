@@ -123,11 +123,13 @@ def size_text(size):
 
 
 def find_cachesim():
-    """The path of the program: $CACHESIM's, else this checkout's, the tools' own, or the path's."""
+    """The path of the program: $CACHESIM's, else this checkout's, the tools' own, the path's, or
+    the unproved one of make demo."""
     named = os.environ.get("CACHESIM")
     near = [os.path.join(HERE, folder) for folder in ("../crates/cachesim/out", "../../bin")]
-    folders = [*near, *os.environ.get("PATH", "").split(":")]
-    for path in [named] if named else [os.path.join(folder, "cachesim") for folder in folders]:
+    paths = [os.path.join(folder, "cachesim") for folder in
+             [*near, *os.environ.get("PATH", "").split(":")]]
+    for path in [named] if named else [*paths, f"{near[0]}/cachesim.unproved"]:
         if os.path.isfile(path) and os.access(path, os.X_OK):
             path = os.path.join(".", path)
             fault = f"{path} is not cachesim: it doesn't write a sweep's table"
