@@ -1,14 +1,14 @@
 """A sweep by a cluster: with a stand-in for its scheduler, and with a Slurm of one node."""
 
+import ast
 import gzip
 import os
 import pathlib
 import shutil
-import subprocess
 import tempfile
-import time
 
-from base import EXAMPLES, PROGRAM, TOOLS, ToolTest, all_processes, needs
+import one_node
+from base import EXAMPLES, PROGRAM, TOOLS, ToolTest, all_processes, comes, needs
 
 CLUSTER = TOOLS / "cluster"
 SPACE = "--bsize 16-64 --sets 1-64 --assoc 1-8 --size 256-16k".split()
@@ -17,7 +17,8 @@ THREE = "--bsize 16 --sets 1-4 --assoc 1-2 --size 64-1k".split()
 TRACE = EXAMPLES / "sort.din"
 
 # Runs the tasks of a job at once, and a job that depends on another only where all tasks of that
-# one ended well. Each job is noted with its options.
+# one ended well. Each job is noted with its options. A task that is
+# to be spoiled does nothing.
 SBATCH = """#!/bin/bash
 set -eu
 note=$(dirname "$0") tasks= after=
@@ -28,6 +29,7 @@ while [[ $1 == --* ]]; do
     echo "$1" >> "$note/job-$number"
     case $1 in
     --array=1-*) tasks=$(seq "${1#*-*-*-}") ;;
+    --array=*) tasks=${1#*=} && tasks=${tasks//,/ } ;;
     --chdir=*) folder=${1#*=} ;;
     --dependency=afterok:*) after=${1#*:} ;;
     esac
@@ -37,6 +39,7 @@ echo "$number;here"
 [ ! -e "$note/failed-$after" ] || exit 0
 cd "$folder"
 for task in ${tasks:-0}; do
+    if [ -e "$note/spoil-$task" ]; then touch "$note/failed-$number"; continue; fi
     SLURM_ARRAY_TASK_ID=$task bash "$@" < /dev/null > "log-$number-$task" 2>&1 ||
         touch "$note/failed-$number"
 done
@@ -93,27 +96,95 @@ class Submitting(ToolTest):
             logs = list(made.glob("log-*"))
             self.assertEqual([fault in log.read_text() for log in logs], [True, True])
 
-    def parts(self, *numbers):
-        for number in numbers:
-            self.write(f"part-{number}", f"{number}\n")
+    def joined(self, *parts):
+        """The status of a join of parts, what it says, and the table, if there is one. Each part is
+        a number of references in two rows."""
+        self.write("pages", "a page\n" * len(parts))
+        for path in [*self.folder.glob("part-*"), *self.folder.glob("table.csv")]:
+            path.unlink()
+        table = ["bsize,sets,assoc,size,hits,misses,evictions\n"]
+        for number, references in enumerate(parts, 1):
+            rows = (f"16,{number},{ways},64,{references - ways},{ways},0\n" for ways in (1, 2))
+            rows = ["".join(table), *rows] if number == 1 else rows
+            table.append("".join(rows))
+            if references:
+                self.write(f"part-{number}", table[-1])
+        ran, made = self.run_command("bash", CLUSTER / "join.sbatch"), self.folder / "table.csv"
+        if made.exists():
+            self.assertEqual(made.read_text(), "".join(table[1:]))
+        return ran.returncode, ran.stderr.decode(), made.exists()
 
-    def joined(self):
-        """The status of a join, and the table, if there is one."""
-        ran, table = self.run_command("bash", CLUSTER / "join.sbatch"), self.folder / "table.csv"
-        return ran.returncode, table.read_text() if table.exists() else None
+    def test_parts_are_joined_by_their_numbers(self):
+        """And not as their names are sorted, if all are there and of one trace."""
+        self.assertEqual(self.joined(*[30] * 11), (0, "", True))
+        self.assertEqual([path.name for path in self.folder.glob("part-*")], [])
+        status, _, is_made = self.joined(30, 0, 30)
+        self.assertEqual((status, is_made), (1, False))
+        for parts in ((30, 20), (30, 30, 29), (20, 30, 30)):
+            status, told, is_made = self.joined(*parts)
+            self.assertEqual((status, is_made), (1, False))
+            self.assertIn("the pages are of different traces: remove ", told)
+            self.assertEqual(len(list(self.folder.glob("part-*"))), len(parts))
 
-    def test_a_part_is_missing(self):
-        self.write("pages", "a\nb\nc\n")
-        self.parts(1, 3)
-        self.assertEqual(self.joined(), (1, None))
-        self.parts(2)
-        self.assertEqual(self.joined(), (0, "1\n2\n3\n"))
+    def test_again(self):
+        """What failed or is missing, and no other page, by one command."""
+        self.good(self.submit("all", 3, TRACE, *SPACE))
+        self.command("squeue", "#!/bin/sh\nexit 1\n")
+        for spoiled in (2,), (1, 3), (1, 2, 3):
+            for number in spoiled:
+                (self.note / f"spoil-{number}").touch()
+            self.good(self.submit("run", 3, TRACE, *SPACE))
+            made = self.folder / "run"
+            self.assertFalse((made / "table.csv").exists())
+            there = {path: path.stat().st_mtime_ns for path in made.glob("part-?")}
+            self.assertEqual(len(there), 3 - len(spoiled))
+            for number in spoiled:
+                (self.note / f"spoil-{number}").unlink()
+            first = len(list(self.note.glob("job-*"))) + 7
+            said = self.good(self.submit("--again", "run"))
+            told = f"job {first}: {len(spoiled)} pages; job {first + 1}: {made}/table.csv\n"
+            self.assertEqual(said, told)
+            array = ",".join(map(str, spoiled))
+            self.assertIn(f"--array={array}", self.options(first))
+            self.assertIn(f"--dependency=afterok:{first}", self.options(first + 1))
+            table = (self.folder / "all/table.csv").read_text()
+            self.assertEqual((made / "table.csv").read_text(), table)
+            shutil.rmtree(made)
 
-    def test_more_than_nine_parts(self):
-        """They are joined by their numbers, and not as their names are sorted."""
-        self.write("pages", "a page\n" * 11)
-        self.parts(*range(1, 12))
-        self.assertEqual(self.joined(), (0, "".join(f"{number}\n" for number in range(1, 12))))
+    def test_again_where_only_the_join_failed(self):
+        self.command("squeue", "#!/bin/sh\nexit 1\n")
+        self.good(self.submit("run", 2, TRACE, *THREE))
+        lines = (self.folder / "run/table.csv").read_text().splitlines(keepends=True)
+        (self.folder / "run/table.csv").unlink()
+        self.write("run/part-1", "".join(lines[:2]))
+        self.write("run/part-2", "".join(lines[2:]))
+        said = self.good(self.submit("--again", "run"))
+        self.assertEqual(said, f"job 9: {self.folder}/run/table.csv\n")
+        self.assertEqual(self.options(9), ["--parsable", f"--chdir={self.folder}/run", ""])
+        self.assertEqual((self.folder / "run/table.csv").read_text(), "".join(lines))
+
+    def test_again_is_refused(self):
+        self.command("squeue", "#!/bin/sh\n[ $* = '-h -j 7,8' ] || exit 1\n")
+        self.refused(self.submit("--again", "none"), 1, "none is no folder that submit has made\n")
+        for words in ["--again"], ["--again", "run", "2"]:
+            self.refused(self.submit(*words), 2, "submit: ")
+        self.good(self.submit("run", 2, TRACE, *THREE))
+        self.refused(self.submit("--again", "run"), 1, "run/table.csv is there: no page is missing")
+        (self.folder / "run/table.csv").unlink()
+        self.command("squeue", "#!/bin/sh\n[ \"$*\" != '-h -j 7,8' ] || echo 7 main\n")
+        self.refused(self.submit("--again", "run"), 1, "submit: job 7 or 8 has not ended\n")
+        self.command("squeue", "#!/bin/sh\nexit 1\n")
+        (self.note / "refuse-9").touch()
+        told = "sbatch: error: refused\nsubmit: no job was submitted\n"
+        self.refused(self.submit("--again", "run"), 1, told)
+        self.assertTrue((self.folder / "run/pages").exists())
+
+    def test_an_older_python(self):
+        """Its words are those of Python 3.6, and it ends in one line with one below 3.9."""
+        ast.parse((CLUSTER / "submit").read_text(), feature_version=(3, 6))
+        older = "import runpy, sys; sys.version_info = (3, 8, 10); sys.argv = ['submit']; "
+        ran = self.run_command("python3", "-c", f"{older}runpy.run_path('{CLUSTER / 'submit'}')")
+        self.refused(ran, 1, "submit: Python 3.9 or later is needed, and this is 3.8\n")
 
     def test_refused(self):
         (self.folder / "there").mkdir()
@@ -149,17 +220,6 @@ class Submitting(ToolTest):
         ran = self.submit("run", 2, TRACE, *THREE, PATH=str(self.note))
         self.refused(ran, 1, "submit: sbatch is missing: apt-get install slurm-client\n")
 
-    def test_one_node_arguments(self):
-        for words, status, text in (
-            (["halt", "x"], 2, "one-node: halt is neither start nor stop"),
-            (["start"], 2, "a folder"),
-            (["start", "a b"], 1, "a b: Slurm takes letters"),
-            (["stop", "none"], 1, "none is no folder"),
-            (["stop", "."], 1, "nothing was started there"),
-        ):
-            ran = self.run_command(CLUSTER / "one-node", *words)
-            self.refused(ran, status, "one-node: ", text)
-
 
 def daemons(place):
     """The commands of the processes that work for a Slurm in a folder."""
@@ -175,31 +235,24 @@ class OneNode(ToolTest):
     def setUpClass(cls):
         cls.place = pathlib.Path(tempfile.mkdtemp(prefix="cachesim-slurm-"))
         cls.addClassCleanup(shutil.rmtree, cls.place)
-        cls.one_node("start")
+        cls.slurm = one_node.Slurm(cls.place / "slurm")
+        cls.slurm.start()
         cls.addClassCleanup(cls.stopped)
 
     @classmethod
-    def one_node(cls, word):
-        subprocess.run([CLUSTER / "one-node", word, cls.place / "slurm"], check=True, timeout=120)
-
-    @classmethod
     def stopped(cls):
-        cls.one_node("stop")
+        cls.slurm.stop()
         left = daemons(cls.place)
         if left:
             raise AssertionError(f"still there: {left}")
 
     def in_cluster(self, *command):
-        env = {"SLURM_CONF": str(self.place / "slurm/slurm.conf")}
-        return self.good(self.run_command(*command, env=env))
+        return self.good(self.run_command(*command, env=self.slurm.env))
 
     def wait(self):
         """Waits until no job is left."""
-        for _ in range(400):
-            if not self.in_cluster("squeue", "-h"):
-                return
-            time.sleep(0.2)
-        self.fail("jobs are left: " + (self.place / "slurm/slurmctld.log").read_text())
+        log = self.place / "slurm/slurmctld.log"
+        self.assertTrue(comes(lambda: not self.in_cluster("squeue", "-h"), 80), log.read_text())
 
     def test_sweep(self):
         """A good trace gives the bytes of one run; a bad one no table, and its join never runs."""
@@ -217,22 +270,24 @@ class OneNode(ToolTest):
         self.assertEqual(logs, {f"page-{number}.log": fault for number in (1, 2, 3)})
         self.assertFalse((self.folder / "failing" / "table.csv").exists())
 
-    def test_daemons(self):
-        self.assertEqual(daemons(self.place), ["munged", "slurmctld", "slurmd"])
-        ran = self.run_command(CLUSTER / "one-node", "start", self.place / "slurm")
-        self.refused(ran, 1, "one-node: ", "it runs already")
+    def test_again(self):
+        """A page that has failed is swept once more, and the table is that of one run."""
+        self.write("trace", "0 10\n0 20\n2 1g\n")
+        self.in_cluster(CLUSTER / "submit", "run", 3, "trace", *SPACE)
+        self.wait()
+        self.write("trace", TRACE.read_bytes())
+        self.in_cluster(CLUSTER / "submit", "--again", "run")
+        self.wait()
+        table = self.sweep(*SPACE, "-t", TRACE)
+        self.assertEqual((self.folder / "run/table.csv").read_text(), table)
 
     def test_jobs_are_ended_by_a_stop(self):
         """A second Slurm beside the first, on ports of its own; it is ended while a job runs."""
-        other = self.place / "other"
-        self.good(self.run_command(CLUSTER / "one-node", "start", other))
-        environment = {"SLURM_CONF": str(other / "slurm.conf")}
-        self.good(self.run_command("sbatch", "--parsable", "--wrap", "sleep 1000", env=environment))
-        for _ in range(100):
-            if "slurmstepd" in daemons(other):
-                break
-            time.sleep(0.1)
-        self.assertIn("slurmstepd", daemons(other))
-        self.good(self.run_command(CLUSTER / "one-node", "stop", other))
-        self.assertEqual(daemons(other), [])
-        self.assertEqual(self.good(self.run_command(CLUSTER / "one-node", "stop", other)), "")
+        other = one_node.Slurm(self.place / "other")
+        other.start()
+        self.assertEqual(daemons(other.folder), ["munged", "slurmctld", "slurmd"])
+        self.good(self.run_command("sbatch", "--parsable", "--wrap", "sleep 1000", env=other.env))
+        self.assertTrue(comes(lambda: "slurmstepd" in daemons(other.folder)))
+        other.stop()
+        self.assertEqual(daemons(other.folder), [])
+        other.stop()
