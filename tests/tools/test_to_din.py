@@ -1,14 +1,18 @@
 """Other tools' traces as din lines."""
 
+import atexit
+import functools
 import gzip
 import os
+import pathlib
 import random
 import re
 import shutil
 import signal
 import struct
 import subprocess
-from itertools import chain, takewhile
+import tempfile
+from itertools import chain
 
 from base import EXAMPLES, PROGRAM, TOOLS, ToolTest, copy_tools, needs
 
@@ -130,7 +134,8 @@ core   0: exception trap_illegal_instruction, epc 0x0000000080000048 =>
 core   0:           tval 0x0000000000000000 =>""",
 }
 GOOD = {
-    form: [case.partition(" =>")[::2] for case in text.replace("\n ..", "").split("\n")[1:]]
+    form: {line: accesses.strip().split(",") if accesses else [] for line, _, accesses in (
+        case.partition(" =>") for case in text.replace("\n ..", "").split("\n")[1:])}
     for form, text in GOOD.items()
 }
 # a missing one, bad digits, more than 64 bits
@@ -144,6 +149,7 @@ BAD = {
     "|  7   2:  32 ifetch       x byte(s) @ 0x401000|  7   2:  32 ifetched     3 byte(s) @ 0x401000"
     "|  7   2:  32 exec         3 byte(s) @ 0x401000|  7   2   32 ifetch       3 byte(s) @ 0x401000"
     "|  7   2: ifetch       3 byte(s) @ 0x401000|  7   2:  32|  7   2:  32    00 00 4"
+    "|  7   2:  32    00 00x"
     "|  7   2:  32    00 00 40 and more|ERROR: failed to initialize analyzer"
     "|             28 : instructions",
     "execlog": '0, {}, 0x8b, "mov"|0, 0x401000, 0x8b, "mov", load, {}'
@@ -170,86 +176,18 @@ BAD = {
     "|core   0: 33 0x44 (0x53)|core   0: 3|(spike) ",
 }
 
-# The same conversion by regular expressions: lines that are skipped, and whole lines with what
-# their accesses come from
-HEX = "(?:0[xX])?([0-9a-fA-F]{1,16})"
-CORE = r"(?:core[ \t]*\d+: [ \t]*)?(?!\d \()"
-NAME = r"(?:mf|[xfvcelm])[ \t]*\d"
-THREAD = r"[ \t]*(?:\d[\d \t]*:[ \t]*|(?=[TW.]))[\dTW.]+[ \t]+"
-PASSED = {
-    "addresses": r"[ \t]*#.*",
-    "drmemtrace": r"[ \t]*(?:<|---|Output format:|View tool |\d+[ \t]+: total ).*|"
-    rf"{THREAD}(?:(?:<|pref|iflush |dflush ).*|[0-9a-fA-F]{{2}}(?:[ \t]+[0-9a-fA-F]{{2}})*|"
-    rf"(?:ifetch|read|write)[ \t]+\d+ byte\(s\) @ {HEX} non-fetched instruction.*)",
-    "execlog": "#.*",
-    "gem5": r"(?:\d+,)?u(?:,\d+){3,5}",
-    "lackey": "[=*-].*",
-    "memtrace": "Format:.*",
-    "pin": "#.*",
-    "spike": r"core[ \t]*\d+: [ \t]*(?:>>>>|Executed |exception |tval ).*|"
-    rf"{CORE}{HEX} \({HEX}\)[ \t]+(?!mem|{NAME})[a-z].*",
-}
-WHOLE = {
-    "addresses": rf"[ \t]*{HEX}",
-    "drmemtrace": rf"{THREAD}(ifetch|read|write)[ \t]+\d+ byte\(s\) @ {HEX}(?:[ \t].*)?",
-    "execlog": rf'\d+, {HEX}, {HEX}, ".*"((?:, [^,"]*)*)',
-    "gem5": r"(?:\d+,)?([rw])((?:,\d+){3,5})",
-    "lackey": r"[ \t]*([ILSM])[ \t]+([0-9a-fA-F]{1,16}),\d{1,9}(?:[ \t].*)?",
-    "memtrace": rf"{HEX},([rw]),\d+,{HEX}|{HEX}:[ \t]+\d+, ([a-z<].*)",
-    "pin": rf"{HEX}: ([RW])[ \t]+(?:\(nil\)|(?:0+(?=0[xX]))?{HEX})(?:[ \t]+\d+(?:[ \t].*)?)?",
-    "spike": rf"{CORE}(?:\d )?{HEX} \({HEX}\)((?:[ \t]+(?:mem {HEX}(?: 0x[0-9a-fA-F]+)?|"
-    r"[xfvc][ \t]*\d[^ \t]*[ \t]+0x[0-9a-fA-F]+|(?:mf|[elm])[ \t]*\d[^ \t]*))*)",
-}
 
-
-def execlog(instruction, _, rest):
-    accesses, fields = [(2, instruction)], iter(rest.split(", ")[1:])
-    for field in fields:
-        if field in ("load", "store"):
-            address = re.fullmatch(HEX, next(fields, ""))
-            if not address:
-                return None
-            accesses.append((field == "store", address[1]))
-    return accesses
-
-
-def gem5(command, rest):
-    fields = [int(field) for field in rest.split(",")[1:]]
-    if max(fields) >= 1 << 64:
-        return None
-    is_fetch = len(fields) > 3 and fields[2] >> 8 & 1
-    return [(1 if command == "w" else 2 if is_fetch else 0, f"{fields[0]:x}")]
-
-
-ACCESSES = {
-    "addresses": lambda at: [(0, at)],
-    "drmemtrace": lambda kind, at: [(["read", "write", "ifetch"].index(kind), at)],
-    "execlog": execlog,
-    "gem5": gem5,
-    "lackey": lambda kind, at: [(label, at) for label in dict(I="2", L="0", S="1", M="01")[kind]],
-    "memtrace": lambda _, kind, at, data, word: [(dict(r=0, w=1).get(kind or word, 2), at or data)],
-    "pin": lambda _, kind, at: [("RW".index(kind), at or "0")],
-    "spike": lambda at, _, rest, __: [
-        (2, at), *((bool(value), data) for data, value in re.findall(f"mem {HEX}( 0x)?", rest))
-    ],
-}
-
-
-def slow(form, line):
-    """The din lines of a line, or None where it is a fault."""
-    line = line.rstrip(" \t\r")
-    if not line or re.fullmatch(PASSED[form], line, re.ASCII | re.DOTALL):
-        return []
-    found = re.fullmatch(WHOLE[form], line, re.ASCII | re.DOTALL)
-    accesses = found and ACCESSES[form](*found.groups())
-    return accesses and [f"{int(label)} {int(at, 16):x}" for label, at in accesses]
-
-
-def lines_of(form):
-    """Good lines of a format: those above, and those of the samples."""
-    samples = [SAMPLES / sample for sample in EXPECTED if re.split("[-.]", sample)[0] == form]
-    lines = [line for line, _ in GOOD[form]]
-    return lines + [line for sample in samples for line in sample.read_text().splitlines()]
+@functools.cache
+def guarded():
+    """The converter itself, with the compiler's guards where it has them."""
+    folder = pathlib.Path(tempfile.mkdtemp(prefix="cachesim-to-din-"))
+    atexit.register(shutil.rmtree, folder)
+    flags = "-std=c11 -Wall -Wextra -Werror -O1".split()
+    compile_it = ["cc", *flags, TOOLS / "lib/to-din.c", "-o", folder / "to-din"]
+    if subprocess.run([*compile_it, "-fsanitize=address,undefined", "-fno-sanitize-recover=all"],
+                      capture_output=True, check=False).returncode:
+        subprocess.run(compile_it, check=True)
+    return folder / "to-din"
 
 
 def mutated(chance, line):
@@ -285,21 +223,21 @@ class Formats(ToDin):
                 self.assertEqual(self.din(re.split("[-.]", sample)[0], SAMPLES / sample), expected)
                 self.assertIn(f"`{sample}`", (SAMPLES / "README.md").read_text())
 
-    def test_good_lines(self):
-        for form, cases in GOOD.items():
-            expected = ",".join(accesses.strip() for _, accesses in cases if accesses).split(",")
-            for end in ("\n", "\r\n", " \t\r\n\n \n"):
-                text = end.join(line for line, _ in cases)
-                self.assertEqual(self.din(form, stdin=text.encode()), expected)
-
     def test_bad_lines(self):
         for form, cases in BAD.items():
-            good = GOOD[form][0][0]
+            good, told = next(iter(GOOD[form].items()))
             lines = {case.replace("{}", at) for case in cases.split("|") for at in NOT_HEXADECIMAL}
-            for line in sorted(lines - {""}):
+            lines = sorted(lines - {""})
+            self.faulty(form, "line 3: not a line of ", stdin=f"{good}\n\n{lines[0]}\n".encode())
+            for line in lines:
+                text = f"{good}\n\n{line}\n{good}\n"
+                ran = self.run_command(guarded(), form, stdin=text.encode())
                 with self.subTest(form=form, line=line):
-                    text, told = f"{good}\n\n{line}\n{good}\n", line[:60].rstrip()
-                    self.faulty(form, "line 3: not a line of ", told, stdin=text.encode())
+                    message = ran.stderr.decode()
+                    self.assertRegex(message, r"\A\S+: line 3: not a line of .*\n\Z")
+                    self.assertIn(line[:60].rstrip(), message)
+                    wrote = ran.stdout.decode().splitlines()[:len(told)]
+                    self.assertEqual((ran.returncode, wrote), (1, told))
 
     def test_champsim(self):
         chance = random.Random(1)
@@ -336,47 +274,29 @@ class Formats(ToDin):
 
 
 class Streams(ToDin):
-    def test_traces_of_many_buffers(self):
+    def test_good_lines(self):
+        """By themselves, and in a trace of many buffers, in any order."""
         chance = random.Random(2)
-        for form in GOOD:
-            told = {line: slow(form, line) for line in lines_of(form)}
-            lines = chance.choices(list(told), k=(3 << 20) * len(told) // sum(map(len, told)))
-            expected = list(chain.from_iterable(told[line] for line in lines))
-            (self.folder / "trace").write_bytes("\n".join(lines).encode())
-            self.same(self.din(form, "trace"), expected)
-            self.same(self.din(form, stdin="\r\n".join(lines).encode()), expected)
+        for form, told in GOOD.items():
+            drawn = chance.choices(list(told), k=(3 << 20) * len(told) // sum(map(len, told)))
+            for lines, end in (list(told), " \t\r\n\n \n"), (drawn, "\n"), (drawn, "\r\n"):
+                expected = list(chain.from_iterable(told[line] for line in lines))
+                self.same(self.din(form, stdin=end.join(lines).encode()), expected)
 
     def test_changed_lines(self):
-        """What random changes make of good lines, with the compiler's guards where it has them."""
-        guarded = self.folder / "guarded"
-        source, flags = TOOLS / "lib/to-din.c", "-std=c11 -Wall -Wextra -Werror -O1 -o".split()
-        guards = "-fsanitize=address,undefined", "-fno-sanitize-recover=all"
-        if self.run_command("cc", source, *guards, *flags, guarded).returncode:
-            self.good(self.run_command("cc", source, *flags, guarded))
+        """What random changes make of good lines."""
         chance = random.Random(3)
-        for form in GOOD:
-            pool = lines_of(form)
-            for _ in range(25):
-                lines = pool[:1] + [mutated(chance, chance.choice(pool)) for _ in range(6)]
-                told = [slow(form, line) for line in lines]
-                told = list(takewhile(lambda accesses: accesses is not None, told))
-                ran = self.run_command(guarded, form, stdin="\n".join(lines).encode("latin-1"))
-                wrote, expected = ran.stdout.decode().splitlines(), list(chain.from_iterable(told))
-                self.assertEqual(ran.returncode, len(told) < len(lines), (lines, ran.stderr))
-                if ran.returncode:
-                    wrote = wrote[:len(expected)]
-                    self.assertIn(f": line {len(told) + 1}: not a line of".encode(), ran.stderr)
-                self.assertEqual(wrote, expected, (lines, ran.stderr))
-            ran = self.run_command(guarded, form, stdin=chance.randbytes(999))
-            self.assertEqual((ran.returncode, ran.stderr.count(b"\n")), (1, 1), ran.stderr)
+        for form, good in GOOD.items():
+            texts = ["\n".join(mutated(chance, line) for line in chance.choices(list(good), k=6))
+                     for _ in range(25)]
+            for text in [*(text.encode("latin-1") for text in texts), chance.randbytes(999)]:
+                ran = self.run_command(guarded(), form, stdin=text)
+                told = (ran.returncode, ran.stderr.count(b"\n"))
+                self.assertIn(told, ((0, 0), (1, 1)), (text, ran.stderr))
         for first in range(1, 17):  # ends at each last byte of the buffer
             text = "f" * first + "\nffffffffffffffff" * 3999
-            full = self.good(self.run_command(guarded, "addresses", stdin=text.encode()))
+            full = self.good(self.run_command(guarded(), "addresses", stdin=text.encode()))
             self.same(full.splitlines(), ["0 " + line for line in text.split()])
-        records = (SAMPLES / "champsim.bin").read_bytes()
-        for size in range(0, 1000, 37):
-            ran = self.run_command(guarded, "champsim", stdin=records[:size])
-            self.assertEqual(ran.returncode, size % 64 > 0, ran.stderr)
 
     def test_long_lines(self):
         line = b'0, 0x401000, 0x8b, "%b", load, 0x7ffd1230\n'
