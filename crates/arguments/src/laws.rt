@@ -2,6 +2,7 @@
 ghost use Rattle.arguments.specs.DinJob.{SetsLaw};
 
 /// A cache of `din` that is asked for by its number of sets has the geometry of these sets.
+/// Lemma: `SetsLaw.sets_law`.
 pub fn sets_are()
     ensures { SetsLaw }
 {}

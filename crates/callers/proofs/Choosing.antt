@@ -1,8 +1,9 @@
 -- The smallest cache of some rows, and of one row more.
-use Rattle.std.proofs.Common.{◌≡◌, ◌≤◌, ◌<◌, ℕ, List, [], ◌∷◌, ◌++◌, None, Some, Option, refl, arith}
-use Rattle.std.specs.Prelude.{IfSome, Contains}
+use Rattle.std.proofs.Common.{◌≡◌, ◌≤◌, ◌<◌, ℕ, Bool, true, false, List, [], ◌∷◌, ◌++◌, None, Some, Option, refl, sym, ◌∙◌, arith}
+use Rattle.std.specs.Prelude.{IfSome, MatchOption, nat_lt}
 use Rattle.std.specs.List.{AllByRecursion as Each}
-use Rattle.std.proofs.lemmas.List.Elements.{Contains-append_left, Contains-append_right}
+use Rattle.std.proofs.lemmas.Bool.{ltb-true, ltb-false, false≢true}
+use Rattle.std.proofs.lemmas.List.Elements.{Contains-append_left, Contains-push}
 use Rattle.cache_core.specs.declared.outcome.Counts.{Counts}
 use Rattle.sweep_core.specs.Space.{bytes_of}
 use Rattle.sweep_core.specs.declared.space.Config.{Config}
@@ -22,16 +23,16 @@ AtLeast most c row = row.1.misses ≤ most → bytes_of c ≤ bytes_of row.0
 
 -- the next one is chosen
 pub chosen : (most : ℕ) (rows : List (Config × Counts)) (best : Option Config) (c : Config) (n : Counts) → IsSmallestIfAny most rows best
-    → n.misses ≤ most → IfSome best (λ b. bytes_of c < bytes_of b) → Contains ((c, n) ∷ []) (c, n) → IsSmallestIfAny most (rows ++ (c, n) ∷ []) (Some c)
-chosen most rows None c n so_far few less here = record {
+    → n.misses ≤ most → IfSome best (λ b. bytes_of c < bytes_of b) → IsSmallestIfAny most (rows ++ (c, n) ∷ []) (Some c)
+chosen most rows None c n so_far few less = record {
   counts = n;
-  among = Contains-append_right rows ((c, n) ∷ []) (c, n) here;
+  among = Contains-push rows (c, n);
   few = few;
   least = one_more (TooMany most) (AtLeast most c) rows (c, n) (λ row above low. absurd (omega (arith, above, low))) so_far (λ _. omega arith);
 }
-chosen most rows (Some b) c n so_far few less here = record {
+chosen most rows (Some b) c n so_far few less = record {
   counts = n;
-  among = Contains-append_right rows ((c, n) ∷ []) (c, n) here;
+  among = Contains-push rows (c, n);
   few = few;
   least = one_more (AtLeast most b) (AtLeast most c) rows (c, n) (λ row above low. omega (arith, above low, less)) so_far.least (λ _. omega arith);
 }
@@ -46,3 +47,21 @@ kept most rows (Some b) c n so_far none some = record {
   few = so_far.few;
   least = one_more (AtLeast most b) (AtLeast most b) rows (c, n) (λ row above. above) so_far.least some;
 }
+
+-- what the test of the sizes says
+abbrev Tells : Option Config → Config → Bool → Type 0
+Tells best c smaller = MatchOption best (smaller ≡ true) (λ b. smaller ≡ nat_lt (bytes_of c) (bytes_of b))
+
+pub is_less : (best : Option Config) (c : Config) (smaller : Bool) → Tells best c smaller → smaller ≡ true → IfSome best (λ b. bytes_of c < bytes_of b)
+is_less None c smaller tells yes = tt
+is_less (Some b) c smaller tells yes = ltb-true (bytes_of c) (bytes_of b) (sym tells ∙ yes)
+
+pub is_no_less : (most : ℕ) (best : Option Config) (c : Config) (n : Counts) (smaller : Bool) → Tells best c smaller → smaller ≡ false
+    → (best ≡ None → most < n.misses) × IfSome best (λ b. n.misses ≤ most → bytes_of b ≤ bytes_of c)
+is_no_less most None c n smaller tells no = (λ none. absurd (false≢true (sym no ∙ tells)), tt)
+is_no_less most (Some b) c n smaller tells no = (λ none. absurd cc, λ low. ltb-false (bytes_of c) (bytes_of b) (sym tells ∙ no))
+
+pub misses_more : (most : ℕ) (best : Option Config) (c : Config) (n : Counts) → most < n.misses
+    → (best ≡ None → most < n.misses) × IfSome best (λ b. n.misses ≤ most → bytes_of b ≤ bytes_of c)
+misses_more most None c n above = (λ none. above, tt)
+misses_more most (Some b) c n above = (λ none. above, λ low. absurd (omega (arith, above, low)))

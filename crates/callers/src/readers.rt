@@ -1,5 +1,5 @@
 //! All entries of a trace.
-ghost use Rattle.std.specs.Prelude.{◌≡◌, IfOk, IfSome, None};
+ghost use Rattle.std.specs.Prelude.{◌≡◌, ◌≤◌, IfOk, IfSome, None};
 ghost use Rattle.trace_core.specs.Reading.{reading};
 
 use std::alloc::Global;
@@ -36,6 +36,7 @@ pub fn entries_in_pieces(
     text: &[u8],
     most: usize,
 ) -> Result<Vec<(u64, Entry)>, RunFault>
+    requires { 1 ≤ most }
     ensures { IfOk result (λ given. reading format MAX_LINES text.now
         ≡ record { entries = given.items; fault = None }) }
 {

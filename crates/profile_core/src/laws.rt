@@ -16,6 +16,7 @@ ghost use Rattle.profile_core.specs.ProfileStandsFor.{ProfileStandsFor};
 
 /// A new profile stands for no events; a reference fed is a reference added, and a flush a flush
 /// added.
+/// Lemmas: `Stands.new_stands`, `Stands.reference_stands`, `Stands.flush_stands`.
 pub fn each_step_stands()
     ensures new { (g : GeometryValue) → IsGeometry g → ProfileStandsFor [] (empty g) }
     ensures reference { (es : List Event) (v : ProfileState) (r : Ref) → ProfileStandsFor es v
@@ -26,6 +27,7 @@ pub fn each_step_stands()
 {}
 
 /// A profile that was fed a list of events stands for it.
+/// Lemma: `Runs.stands_after`.
 pub fn stands_after()
     ensures { (g : GeometryValue) (es : List Event) → IsGeometry g
         → ProfileStandsFor es (fold after_event (empty g) es) }
@@ -34,6 +36,7 @@ pub fn stands_after()
 /// What finds its block in front of its set's list does so in each profile with more sets of the
 /// same block size too, and if there is but one set, in each with larger blocks: these profiles
 /// are fed the same events.
+/// Lemma: `Fronts.front_refined`.
 pub fn fronts_are_refined()
     ensures { (g h : GeometryValue) (es : List Event) (addr : ℕ) → IsGeometry g → IsGeometry h
         → is_refined g h ≡ true
@@ -43,6 +46,7 @@ pub fn fronts_are_refined()
 
 /// The same in the words of the definitions: if a reference's distance is 0, it is so in each
 /// geometry that refines this one.
+/// Lemma: `Fronts.near_refined`.
 pub fn distance_0_is_refined()
     ensures { (g h : GeometryValue) (es : List Event) (r : Ref) → IsGeometry g → IsGeometry h
         → is_refined g h ≡ true
@@ -52,12 +56,14 @@ pub fn distance_0_is_refined()
 {}
 
 /// A list of events makes at most `g.e` times as many comparisons as it has references.
+/// Lemma: `Counting.probes_at_most`.
 pub fn probes_bounded()
     ensures { (g : GeometryValue) (es : List Event)
         → probes g es ≤ length (occurrences g es) * g.e }
 {}
 
 /// Events keep a profile's geometry.
+/// Lemma: `Runs.geometry_after`.
 pub fn events_keep_the_geometry()
     ensures { (v : ProfileState) (es : List Event)
         → (fold after_event v es).geometry ≡ v.geometry }
@@ -70,6 +76,7 @@ pub fn new_profile_was_fed_nothing()
 
 /// The counts of a profile are those of separate LRU caches of as many sets and of each number of
 /// lines up to its depth.
+/// Lemma: `Counting.counts_are`.
 pub fn counts_are_those_of_caches()
     ensures { (es : List Event) (v : ProfileState) (ways : ℕ) → ProfileStandsFor es v
         → ways ≤ v.geometry.e → counts_at v ways ≡ counts (record v.geometry { e = ways }) es }
@@ -77,6 +84,7 @@ pub fn counts_are_those_of_caches()
 
 /// With more lines per set a profile counts no fewer hits, and no more misses and evictions, of as
 /// many references.
+/// Lemmas: `HitSums.sum-more`, `HitSums.sum-split`.
 pub fn more_ways_miss_no_more()
     ensures hits { (v : ProfileState) (few many : ℕ) → few ≤ many
         → (counts_at v few).hits ≤ (counts_at v many).hits }

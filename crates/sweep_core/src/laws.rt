@@ -23,6 +23,8 @@ use profile_core::laws::probes_bounded;
 
 /// The table rises, its members are exactly the configurations of the space that are greater than
 /// `after`, and no other list does both.
+/// Lemmas: `Validity.space-limited`, `Members.table-rises`, `Members.table-has`,
+/// `Members.table-only`, `Members.table-unique`.
 pub fn table_is()
     ensures rises { (space : Ranges) (after : Option Config) → IsRising (table space after) }
     ensures members { (space : Ranges) (after : Option Config) (c : Config) →
@@ -41,11 +43,14 @@ pub fn order_is(c: &Config, d: &Config) -> bool
 }
 
 /// The exponent of a power of two is its logarithm.
+/// Lemma: `PowersOfTwo.log2-is`.
 pub fn log2_is()
     ensures { (n : ℕ) → is_power n ≡ true → 2 ^ log2 n ≡ n }
 {}
 
 /// Each configuration of a space is a cache within the limits, and its geometry has as many bytes.
+/// Lemmas: `Validity.space-limited`, `Depths.geometry-of`, `Depths.bytes-are`,
+/// `Depths.geometry-tested`, `Depths.size-fits`.
 pub fn configs_are_geometries()
     ensures limits { (space : Ranges) (c : Config) →
         space_fault space ≡ None → is_valid space c ≡ true → IsGeometry (geometry_of_config c) }
@@ -61,6 +66,7 @@ pub fn configs_are_geometries()
 
 /// What a sweep writes is the header, if it begins at the first configuration, and the text of the
 /// rows that it counts.
+/// Lemma: `Writing.csv-counted`.
 pub fn table_is_text_of_rows()
     ensures { (r : Request) (text : List ℕ) → sweep_text r text
         ≡ header_of r.after ++ csv_rows (counted_sweep r (events r.format r.kind text)).rows }
@@ -68,6 +74,7 @@ pub fn table_is_text_of_rows()
 
 /// Pages: a sweep of `n` rows, the last of which is `c`, and then a sweep of `m` rows after `c`,
 /// write what a sweep of both writes.
+/// Lemma: `Pages.texts-join`.
 pub fn pages()
     ensures { (r : Request) (text : List ℕ) (n : ℕ) (m : Option ℕ) (front : List Config)
         (c : Config) → first_rows (Some n) (table r.space r.after) ≡ front ++ c ∷ [] →
@@ -78,12 +85,14 @@ pub fn pages()
 
 /// A sweep in pages, each after the last row of the one before it until no configuration follows,
 /// writes what the whole sweep writes.
+/// Lemma: `Pages.pages-join`.
 pub fn all_pages()
     ensures { (n : ℕ) (r : Request) (pages : List Request) (text : List ℕ) → ArePages n r pages →
         flat_map (λ page. sweep_text page text) pages ≡ sweep_text (record r { rows = None }) text }
 {}
 
 /// The pairs of some rows: each stands once, and they are those that a row has.
+/// Lemmas: `WorkLaws.pairs-distinct`, `WorkLaws.pairs-members`.
 pub fn pairs_are()
     ensures distinct { (rows : List Config) → AllPairs (λ p q. p ≢ q) (pairs rows) }
     ensures members { (rows : List Config) (p : ℕ × ℕ) →
@@ -92,6 +101,7 @@ pub fn pairs_are()
 
 /// The depth of a pair is the greatest associativity of its rows: none has more ways, and one has
 /// as many.
+/// Lemmas: `WorkLaws.depth-most`, `WorkLaws.depth-reached`.
 pub fn depth_is()
     ensures most { (rows : List Config) (c : Config) →
         Contains rows c → c.assoc ≤ depth rows (pair_of c) }
@@ -101,6 +111,7 @@ pub fn depth_is()
 
 /// A sweep counts at most as many comparisons as its kept references times the depths of its pairs,
 /// summed up. It has code, since it calls the same law of one profile.
+/// Lemma: `WorkLaws.work-most`.
 pub fn work_is_bounded()
     ensures { (r : Request) (text : List ℕ) → sweep_work r text
         ≤ length (references_in (events r.format r.kind text))

@@ -22,12 +22,15 @@ use crate::fault::TraceFault;
 use crate::state::ReaderState;
 
 /// The lines of a text are the pieces between its LFs, without an empty last one.
+/// Lemma: `Judging.lines-pieces`.
 pub fn lines_are_pieces()
     ensures { (text : List ℕ) → lines text ≡ without_empty_last (slice_split is_line_feed text) }
 {}
 
 /// The fault of a text is that of the first line that is judged to be at fault, and it has none
 /// if no line is.
+/// Lemmas: `Judging.fault-first`, `Judging.first-fault`, `Judging.faultless-all`,
+/// `Judging.all-faultless`.
 pub fn first_fault_is_least()
     ensures some { (format : Format) (limit : ℕ) (text : List ℕ) (fault : TraceFault) →
         (first_fault format limit text ≡ Some fault)
@@ -40,6 +43,7 @@ pub fn first_fault_is_least()
 /// Where a source fails after some bytes, the fault is that of the first of their whole lines that
 /// is judged to be at fault, and else what the piece after their last LF settles: a byte past the
 /// limit, too many bytes, or the failure itself.
+/// Lemmas: `Judging.cut-first`, `Judging.cut-last`.
 pub fn failure_comes_after_what_was_delivered()
     ensures line { (format : Format) (limit : ℕ) (text : List ℕ) (n : ℕ) (fault : TraceFault) →
         slice_get (whole_judgements format limit text) n ≡ Some (Err fault) →
@@ -53,6 +57,7 @@ pub fn failure_comes_after_what_was_delivered()
 
 /// The entries of a reading are those of the lines before the first that is at fault, each with its
 /// line's number.
+/// Lemma: `Judging.entries-before`.
 pub fn entries_come_before_the_fault()
     ensures { (format : Format) (limit : ℕ) (text : List ℕ) → (reading format limit text).entries
         ≡ filter_map (numbered_entry format)
@@ -61,6 +66,7 @@ pub fn entries_come_before_the_fault()
 
 /// Where a source fails after some bytes, the entries are those of their whole lines before the
 /// first that is at fault, each with its line's number. The piece after their last LF gives none.
+/// Lemma: `Judging.entries-before_cut`.
 pub fn entries_come_before_the_cut()
     ensures { (format : Format) (limit : ℕ) (text : List ℕ) →
         (cut_reading format limit text).entries
@@ -70,6 +76,7 @@ pub fn entries_come_before_the_cut()
 {}
 
 /// Where a text has no fault, its reading has all its entries, and gives a cache all its events.
+/// Lemma: `Entries.read-entries`.
 pub fn faultless_reading_is_whole()
     ensures entries { (format : Format) (limit : ℕ) (text : List ℕ) →
         first_fault format limit text ≡ None →
@@ -88,6 +95,7 @@ pub fn begun_reader_has_read_nothing()
 
 /// A reader at its end has returned the entries of the whole text, which has no fault, and nothing
 /// is left of the text.
+/// Lemmas: `Runs.Reached-end`, `Runs.Reached-left`.
 pub fn ended_reader_has_read_all()
     ensures reading { (format : Format) (limit : ℕ) (text : List ℕ) (start now : SourceView)
         (given : List (ℕ × Entry)) (reader : Progress) →
@@ -102,6 +110,7 @@ pub fn ended_reader_has_read_all()
 
 /// What a whole trace gives: a reader at its end has returned the entries of a text without a fault,
 /// and they give a cache the events of the text.
+/// Lemmas: `Entries.entries-reading`, `Runs.Reached-end`.
 pub fn whole_trace_gives_its_events()
     ensures faultless { (format : Format) (limit : ℕ) (text : List ℕ) (start now : SourceView)
         (given : List (ℕ × Entry)) (reader : Progress) →
@@ -119,6 +128,7 @@ pub fn whole_trace_gives_its_events()
 {}
 
 /// What one more entry gives a cache comes after what those before it give.
+/// Lemma: `Collecting.collected-more`.
 pub fn events_come_entry_by_entry()
     ensures { (kind : Kind) (given : List (ℕ × Entry)) (next : ℕ × Entry) →
         flat_map (events_of kind) (entries_of (given ++ next ∷ []))
@@ -127,6 +137,7 @@ pub fn events_come_entry_by_entry()
 
 /// A reader that met a fault of the trace met the first fault of the text, and has returned the
 /// entries before it.
+/// Lemma: `Runs.Reached-fault`.
 pub fn failed_reader_met_the_first_fault()
     ensures { (format : Format) (limit : ℕ) (text : List ℕ) (start now : SourceView)
         (given : List (ℕ × Entry)) (reader : Progress) (fault : TraceFault) →
@@ -137,6 +148,7 @@ pub fn failed_reader_met_the_first_fault()
 
 /// A reader whose source failed has returned the entries of the bytes that the source delivered,
 /// and the failure is the first fault of these.
+/// Lemma: `Runs.Reached-cut`.
 pub fn cut_reader_has_read_what_was_delivered()
     ensures { (format : Format) (limit : ℕ) (text rest : List ℕ) (start now : SourceView)
         (given : List (ℕ × Entry)) (reader : Progress) (line : ℕ) →
@@ -149,6 +161,7 @@ pub fn cut_reader_has_read_what_was_delivered()
 {}
 
 /// A reader that reads on has returned the first entries of the text.
+/// Lemma: `Runs.Reached-open`.
 pub fn open_reader_has_read_the_first_entries()
     ensures { (format : Format) (limit : ℕ) (text : List ℕ) (start now : SourceView)
         (given : List (ℕ × Entry)) (reader : Progress) →

@@ -32,7 +32,7 @@ returns-clause-misses c =
     let es = map event.Reference c.args.refs.now in
     omega (
       arith,
-      ap (λ n. n.misses) (returns-clause-small (goal.at.returns-clause-misses c)),
-      ap (λ n. n.misses) (returns-clause-large (goal.at.returns-clause-misses c)),
+      ap (λ n. n.misses) (returns-clause-small c),
+      ap (λ n. n.misses) (returns-clause-large c),
       c.more_ways_miss_no_more.ensures.doubled c.args.e c.args.b es,
     )
