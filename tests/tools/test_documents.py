@@ -113,6 +113,43 @@ class Blocks(unittest.TestCase):
         self.assertFalse(documents.matches(["a"], ["a", "b"]))
 
 
+class Callers(unittest.TestCase):
+    """The pages for callers: each printed caller is one that is proved, and each quoted clause is
+    one of the code."""
+
+    PAGES = sorted((base.TOP / "crates").glob("*/CALLING.md"))
+
+    def blocks(self, page, language):
+        """The blocks of a page that are in a language."""
+        return re.findall(rf"^```{language}\n(.*?)^```$", page.read_text(), re.S | re.M)
+
+    def test_printed_callers(self):
+        code = [path.read_text() for path in (base.TOP / "crates/callers/src").glob("*.rt")]
+        printed = [(page, text) for page in self.PAGES for text in self.blocks(page, "rust")]
+        self.assertGreaterEqual(len(printed), 6)
+        for page, text in printed:
+            self.assertTrue(any(text in file for file in code), f"{page} prints another caller")
+
+    def test_quoted_clauses(self):
+        quoted = 0
+        for page in self.PAGES:
+            code = [path.read_text() for path in sorted((page.parent / "src").glob("**/*.rt"))]
+            code = squeezed("\n".join(code))
+            for line in "".join(self.blocks(page, "text")).splitlines():
+                kind, _, text = line.partition(": ")
+                is_clause = line.startswith("  ")
+                wanted = f"{kind}{{{text}}}" if is_clause else re.sub(r"^fn \w+::", "fn ", line)
+                self.assertIn(squeezed(wanted), code, f"{page}: {line}")
+                quoted += 1
+        self.assertGreaterEqual(quoted, 40)
+
+
+def squeezed(code):
+    """Code without its comments and white space, and without a comma after the last parameter."""
+    code = re.sub(r"^\s*//.*$", "", code, flags=re.M)
+    return re.sub(r"\s", "", code).replace(",)", ")")
+
+
 def test_of(name):
     def test(self):
         self.check(name)

@@ -17,6 +17,8 @@ mod profiles;
 #[cfg(test)]
 mod reader;
 #[cfg(test)]
+mod rows;
+#[cfg(test)]
 mod samples;
 #[cfg(test)]
 mod sweeps;
