@@ -31,7 +31,7 @@ effects_from m st events = map (λ p. p.1) (with_effects_from m st events)
 abbrev pub blocks_in : List Line → List ℕ
 blocks_in lines = map (λ line. line.block) lines
 
-blocks_slots : (lines : List Line) → blocks_of (map slot_of lines) ≡ blocks_in lines
+pub blocks_slots : (lines : List Line) → blocks_of (map slot_of lines) ≡ blocks_in lines
 blocks_slots [] = refl
 blocks_slots (l ∷ ls) = ap (λ xs. l.block ∷ xs) (blocks_slots ls)
 

@@ -47,7 +47,7 @@ at_position : (x : ℕ) (xs : List ℕ) → list_any (is x) xs ≡ true → slic
 at_position x [] h = absurd (false≢true h)
 at_position x (y ∷ ys) h = let rest = at_position x ys in grind arith
 
-block_at : (slots : List Slot) (n : ℕ) (y : Slot) → slice_get slots n ≡ Some y → slice_get (blocks_of slots) n ≡ Some y.block
+pub block_at : (slots : List Slot) (n : ℕ) (y : Slot) → slice_get slots n ≡ Some y → slice_get (blocks_of slots) n ≡ Some y.block
 block_at [] n y e = absurd cc
 block_at (l ∷ ls) zero y e = let q : l ≡ y = cc in ap (λ (z : Slot). Some z.block) q
 block_at (l ∷ ls) (suc n) y e = block_at ls n y e

@@ -6,57 +6,41 @@ use Rattle.trace_core.specs.declared.events.Ref.{Ref}
 use Rattle.trace_core.specs.declared.events.Event.{Event}
 use Rattle.trace_core.specs.declared.events.Event.TheVariants as event
 use Rattle.cache_core.specs.declared.outcome.Counts.{Counts}
-use Rattle.cache_core.specs.declared.outcome.Outcome.{Outcome}
-use Rattle.cache_core.specs.declared.design.WriteMode.TheVariants.{Back}
 use Rattle.cache_core.specs.declared.simulation.Lookup.{Lookup}
 use Rattle.cache_core.specs.declared.simulation.Simulation.{Simulation}
 use Rattle.cache_core.specs.Geometry.{GeometryValue}
-use Rattle.cache_core.specs.LruLaws.{lru_machine, lru_contents, occurrence_after}
-use Rattle.cache_core.specs.Order.{Accesses, FlushesCache}
-use Rattle.cache_core.specs.declared.replacement.Lru.{Lru as LruPolicy}
-use Rattle.cache_core.specs.Slab.{CacheValue}
-use Rattle.cache_core.specs.Simulation.{lookup_at, lookup_of, counts_with, SimulationCountsWithin, SimulationStandsFor}
+use Rattle.cache_core.specs.LruLaws.{occurrence_after}
+use Rattle.cache_core.specs.LruSets.{LruSetsValue, LruSetsStandFor}
+use Rattle.cache_core.specs.Simulation.{lookup_at, counts_with, SimulationCountsWithin, SimulationStandsFor}
 use Rattle.cache_core.specs.Windows.{Occurrence, counts, occurrences_after}
 use Rattle.cache_core.proofs.Occurrences.{sum_by-reference, occurrences-flush}
-use Rattle.cache_core.proofs.RunLaw.{access_run, flush_run}
-use Rattle.cache_core.proofs.LruRun.{next_law}
 
 counts-reference : (g : GeometryValue) (events : List Event) (r : Ref)
     → counts g (events ++ event.Reference r ∷ []) ≡ counts_with (counts g events) (lookup_at g (occurrence_after g events r))
 unfolding counts
 counts-reference g events r = grind (arith, sum_by-reference)
 
--- one more reference
-pub simulates_more : (g : GeometryValue) (events : List Event) (old new : Simulation) (r : Ref) (o : Outcome)
-    → Accesses (lru_contents old.cache) r o (lru_contents new.cache)
-    → new.counts ≡ counts_with old.counts (lookup_of o) → SimulationStandsFor g events old
-    → SimulationStandsFor g (events ++ event.Reference r ∷ []) new × (lookup_of o ≡ lookup_at g (occurrence_after g events r))
-simulates_more g events old new r o step count h =
-    grind (
-      arith,
-      access_run (lru_machine g Back) events (lru_contents old.cache) r o (lru_contents new.cache) h.some h.cache step,
-      next_law g Back events r h.some,
-      counts-reference g events r,
+-- one more reference with this lookup
+pub simulates_lookup : (g : GeometryValue) (events : List Event) (old : Simulation) (sets : LruSetsValue) (r : Ref) (told is : Lookup) →
+    (LruSetsStandFor g events old.sets → LruSetsStandFor g (events ++ event.Reference r ∷ []) sets × (told ≡ lookup_at g (occurrence_after g events r))) →
+    told ≡ is → SimulationStandsFor g events old →
+    SimulationStandsFor g (events ++ event.Reference r ∷ []) (record { sets = sets; counts = counts_with old.counts is })
+    × (told ≡ lookup_at g (occurrence_after g events r))
+simulates_lookup g events old sets r told is step same h =
+    let s = step h.sets in
+    (
+      record {
+        some = h.some;
+        sets = s.0;
+        counts = ap (λ c. counts_with c is) h.counts ∙ ap (counts_with (counts g events)) (sym same ∙ s.1) ∙ sym (counts-reference g events r);
+      },
+      s.1,
     )
 
--- one more reference with this lookup
-pub simulates_lookup : (g : GeometryValue) (events : List Event) (old : Simulation) (cache : CacheValue LruPolicy) (r : Ref) (o : Outcome) (told is : Lookup)
-    → Accesses (lru_contents old.cache) r o (lru_contents cache) → told ≡ lookup_of o → told ≡ is → SimulationStandsFor g events old
-    → SimulationStandsFor g (events ++ event.Reference r ∷ []) (record { cache = cache; counts = counts_with old.counts is })
-    × (told ≡ lookup_at g (occurrence_after g events r))
-simulates_lookup g events old cache r o told is step of same h =
-    let new : Simulation = record { cache = cache; counts = counts_with old.counts is } in
-    let s = simulates_more g events old new r o step (ap (counts_with old.counts) (sym same ∙ of)) h in
-    (s.0, of ∙ s.1)
-
 -- one more flush
-pub simulates_flush : (g : GeometryValue) (events : List Event) (old new : Simulation) (dirty : ℕ)
-    → FlushesCache (lru_contents old.cache) dirty (lru_contents new.cache)
-    → new.counts ≡ old.counts → SimulationStandsFor g events old → SimulationStandsFor g (events ++ event.Flush ∷ []) new
+pub counts-flush : (g : GeometryValue) (events : List Event) → counts g (events ++ event.Flush ∷ []) ≡ counts g events
 unfolding counts
-simulates_flush g events old new dirty flush same h =
-    let law = flush_run (lru_machine g Back) events (lru_contents old.cache) dirty (lru_contents new.cache) h.cache flush in
-    record { some = h.some; cache = law.0; counts = same ∙ h.counts ∙ rw (occurrences-flush g events) refl }
+counts-flush g events = rw (occurrences-flush g events) refl
 
 -- a lookup adds one at most to each count
 pub within_with : (n : ℕ) (c : Counts) (l : Lookup) → SimulationCountsWithin n c → SimulationCountsWithin (n + 1) (counts_with c l)

@@ -10,6 +10,8 @@ pub mod Slab
 pub mod Touched
 pub mod Stands
 pub mod LruLaws
+pub mod DeepSets
+pub mod LruSets
 pub mod Simulation
 pub mod Plans
 pub mod CacheStats

@@ -1,20 +1,13 @@
 -- An LRU cache with its counts, and the lists of events that it stands for.
-use Rattle.std.specs.Prelude.{◌≡◌, ◌≤◌, ℕ, ◌+◌, List, is_some, if◌then◌else◌}
+use Rattle.std.specs.Prelude.{◌≡◌, ◌≤◌, ℕ, ◌+◌, List, if◌then◌else◌}
 use Rattle.trace_core.specs.declared.events.Event.{Event}
 use Rattle.cache_core.specs.declared.outcome.Counts.{Counts}
-use Rattle.cache_core.specs.declared.outcome.Outcome.{Outcome}
-use Rattle.cache_core.specs.declared.design.WriteMode.TheVariants.{Back}
 use Rattle.cache_core.specs.declared.simulation.Lookup.{Lookup}
 use Rattle.cache_core.specs.declared.simulation.Lookup.TheVariants.{Hit, Miss, MissEviction}
 use Rattle.cache_core.specs.declared.simulation.Simulation.{Simulation}
 use Rattle.cache_core.specs.Geometry.{GeometryValue}
-use Rattle.cache_core.specs.LruLaws.{lru_machine, lru_contents}
-use Rattle.cache_core.specs.Stands.{CacheStandsFor}
+use Rattle.cache_core.specs.LruSets.{LruSetsStandFor}
 use Rattle.cache_core.specs.Windows.{Occurrence, is_hit, is_evict, counts}
-
--- how the reference of an outcome went
-abbrev pub lookup_of : Outcome → Lookup
-lookup_of o = if o.hit then Hit else if is_some o.evicted then MissEviction else Miss
 
 -- how a reference goes in an LRU cache
 abbrev pub lookup_at : GeometryValue → Occurrence → Lookup
@@ -32,8 +25,8 @@ pub record SimulationCountsWithin (n : ℕ) (c : Counts) : Type 0 where
   pub misses : c.misses ≤ n
   pub evictions : c.evictions ≤ n
 
--- the cache and the counts are those of a list of events
+-- the sets and the counts are those of a list of events
 pub record SimulationStandsFor (g : GeometryValue) (events : List Event) (sim : Simulation) : Type 0 where
   pub some : 1 ≤ g.e
-  pub cache : CacheStandsFor (lru_machine g Back) events (lru_contents sim.cache)
+  pub sets : LruSetsStandFor g events sim.sets
   pub counts : sim.counts ≡ counts g events

@@ -75,6 +75,20 @@ impl Geometry {
         self.b
     }
 
+    /// The same sets and blocks with fewer lines in a set.
+    pub(crate) fn with_ways(&self, e: u64) -> Geometry
+        requires some { 1 ≤ e }
+        requires fewer { e ≤ self.now.e }
+        ensures { result ≡ record self.now { e = e } }
+    {
+        Geometry {
+            s: self.s,
+            e,
+            b: self.b,
+            set_mask: self.set_mask,
+        }
+    }
+
     /// The number of sets.
     pub fn sets(&self) -> u64
         ensures { result ≡ 2 ^ self.now.s }

@@ -4,9 +4,11 @@
 
 pub mod arrival;
 pub mod cache;
+mod deep_sets;
 pub mod design;
 pub mod geometry;
 pub mod laws;
+mod lru_sets;
 pub mod outcome;
 pub mod plan;
 pub mod powers;

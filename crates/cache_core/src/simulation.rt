@@ -1,9 +1,7 @@
 //! An LRU cache with its counts.
-use crate::cache::Cache;
-use crate::design::{AllocMode, WriteMode};
 use crate::geometry::Geometry;
-use crate::outcome::{Counts, Outcome};
-use crate::replacement::Lru;
+use crate::lru_sets::LruSets;
+use crate::outcome::Counts;
 use std::alloc::{AllocError, Global};
 use trace_core::events::Ref;
 
@@ -15,30 +13,11 @@ pub enum Lookup {
     MissEviction,
 }
 
-impl Lookup {
-    ghost use Rattle.std.specs.Prelude.{◌≡◌};
-    ghost use Rattle.cache_core.specs.Simulation.{lookup_of};
-
-    /// How the reference of an outcome went.
-    #[inline(always)]
-    fn of(outcome: &Outcome) -> Lookup
-        ensures { result ≡ lookup_of outcome.now }
-    {
-        if outcome.hit {
-            Lookup::Hit
-        } else if outcome.evicted.is_some() {
-            Lookup::MissEviction
-        } else {
-            Lookup::Miss
-        }
-    }
-}
-
 /// An LRU cache, write-back and write-allocate, with its counts: the separate simulation of one
 /// configuration.
 #[derive(Drop)]
 pub struct Simulation {
-    cache: Cache<Lru>,
+    sets: LruSets,
     counts: Counts,
 }
 
@@ -57,14 +36,13 @@ impl Simulation {
     pub fn new(alloc: Global, geometry: Geometry) -> Result<Simulation, AllocError>
         ensures { IfOk result (SimulationStandsFor geometry []) }
     {
-        let policy = Lru::new();
-        let cache = Cache::new(alloc, geometry, policy, WriteMode::Back, AllocMode::Always)?;
+        let sets = LruSets::new(alloc, geometry)?;
         let counts = Counts {
             hits: 0,
             misses: 0,
             evictions: 0,
         };
-        Ok(Simulation { cache, counts })
+        Ok(Simulation { sets, counts })
     }
 
     /// The hits, misses and evictions so far.
@@ -86,8 +64,7 @@ impl Simulation {
             × (result ≡ lookup_at g (occurrence_after g events reference)) }
         ensures counted { self.new.counts ≡ counts_with self.old.counts result }
     {
-        let outcome = self.cache.access(reference);
-        let lookup = Lookup::of(&outcome);
+        let lookup = self.sets.access(reference);
         match lookup {
             Lookup::Hit => self.counts.hits += 1,
             Lookup::Miss => self.counts.misses += 1,
@@ -106,6 +83,6 @@ impl Simulation {
             SimulationStandsFor g (events ++ event.Flush ∷ []) self.new }
         ensures counted { self.new.counts ≡ self.old.counts }
     {
-        self.cache.flush();
+        self.sets.flush();
     }
 }

@@ -1,15 +1,11 @@
 -- A new simulation has the counts of no event.
-use Rattle.std.proofs.Common.{refl}
-use Rattle.cache_core.specs.declared.design.WriteMode.TheVariants.{Back}
-use Rattle.cache_core.specs.LruLaws.{lru_machine}
+use Rattle.std.proofs.Common.{refl, arith}
 use Rattle.cache_core.specs.Windows.{counts, occurrences_after}
-use Rattle.cache_core.proofs.RunLaw.{start_law}
+use Rattle.cache_core.proofs.LruSetsLaw.{near_few}
 use Rattle.cache_core.proofs.simulation.Simulation.new.Goals as goal
 
 pub returns : goal.returns
 unfolding counts occurrences_after
-returns c = record {
-  some = c.in_ok-cache.ensures.limits.some;
-  cache = start_law (lru_machine c.args.geometry Back) _ c.in_ok-cache.ensures.design refl refl c.in_ok-cache.ensures.empty;
-  counts = refl;
-}
+returns c =
+    let h = c.in_ok-sets.ensures in
+    record { some = omega (arith, h.some, near_few c.args.geometry.e c.in_ok-sets.sets.far); sets = h; counts = refl }
