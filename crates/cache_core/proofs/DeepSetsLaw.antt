@@ -1,7 +1,6 @@
 -- What is kept of deep lists as they change.
 use Rattle.std.proofs.Common.{◌≡◌, ℕ, zero, suc, ◌+◌, ◌<◌, ◌≤◌, ◌^◌, List, [], ◌∷◌, ◌++◌, length, get_or, set, map, replicate, take, drop, Some, refl, sym, ◌∙◌}
-use Rattle.std.proofs.Common.{ap, subst, arith, length-set, length-take, add-one}
-use Rattle.std.specs.Prelude.{All}
+use Rattle.std.proofs.Common.{ap, subst, arith, length-set, length-take}
 use Rattle.std.specs.List.{remove}
 use Rattle.std.proofs.lemmas.List.{length-map, get_or-map, length-replicate, map-set, nil_from_length, drop_all, take_at}
 use Rattle.std.proofs.lemmas.List.Elements.{All-set, All-get_or, All-replicate, All-map}

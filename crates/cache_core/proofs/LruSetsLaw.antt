@@ -1,14 +1,13 @@
 -- One reference and one flush at the sets of an LRU cache in two parts.
 use Rattle.std.proofs.Common.{◌≡◌, ◌≢◌, ℕ, zero, suc, ◌+◌, ◌-◌, ◌^◌, ◌<◌, ◌≤◌, Bool, true, false, not, ◌&&◌, ◌||◌, cond, eqb, leb, min, List, [], ◌∷◌, ◌++◌}
-use Rattle.std.proofs.Common.{length, get_or, set, take, drop, map, Option, Some, None, refl, sym, ◌∙◌, ap, subst, arith, length-take, length-drop, length-set}
-use Rattle.std.proofs.Common.{get_or-set_same, get_or-set_other, take-take, ⊎_elim}
+use Rattle.std.proofs.Common.{length, get_or, take, drop, map, Option, Some, None, refl, sym, ◌∙◌, ap, arith, length-take}
+use Rattle.std.proofs.Common.{take-take}
 use Rattle.std.specs.Prelude.{is_some, slice_get, IfSome}
 use Rattle.std.specs.List.{remove, list_any, position_or_len}
-use Rattle.std.proofs.lemmas.Bool.{ltb-true, leb-true, leb-false, lt-leb, ne_eqb, and_parts}
+use Rattle.std.proofs.lemmas.Bool.{ltb-true, leb-false, lt-leb, ne_eqb}
 use Rattle.std.specs.Prelude.{replicate}
 use Rattle.std.specs.Option.{option_map}
-use Rattle.std.proofs.lemmas.List.{drop_all, get_or-take, length-replicate, length-map}
-use Rattle.std.proofs.lemmas.Option.{get_or_from_slice_get}
+use Rattle.std.proofs.lemmas.List.{drop_all, length-replicate, length-map}
 use Rattle.trace_core.specs.declared.events.Ref.{Ref}
 use Rattle.trace_core.specs.declared.events.Event.{Event}
 use Rattle.trace_core.specs.declared.events.Event.TheVariants as event
@@ -18,28 +17,26 @@ use Rattle.cache_core.specs.declared.design.Design.{Design}
 use Rattle.cache_core.specs.declared.design.Repl.TheVariants.{Lru}
 use Rattle.cache_core.specs.declared.design.WriteMode.TheVariants.{Back}
 use Rattle.cache_core.specs.declared.replacement.Lru.{Lru as LruPolicy}
-use Rattle.cache_core.specs.declared.simulation.Lookup.{Lookup}
 use Rattle.cache_core.specs.declared.simulation.Lookup.TheVariants.{Hit, Miss, MissEviction}
-use Rattle.cache_core.specs.DeepSets.{DeepSetsValue, brought, deep_lookup, no_blocks}
-use Rattle.deep_list.specs.Deep.{is_in}
-use Rattle.cache_core.specs.Geometry.{GeometryValue, block_of, set_of, set_of_block}
+use Rattle.cache_core.specs.DeepSets.{DeepSetsValue, no_blocks}
+use Rattle.cache_core.specs.Geometry.{GeometryValue, block_of, set_of_block}
 use Rattle.cache_core.specs.LruLaws.{lru_machine, lru_contents, occurrence_after}
-use Rattle.cache_core.specs.LruSets.{LruSetsValue, near_ways, near_geometry, IsBehind, LruSetsStandFor, HasRun, far_lookup, pushed_back}
-use Rattle.cache_core.specs.Machine.{run, step, lines_of_set}
+use Rattle.cache_core.specs.LruSets.{near_ways, near_geometry, IsBehind, LruSetsStandFor}
+use Rattle.cache_core.specs.Machine.{run, step}
 use Rattle.cache_core.specs.Outcomes.{outcome_of, hit_in_front}
-use Rattle.cache_core.specs.Order.{Accesses, FlushesCache, Visits, VisitsAt, slots_of, position_of}
+use Rattle.cache_core.specs.Order.{Accesses, FlushesCache, Visits, VisitsAt, position_of}
 use Rattle.cache_core.specs.Simulation.{lookup_at}
 use Rattle.cache_core.specs.Slab.{CacheValue}
 use Rattle.cache_core.specs.Stands.{CacheStandsFor}
-use Rattle.cache_core.specs.Windows.{Occurrence, window, distinct_of_set, is_hit, is_evict, blocks_seen}
-use Rattle.cache_core.proofs.Lists.{is, IsOnce-take, list_any_is, position_or_len-take}
-use Rattle.cache_core.proofs.Distances.{IsOnce-distinct_of_set, distinct_of_set-nil, distinct_of_set-other, take-distinct_of_set-same}
+use Rattle.cache_core.specs.Windows.{Occurrence, window, distinct_of_set, is_hit, blocks_seen}
+use Rattle.cache_core.proofs.Lists.{is, list_any_is, position_or_len-take}
+use Rattle.cache_core.proofs.Distances.{distinct_of_set-nil, distinct_of_set-other, take-distinct_of_set-same}
 use Rattle.cache_core.proofs.Occurrences.{window-push, window-nil}
-use Rattle.cache_core.proofs.LruSet.{blocks_of, block_at, front, is_hit_is}
-use Rattle.cache_core.proofs.LruRun.{blocks_slots, run_stacked, next_law}
+use Rattle.cache_core.proofs.LruSet.{front, is_hit_is}
+use Rattle.cache_core.proofs.LruRun.{next_law}
 use Rattle.cache_core.proofs.RunLaw.{access_run, flush_run}
-use Rattle.cache_core.proofs.Visits.{at_each, visit_for}
-use Rattle.cache_core.proofs.DeepBlocks.{stays_behind, pushed_behind, none_behind, any_parts, last_apart}
+use Rattle.cache_core.proofs.Visits.{at_each}
+use Rattle.cache_core.proofs.DeepBlocks.{stays_behind, none_behind, any_parts}
 
 -- the slot that leaves an LRU set is the last of a full one
 pub victim_last : (d : Design) (numbers rest : ℕ → ℕ) (ref : Ref) (old : List Slot) (outcome : Outcome) (new : List Slot) (gone : Slot) →

@@ -1,10 +1,10 @@
 -- One reference by which a block leaves the part in front of the sets of an LRU cache.
-use Rattle.std.proofs.Common.{◌≡◌, ◌≢◌, ℕ, zero, suc, ◌+◌, ◌-◌, ◌^◌, ◌<◌, ◌≤◌, Bool, true, false, not, ◌&&◌, ◌||◌, cond, eqb, leb, min, List, [], ◌∷◌, ◌++◌}
-use Rattle.std.proofs.Common.{length, get_or, set, take, drop, map, Option, Some, None, refl, sym, ◌∙◌, ap, subst, arith, length-take, length-drop, length-set}
-use Rattle.std.proofs.Common.{get_or-set_same, get_or-set_other, take-take, ⊎_elim}
-use Rattle.std.specs.Prelude.{is_some, slice_get, IfSome}
+use Rattle.std.proofs.Common.{◌≡◌, ◌≢◌, ℕ, ◌+◌, ◌-◌, ◌^◌, ◌<◌, ◌≤◌, true, false, not, ◌||◌, eqb, leb, List, [], ◌∷◌, ◌++◌}
+use Rattle.std.proofs.Common.{length, get_or, take, drop, Option, Some, None, sym, ◌∙◌, ap, subst, arith, length-take, length-drop, length-set}
+use Rattle.std.proofs.Common.{get_or-set_same, get_or-set_other, take-take}
+use Rattle.std.specs.Prelude.{is_some, IfSome}
 use Rattle.std.specs.List.{remove, list_any, position_or_len}
-use Rattle.std.proofs.lemmas.Bool.{ltb-true, leb-true, leb-false, lt-leb, ne_eqb, and_parts}
+use Rattle.std.proofs.lemmas.Bool.{leb-true, and_parts}
 use Rattle.std.proofs.lemmas.List.{drop_all, get_or-take}
 use Rattle.std.proofs.lemmas.Option.{get_or_from_slice_get}
 use Rattle.trace_core.specs.declared.events.Ref.{Ref}
@@ -13,31 +13,26 @@ use Rattle.trace_core.specs.declared.events.Event.TheVariants as event
 use Rattle.cache_core.specs.declared.outcome.Outcome.{Outcome}
 use Rattle.cache_core.specs.declared.outcome.Slot.{Slot}
 use Rattle.cache_core.specs.declared.design.Design.{Design}
-use Rattle.cache_core.specs.declared.design.Repl.TheVariants.{Lru}
 use Rattle.cache_core.specs.declared.design.WriteMode.TheVariants.{Back}
 use Rattle.cache_core.specs.declared.replacement.Lru.{Lru as LruPolicy}
-use Rattle.cache_core.specs.declared.simulation.Lookup.{Lookup}
-use Rattle.cache_core.specs.declared.simulation.Lookup.TheVariants.{Hit, Miss, MissEviction}
-use Rattle.cache_core.specs.DeepSets.{DeepSetsValue, brought, deep_lookup, no_blocks}
+use Rattle.cache_core.specs.declared.simulation.Lookup.TheVariants.{MissEviction}
+use Rattle.cache_core.specs.DeepSets.{DeepSetsValue, brought, deep_lookup}
 use Rattle.deep_list.specs.Deep.{is_in}
 use Rattle.cache_core.specs.Geometry.{GeometryValue, block_of, set_of, set_of_block}
 use Rattle.cache_core.specs.LruLaws.{lru_machine, lru_contents, occurrence_after}
-use Rattle.cache_core.specs.LruSets.{LruSetsValue, near_ways, near_geometry, IsBehind, LruSetsStandFor, HasRun, far_lookup, pushed_back}
-use Rattle.cache_core.specs.Machine.{run, step, lines_of_set}
-use Rattle.cache_core.specs.Outcomes.{outcome_of}
-use Rattle.cache_core.specs.Order.{Accesses, FlushesCache, Visits, VisitsAt, slots_of, position_of}
+use Rattle.cache_core.specs.LruSets.{near_geometry, IsBehind, LruSetsStandFor, far_lookup, pushed_back}
+use Rattle.cache_core.specs.Machine.{run, lines_of_set}
+use Rattle.cache_core.specs.Order.{Accesses, slots_of}
 use Rattle.cache_core.specs.Simulation.{lookup_at}
 use Rattle.cache_core.specs.Slab.{CacheValue}
-use Rattle.cache_core.specs.Stands.{CacheStandsFor}
-use Rattle.cache_core.specs.Windows.{Occurrence, window, distinct_of_set, is_hit, is_evict, blocks_seen}
-use Rattle.cache_core.proofs.Lists.{is, IsOnce-take, list_any_is, position_or_len-take}
-use Rattle.cache_core.proofs.Distances.{IsOnce-distinct_of_set, distinct_of_set-nil, distinct_of_set-other, take-distinct_of_set-same}
+use Rattle.cache_core.specs.Windows.{Occurrence, window, distinct_of_set, blocks_seen}
+use Rattle.cache_core.proofs.Lists.{is, IsOnce-take}
+use Rattle.cache_core.proofs.Distances.{IsOnce-distinct_of_set}
 use Rattle.cache_core.proofs.Occurrences.{window-push}
-use Rattle.cache_core.proofs.LruSet.{blocks_of, block_at, front, is_hit_is}
-use Rattle.cache_core.proofs.LruRun.{blocks_slots, run_stacked, next_law}
-use Rattle.cache_core.proofs.RunLaw.{access_run, flush_run}
+use Rattle.cache_core.proofs.LruSet.{blocks_of, block_at}
+use Rattle.cache_core.proofs.LruRun.{blocks_slots, run_stacked}
 use Rattle.cache_core.proofs.Visits.{at_each, visit_for}
-use Rattle.cache_core.proofs.DeepBlocks.{stays_behind, pushed_behind, none_behind, any_parts, last_apart}
+use Rattle.cache_core.proofs.DeepBlocks.{pushed_behind, last_apart}
 
 use Rattle.std.proofs.Math.Nat.{mod-lt}
 use Rattle.std.proofs.lemmas.Nat.{pow_pos}

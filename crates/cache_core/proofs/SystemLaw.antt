@@ -1,7 +1,7 @@
 -- A new system, a step, a flush and a run of a system, as its caches see them and as their machines see them.
 use Rattle.std.proofs.Common.{◌≡◌, ℕ, ◌+◌, not, Bool, List, [], ◌∷◌, ◌++◌, Option, Some, None, sym, ◌∙◌}
 use Rattle.std.proofs.Common.{ap, subst, arith}
-use Rattle.std.proofs.Common.{append_assoc, append-nil, length, length-append}
+use Rattle.std.proofs.Common.{length, length-append}
 use Rattle.std.specs.Prelude.{sum, count_by, is_none, MatchOption}
 use Rattle.std.proofs.lemmas.List.Sums.{sum_by_push}
 use Rattle.trace_core.specs.declared.events.Ref.{Ref}

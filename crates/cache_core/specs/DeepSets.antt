@@ -1,5 +1,5 @@
 -- The blocks behind the first ways of each set, in deep lists.
-use Rattle.std.specs.Prelude.{ℕ, ◌≡◌, ◌≤◌, ◌<◌, ◌^◌, ◌==◌, List, [], ◌∷◌, length, map, take, All, if◌then◌else◌, slice_index_or, slice_set}
+use Rattle.std.specs.Prelude.{ℕ, ◌≡◌, ◌≤◌, ◌^◌, ◌==◌, List, [], ◌∷◌, length, map, take, All, if◌then◌else◌, slice_index_or, slice_set}
 use Rattle.std.specs.List.{remove}
 use Rattle.deep_list.specs.Deep.{Deep, is_in, index_of}
 use Rattle.cache_core.specs.Touched.{TouchedValue, Covers}

@@ -1,5 +1,5 @@
 -- One list more is emptied.
-use Rattle.std.proofs.Common.{◌≡◌, ◌++◌, ◌<◌, ◌∙◌, length, take, drop, map, set, get_or, ap, sym, arith}
+use Rattle.std.proofs.Common.{◌∙◌, set, ap, sym, arith}
 use Rattle.std.proofs.lemmas.List.Edits.{map_over_more}
 use Rattle.cache_core.specs.DeepSets.{emptied}
 use Rattle.cache_core.proofs.deep_sets.clear_all.Goals as goal

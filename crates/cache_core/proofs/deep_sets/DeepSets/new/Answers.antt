@@ -1,5 +1,5 @@
 -- New lists have no block.
-use Rattle.std.proofs.Common.{◌≡◌, ◌∙◌, List, ℕ, ap, map}
+use Rattle.std.proofs.Common.{◌∙◌, List, ℕ, ap, map}
 use Rattle.deep_list.specs.Deep.{Deep}
 use Rattle.cache_core.proofs.DeepSetsLaw.{new_kept, new_view}
 use Rattle.cache_core.proofs.deep_sets.DeepSets.new.Goals as goal

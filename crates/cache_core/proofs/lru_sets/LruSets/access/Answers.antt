@@ -1,5 +1,5 @@
 -- A hit in the first slot of a set is one of the part in front.
-use Rattle.std.proofs.Common.{◌≡◌, ◌∙◌, ◌++◌, ◌∷◌, [], List, sym, subst}
+use Rattle.std.proofs.Common.{◌∙◌, ◌++◌, ◌∷◌, [], sym, subst}
 use Rattle.trace_core.specs.declared.events.Event.TheVariants as event
 use Rattle.cache_core.specs.LruLaws.{lru_contents}
 use Rattle.cache_core.specs.LruSets.{LruSetsStandFor}

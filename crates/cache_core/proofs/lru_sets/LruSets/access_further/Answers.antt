@@ -5,7 +5,7 @@ use Rattle.trace_core.specs.declared.events.Event.TheVariants as event
 use Rattle.cache_core.specs.DeepSets.{DeepSetsValue}
 use Rattle.cache_core.specs.Geometry.{GeometryValue, set_of, block_of}
 use Rattle.cache_core.specs.LruLaws.{occurrence_after}
-use Rattle.cache_core.specs.LruSets.{LruSetsStandFor, far_lookup, pushed_back}
+use Rattle.cache_core.specs.LruSets.{LruSetsStandFor}
 use Rattle.cache_core.specs.Simulation.{lookup_at}
 use Rattle.cache_core.proofs.LruSetsLaw.{follows_hit, follows_miss}
 use Rattle.cache_core.proofs.PushedBack.{IsPlaced, push_within, push_apart, follows_push}

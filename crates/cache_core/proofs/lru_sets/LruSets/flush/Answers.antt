@@ -1,6 +1,5 @@
 -- A flush empties both parts.
-use Rattle.std.proofs.Common.{◌≡◌, ◌++◌, ◌∷◌, [], List, Option, sym, subst}
-use Rattle.trace_core.specs.declared.events.Event.{Event}
+use Rattle.std.proofs.Common.{◌++◌, ◌∷◌, [], sym, subst}
 use Rattle.trace_core.specs.declared.events.Event.TheVariants as event
 use Rattle.cache_core.specs.LruSets.{LruSetsStandFor}
 use Rattle.cache_core.proofs.LruSetsLaw.{flush_stands}

@@ -1,5 +1,5 @@
 -- New sets stand for no event.
-use Rattle.std.proofs.Common.{◌≡◌, [], ap, subst, ◌∙◌, arith, refl, Some, None}
+use Rattle.std.proofs.Common.{[], subst, ◌∙◌, arith, refl, Some, None}
 use Rattle.cache_core.specs.Geometry.{GeometryValue}
 use Rattle.cache_core.specs.LruSets.{LruSetsStandFor}
 use Rattle.cache_core.proofs.LruSetsLaw.{new_stands}
