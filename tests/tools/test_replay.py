@@ -15,10 +15,10 @@ ONE_LINE = ("-s", 1, "-E", 1, "-b", 4)
 # Two sets of two blocks of 16 bytes. The block of 10 is written in line 4, so it is dirty where 210
 # evicts it; the block of 110 is then the one used longest ago.
 HANDOUT_TEXT = """\
-handout.lackey: 2 sets of 2 lines, blocks of 16 bytes, LRU
-The last column has the lines of the set after the step: their tags, * dirty, """ """\
-[] evicted next, - free.
-line  access   address  tag  set  offset  outcome              lines
+handout.lackey: 2 sets of 2 ways, blocks of 16 bytes, LRU
+The last column has the ways of the set after the step: their tags, * dirty """ """\
+(changed since it came), [] evicted next, - free.
+line  access   address  tag  set  offset  outcome              ways
    1  L             10    0    1       0  miss                 0 -
    2  M load        20    1    0       0  miss                 1 -
    2  M store       20    1    0       0  hit                  1* -
@@ -109,7 +109,7 @@ class Replay(ReplayTest):
         many = b" L 0,1\n" * 2000 + b" L 10,1\n"
         self.assertEqual(len(self.steps(*ONE_LINE, "--set", "1", stdin=many)), 1)
         for number, fault in (("2", "there is no set 2: the last one is 1"), ("-1", "--set"),
-                              ("x", "'x' is no set such as 0 or 1c")):
+                              ("x", "--set: 'x' is no set such as 0 or 1c")):
             self.refused(self.replay(*OF_HANDOUT, f"--set={number}"), 2, fault)
         ran = self.replay(*lab_words(4, 2, 4), "-t", HANDOUT, "--set", "f")
         self.refused(ran, 1, "no reference for set f")
@@ -136,34 +136,72 @@ class Replay(ReplayTest):
         self.assertEqual([len(data["steps"]), data["steps"][-1]["line"]], [1000, 1500])
         first = data["steps"][0]
         self.assertEqual([first["line"], first["access"]], [834, "M store"])
-        self.assertEqual(data["before"], [{"set": 1, "next": 1, "lines": [
+        self.assertEqual(data["before"], [{"set": 1, "next": 1, "ways": [
             {"tag": "2", "since": 834, "dirty": True}, {"tag": "1", "since": 833, "dirty": True}]}])
 
     def test_reasons(self):
         """In words, with the step that decides."""
         steps = self.steps(*ONE_SET, stdin=ORDER)
-        why = ("Set 0 is full and does not hold tag 3. The block in line 1 (tag 2) is evicted: "
-               "it was last used in line 2 of the trace, the others later.")
+        why = ("Set 0 is full and does not hold tag 3. The block in way 1 (tag 2) is evicted: "
+               "it was last used in trace line 2, the others later.")
         self.assertEqual(steps[3]["why"], why)
-        coming = "Next to be evicted in set 0: line 0 (tag 1), "
+        coming = "Next to be evicted in set 0: way 0 (tag 1), "
         self.assertEqual([step["coming"] for step in steps[:2]],
-                         ["", coming + "last used in line 1 of the trace."])
+                         ["", coming + "last used in trace line 1."])
         self.assertEqual(steps[5]["why"], "A flush empties all sets. 1 dirty block written back.")
         steps = self.steps(*ONE_SET, "-l1-urepl", "f", stdin=ORDER)
-        told = "(tag 1) is evicted: it came in line 1 of the trace, the others later."
+        told = "(tag 1) is evicted: it came in trace line 1, the others later."
         self.assertIn(told, steps[3]["why"])
-        self.assertEqual(steps[2]["coming"], coming + "which came in line 1 of the trace.")
+        self.assertEqual(steps[2]["coming"], coming + "which came in trace line 1.")
         words = ("-l1-dsize", 16, "-l1-dbsize", 16, "-l1-dwalloc", "n")
         steps = self.steps(*words, stdin=b"1 10\n0 10\n1 10\n0 20\n")
         self.assertEqual([step["why"] for step in steps], [
-            "Set 0 does not hold tag 1. A write that misses brings no block in.",
-            "Set 0 does not hold tag 1. Line 0 is free and takes the block.",
-            "Line 0 of set 0 holds tag 1.",
-            "Set 0 is full and does not hold tag 2. The block in line 0 (tag 1) is evicted: it is "
+            "Set 0 does not hold tag 1. A write that misses brings no block in (no "
+            "write-allocate).",
+            "Set 0 does not hold tag 1. Way 0 is free and takes the block.",
+            "Way 0 of set 0 holds tag 1. The write makes this block dirty: memory gets it only "
+            "when it is evicted or flushed.",
+            "Set 0 is full and does not hold tag 2. The block in way 0 (tag 1) is evicted: it is "
             "the only one. It is dirty, so it is written back.",
         ])
         self.assertEqual([step["sent"] for step in steps],
                          [["write 10"], ["read 10"], [], ["write 10", "read 20"]])
+        self.assertEqual([step["memory"] for step in steps], [
+            "Sent to memory: the write itself (write-through, or no write-allocate) at 10.",
+            "Sent to memory: the missing block is read at 10.", "",
+            "Sent to memory: the evicted block, which is dirty, is written back at 10; then the "
+            "missing block is read at 20.",
+        ])
+        # write-through: no block is dirty, and the write comes after the read of its block
+        words = ("-l1-dsize", 16, "-l1-dbsize", 16, "-l1-dwback", "n")
+        steps = self.steps(*words, stdin=b"1 10\n1 24\n")
+        self.assertEqual([step["sent"] for step in steps],
+                         [["read 10", "write 10"], ["read 20", "write 24"]])
+        self.assertEqual(steps[1]["memory"], "Sent to memory: the missing block is read at 20; "
+                         "then the write itself (write-through, or no write-allocate) at 24.")
+        self.assertNotIn("dirty", str([step["why"] for step in steps]))
+
+    def test_decimal_addresses(self):
+        """Those of a textbook's exercise, in blocks of four words; and what is no decimal number
+        is no address. The same trace in hexadecimal takes the same steps."""
+        cache = ("-l1-usets", 2, "-l1-ubsize", 4, "-l1-uassoc", 3)
+        numbers = (180, 43, 2, 191, 88, 190, 14, 181, 44, 186)
+        text = self.text(*cache, "--decimal", stdin="".join(f"0 {at}\n" for at in numbers).encode())
+        rows = [re.split("  +", row.strip()) for row in text[3:-1]]
+        self.assertEqual([[int(word) for word in row[2:6]] for row in rows],
+                         [[at, at // 8, at // 4 % 2, at % 4] for at in numbers])
+        plain = self.text(*cache, stdin="".join(f"0 {at:x}\n" for at in numbers).encode())
+        tags = re.compile(r" of (\d+)")
+        self.assertEqual([re.split("  +", row.strip())[6] for row in plain[3:-1]],
+                         [tags.sub(lambda of: f" of {int(of[1]):x}", row[6]) for row in rows])
+        lab = self.data(*LAB, "--decimal", "--set", "1", stdin=b" L 16,4\n M 48 , 4\n S 32,1\n")
+        self.assertEqual([step["address"] for step in lab["steps"]], ["16", "48", "48"])
+        self.assertEqual((lab["base"], lab["title"]), (10, "standard input, set 1"))
+        for line in ("0 1a", "0 0x10", "0", "0 " + "9" * 21):
+            ran = self.replay(*cache, "--decimal", stdin=f"0 1\n{line}\n".encode())
+            self.refused(ran, 1, "replay: line 2: bad address\n")
+        ran = self.replay(*lab_words(5, 1, 4), "--decimal", "--set", "32", stdin=b" L 16,4\n")
+        self.refused(ran, 2, "there is no set 32: the last one is 31")
 
     def test_outcomes_are_those_of_csim(self):
         """Each access of the model's lines with -v, of which a modify has two."""
@@ -234,7 +272,7 @@ class Faults(ReplayTest):
             (f"{lab} --until 0", "--until wants a line from 1 on"),
             (f"{lab} --until x", "'x' is not a number"), ("-s 1 -E x -b 4", "'x' is not a number"),
             (f"{small} -l1-uassoc 3", "must be powers of two"),
-            ("-s 1 -E 2049 -b 4", "at most 2,048 lines"),
+            ("-s 1 -E 2049 -b 4", "at most 2,048 ways"),
             (f"{lab} -informat d", "-informat belongs to the options of din"),
             ("-l1-usize 64", "-l1-usize and -l1-ubsize are needed"),
             (f"{small} -l1-uassoc 8", "a set must fit into the size"),
@@ -244,7 +282,8 @@ class Faults(ReplayTest):
             ("-l1-usize 48 -l1-ubsize 16 -l1-uassoc 3", "must be powers of two"),
             ("-l1-usets 3 -l1-ubsize 16", "the sets and the block size must be powers of two"),
             ("-l1-usets 1 -l1-ubsize 16 -l1-uassoc 0", "a set has a line"),
-            (f"{small} -l1-usets 4", "-l1-usets stands in place of -l1-usize"),
+            (f"{small} -l1-usets 2", "-l1-usize and -l1-usets do not agree: so many sets have 32 "
+             "bytes"),
         ):
             with self.subTest(words):
                 self.refused(self.replay(*words.split()), 2, text)
@@ -263,7 +302,7 @@ class Faults(ReplayTest):
         for more in (1, 300000):
             ran = self.replay(*ONE_LINE, stdin=trace + b" S 10,1\n" * more)
             self.refused(ran, 1, "more than 1,000 steps", "--until 500")
-        self.refused(self.replay(*words, stdin=trace), 1, "4,000 lines", "2,048")
+        self.refused(self.replay(*words, stdin=trace), 1, "4,000 ways", "2,048")
         self.assertEqual(len(self.text(*words, stdin=trace)), 1004)
         self.assertEqual(len(self.data(*words, stdin=b"".join(lines[:512]))["sets"]), 512)
 
@@ -332,6 +371,9 @@ class InABrowser(ReplayTest):
         asked.push(text("step"));
         byId("question").querySelector("button").click();
         asked.push(text("step"));
+        // with caps lock
+        byId("at").dispatchEvent(new KeyboardEvent("keydown", {key: "H", bubbles: true}));
+        asked.push(text("step"));
         parent.postMessage({shown, sets, wide, asked, title: document.title}, "*");
     </script></body>"""
     # a window of a browser can't be as narrow as a telephone
@@ -366,15 +408,16 @@ class InABrowser(ReplayTest):
         at_7, home, before, on, end, after, back, button, row = seen["shown"]
         self.assertEqual(seen["title"], "A cache step by step: handout.lackey")
         for text in (
-            "Step 7 of 9: line 6 of the trace, L 210, miss, eviction. So far: hits 3, misses 4, "
+            "Step 7 of 9: trace line 6, L 210, miss, eviction. So far: hits 3, misses 4, "
             "evictions 1. | ",
             "tag bits from 5 up 1 0000 hex 10 set bit 4 1 hex 1 offset bits 3 to 0 0000 hex 0 ",
-            "The block in line 0 (tag 0) is evicted: it was last used in line 4 of the trace, the "
-            "others later. It is dirty, so it is written back. Next to be evicted in set 1: line 1 "
-            "(tag 8), last used in line 5 of the trace. Sent to memory: write 10, read 210. Next "
-            "in the trace: M load 12 | ",
-            "Set 0 line 0 dirty tag 1 used in trace line 3 line 1 free ▶ Set 1 line 0 tag 10 "
-            "used in trace line 6 new, was 0 line 1 tag 8 used in trace line 5 evicted next | ",
+            "The block in way 0 (tag 0) is evicted: it was last used in trace line 4, the others "
+            "later. It is dirty, so it is written back. Next to be evicted in set 1: way 1 (tag "
+            "8), last used in trace line 5. Sent to memory: the evicted block, which is dirty, is "
+            "written back at 10; then the missing block is read at 210. Next in the trace: M load "
+            "12 | ",
+            "Set 0 way 0 dirty tag 1 used in trace line 3 way 1 free ▶ Set 1 way 0 tag 10 used "
+            "in trace line 6 new, was 0 way 1 tag 8 used in trace line 5 evicted next | ",
         ):
             self.assertIn(text, at_7)
         last = "5 L 110 miss 6 L 210 miss, eviction 7 M load 12 7 M store 12"
@@ -385,11 +428,21 @@ class InABrowser(ReplayTest):
         self.assertIn("hits 4, misses 5, evictions 2.", end)
 
     def test_predictions(self):
-        """The first access misses, and so does the second, where the answer is a hit."""
-        asked, right, wrong = self.shown(self.page(*OF_HANDOUT))["asked"]
+        """The first access misses, and so does the second, where the answer is a hit. The third
+        hits."""
+        asked, right, wrong, last = self.shown(self.page(*OF_HANDOUT))["asked"]
         self.assertTrue(asked.endswith("What will L 10 do? hitmissmiss, eviction"), asked)
         self.assertIn("Right: your answer was miss. Right: 1 of 1.", right)
         self.assertIn("Wrong: your answer was hit. Right: 1 of 2.", wrong)
+        self.assertIn("Right: your answer was hit. Right: 2 of 3.", last)
+
+    def test_decimal(self):
+        """The parts of an address in decimal digits, their bits as ever."""
+        page = self.page(*LAB, "--decimal", stdin=b" L 16,4\n S 53,4\n L 1,1\n")
+        seen = self.shown(page, "#2")["shown"][0]
+        self.assertIn("tag bits from 5 up 1 decimal 1 set bit 4 1 decimal 1 offset bits 3 to 0 "
+                      "0101 decimal 5", seen)
+        self.assertIn("Step 2 of 3: trace line 2, S 53, miss.", seen)
 
     @needs("poppler-utils")
     def test_the_sheet_that_is_printed(self):

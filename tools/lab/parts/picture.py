@@ -16,6 +16,10 @@ class Cache(NamedTuple):
     repl: str = "l"
     walloc: str = "a"
     wback: str = "a"
+    digits: str = "x"  # how addresses, tags and sets are shown: hexadecimal, or "d" decimal
+
+    def text(self, number):
+        return format(number, self.digits)
 
     @property
     def set_bits(self):
@@ -39,7 +43,7 @@ class Cache(NamedTuple):
                 for word in (f"-{self.place}{name}", str(value))]
 
     def __str__(self):
-        parts = [f"{number_of(self.sets, 'set')} of {number_of(self.ways, 'line')}"]
+        parts = [f"{number_of(self.sets, 'set')} of {number_of(self.ways, 'way')}"]
         parts += [f"blocks of {number_of(self.block, 'byte')}"]
         parts += ["LRU" if self.repl == "l" else "FIFO"]
         parts += ["no write-allocate"] * (self.walloc == "n")
@@ -53,7 +57,7 @@ def number_of(count, name):
 
 @dataclass
 class Block:
-    """A block in a line of a set. The one with the least `since` is evicted next."""
+    """A block in a way of a set. The one with the least `since` is evicted next."""
 
     tag: int
     since: int  # the step in which it was used last, or with FIFO in which it came
@@ -73,15 +77,16 @@ class Step:
     set: int = 0
     offset: int = 0
     outcome: str = "hit"
-    way: Optional[int] = None  # the line that is hit or filled
-    held: list = field(default_factory=list)  # the set: a block for each line, None for a free one
+    is_write: bool = False
+    way: Optional[int] = None  # the way that is hit or filled
+    held: list = field(default_factory=list)  # the set: a block for each way, None for a free one
     evicted: Optional[Block] = None
     written_back: int = 0  # by a flush
     sent: list = field(default_factory=list)  # what the log says that memory gets
 
     @property
     def next(self):
-        """The line to be evicted next, none while a line is free."""
+        """The way to be evicted next, none while a way is free."""
         if not self.held or None in self.held:
             return None
         return self.held.index(min(self.held, key=lambda block: block.since))
@@ -117,6 +122,7 @@ class Picture:
         step = Step(self.count + 1, line, access, address, tag, index, offset)
         lines = self.sets.setdefault(index, [None] * self.cache.ways)
         is_write = ACCESSES[label] == "write"
+        step.is_write = is_write
         self.find(step, lines, is_write)
         if step.way is not None and is_write and self.cache.wback == "a":
             lines[step.way].dirty = True
@@ -156,27 +162,48 @@ def why(cache, step):
     if step.access == "flush":
         written = number_of(step.written_back, "dirty block")
         return f"A flush empties all sets. {written} written back."
+    index, tag = cache.text(step.set), cache.text(step.tag)
     if step.outcome == "hit":
         is_fifo = cache.repl == "f" and cache.ways > 1
         kept = " With FIFO a use does not change the order of eviction." if is_fifo else ""
-        return f"Line {step.way} of set {step.set:x} holds tag {step.tag:x}.{kept}"
-    lacks = f"Set {step.set:x} does not hold tag {step.tag:x}."
+        return f"Way {step.way} of set {index} holds tag {tag}.{kept}{dirt(cache, step)}"
+    lacks = f"Set {index} does not hold tag {tag}."
     if step.way is None:
-        return f"{lacks} A write that misses brings no block in."
+        return f"{lacks} A write that misses brings no block in (no write-allocate)."
     if not step.evicted:
-        return f"{lacks} Line {step.way} is free and takes the block."
+        return f"{lacks} Way {step.way} is free and takes the block.{dirt(cache, step)}"
     block, verb = step.evicted, "was last used" if cache.repl == "l" else "came"
-    rule = f"{verb} in line {block.line} of the trace, the others later"
+    rule = f"{verb} in trace line {block.line}, the others later"
     rule = rule if cache.ways > 1 else "is the only one"
     written = " It is dirty, so it is written back." if block.dirty else ""
-    return (f"Set {step.set:x} is full and does not hold tag {step.tag:x}. The block in line "
-            f"{step.way} (tag {block.tag:x}) is evicted: it {rule}.{written}")
+    return (f"Set {index} is full and does not hold tag {tag}. The block in way {step.way} "
+            f"(tag {cache.text(block.tag)}) is evicted: it {rule}.{written}{dirt(cache, step)}")
+
+
+def dirt(cache, step):
+    """What a write does to its block, in words."""
+    if not step.is_write or cache.wback != "a":
+        return ""
+    return " The write makes this block dirty: memory gets it only when it is evicted or flushed."
 
 
 def coming(cache, step):
-    """Which block of the set is evicted next, in words; nothing with a free line, or only one."""
+    """Which block of the set is evicted next, in words; nothing with a free way, or only one."""
     if step.next is None or cache.ways == 1:
         return ""
     block, verb = step.held[step.next], "last used" if cache.repl == "l" else "which came"
-    return (f"Next to be evicted in set {step.set:x}: line {step.next} (tag {block.tag:x}), "
-            f"{verb} in line {block.line} of the trace.")
+    return (f"Next to be evicted in set {cache.text(step.set)}: way {step.next} (tag "
+            f"{cache.text(block.tag)}), {verb} in trace line {block.line}.")
+
+
+def to_memory(cache, step):
+    """What the log says that memory gets, in words."""
+    texts = []
+    for sent in step.sent:
+        kind, _, address = sent.partition(" ")
+        is_back = kind == "write" and step.evicted and step.evicted.dirty and not texts
+        what = ("the evicted block, which is dirty, is written back" if is_back else
+                "the write itself (write-through, or no write-allocate)" if kind == "write" else
+                "the missing block is read")
+        texts.append(f"{what} at {cache.text(int(address, 16))}")
+    return f"Sent to memory: {'; then '.join(texts)}." if texts else ""
