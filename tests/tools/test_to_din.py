@@ -305,6 +305,15 @@ class Streams(ToDin):
         too_long = line % b"" + line % (b"a" * (1 << 24))
         self.faulty("execlog", "line 2: 16777216 bytes or more", stdin=too_long)
 
+    def test_decimal_addresses(self):
+        """As those of an exercise, with the option on either side of the file."""
+        self.write("exercise.txt", "180\n# hits?\n\n 43\t\r\n18446744073709551615")
+        for words in (("--decimal", "exercise.txt"), ("exercise.txt", "--decimal")):
+            self.assertEqual(self.din("addresses", *words), ["0 b4", "0 2b", "0 " + "f" * 16])
+        for line in ("18446744073709551616", "1a", "0x10", "-1", "1 2", "1,2", "+1"):
+            self.faulty("addresses --decimal", "line 2: not a line of decimal addresses",
+                        stdin=f"1\n{line}\n".encode())
+
     def test_nothing_and_no_access(self):
         self.assertEqual(self.din("pin", os.devnull), [])
         self.faulty("pin", "no access in lines 1 to 2", stdin=b"#\n#eof\n")

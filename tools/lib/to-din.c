@@ -135,6 +135,16 @@ static bool addresses(struct line line) {
     return true;
 }
 
+// 2147291696
+static bool decimal_addresses(struct line line) {
+    uint64_t data;
+    blanks(&line);
+    if (begins(line, "#")) return true;
+    if (!decimal(&line, &data) || !ended(&line)) return false;
+    put(READ, data);
+    return true;
+}
+
 static uint64_t little_endian(const char *bytes) {
     uint64_t value = 0;
     for (int i = 8; i--;) value = value << 8 | (unsigned char)bytes[i];
@@ -347,6 +357,7 @@ static const struct format {
     bool (*takes)(struct line);
 } formats[] = {
     {"addresses", "addresses", addresses},
+    {"addresses --decimal", "decimal addresses", decimal_addresses},
     {"champsim", "ChampSim", champsim},
     {"drmemtrace", "drmemtrace's tool view", drmemtrace},
     {"execlog", "execlog", execlog},
