@@ -101,7 +101,9 @@ class Totals(ByLineTest):
                 table = self.good(self.run_tool("three-c", trace, *swept))
                 wanted = table.splitlines()[1].split(",")
                 given = f"-l1-dsets {sets} -l1-dbsize 16 -l1-dassoc {assoc}".split()
-                caches = [given] + [cache(256, 16, "-l1-dassoc", assoc)] * (sets * assoc == 16)
+                caches = [given]
+                if sets * assoc == 16:
+                    caches += [cache(256, 16, "-l1-dassoc", assoc), [*given, "-l1-dsize=256"]]
                 for words in caches:
                     rows = self.rows(trace, *words)
                     self.assertEqual(self.sums(rows)[1:], [int(wanted[at]) for at in (5, 7, 8, 9)])
