@@ -33,10 +33,10 @@ PROGRAM := crates/cachesim/out/cachesim
 .PHONY: install uninstall deb clean help kit
 
 build:
-	@package/build
+	@package/target build
 
 demo:
-	@package/build --demo
+	@package/target demo
 
 tools:
 	@package/compile
@@ -60,13 +60,13 @@ mutants: kit build
 	@python3 tests/try-mutants
 
 install: build
-	@package/install "$(DESTDIR)$(PREFIX)"
+	@package/target install "$(DESTDIR)$(PREFIX)"
 
 uninstall:
-	@package/install --remove "$(DESTDIR)$(PREFIX)"
+	@package/target uninstall "$(DESTDIR)$(PREFIX)"
 
 deb: build
-	@package/deb
+	@package/target deb
 
 clean:
 	rm -rf crates/*/out tools/out out
@@ -78,4 +78,4 @@ help:
 
 # fails with one line where the kit's command is missing
 kit:
-	@package/build --kit
+	@package/target kit

@@ -20,7 +20,7 @@ def installed():
     atexit.register(shutil.rmtree, folder, ignore_errors=True)
     copy_repository(folder / "a copy")
     put_program(folder / "a copy")
-    install = [folder / "a copy/package/install", folder / "usr"]
+    install = [folder / "a copy/package/target", "install", folder / "usr"]
     subprocess.run(install, check=True, stdout=subprocess.DEVNULL)
     return folder / "usr"
 
@@ -136,13 +136,14 @@ class Installing(MakeTest):
         self.assertEqual(self.below(), before[:2])
 
     def test_a_signal_leaves_no_temporary_file(self):
-        for command, words in ("install", [self.to]), ("deb", [self.to]):
-            temporary = self.folder / f"for {command}"
+        for target in "install", "deb":
+            temporary = self.folder / f"for {target}"
             temporary.mkdir()
             env = {**self.known(), "TMPDIR": str(temporary)}
-            running = subprocess.Popen([self.top / "package" / command, *words], env=env)
+            words = [self.top / "package/target", target, self.to]
+            running = subprocess.Popen(words, env=env)
             with ended(running):
-                self.assertTrue(comes(lambda: list(temporary.rglob("cachesim*"))))
+                self.assertTrue(comes(lambda: list(temporary.glob("*/*"))))
                 running.terminate()
                 self.assertEqual(running.wait(20), 143)
             self.assertEqual(list(temporary.iterdir()), [])
@@ -169,7 +170,7 @@ class Installing(MakeTest):
 
     def test_no_program_is_built(self):
         (self.top / "crates/cachesim/out/cachesim").unlink()
-        ran = self.run_command(self.top / "package/install", self.to)
+        ran = self.run_command(self.top / "package/target", "install", self.to)
         self.refused(ran, 1, "install: no program ", "crates/cachesim/out/cachesim: make builds it")
 
     def test_a_place_that_cannot_be_written(self):

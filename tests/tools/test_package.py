@@ -2,8 +2,6 @@
 
 import gzip
 import importlib
-import importlib.machinery
-import importlib.util
 import os
 import pathlib
 import re
@@ -19,9 +17,7 @@ from test_make import MakeTest, copy_repository, put_program
 
 sys.path.append(str(PACKAGING))
 shared = importlib.import_module("shared")
-loader = importlib.machinery.SourceFileLoader("deb", str(PACKAGING / "deb"))
-deb = importlib.util.module_from_spec(importlib.util.spec_from_loader("deb", loader))
-loader.exec_module(deb)
+deb = importlib.import_module("deb")
 SPACE = ["--bsize", "16-32", "--sets", "1-8", "--assoc", "1-2", "--size", "64-256"]
 
 
@@ -93,7 +89,8 @@ class Version(ToolTest):
 
 class Missing(MakeTest):
     def test_a_missing_package_is_named(self):
-        ran = self.run_command(self.top / "package/deb", env={"PATH": self.path_without("dh")})
+        env = {"PATH": self.path_without("dh")}
+        ran = self.run_command(self.top / "package/target", "deb", env=env)
         self.refused(ran, 1, "deb: dh is missing: apt-get install debhelper\n")
         self.assertFalse((self.top / "out").exists())
 
@@ -119,7 +116,7 @@ class Package(unittest.TestCase):
     def make(cls, to):
         own = {"SOURCE_DATE_EPOCH": "1795388123", "DEBFULLNAME": "A Tester",
                "DEBEMAIL": "tester@example.org"}
-        return run(cls.top / "package/deb", cls.top / to, env={**os.environ, **own})
+        return run(cls.top / "package/target", "deb", cls.top / to, env={**os.environ, **own})
 
     def setUp(self):
         told = f"made: {self.package}\n"

@@ -1,18 +1,4 @@
-#!/usr/bin/python3 -BE
-"""Puts the built program and what belongs to it below a prefix: it, the tools, their completion for
-bash, zsh and fish, manual pages, documents and examples.
-
-    install PREFIX
-    install --remove PREFIX
-
-PREFIX/lib/cachesim/installed lists each file and each folder that was not there before; only these
-are removed, the folders where they are empty. An earlier installation below the same PREFIX is
-removed first. What can't be made, for want of lowdown or of a C compiler, is left out and told.
-
-Exit status: 0 done, 1 a fault, 2 wrong arguments.
-
-Example: package/install ~/.local && package/install --remove ~/.local
-"""
+"""Puts what is installed below a prefix, and removes it again."""
 
 import os
 import pathlib
@@ -21,7 +7,6 @@ import tempfile
 
 from shared import tool
 from stage import stage
-from lib.signals import stop_at_signals
 
 LIST = "lib/cachesim/installed"
 
@@ -59,26 +44,16 @@ def put(tree, prefix):
             shutil.copy(staged, path, follow_symlinks=False)
 
 
-def main():
-    parser = tool.Arguments(__doc__)
-    parser.add_argument("--remove", action="store_true")
-    parser.add_argument("prefix", type=pathlib.Path)
-    asked = parser.parse_args()
-    prefix = asked.prefix.expanduser().resolve()
-    os.umask(0o022)
-    stop_at_signals()
-    with tool.faults_of(prefix), tempfile.TemporaryDirectory(prefix="cachesim-install.") as folder:
-        if not asked.remove:
-            tree = pathlib.Path(folder, "tree")
-            stage(tree, is_whole=False)
-            put(tree, prefix)
-            print(f"installed: {prefix}/bin/cachesim")
-        elif (prefix / LIST).exists():
-            remove(prefix)
-            print(f"removed from {prefix}")
-        else:
-            tool.fail(f"nothing is installed below {prefix}: there is no {prefix / LIST}")
+def install(prefix):
+    with tempfile.TemporaryDirectory(prefix="cachesim-install.") as folder, tool.faults_of(prefix):
+        stage(pathlib.Path(folder, "tree"), is_whole=False)
+        put(pathlib.Path(folder, "tree"), prefix)
+    print(f"installed: {prefix}/bin/cachesim")
 
 
-if __name__ == "__main__":
-    main()
+def uninstall(prefix):
+    if not (prefix / LIST).exists():
+        tool.fail(f"nothing is installed below {prefix}: there is no {prefix / LIST}")
+    with tool.faults_of(prefix):
+        remove(prefix)
+    print(f"removed from {prefix}")

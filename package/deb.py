@@ -1,17 +1,4 @@
-#!/usr/bin/python3 -BE
-"""Makes a Debian package of the built program and what belongs to it, as `make install` puts it.
-
-    deb [FOLDER]
-
-FOLDER is where the package goes, out/ at the top without it. Its version is the top entry of
-CHANGELOG.md. Its times are SOURCE_DATE_EPOCH, or else the last commit, or without git the day of
-the version, so that the same files make the same package. The maintainer is named by DEBFULLNAME
-and DEBEMAIL, or else whoever made the last commit. debian/ has the rest.
-
-Exit status: 0 done, 1 a fault, 2 wrong arguments.
-
-Example: package/deb && sudo apt-get install ./out/cachesim_*_amd64.deb
-"""
+"""Makes a Debian package by debhelper. debian/ has what is not made here."""
 
 import email.utils
 import os
@@ -24,7 +11,6 @@ import textwrap
 
 from shared import TOP, changes, tool
 from stage import stage
-from lib.signals import stop_at_signals
 
 
 def commit(form):
@@ -65,20 +51,11 @@ def make(folder):
     return next(folder.glob("*.deb"))
 
 
-def main():
-    parser = tool.Arguments(__doc__)
-    parser.add_argument("folder", type=pathlib.Path, nargs="?", default=TOP / "out")
-    to = parser.parse_args().folder.resolve()
+def deb(to=TOP / "out"):
     for command, package in ("dh", "debhelper"), ("lowdown", "lowdown"), ("cc", "gcc"):
         tool.needs(command, package)
-    os.umask(0o022)
-    stop_at_signals()
-    with tool.faults_of(to), tempfile.TemporaryDirectory(prefix="cachesim-deb.") as folder:
+    with tempfile.TemporaryDirectory(prefix="cachesim-deb.") as folder, tool.faults_of(to):
         package = make(pathlib.Path(folder))
         to.mkdir(parents=True, exist_ok=True)
         shutil.copy(package, to)
     print(f"made: {to / package.name}")
-
-
-if __name__ == "__main__":
-    main()
