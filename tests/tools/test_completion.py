@@ -118,17 +118,19 @@ class Shells(ToolTest):
     writes its words."""
 
     LINES = {
-        "sw": "sweep",
-        "sweep --kind ": "sweep|--kind|d|i|u",
-        "sweep --bsize ": "sweep|--bsize",
-        "sweep -t a": "sweep|-t|a trace.din",
-        "csim -t ": "csim|-t|a trace.din|b.din|folder",
-        "din --l2-urepl ": "din|--l2-urepl|f|l|r",
-        "din -l1-uw": "din|-l1-uwalloc|-l1-uwback",
-        "din --l1-uw": "din|--l1-uwalloc|--l1-uwback",
+        "cachesim sw": "sweep",
+        "cachesim sweep --kind ": "sweep|--kind|d|i|u",
+        "cachesim sweep --bsize ": "sweep|--bsize",
+        "cachesim sweep -t a": "sweep|-t|a trace.din",
+        "cachesim csim -t ": "csim|-t|a trace.din|b.din|folder",
+        "cachesim din --l2-urepl ": "din|--l2-urepl|f|l|r",
+        "cachesim din -l1-uw": "din|-l1-uwalloc|-l1-uwback",
+        "cachesim din --l1-uw": "din|--l1-uwalloc|--l1-uwback",
+        "cachesim-plot --only ": "--only|block|curve|pareto|size",
+        "cachesim-plot b": "b.din",
     }
-    SHOW = ("cachesim() { printf '\\n'; printf '<%s>' \"$@\"; echo EN''-D; }; cd traces; "
-            "echo REA''-DY\n")
+    SHOW = ("cachesim() { printf '\\n'; printf '<%s>' \"$@\"; echo EN''-D; }; "
+            "cachesim-plot() { cachesim \"$@\"; }; cd traces; echo REA''-DY\n")
 
     def setUp(self):
         super().setUp()
@@ -141,7 +143,7 @@ class Shells(ToolTest):
     def check(self, words, before, key):
         start = f"cd '{self.folder}'; {before}; {self.SHOW}", b"REA-DY"
         for typed, wanted in self.LINES.items():
-            shown = on_terminal(words, self.env, start, (f"cachesim {typed}{key}\n", b"EN-D"))
+            shown = on_terminal(words, self.env, start, (f"{typed}{key}\n", b"EN-D"))
             last = "<" + shown.rpartition("\n<")[2]
             found = [word.rstrip("/") for word in re.findall(r"<(.*?)>", last)]
             self.assertEqual(sorted(found), sorted(wanted.split("|")), (typed, shown))
@@ -150,7 +152,8 @@ class Shells(ToolTest):
     def test_bash(self):
         share = self.folder / "share/bash-completion/completions"
         share.mkdir(parents=True)
-        (share / "cachesim").write_text(written("bash"))
+        for name in "cachesim", "cachesim-plot":
+            (share / name).write_text(written("bash"))
         self.env["XDG_DATA_DIRS"] = str(self.folder / "share")
         before = "bind 'set enable-bracketed-paste off'"
         before = f". /usr/share/bash-completion/bash_completion; {before}"
@@ -171,10 +174,10 @@ class Shells(ToolTest):
     @needs("fish")
     def test_fish(self):
         (self.folder / "c.fish").write_text(written("fish"))
-        more = {"": "sweep|csim|din|log", "csim -": "|".join(OPTIONS["csim"]),
-                "sweep --kind=": "--kind=u|--kind=d|--kind=i"}
+        more = {"cachesim ": "sweep|csim|din|log", "cachesim csim -": "|".join(OPTIONS["csim"]),
+                "cachesim sweep --kind=": "--kind=u|--kind=d|--kind=i"}
         for typed, wanted in {**self.LINES, **more}.items():
-            script = f"source c.fish; cd traces; complete -C 'cachesim {typed}'"
+            script = f"source c.fish; cd traces; complete -C '{typed}'"
             ran = self.run_command("fish", "-N", "-c", script, env=self.env)
             lines = (line.partition("\t")[0] for line in self.good(ran).splitlines())
             found = {line.replace("\\ ", " ").rstrip("/") for line in lines}
