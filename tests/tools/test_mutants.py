@@ -249,6 +249,11 @@ class Mutants(ToolTest):
         (self.folder / "control").write_text(PROVED)
         lines, _ = self.tried(IN_CODE + REFUSED, "--controls")
         self.assertEqual(lines[1], "1 passed, 0 failed")
+        # nor need it have what a change of the mutant is of
+        self.mutant.write_text("goal: Half::of value\nfile: src/lib.rt\nold:         number / 2\n"
+                               "new: HALF\nright: number >> 1\nold: HALF\nnew: number / 3\n")
+        lines, _ = self.tried(IN_CODE + REFUSED, "--controls")
+        self.assertEqual(lines[1], "1 passed, 0 failed")
 
     def test_the_reason_of_a_refusal(self):
         """It must not be a function without a contract, and is shown where it may be a proof."""
