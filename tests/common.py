@@ -119,14 +119,19 @@ class Sum:
     def equal(self, name, got, wanted, **given):
         self.judge(name, got == wanted, f"wanted {wanted}, got {got}", **given)
 
-    def keep(self, script, count):
-        """Compares how many cases a script has run, and under which names, with tests/sums: one
-        that is lost fails. What was run is left in out/sums for tests/ledger --write."""
+    def leave(self, script, count):
+        """The line of a script for tests/sums: how many cases it has run, and under which names. It
+        is left in out/sums for tests/ledger --write."""
         names = f", {sum_of(chr(10).join(sorted(self.names)))}" if self.names else ""
         ran = f"tests/{script}: {count} cases{names}"
         with contextlib.suppress(OSError):
             LEFT.mkdir(parents=True, exist_ok=True)
             (LEFT / script).write_text(f"{ran}\n")
+        return ran
+
+    def keep(self, script, count):
+        """Compares what a script has run with its line in tests/sums: a case that is lost fails."""
+        ran = self.leave(script, count)
         kept = kept_sums().get(f"tests/{script}", "nothing")
         if f"tests/{script}: {kept}" != ran:
             told = f"kept is {kept}; after a look, tests/ledger --write keeps what was run"

@@ -99,11 +99,15 @@ class Fails(Bad):
         raise KeyError(2)
 """)
         for option, passed, failed in ((), 1, 5), (("--plain",), 1, 4):
-            words = ("--program", PROGRAM, *option, "bad")
-            ran = self.run_command(self.folder / "tests/test-tools", *words)
+            words = (self.folder / "tests/test-tools", *option, "bad")
+            ran = self.run_command(*words, "--program", PROGRAM)
             self.assertEqual(ran.returncode, 1)
             last = f"\n{passed} passed, {failed} failed\n"
             self.assertTrue(ran.stdout.decode().endswith(last), ran.stdout)
+        # of those that would be run, --plain leaves one out
+        listed = self.good(self.run_command(*words, "--list", "--program", PROGRAM))
+        self.assertNotIn("test_bad.Bad.test_left_out\n", listed)
+        self.assertTrue(listed.endswith("test_bad.Fails.test_passed\n4 tests\n"), listed)
 
     def test_a_name_without_tests(self):
         ran = self.run_tests("table", "by-lime", "absent.Reading")
