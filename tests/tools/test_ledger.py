@@ -23,7 +23,8 @@ class TheLedger(ToolTest):
         ignored = shutil.ignore_patterns("out")
         for name in ("crates", "tests/cases", "tests/mutants"):
             shutil.copytree(TOP / name, self.folder / name, ignore=ignored, dirs_exist_ok=True)
-        for name in ("tests/ledger", "tests/common.py", "docs/proofs.md"):
+        for name in ("tests/ledger", "tests/common.py", "tests/documents.py", "docs/proofs.md",
+                     "docs/cookbook.md"):
             (self.folder / name).parent.mkdir(exist_ok=True)
             shutil.copy(TOP / name, self.folder / name)
         self.assertEqual(self.run_command(self.folder / "tests/ledger", "--write").returncode, 0)
@@ -115,6 +116,11 @@ class TheLedger(ToolTest):
                          "FAILED tests/cases/din.cases: new")
         self.fails_after("../tests/cases/din.cases", r"== din-lru\n.*?\n\n", "",
                          "FAILED tests/cases/din.cases: new")
+        left_out = "\n\n<!-- not run: slow -->\n\n    $ "
+        self.fails_after("../docs/cookbook.md", r"\n\n    \$ ", left_out,
+                         "FAILED docs/cookbook.md: new")
+        self.fails_after("../docs/proofs.md", r"Feeding never fails \|.*?\n", "",
+                         "FAILED docs/proofs.md: new")
         rows = f"FAILED crates/{ROWS}: new or changed"
         self.fails_after(ROWS, r"nine_held : .*?refl\n", "", rows)
         held = r"(nine_held : .*?) ∷ 5 ∷ \[\]\) ≡ 1 ∷ 3 ∷ 4"

@@ -22,6 +22,11 @@ class Scripts(base.ToolTest):
         named = set(re.findall(r'\["([\w-]+)"', gate)) | set(re.findall(r'"tests/([\w-]+)"', gate))
         self.assertEqual(quick - ELSEWHERE - named, set())
 
+    def test_spec_names_reads_all(self):
+        """As many names as the ledger finds definitions."""
+        names = base.script("spec-names").definitions()
+        self.assertEqual(set(names), base.script("ledger").Contracts().defined)
+
     def test_spec_names(self):
         """A name that two modules define is found."""
         modules = self.folder / "crates/low/specs"

@@ -165,7 +165,7 @@ class Others(Wrong):
                 text = self.fails(script, ["CRASH"], *arguments)
                 passed = 2 if script == "devices" else 0
                 self.assertEqual(int(SUM.search(text)[1]), passed, text[-2000:])
-                self.assertEqual(text.count(" without end, and no more memory for them"), passed)
+                self.assertEqual(text.count(" without end, and at most "), passed)
         # the run without a refusal is as wrong as the others
         text = self.fails("refusals", ["CRASH"], "csim", "help")
         self.assertRegex(text, "(?m)^    N = 0: .*'signal 9'")
