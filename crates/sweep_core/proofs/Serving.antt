@@ -20,7 +20,7 @@ use Rattle.sweep_core.specs.SweepText.{row_counts, configs_of, rows_of}
 use Rattle.sweep_core.specs.Rows.{counted_rows}
 use Rattle.cache_core.specs.Powers.{log2}
 use Rattle.sweep_core.specs.Work.{pair_of, depth}
-use Rattle.sweep_core.specs.Runs.{next_ways, run_of, rows_of_profile, counted_run, counted_profiles, Serves, ServesRows, IsWalk, rows_to_come, MayCome}
+use Rattle.sweep_core.specs.Runs.{next_ways, run_of, rows_of_profile, counted_run, counted_profiles, rows_by_pair, Serves, ServesRows, IsWalk, rows_to_come, MayCome}
 use Rattle.sweep_core.specs.Pass.{SweepStandsFor, WasFed}
 use Rattle.sweep_core.proofs.Lists.{Each-self, Each-both, Each-split, Each-append}
 use Rattle.sweep_core.proofs.Validity.{IsLimited, space-limited, valid_of, products}
@@ -184,3 +184,13 @@ all-sizes powers [] serve = tt
 all-sizes powers (x ∷ xs) serve =
     Each-append _ (counted_run powers x.profile x.first x.rows) (counted_profiles powers xs)
     (run-sizes x.profile (rows_of_profile powers x) serve.0.rows) (all-sizes powers xs serve.1)
+
+-- so do those by pairs, which are the same rows
+pub pairs-sizes : (powers : Bool) (xs : List PairProfile) → Each (ServesRows powers) xs
+    → Each (Each (λ (row : Config × Counts). HasSize row.0)) (rows_by_pair powers xs)
+pairs-sizes powers [] serve = tt
+pairs-sizes powers (x ∷ xs) serve = (run-sizes x.profile (rows_of_profile powers x) serve.0.rows, pairs-sizes powers xs serve.1)
+
+pub pairs-rows : (powers : Bool) (xs : List PairProfile) → flat_map (λ rows. rows) (rows_by_pair powers xs) ≡ counted_profiles powers xs
+pairs-rows powers [] = refl
+pairs-rows powers (x ∷ xs) = ap (λ l. counted_run powers x.profile x.first x.rows ++ l) (pairs-rows powers xs)

@@ -25,6 +25,11 @@ unfolding csv_rows rows_text
 csv-counted es [] = refl
 csv-counted es (c ∷ cs) = ap (λ l. row_of c (row_counts es c) ++ l) (csv-counted es cs)
 
+-- the text of some rows, and then of more
+csv-append : (rows more : List (Config × Counts)) → csv_rows (rows ++ more) ≡ csv_rows rows ++ csv_rows more
+unfolding csv_rows
+csv-append rows more = flat_map-append (λ x. row_of x.0 x.1) rows more
+
 -- the text of one row more
 csv-more : (rows left : List (Config × Counts)) (row : Config × Counts) → csv_rows (rows ++ row ∷ left) ≡ csv_rows rows ++ (row_of row.0 row.1 ++ csv_rows left)
 unfolding csv_rows
@@ -58,6 +63,22 @@ module _ {rows left rest : List (Config × Counts)} {row : Config × Counts} {a 
   rows-failed part =
       subst (WrotePart a d) (sym (ap csv_rows (w.whole ∙ ap (λ l. w.front ++ l) is) ∙ csv-more w.front rest row
       ∙ sym (append_assoc (csv_rows w.front) (row_of row.0 row.1) (csv_rows rest))))
+      (WrotePart-more (csv_rows rest) (WrotePart-after w.wrote part))
+
+-- some more at once
+module _ {rows left : List (Config × Counts)} (pair rest : List (Config × Counts)) {a b d : SinkView} (w : WroteBefore rows a b left)
+    (is : left ≡ pair ++ rest) where
+  pub pair-more : Wrote b d (csv_rows pair) → WroteBefore rows a d rest
+  pair-more more = record {
+    front = w.front ++ pair;
+    whole = w.whole ∙ ap (λ l. w.front ++ l) is ∙ sym (append_assoc w.front pair rest);
+    wrote = subst (Wrote a d) (sym (csv-append w.front pair)) (Wrote-more w.wrote more);
+  }
+
+  pub pair-failed : WrotePart b d (csv_rows pair) → WrotePart a d (csv_rows rows)
+  pair-failed part =
+      subst (WrotePart a d) (sym (ap csv_rows (w.whole ∙ ap (λ l. w.front ++ l) is) ∙ csv-append w.front (pair ++ rest)
+      ∙ ap (λ l. csv_rows w.front ++ l) (csv-append pair rest) ∙ sym (append_assoc (csv_rows w.front) (csv_rows pair) (csv_rows rest))))
       (WrotePart-more (csv_rows rest) (WrotePart-after w.wrote part))
 
 pub rows-written : {rows left : List (Config × Counts)} {a b : SinkView} → WroteBefore rows a b left → left ≡ [] → Wrote a b (csv_rows rows)

@@ -41,6 +41,10 @@ counted_run powers v c n = map (λ d. (d, counts_at v d.assoc)) (run_of powers c
 abbrev pub counted_profiles : Bool → List PairProfile → List (Config × Counts)
 counted_profiles powers xs = flat_map (λ x. counted_run powers x.profile x.first x.rows) xs
 
+-- the same, those of each profile by themselves
+abbrev pub rows_by_pair : Bool → List PairProfile → List (List (Config × Counts))
+rows_by_pair powers xs = map (λ x. counted_run powers x.profile x.first x.rows) xs
+
 -- a profile has the counts of a row, whose size fits
 pub record Serves (v : ProfileState) (c : Config) : Type 0 where
   pub some : 1 ≤ c.assoc

@@ -1,5 +1,5 @@
 //! The rows of a sweep as values: each configuration with its counts.
-ghost use Rattle.std.specs.Prelude.{◌≡◌, ◌-◌, ◌≤◌, Err, IfOk, IfSome};
+ghost use Rattle.std.specs.Prelude.{◌≡◌, ◌-◌, ◌≤◌, Err, IfOk, IfSome, flat_map};
 ghost use Rattle.trace_core.specs.Reading.{events, first_fault};
 ghost use Rattle.trace_core.specs.declared.fault.RunFault.TheVariants as fault;
 ghost use Rattle.std.specs.Prelude.{None};
@@ -88,6 +88,17 @@ impl SweepCounts {
         }
     }
 
+    /// The same rows, those of each pair of block size and set count by themselves.
+    pub(crate) fn pairs(&self) -> Pairs<'_>
+        ensures rows { flat_map (λ rows. rows) result ≡ self.now.rows }
+        ensures sizes { AllByRecursion (AllByRecursion (λ row. HasSize row.0)) result }
+    {
+        Pairs {
+            space: &self.space,
+            later: &self.profiles,
+        }
+    }
+
     /// The number of comparisons that the sweep counted, as `sweep` returns it.
     pub fn comparisons(&self) -> u128
         ensures { result ≡ self.now.comparisons }
@@ -141,6 +152,48 @@ impl<'a> Iterator for Rows<'a> {
         let row = pair.next_row(self.space);
         self.pair = (pair.left > 0).then_some(pair);
         Some(row)
+    }
+}
+
+/// An iterator over the pairs of a sweep: the rows of each.
+#[derive(Drop)]
+pub(crate) struct Pairs<'a> {
+    space: &'a Space,
+    later: &'a [PairProfile],
+}
+
+impl<'a> Model for Pairs<'a> {
+    ghost use Rattle.std.specs.Prelude.{List};
+    ghost use Rattle.std.specs.List.{AllByRecursion};
+    ghost use Rattle.cache_core.specs.declared.outcome.Counts.{Counts};
+    ghost use Rattle.sweep_core.specs.declared.space.Config.{Config};
+    ghost use Rattle.sweep_core.specs.Runs.{rows_by_pair, ServesRows};
+
+    ghost Value = { List (List (Config × Counts)) };
+
+    ghost view = { λ p. rows_by_pair p.space.now.powers p.later.now };
+
+    ghost invariant = { λ p. AllByRecursion (ServesRows p.space.now.powers) p.later.now };
+}
+
+impl<'a> Iterator for Pairs<'a> {
+    ghost use Rattle.std.specs.Iterator.{YieldsFirst, item_count};
+
+    type Item = Rows<'a>;
+
+    ghost next_gives = { YieldsFirst (λ p. p) };
+
+    ghost remaining = { item_count (λ p. p) };
+
+    #[inline(always)]
+    fn next(&mut self) -> Option<Rows<'a>> {
+        let (first, later) = self.later.split_first()?;
+        self.later = later;
+        Some(Rows {
+            space: self.space,
+            pair: Some(PairWalk::new(first)),
+            later: &[],
+        })
     }
 }
 

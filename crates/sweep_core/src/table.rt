@@ -1,12 +1,12 @@
 //! What a sweep writes once it has read a trace.
-ghost use Rattle.std.specs.Prelude.{◌≡◌, ◌++◌};
+ghost use Rattle.std.specs.Prelude.{◌≡◌, ◌++◌, flat_map};
 ghost use Rattle.std.specs.List.{AllByRecursion};
 ghost use Rattle.trace_core.specs.Device.{Writes, WritesLast};
 ghost use Rattle.sweep_core.specs.Space.{HasSize};
 ghost use Rattle.sweep_core.specs.SweepText.{header_of, csv_rows};
 
 use crate::row_text::set_row;
-use crate::rows::{Rows, SweepCounts};
+use crate::rows::{Pairs, Rows, SweepCounts};
 use crate::space::Config;
 use trace_core::io::{DeviceFault, Sink, write_all};
 use trace_core::text::Text;
@@ -24,7 +24,7 @@ pub(crate) fn write_table<K: Sink>(
         (header_of after ++ csv_rows counts.now.rows) }
 {
     write_all(sink, header(after))?;
-    write_rows(sink, counts.rows())?;
+    write_rows(sink, counts.pairs())?;
     sink.flush()
 }
 
@@ -38,8 +38,20 @@ fn header(after: Option<Config>) -> &'static [u8]
     }
 }
 
-/// Writes the text of each row.
-fn write_rows<K: Sink>(sink: &mut K, rows: Rows) -> Result<(), DeviceFault>
+/// Writes the rows, pair by pair.
+fn write_rows<K: Sink>(sink: &mut K, pairs: Pairs) -> Result<(), DeviceFault>
+    requires { AllByRecursion (AllByRecursion (λ row. HasSize row.0)) pairs }
+    ensures { Writes (K.view sink.old) (K.view sink.new) result
+        (csv_rows (flat_map (λ rows. rows) pairs.entry)) }
+{
+    for rows in pairs {
+        write_pair(sink, rows)?;
+    }
+    Ok(())
+}
+
+/// Writes the text of each row of a pair.
+fn write_pair<K: Sink>(sink: &mut K, rows: Rows) -> Result<(), DeviceFault>
     requires { AllByRecursion (λ row. HasSize row.0) rows }
     ensures { Writes (K.view sink.old) (K.view sink.new) result (csv_rows rows.entry) }
 {

@@ -1,10 +1,11 @@
--- The rows so far were written, and the sizes of the others fit.
+-- The rows of the pairs so far were written, and the sizes of the others fit.
+use Rattle.std.specs.Prelude.{flat_map}
 use Rattle.std.specs.List.{AllByRecursion}
 use Rattle.sweep_core.specs.Space.{HasSize}
 use Rattle.sweep_core.proofs.Writing.{WroteBefore}
 use Rattle.sweep_core.proofs.table.write_rows.Given as goal
 
-abbrev pub invariant-loop-config : goal.invariant-loop-config
-invariant-loop-config g l =
-    AllByRecursion (λ row. HasSize row.0) l.config-iterator
-    × WroteBefore l.fn.rows (g.K.Sink.view l.initial.sink) (g.K.Sink.view l.sink) l.config-iterator
+abbrev pub invariant-loop-rows : goal.invariant-loop-rows
+invariant-loop-rows g l =
+    AllByRecursion (AllByRecursion (λ row. HasSize row.0)) l.rows-iterator
+    × WroteBefore (flat_map (λ rows. rows) l.fn.pairs) (g.K.Sink.view l.initial.sink) (g.K.Sink.view l.sink) (flat_map (λ rows. rows) l.rows-iterator)

@@ -15,9 +15,9 @@ pub returns-in_err-write_rows : goal.returns-in_err-write_rows
 returns-in_err-write_rows g c =
     let p = err_from_is_err_and c.from_residual-in_err-write_rows.result c.from_residual-in_err-write_rows.ensures.1 in
     let header = rw c.header.ensures at c.in_ok-write_all.ensures in
-    rw p.1 (WroteLastPart-unflushed (WrotePart-after header (rw c.rows.ensures.rows at c.in_err-write_rows.ensures)))
+    rw p.1 (WroteLastPart-unflushed (WrotePart-after header (rw c.pairs.ensures.rows at c.in_err-write_rows.ensures)))
 
 pub returns : goal.returns
 returns g c =
     let header = rw c.header.ensures at c.in_ok-write_all.ensures in
-    WritesLast-flushes c.flush.result (Wrote-more header (rw c.rows.ensures.rows at c.in_ok-write_rows.ensures)) c.flush.ensures
+    WritesLast-flushes c.flush.result (Wrote-more header (rw c.pairs.ensures.rows at c.in_ok-write_rows.ensures)) c.flush.ensures
