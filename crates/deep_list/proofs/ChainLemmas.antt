@@ -52,6 +52,14 @@ pub on_chain_none : (next live : List ℕ) (a s : ℕ) → length next ≡ lengt
 on_chain_none next live a s long end one (zero, same) = omega (arith, get_or_past live s 0 (omega (arith, end, same)), one)
 on_chain_none next live a s long end one (suc m, (within, at)) = omega (arith, within, long, end)
 
+module _ {top n : ℕ} {v : ChainsValue} (h : AreChains top n v) where
+  -- what is on a chain comes later
+  pub chain_rises : (m a s : ℕ) → top ≤ a → IsAfter v.next m a s → a ≤ s
+  chain_rises zero a s le same = omega (arith, same)
+  chain_rises (suc m) a s le (within, at) =
+      let up = h.next_from a le (omega (arith, within, h.long)) in
+      omega (arith, up, chain_rises m (get_or v.next a 0) s (omega (arith, le, up)) at)
+
 module _ {top n : ℕ} {v : ChainsValue} (h : AreChains top n v) (t : ℕ) (next : t + 1 ≡ top) (lt : t < n) where
   pub chains_more : (k : ℕ) → k < length v.heads → AreChains t n (with_slot v t k)
   chains_more k within =
@@ -71,7 +79,7 @@ module _ {top n : ℕ} {v : ChainsValue} (h : AreChains top n v) (t : ℕ) (next
           | inr other ↦ omega (arith, get_or-set_other v.heads k j t 0 other, h.heads_within j)
         ];
         next_from = λ s le less. elim (cases_eq s t) [
-          | inl same ↦ omega (arith, ap (λ i. get_or (set v.next t head) i 0) same, next_same, h.heads_from k within, next)
+          | inl same ↦ omega (arith, ap (λ i. get_or (set v.next t head) i 0) same, next_same, h.heads_from k within, next, same)
           | inr other ↦ omega (arith, get_or-set_other v.next t s head 0 other, h.next_from s (omega (arith, le, other, next)) less, next)
         ];
         next_within = λ s. elim (cases_eq s t) [
@@ -96,7 +104,7 @@ module _ {top n : ℕ} {v : ChainsValue} (h : AreChains top n v) (t : ℕ) (next
       let j : ℕ = chain_of (length v.heads) y in
       let next' : List ℕ = set v.next t head in
       let heads' : List ℕ = set v.heads k t in
-      let from : (i : ℕ) → top ≤ i → i < length v.next → top ≤ get_or v.next i 0 = λ i le less. h.next_from i le (omega (arith, less, h.long)) in
+      let from : (i : ℕ) → top ≤ i → i < length v.next → top ≤ get_or v.next i 0 = λ i le less. omega (arith, le, h.next_from i le (omega (arith, less, h.long))) in
       let kept : IsAfter next' m (get_or v.heads j 0) s = after_set v.next top t head (omega arith) from m (get_or v.heads j 0) s
       (h.heads_from j (chain_small (length v.heads) y h.some)) at in
       let P : ℕ → Type 0 = λ i. IsOnChain next' (get_or heads' (chain_of i y) 0) s in

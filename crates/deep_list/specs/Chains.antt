@@ -40,12 +40,12 @@ with_slot v s k = record { heads = slice_set v.heads k s; next = slice_set v.nex
 abbrev pub cleared : ChainsValue → ChainsValue
 cleared v = record v { heads = replicate (length v.heads) (length v.next) }
 
--- chains of n slots, on which no slot is before `top`
+-- chains of n slots, on which slots rise, and none is before `top`
 pub record AreChains (top n : ℕ) (v : ChainsValue) : Type 0 where
   pub some : 1 ≤ length v.heads
   pub few : length v.heads ≤ 2 ^ 24
   pub long : length v.next ≡ n
   pub heads_from : (k : ℕ) → k < length v.heads → top ≤ slice_index v.heads k
   pub heads_within : (k : ℕ) → slice_index v.heads k ≤ n
-  pub next_from : (s : ℕ) → top ≤ s → s < n → top ≤ slice_index v.next s
+  pub next_from : (s : ℕ) → top ≤ s → s < n → s < slice_index v.next s
   pub next_within : (s : ℕ) → slice_index v.next s ≤ n

@@ -15,10 +15,6 @@ pub record IsAt (v : SlotsValue) (x s : ℕ) : Type 0 where
 abbrev pub NoneHas : SlotsValue → ℕ → Type 0
 NoneHas v x = (s : ℕ) → s < length v.live → IsAt v x s → ⊥
 
--- each live slot is from `top` on and before `end`
-abbrev pub AreWithin : ℕ → ℕ → List ℕ → Type 0
-AreWithin top end live = (s : ℕ) → slice_index live s ≡ 1 → (top ≤ s) × (s < end)
-
 -- with block x in slot s
 abbrev pub filled : SlotsValue → ℕ → ℕ → SlotsValue
 filled v s x = record { blocks = slice_set v.blocks s x; live = slice_set v.live s 1 }

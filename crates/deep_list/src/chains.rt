@@ -10,8 +10,8 @@ use crate::slots::{Slots, Span};
 use std::alloc::{AllocError, Global};
 use std::marker::Model;
 
-/// How many slots of a chain are looked at. Where a chain is longer, which takes many blocks that
-/// were chosen for it, the slots are searched in order, which is faster.
+/// How many slots of a chain are looked at. A chain is longer than that only if its blocks were
+/// chosen for it. Then the slots are searched in order, which is faster.
 const LONGEST: usize = 32;
 
 /// Each block has one of the chains. `heads` has the first slot of each chain, and `next` for each
@@ -71,7 +71,7 @@ impl Chains {
             }
             slot = self.next[slot] as usize;
         }
-        slots.search(span, block)
+        slots.search(slot, span.end, block)
     }
 
     /// Puts a slot in front of the chain of its block.

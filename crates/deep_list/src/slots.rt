@@ -1,7 +1,7 @@
 //! Slots for blocks, and how many of the slots before one are live.
 ghost use Rattle.std.specs.Prelude.{◌≡◌, ◌+◌, ◌<◌, ◌≤◌, ◌^◌, ◌*◌, ℕ, length, sum, take, drop, replicate, slice_set};
 ghost use Rattle.std.specs.Prelude.{IfOk, MatchOption, slice_index, nat_eq, IsTrue, ◌↔◌};
-ghost use Rattle.deep_list.specs.Slots.{SlotsValue, IsAt, NoneHas, AreWithin, filled, vacated};
+ghost use Rattle.deep_list.specs.Slots.{SlotsValue, IsAt, NoneHas, filled, vacated};
 
 use std::alloc::{AllocError, Global};
 use std::marker::Model;
@@ -115,17 +115,17 @@ impl Slots {
         self.counts[slot / CHUNK] -= 1;
     }
 
-    /// The live slot that has a block, by a walk over a span that has all live slots.
+    /// The live slot that has a block, by a walk over the slots from one on and before an end, where
+    /// it is, if it is anywhere.
     #[inline(never)]
-    pub fn search(&self, span: Span, block: u64) -> Option<usize>
-        requires order { span.top ≤ span.end }
-        requires end { span.end ≤ length self.now.live }
-        requires within { AreWithin span.top span.end self.now.live }
+    pub fn search(&self, from: usize, end: usize, block: u64) -> Option<usize>
+        requires end { end ≤ length self.now.live }
+        requires within { (s : ℕ) → IsAt self.now block s → (from ≤ s) × (s < end) }
         requires same { length self.now.blocks ≡ length self.now.live }
         ensures { MatchOption result (NoneHas self.now block)
             (λ slot. (slot < length self.now.live) × IsAt self.now block slot) }
     {
-        for slot in span.top..span.end {
+        for slot in from..end {
             if self.has(slot, block) {
                 return Some(slot);
             }

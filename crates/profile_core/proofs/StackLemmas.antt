@@ -507,12 +507,12 @@ module _ {near : Lists} {beyond : ℕ} {far : List Deep} {x k held last : ℕ} (
 
 -- whether blocks may stand behind rows, by the depth
 pub none_beyond : {near : Lists} {beyond : ℕ} {far : List Deep} (s : IsStacked near beyond far) (v : Lists)
-    → record { depth = near.depth + beyond; lists = joined near.lists far } ≡ v → v.depth ≤ 256 → beyond ≡ 0
+    → record { depth = near.depth + beyond; lists = joined near.lists far } ≡ v → v.depth < 256 → beyond ≡ 0
 none_beyond {near} {beyond} {far} s v is le =
     elim s.sets [ inl none ↦ none.0 | inr all ↦ absurd (omega (arith, s.deep all.0, ap (λ w. w.depth) is, le)) ]
 
 pub some_beyond : {near : Lists} {beyond : ℕ} {far : List Deep} (s : IsStacked near beyond far) (v : Lists)
-    → record { depth = near.depth + beyond; lists = joined near.lists far } ≡ v → 256 < v.depth → (beyond ≡ 0 → ⊥)
+    → record { depth = near.depth + beyond; lists = joined near.lists far } ≡ v → 256 ≤ v.depth → (beyond ≡ 0 → ⊥)
 some_beyond s v is lt none = omega (arith, s.shallow none, ap (λ w. w.depth) is, lt, none)
 
 pub two_near : {near : Lists} {beyond : ℕ} {far : List Deep} (s : IsStacked near beyond far) → (beyond ≡ 0 → ⊥) → 2 ≤ near.depth
@@ -538,8 +538,8 @@ joined_empty (suc n) (d ∷ far) none =
 pub stacked_none : (near : Lists) (beyond n : ℕ) (far : List Deep) → near.lists ≡ replicate n [] → ((k : ℕ) → rest_of far k ≡ [])
     → ((k : ℕ) → k < length far → (get_or far k nothing).cap ≡ beyond)
     → ((beyond ≡ 0) × (length far ≡ 0)) ⊎ ((1 ≤ beyond) × (length far ≡ length near.lists) × (2 ≤ near.depth))
-    → near.depth + beyond ≤ 2 ^ 22 → length near.lists * (near.depth + beyond) ≤ 2 ^ 22 → (beyond ≡ 0 → near.depth ≤ 256)
-    → (1 ≤ beyond → 256 < near.depth + beyond) → IsStacked near beyond far
+    → near.depth + beyond ≤ 2 ^ 22 → length near.lists * (near.depth + beyond) ≤ 2 ^ 22 → (beyond ≡ 0 → near.depth < 256)
+    → (1 ≤ beyond → 256 ≤ near.depth + beyond) → IsStacked near beyond far
 stacked_none near beyond n far none rest caps sets small all_small shallow deep =
     let row : (k : ℕ) → get_or near.lists k [] ≡ [] = λ k. ap (λ ls. get_or ls k []) none ∙ nils n k in
     let L : List ℕ → Type 0 = IsOnce in
@@ -632,7 +632,7 @@ empty_rest (suc n) cap zero = refl
 empty_rest (suc n) cap (suc k) = empty_rest n cap k
 
 pub stacked_new : (near : Lists) (sets beyond : ℕ) (far : List Deep) → near ≡ record { depth = 64; lists = replicate sets [] }
-    → far ≡ replicate sets (record { cap = beyond; blocks = [] }) → 1 ≤ sets → sets * (64 + beyond) ≤ 2 ^ 22 → 256 < 64 + beyond → IsStacked near beyond far
+    → far ≡ replicate sets (record { cap = beyond; blocks = [] }) → 1 ≤ sets → sets * (64 + beyond) ≤ 2 ^ 22 → 256 ≤ 64 + beyond → IsStacked near beyond far
 stacked_new near sets beyond far is far_is filled small deep =
     let lists : near.lists ≡ replicate sets [] = ap (λ v. v.lists) is in
     let depth : near.depth ≡ 64 = ap (λ v. v.depth) is in

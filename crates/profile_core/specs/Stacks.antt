@@ -46,5 +46,5 @@ pub record IsStacked (near : Lists) (beyond : ℕ) (far : List Deep) : Type 0 wh
   pub rest_short : (k : ℕ) → length (rest_of far k) ≤ beyond
   pub full : (k : ℕ) → rest_of far k ≢ [] → length (slice_index_or near.lists k []) ≡ near.depth
   pub once : (k : ℕ) → IsOnce (slice_index_or near.lists k [] ++ rest_of far k)
-  pub shallow : beyond ≡ 0 → near.depth ≤ 256
-  pub deep : 1 ≤ beyond → 256 < near.depth + beyond
+  pub shallow : beyond ≡ 0 → near.depth < 256
+  pub deep : 1 ≤ beyond → 256 ≤ near.depth + beyond

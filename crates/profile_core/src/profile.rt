@@ -12,7 +12,7 @@ ghost use Rattle.profile_core.specs.Moves.{is_second};
 ghost use Rattle.profile_core.specs.ProfileStandsFor.{ProfileStandsFor};
 
 use crate::recency::Touch;
-use crate::stacks::{SHALLOW, Stacks};
+use crate::stacks::{DEEP, Stacks};
 use cache_core::geometry::Geometry;
 use cache_core::outcome::Counts;
 use std::alloc::{AllocError, Global};
@@ -80,7 +80,8 @@ impl Model for HitSums {
 impl Profile {
     /// A profile of caches of `2^s` sets of 1 to `depth` lines of `2^b` bytes. It takes all its
     /// memory here: 8 bytes for each of `depth * 2^s` blocks, 4 and a quarter for each set, and 16
-    /// for each associativity and 8 more. Where memory is refused, nothing is kept.
+    /// for each associativity and 8 more. With a depth of 256 or more it takes 22 bytes for each
+    /// block of a set but 64, and 200 more for each set. Where memory is refused, nothing is kept.
     pub fn new(alloc: Global, b: u64, s: u64, depth: u64) -> Result<Profile, AllocError>
         requires { IsGeometry (geometry_value s depth b) }
         ensures { IfOk result (λ profile. profile ≡ empty (geometry_value s depth b)) }
@@ -213,7 +214,7 @@ impl Profile {
     fn feed_deep(&mut self, set: usize, block: u64)
         requires next { IsNext self.old set block }
         requires further { is_second block (list_of self.old set) ≡ false }
-        requires deep { SHALLOW < self.old.geometry.e }
+        requires deep { DEEP ≤ self.old.geometry.e }
         ensures { self.new ≡ after_reference self.old block }
     {
         match self.lists.bring_far(set, block) {
@@ -267,8 +268,11 @@ impl Profile {
         }
     }
 
-    /// How many comparisons of a block with an entry of its set's list are counted: each that
-    /// `feed` made, and one for each reference that `count_fronts` counts.
+    /// How many comparisons of a block with an entry of its set's list are counted: those of a walk
+    /// over the list up to the block, or over all of it if the block isn't there. That is the cost
+    /// of the stack algorithm, by which spaces are compared. Fewer may be made, never more: for a
+    /// reference that `count_fronts` counts one is counted and none made, and in a list of 256 ways
+    /// or more most blocks are found without a walk.
     pub fn probes(&self) -> u64
         ensures value { result ≡ self.now.probes }
         ensures trace { (es : List Event) → ProfileStandsFor es self.now

@@ -12,10 +12,11 @@ use deep_list::DeepList;
 use std::alloc::{AllocError, Global};
 use std::marker::Model;
 
-/// The depth up to which lists stand in their rows alone.
-pub const SHALLOW: usize = 256;
+/// The least depth at which blocks stand behind rows too: with fewer blocks a walk over all costs
+/// less.
+pub const DEEP: usize = 256;
 
-/// How many blocks of a list stand in its row, if it may be longer than `SHALLOW`.
+/// How many blocks of a list stand in its row then.
 const ROW: usize = 64;
 
 /// What a row tells of a block that comes to its front: where it stands in the list, or, if it is
@@ -26,8 +27,8 @@ enum InRow {
     Full(usize, u64),
 }
 
-/// The lists of all sets: the first `ROW` blocks of each in `near`, and up to `beyond` more in `far`,
-/// which has a list for each set, or none if all fit in their rows.
+/// The lists of all sets. If they are not deep, each stands in its row of `near`. Else `near` has the
+/// first `ROW` blocks of each, and `far` a list for each set, of up to `beyond` blocks more.
 #[derive(Drop)]
 pub struct Stacks {
     near: RecencyLists,
@@ -55,7 +56,7 @@ impl Stacks {
         requires small { sets * depth ≤ 2 ^ 22 }
         ensures { IfOk result (λ r. r ≡ record { depth = depth; lists = replicate sets [] }) }
     {
-        if depth <= SHALLOW {
+        if depth < DEEP {
             return Ok(Stacks {
                 near: RecencyLists::new(alloc, sets, depth)?,
                 beyond: 0,
@@ -71,7 +72,7 @@ impl Stacks {
     /// Whether all lists stand in their rows alone.
     #[inline(always)]
     pub fn in_rows(&self) -> bool
-        ensures { IsTrue result ↔ (self.now.depth ≤ SHALLOW) }
+        ensures { IsTrue result ↔ (self.now.depth < DEEP) }
     {
         self.beyond == 0
     }
@@ -113,7 +114,7 @@ impl Stacks {
     #[inline(always)]
     pub fn bring(&mut self, set: usize, block: u64) -> Touch
         requires within { set < length self.old.lists }
-        requires shallow { self.old.depth ≤ SHALLOW }
+        requires shallow { self.old.depth < DEEP }
         requires behind { is_front block (slice_index_or self.old.lists set []) ≡ false }
         requires further { is_second block (slice_index_or self.old.lists set []) ≡ false }
         ensures found { result ≡ touch_of block (slice_index_or self.old.lists set []) }
@@ -126,7 +127,7 @@ impl Stacks {
     #[inline(always)]
     pub fn bring_far(&mut self, set: usize, block: u64) -> Touch
         requires within { set < length self.old.lists }
-        requires deep { SHALLOW < self.old.depth }
+        requires deep { DEEP ≤ self.old.depth }
         requires behind { is_front block (slice_index_or self.old.lists set []) ≡ false }
         requires further { is_second block (slice_index_or self.old.lists set []) ≡ false }
         ensures found { result ≡ touch_of block (slice_index_or self.old.lists set []) }

@@ -29,9 +29,10 @@ pub type SweepFault = RunFault;
 ///
 /// It returns the number of comparisons of a block with an entry of a recency list, as it is
 /// defined by the trace and the space: each profile looks for each reference's block from the most
-/// recent entry on, which takes at most as many comparisons as the profile is deep. One look that
-/// decides for several profiles counts as one comparison in each of them. No comparison is made
-/// that isn't counted.
+/// recent entry on, which takes at most as many comparisons as the profile is deep. It is the cost
+/// of the stack algorithm, by which spaces are compared. Fewer comparisons may be made, and never
+/// more: one look that decides for several profiles counts as one comparison in each of them, and
+/// a profile of 256 ways or more finds most distances without a walk over the list.
 ///
 /// Errors: `Memory`, with nothing read or written; `Trace` if the trace has a fault or the
 /// source failed, with nothing written; `Write` if the sink failed, after the whole trace was

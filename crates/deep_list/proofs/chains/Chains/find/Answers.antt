@@ -1,9 +1,9 @@
-use Rattle.std.proofs.Common.{◌≡◌, ◌<◌, ◌≤◌, ◌∙◌, ℕ, length, get_or, ap, sym, arith, subst}
-use Rattle.std.proofs.lemmas.Bool.{false≢true}
+use Rattle.std.proofs.Common.{◌≡◌, ◌<◌, ◌≤◌, ◌∙◌, ℕ, length, get_or, ap, sym, arith, subst, ◌⊎◌, inl, inr}
+use Rattle.std.proofs.lemmas.Bool.{false≢true, cases_lt}
 use Rattle.std.proofs.lemmas.List.{get_or_read}
 use Rattle.deep_list.specs.Slots.{IsAt}
 use Rattle.deep_list.specs.Chains.{chain_of, IsFiled, IsOnChain}
-use Rattle.deep_list.proofs.ChainLemmas.{chain_small, on_chain_none, on_chain_past}
+use Rattle.deep_list.proofs.ChainLemmas.{chain_small, chain_rises, on_chain_none, on_chain_past}
 use Rattle.deep_list.proofs.DeepLemmas.{live_within}
 use Rattle.deep_list.proofs.chains.Chains.find.Goals as goal
 
@@ -20,13 +20,18 @@ loop-step-init c =
     let P : ℕ → Type 0 = λ a. (s : ℕ) → IsAt c.args.slots.now c.args.block s → IsOnChain v.next a s in
     let Q : ℕ → ℕ → Type 0 = λ s x. IsFiled v x s in (
       omega (arith, head_is, c.requires.chains_are.heads_within k),
+      omega (
+        arith,
+        head_is,
+        c.requires.chains_are.heads_from k (chain_small (length v.heads) c.args.block c.requires.chains_are.some),
+      ),
       subst P head_is (λ s at. subst (Q s) at.block (c.requires.filed s at.live)),
     )
 
 pub returns-then-slot-len : goal.returns-then-slot-len
 returns-then-slot-len c = λ s lt at.
     on_chain_none c.args.self.now.next c.args.slots.now.live c.loop-step.slot s c.requires.chains_are.long (c.if-slot-len.true ∙ c.len.ensures) at.live
-    (c.loop-step.invariant.1 s at)
+    (c.loop-step.invariant.2 s at)
 
 pub loop-step-preserved : goal.loop-step-preserved
 loop-step-preserved c =
@@ -42,6 +47,20 @@ loop-step-preserved c =
     let P : ℕ → Type 0 = λ a. (s : ℕ) → IsAt c.args.slots.now c.args.block s → IsOnChain v.next a s in
     let Q : ℕ → Type 0 = λ s. IsAt c.args.slots.now c.args.block s in (
       omega (arith, next_is, c.requires.chains_are.next_within c.loop-step.slot),
+      omega (
+        arith,
+        next_is,
+        c.loop-step.invariant.1,
+        c.requires.chains_are.next_from c.loop-step.slot c.loop-step.invariant.1 (omega (arith, c.loop-step.invariant.0, inside)),
+      ),
       subst P next_is
-          (λ s at. on_chain_past v.next c.loop-step.slot s (λ same. false≢true (c.if-has.ensures.1 (subst Q (sym same) at))) (c.loop-step.invariant.1 s at)),
+          (λ s at. on_chain_past v.next c.loop-step.slot s (λ same. false≢true (c.if-has.ensures.1 (subst Q (sym same) at))) (c.loop-step.invariant.2 s at)),
+    )
+
+pub search-requires-clause-within : goal.search-requires-clause-within
+search-requires-clause-within c = λ s at.
+    let on = c.loop-step.invariant.2 s at in
+    let before : (s < c.args.span.end) ⊎ (c.args.span.end ≤ s) = cases_lt s c.args.span.end in (
+      chain_rises c.requires.chains_are on.0 c.loop-step.slot s c.loop-step.invariant.1 on.1,
+      elim before [ inl lt ↦ lt | inr le ↦ absurd (omega (arith, c.requires.behind s le, at.live)) ],
     )

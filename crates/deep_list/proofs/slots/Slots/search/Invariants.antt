@@ -3,4 +3,4 @@ use Rattle.deep_list.specs.Slots.{IsAt}
 use Rattle.deep_list.proofs.slots.Slots.search.Given as goal
 
 abbrev pub invariant-loop-slot : goal.invariant-loop-slot
-invariant-loop-slot l = (k : ℕ) → l.fn.span.top ≤ k → k < l.slot → IsAt l.self l.block k → ⊥
+invariant-loop-slot l = (k : ℕ) → l.fn.from ≤ k → k < l.slot → IsAt l.self l.block k → ⊥
