@@ -3,6 +3,8 @@
 import os
 import pathlib
 import shutil
+import subprocess
+import sys
 import tempfile
 
 from shared import tool
@@ -46,8 +48,12 @@ def put(tree, prefix):
 
 def install(prefix):
     with tempfile.TemporaryDirectory(prefix="cachesim-install.") as folder, tool.faults_of(prefix):
-        stage(pathlib.Path(folder, "tree"), is_whole=False)
-        put(pathlib.Path(folder, "tree"), prefix)
+        tree = pathlib.Path(folder, "tree")
+        stage(tree, is_whole=False)
+        # tools begin sooner where Python finds what they share compiled
+        command = [sys.executable, "-m", "compileall", "-q", "--invalidation-mode", "checked-hash"]
+        subprocess.run([*command, tree / "lib/cachesim"], check=False)
+        put(tree, prefix)
     print(f"installed: {prefix}/bin/cachesim")
 
 

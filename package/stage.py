@@ -101,7 +101,8 @@ def stage(tree, is_whole):
         if not path.is_symlink():
             is_run = path.is_dir() or share not in path.parents and path.stat().st_mode & 0o100
             path.chmod(0o755 if is_run else 0o644)
-    for why, names in left_out.items():
-        if names:
-            print(f"{tool.NAME}: left out, since {why}: {' '.join(names)}", file=sys.stderr)
-            is_whole and sys.exit(1)
+    told = [f"left out, since {why}: {' '.join(names)}" for why, names in left_out.items() if names]
+    for line in told:
+        print(f"{tool.NAME}: {line}", file=sys.stderr)
+    if told and is_whole:
+        tool.fail("a package is made whole, or not at all")
