@@ -103,7 +103,7 @@ class Mutants(ToolTest):
         self.top = self.folder / "a copy"
         for folder in ("tests/mutants/low", "crates/low/src", "crates/low/must-fail"):
             (self.top / folder).mkdir(parents=True)
-        for name in ("try-mutants", "common.py"):
+        for name in ("try-mutants", "common.py", "prover.py"):
             shutil.copy(TOP / "tests" / name, self.top / "tests")
         (self.top / "crates/low/src/lib.rt").write_text(SOURCE)
         (self.top / "crates.txt").write_text("low:\n")

@@ -1,0 +1,126 @@
+"""What the prover says of a crate, and the functions and goals that it names."""
+
+import functools
+import re
+
+import common
+
+# What the prover says of a goal: where it is in the code, or in a stored answer
+IN_CODE = re.compile(r"note: (src/\S+\.rt):(\d+):\d+: .*?\(`([^`]+)`\)(.*)")
+IN_ANSWER = re.compile(r"(?:\./)?(proofs/(\S+)/\w+\.antt):\d+:\d+: error: `([^`]+)`: (.*)")
+IN_SOURCE = re.compile(r"(?:\./)?(?:src|specs)/\S+:\d+:\d+: error: (`[^`]*`: )?(.*)")
+# A stored answer that names what the code no longer has
+GONE = re.compile(r"has no field|is not in scope|has no `|was not admitted")
+# Goals that are no promise: bounds of a statement, and what a called function asks for
+NO_PROMISE = re.compile(r"(index|overflow|nonzero)[_-].*|.*-requires(-clause-\w+)?")
+IS_FALSE = re.compile(r"allow values at which this goal is false|the goal fails, at")
+TYPE = re.compile(r"impl(?:<[^{]*?>)? (?:(\w+)(?:<[^{]*?>)? for )?(\w+)")
+ITEM = re.compile(r"(?:pub(?:\(\w+\))? )?(impl|struct|enum|trait|fn|const)\b")
+HEAD = re.compile(r"\bfn (\w+)\b(.*?)(?:\n *\{\n|\{\n|;\n)", re.S)
+FUNCTION = re.compile(r"\s*(?:[\w()]+ )*(?:fn|const|struct|enum|trait) (\w+)")
+
+
+def function_at(text):
+    """The function in which a source's text ends, with its type, as 'Profile::feed'."""
+    within, function = "", ""
+    for line in text.split("\n"):
+        if item := ITEM.match(line):
+            # a method of a trait is called by the type and the trait
+            found = TYPE.match(line) if item[1] == "impl" else None
+            within = f"{found[2]}{found[1] or ''}::" if found else ""
+        function = begun[1] if (begun := FUNCTION.match(line)) else function
+    return within + function
+
+
+def function_of_line(path, number):
+    """The function that this line belongs to, or that the attribute in it belongs to."""
+    lines = path.read_text().split("\n")
+    while lines[number - 1].lstrip().startswith(("#[", "//")):
+        number += 1
+    return function_at("\n".join(lines[:number]))
+
+
+def goal_of(word):
+    """A goal without the branches on the way to it: a clause by its name, or the prover's word."""
+    if clause := re.fullmatch(r"returns.*-clause-(\w+)", word):
+        return clause[1]
+    if word.startswith("returns"):
+        return "returns"
+    return re.sub(r"-(in|in_\w+|then|else)-.*|-\d+", "", word)
+
+
+class Check:
+    """What the prover says of a crate: that all is proved, or what is wrong with a source, or the
+    goals that it refuses, by function, and how it says that."""
+
+    def __init__(self, ran, crate):
+        lines = (ran.stdout + ran.stderr).strip().split("\n")
+        verdict = next((line for line in reversed(lines) if line.startswith("logic=")), "")
+        self.is_proved = verdict.startswith("logic=proved")
+        self.unread = not_read(lines) or ("" if verdict else lines[-1])
+        self.goals, self.stored, self.gone = {}, {}, []
+        for line in ran.stdout.split("\n"):
+            if found := IN_CODE.match(line):
+                self.add(function_of_line(crate / found[1], int(found[2])), found[3], 1, line)
+            elif (found := IN_ANSWER.match(line)) and not GONE.search(found[4]):
+                key = self.add(function_of_proof(found[2]), found[3], 2, line)
+                self.stored[key] = crate / found[1]
+            elif found:
+                self.gone.append((function_of_proof(found[2]), crate / found[1], line))
+
+    def add(self, function, word, rank, line):
+        key = (function, goal_of(word))
+        rank = 0 if IS_FALSE.search(line) else rank
+        self.goals[key] = min(rank, self.goals.get(key, rank))
+        return key
+
+    def best(self):
+        """The goal that says most: a promise, found to be false, then tried by the prover alone;
+        clauses first."""
+        def order(goal):
+            return bool(NO_PROMISE.fullmatch(goal[1])), self.goals[goal], "-" in goal[1]
+
+        return min(self.goals, key=order)
+
+    def stored_alone(self, goal):
+        """The file of a stored proof of this goal, or of a lemma beside it, if nothing else of the
+        function was tried."""
+        if self.goals.get(goal, 2) < 2:
+            return None
+        keys = [key for key in (goal, *self.stored) if key in self.stored and key[0] == goal[0]]
+        return self.stored[keys[0]] if keys else None
+
+    def unfit(self, goal):
+        """The file of a stored proof of the goal's function that no longer fits the code."""
+        return next((file for function, file, _ in self.gone if goal and function == goal[0]), None)
+
+    def places(self):
+        return "; ".join(" ".join(goal) for goal in self.goals) or "no goal"
+
+
+def function_of_proof(path):
+    """The function of a folder of proofs: its name, and the type before it."""
+    parts = path.split("/")
+    return "::".join(parts[-2:] if len(parts) > 1 and parts[-2][0].isupper() else parts[-1:])
+
+
+def not_read(lines):
+    """The line that says that a source could not be read; one that only makes a claim false can."""
+    for line in lines:
+        if (found := IN_SOURCE.match(line)) and (not found[1] or GONE.search(found[2])):
+            return line
+    return ""
+
+
+@functools.lru_cache(None)
+def functions_of(crate):
+    """The functions of a crate, as goals name them, and whether each has a contract, of its own or
+    of its trait."""
+    found = {}
+    for path in (common.TOP / "crates" / crate / "src").rglob("*.rt"):
+        text = path.read_text()
+        for head in HEAD.finditer(text):
+            owners = [line for line in text[: head.end(1)].split("\n") if ITEM.match(line)]
+            is_judged = "ensures" in head[2] or re.search(r" for |\btrait\b", owners[-1])
+            found[function_at(text[: head.end(1)])] = bool(is_judged)
+    return found
