@@ -237,6 +237,7 @@ class Mutants(ToolTest):
             (EDIT + "right:         number / 3\n", "its control is the mutant itself"),
             (EDIT + "right:         number / 2\n", "its control changes nothing"),
             (same, "it changes nothing"),
+            (EDIT, "the gate's mutants must have a control"),
         ):
             gate.write_text("goal: Half::of value\n" + text)
             lines, status = self.tried("", "--list", "no_half")
