@@ -1,5 +1,6 @@
 """The scripts of tests/: which of them the gate runs, and what the quickest finds."""
 
+import os
 import re
 import shutil
 
@@ -13,8 +14,11 @@ ELSEWHERE = {"against_cachegrind", "ledger"}
 
 class Scripts(base.ToolTest):
     def test_the_gate_runs_what_is_quick(self):
-        """Each script that takes seconds, by the table of tests/README.md."""
+        """Each script that takes seconds, by the table of tests/README.md, which has all."""
         rows = table((base.TOP / "tests/README.md").read_text(), "Script")
+        scripts = [path.name for path in (base.TOP / "tests").iterdir()
+                   if path.is_file() and os.access(path, os.X_OK) and not path.suffix]
+        self.assertEqual(sorted(name.strip("`") for name, *_ in rows), sorted(scripts))
         quick = {name.strip("`") for name, _, takes in rows
                  if re.fullmatch("seconds|a second|half a minute", takes)}
         self.assertGreater(len(quick), 5)
