@@ -179,12 +179,11 @@ module _ (g : GeometryValue) (events : List Event) (ref : Ref) (old near : Cache
       LruSetsStandFor g (events ++ event.Reference ref ∷ []) (record { near = near; far = far }) × (Miss ≡ lookup_at g p)
   follows_miss miss none =
       let less = short miss none in
-      let nothing : drop n held ≡ [] = drop_all n held (omega (arith, long, less)) in
-      (
+      let nothing : drop n held ≡ [] = drop_all n held (omega (arith, long, less)) in (
         stands (short_stays less),
         sym (told g p false false
-        (hit_is ∙ ap (λ b. b || list_any (is p.block) (drop n held)) miss ∙ ap (list_any (is p.block)) nothing)
-        (lt-leb g.e (length stack) (omega (arith, less, fewer)))),
+            (hit_is ∙ ap (λ b. b || list_any (is p.block) (drop n held)) miss ∙ ap (list_any (is p.block)) nothing)
+            (lt-leb g.e (length stack) (omega (arith, less, fewer)))),
       )
 
 -- a hit in the first slot of a set

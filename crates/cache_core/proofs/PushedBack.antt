@@ -33,7 +33,6 @@ use Rattle.cache_core.proofs.LruSet.{blocks_of, block_at}
 use Rattle.cache_core.proofs.LruRun.{blocks_slots, run_stacked}
 use Rattle.cache_core.proofs.Visits.{at_each, visit_for}
 use Rattle.cache_core.proofs.DeepBlocks.{pushed_behind, last_apart}
-
 use Rattle.std.proofs.Math.Nat.{mod-lt}
 use Rattle.std.proofs.lemmas.Nat.{pow_pos}
 use Rattle.cache_core.proofs.LruSetsLaw.{full_is, told, after, hits, hit_is, evicts, moved, other_sets, victim_last}
@@ -170,12 +169,11 @@ follows_evict g events ref old near outcome s access victim leaves =
     (sym (evicts g events ref old near None outcome s access) ∙ ap is_some leaves) in
     let miss : outcome.hit ≡ false = grind (arith, parts.0) in
     let held : List ℕ = take g.e (distinct_of_set g (set_of_block g p.block) p.window) in
-    let nothing : drop g.e held ≡ [] = drop_all g.e held (omega (arith, length-take g.e (distinct_of_set g (set_of_block g p.block) p.window))) in
-    (
+    let nothing : drop g.e held ≡ [] = drop_all g.e held (omega (arith, length-take g.e (distinct_of_set g (set_of_block g p.block) p.window))) in (
       record { some = s.some; in_front = (after g events ref old near None outcome s access).0; behind = tt },
       sym (told g p false true
-      (hit_is g events ref old near None outcome s access ∙ ap (λ b. b || list_any (is p.block) (drop g.e held)) miss ∙ ap (list_any (is p.block)) nothing)
-      parts.1),
+          (hit_is g events ref old near None outcome s access ∙ ap (λ b. b || list_any (is p.block) (drop g.e held)) miss ∙ ap (list_any (is p.block)) nothing)
+          parts.1),
     )
 
 -- the set and the block of a reference, as the part in front has them

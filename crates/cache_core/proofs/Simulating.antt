@@ -27,8 +27,7 @@ pub simulates_lookup : (g : GeometryValue) (events : List Event) (old : Simulati
     SimulationStandsFor g (events ++ event.Reference r ∷ []) (record { sets = sets; counts = counts_with old.counts is })
     × (told ≡ lookup_at g (occurrence_after g events r))
 simulates_lookup g events old sets r told is step same h =
-    let s = step h.sets in
-    (
+    let s = step h.sets in (
       record {
         some = h.some;
         sets = s.0;

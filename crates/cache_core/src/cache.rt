@@ -199,13 +199,15 @@ fn visit_front(
 {
     let block = design.geometry.block_of(reference.addr);
     let ways = design.geometry.e() as usize;
-    let number = design.geometry.set_of(reference.addr) as usize;
-    let start = number * ways;
+    let set = design.geometry.set_of(reference.addr) as usize;
+    let start = set * ways;
     let outcome = hit_outcome(design.write, reference);
-    if outcome.down[0].is_some() || !is_in_front(&slots[start..start + filled[number] as usize], block) {
+    let count = filled[set] as usize;
+    if outcome.down[0].is_some() || !is_in_front(&slots[start..start + count], block) {
         return None;
     }
-    mark_front(&mut slots[start..start + ways], dirties_line(design.write, reference.access));
+    let dirty = dirties_line(design.write, reference.access);
+    mark_front(&mut slots[start..start + ways], dirty);
     Some(outcome)
 }
 

@@ -96,7 +96,12 @@ impl LruSets {
         match outcome.evicted {
             Some(victim) => {
                 let set = geometry.set_of(reference.addr) as usize;
-                push_back(&mut self.far, set, geometry.block_of(reference.addr), victim.block)
+                push_back(
+                    &mut self.far,
+                    set,
+                    geometry.block_of(reference.addr),
+                    victim.block,
+                )
             }
             None => Lookup::Miss,
         }

@@ -23,7 +23,7 @@ invariant_of-self c =
       run.0,
       run.1 ++ event.Reference c.args.reference ∷ [],
       (follows_hit run.0 run.1 c.args.reference c.self.inside.near c.access-outcome.new.self c.self.inside.far c.access-outcome.result
-      run.2 c.access-outcome.ensures.step c.if-outcome.true).0,
+          run.2 c.access-outcome.ensures.step c.if-outcome.true).0,
     )
 
 pub returns-in-None : goal.returns-in-None
@@ -37,7 +37,7 @@ invariant_of-self-in-None c =
       run.0,
       run.1 ++ event.Reference c.args.reference ∷ [],
       (follows_miss run.0 run.1 c.args.reference c.self.inside.near c.access-outcome.new.self c.self.inside.far c.access-outcome.result
-      run.2 c.access-outcome.ensures.step c.if-outcome.false c.in-None.is).0,
+          run.2 c.access-outcome.ensures.step c.if-outcome.false c.in-None.is).0,
     )
 
 placed : (c : After-block_of) → IsPlaced c.self.inside.near.design.geometry c.args.reference c.set_of-set.result c.block_of.result
@@ -69,10 +69,9 @@ pushed c g events s =
       block_is = c.block_of.ensures.value ∙ ap (λ (v : GeometryValue). block_of v c.args.reference.addr) c.geometry-geometry.ensures;
     } in
     let after = follows_push g events c.args.reference c.self.inside.near c.access-outcome.new.self c.access-outcome.result
-    c.access-outcome.ensures.step c.in-Some.victim c.in-Some.is c.set_of-set.result c.block_of.result place c.self.inside.far s in
-    (
+    c.access-outcome.ensures.step c.in-Some.victim c.in-Some.is c.set_of-set.result c.block_of.result place c.self.inside.far s in (
       subst (λ (far : Option DeepSetsValue). LruSetsStandFor g (events ++ event.Reference c.args.reference ∷ [])
-      (record { near = c.access-outcome.new.self; far = far })) (sym c.push_back.ensures.moved) after.0,
+          (record { near = c.access-outcome.new.self; far = far })) (sym c.push_back.ensures.moved) after.0,
       c.push_back.ensures.found ∙ after.1,
     )
 
