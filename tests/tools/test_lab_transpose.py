@@ -4,6 +4,7 @@ its handout and many course pages print them."""
 import contextlib
 import os
 import pathlib
+import re
 import signal
 import subprocess
 
@@ -110,7 +111,8 @@ class Transpose(LabTest):
             ("bad.c", {}, "lab-transpose: bad.c can't be compiled\n"),
             ("none.c", {}, "lab-transpose: none.c can't be compiled\n"),
             (TRANS, {"CC": "/nowhere/cc"}, "lab-transpose: /nowhere/cc: No such file or dire"),
-            (TRANS, {"CC": "cc -DCRASHES"}, "32x32: the program ended with status 139"),
+            (STUDENTS / "failing.c", {"CC": "cc -DREGISTERS_BADLY"},
+             "registering its functions: it ended by signal 6: Aborted\n"),
             (TRANS, {"CACHESIM": "/absent"}, "lab-transpose: /absent is no program"),
         ):
             with self.subTest(text):
@@ -119,6 +121,49 @@ class Transpose(LabTest):
         for word in ("32", "0x4", "257x1"):
             self.refused(self.transpose("--size", word, TRANS), 2, "invalid size value")
 
+    @needs("valgrind")
+    def test_functions_that_fail(self):
+        """Each is named with what it did and has no points; the good ones beside it keep theirs."""
+        ran = self.transpose("--size", "32x32", "--keep", "kept", STUDENTS / "failing.c")
+        self.assertEqual((ran.stderr, ran.returncode), (b"", 1))
+        told = {}
+        for line in ran.stdout.decode().splitlines():
+            if not line.startswith(" "):
+                name = line
+            elif not re.match("        (array|A|B|others)  ", line):
+                told.setdefault(name, []).append(" ".join(line.split()))
+        counts = "32x32 hits:870 misses:1183 evictions:1151 0.0 of 8 points"
+        for name, *lines in (
+            ("before", counts), ("after", counts),
+            ("exits", "32x32 it has ended the program (ended with status 0) 0.0 of 8 points"),
+            ("crashes", "32x32 it ended by signal 11: Segmentation fault 0.0 of 8 points"),
+            ("aborts", "32x32 it ended by signal 6: Aborted 0.0 of 8 points"),
+            ("recurses", "32x32 it ended by signal 11: Segmentation fault 0.0 of 8 points"),
+        ):
+            self.assertEqual(told[name], lines)
+        for name, line in (("changes", "A is changed"),
+                           ("beyond B", "it writes beyond B, 8 bytes after its last one"),
+                           ("beyond A", "it writes beyond A, 8 bytes before its first one")):
+            self.assertEqual(told[name][1:], [line])
+        self.assertEqual(len(told["prints @ 0"]), 1)
+        kept = sorted(path.stem for path in (self.folder / "kept").iterdir())
+        self.assertEqual(kept, sorted(f"32x32-{number}" for number in (1, 5, 6, 7, 8, 10)))
+        self.assertEqual(list(self.private.iterdir()), [])
+
+    @needs("valgrind")
+    def test_functions_without_an_end(self):
+        """By the time, and where A and B are used for ever by the number of accesses."""
+        ran = self.transpose("--size", "4x4", "--seconds", 4, STUDENTS / "failing.c",
+                             CC="cc -DSPINS")
+        self.assertEqual(ran.stdout.decode(), "spins\n    4x4  it has no end within 4 s\n")
+        ran = self.transpose("--size", "4x4", "--seconds", 300, TRANS, CC="cc -DLOOPS")
+        said = ran.stdout.decode()
+        self.assertTrue(said.endswith("wrong\n    4x4  it makes more than 1,000,000 accesses\n"))
+        self.assertIn("row by row\n    4x4  hits:15 misses:22 evictions:20\n", said)
+        ran = self.transpose("--size", "4x4", TRANS, CC="cc -DCRASHES")
+        self.assertIn("wrong\n    4x4  it ended by signal 11: Segmentation fault", ran.stdout.decode())
+        self.assertTrue(comes(lambda: not those_that_name(self.private), 60))
+
     def interrupted(self, number):
         """Ends a tool whose function loops, as Valgrind is started. Nothing goes on, and no file is
         left."""
@@ -126,7 +171,7 @@ class Transpose(LabTest):
         command = [LAB / "lab-transpose", "--size", "4x4", TRANS]
         with ended(subprocess.Popen(command, env={**os.environ, **env})) as running:
             try:
-                self.assertTrue(comes(lambda: any(self.private.rglob("trace")), 60))
+                self.assertTrue(comes(lambda: any(self.private.rglob("report")), 60))
                 running.send_signal(number)
                 self.assertEqual(running.wait(60), 128 + number)
                 self.assertTrue(comes(lambda: not those_that_name(self.private), 60))

@@ -127,11 +127,14 @@ def fault_of(status, messages, seconds):
     """A status in words, with the last message that came before."""
     if not status:
         return "" if status == 0 else f"no end within {seconds:g} s"
-    number = number_of(status)
-    text = (f"ended by signal {number}: {signal.strsignal(number)}" if is_signal(status)
-            else f"ended with status {status}")
-    last = last_line(messages)
+    text, last = status_in_words(status), last_line(messages)
     return f"{text}; its last message is '{shown(last)}'" if last else text
+
+
+def status_in_words(status):
+    if not is_signal(status):
+        return f"ended with status {status}"
+    return f"ended by signal {number_of(status)}: {signal.strsignal(number_of(status))}"
 
 
 def bound(limit):
