@@ -36,7 +36,7 @@ class Installing(MakeTest):
     def few_tools(self):
         """Leaves few tools in the copy, so that a test is quick."""
         for path in [*(self.top / "tools").iterdir(), *(self.top / "tools/lab").iterdir()]:
-            if path.is_file() and path.name != "best":
+            if path.is_file() and path.name not in ("best", "Makefile"):
                 path.unlink()
 
     def below(self):
