@@ -65,6 +65,8 @@ class Page(ToolTest):
             if os.access(TOOLS / name, os.X_OK) and (TOOLS / name).is_file():
                 self.assertNotRegex(text, rf"tools/{name}\b")
                 self.assertIn(f"cachesim-{name}", text)
+        # a column of short texts is as wide as they are
+        self.assertRegex(text, "│--bsize RANGE {0,20}│ required: .{40,}│")
         # text and tables keep to the width, and code is as long as in the manual
         code = {line.strip() for line in manual.splitlines() if line.startswith("    ")}
         self.assertEqual({line.strip() for line in lines if len(line) > 80} - code, set())

@@ -127,6 +127,8 @@ class Package(unittest.TestCase):
 
     def test_fields(self):
         self.assertEqual(self.field("Package"), "cachesim")
+        # it is made for no other machine
+        self.assertIn("\nArchitecture: amd64\n", (PACKAGING / "debian/control").read_text())
         self.assertEqual(self.field("Version"), self.version)
         self.assertEqual(self.field("Maintainer"), "A Tester <tester@example.org>")
         # 2.34 has the newest symbol that the program needs, __libc_start_main

@@ -149,7 +149,7 @@ BAD = {
     "|  7   2:  32 ifetch       x byte(s) @ 0x401000|  7   2:  32 ifetched     3 byte(s) @ 0x401000"
     "|  7   2:  32 exec         3 byte(s) @ 0x401000|  7   2   32 ifetch       3 byte(s) @ 0x401000"
     "|  7   2: ifetch       3 byte(s) @ 0x401000|  7   2:  32|  7   2:  32    00 00 4"
-    "|  7   2:  32    00 00x"
+    "|  7   2:  32    00 00x|  7   2:  32    0000 40"
     "|  7   2:  32    00 00 40 and more|ERROR: failed to initialize analyzer"
     "|             28 : instructions",
     "execlog": '0, {}, 0x8b, "mov"|0, 0x401000, 0x8b, "mov", load, {}'
