@@ -32,7 +32,8 @@ impl Simulation {
     ghost use Rattle.trace_core.specs.declared.events.Event.TheVariants as event;
 
     /// An empty cache of this geometry, with nothing counted. It takes all its memory here, and
-    /// that alone can fail.
+    /// that alone can fail: 16 bytes for each line and 4 and a quarter for each set; with more than
+    /// 256 lines per set, this for 16 of them, and 21.5 bytes for each line more.
     pub fn new(alloc: Global, geometry: Geometry) -> Result<Simulation, AllocError>
         ensures { IfOk result (SimulationStandsFor geometry []) }
     {
