@@ -11,8 +11,8 @@ use profile_core::{MAX_REFERENCES, Profile};
 use std::alloc::{AllocError, Global};
 use trace_core::Ref;
 
-/// The counts of fully associative LRU caches of `e` lines of `2^b` bytes and of twice as many, over
-/// a trace. Twice the lines never miss more.
+/// The counts of fully associative LRU caches of `e` lines of `2^b` bytes and of twice as many,
+/// over a trace. Twice the lines never miss more.
 pub fn counts_at_double(
     alloc: Global,
     b: u64,

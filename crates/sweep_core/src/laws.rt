@@ -13,7 +13,8 @@ ghost use Rattle.sweep_core.specs.Space.{Ranges, is_valid, space_fault, bytes_of
 ghost use Rattle.sweep_core.specs.Rows.{counted_sweep};
 ghost use Rattle.cache_core.specs.Powers.{is_power, log2};
 ghost use Rattle.sweep_core.specs.Table.{table, first_rows, more_rows, is_less, is_after, IsRising};
-ghost use Rattle.sweep_core.specs.SweepText.{geometry_of_config, config_geometry, sweep_text, header_of, csv_rows};
+ghost use Rattle.sweep_core.specs.SweepText.{geometry_of_config, config_geometry};
+ghost use Rattle.sweep_core.specs.SweepText.{sweep_text, header_of, csv_rows};
 ghost use Rattle.sweep_core.specs.SweepText.{configs_of, rows_of};
 ghost use Rattle.sweep_core.specs.Pages.{ArePages};
 ghost use Rattle.sweep_core.specs.Work.{pair_of, pairs, depth, total_depth, sweep_work};
