@@ -48,18 +48,22 @@ kept most rows (Some b) c n so_far none some = record {
   least = one_more (AtLeast most b) (AtLeast most b) rows (c, n) (λ row above. above) so_far.least some;
 }
 
+-- why the best so far stays before a row
+abbrev pub Stays : ℕ → Option Config → Config → Counts → Type 0
+Stays most best c n = (best ≡ None → most < n.misses) × IfSome best (λ b. n.misses ≤ most → bytes_of b ≤ bytes_of c)
+
 -- what the test of the sizes says
 abbrev Tells : Option Config → Config → Bool → Type 0
 Tells best c smaller = MatchOption best (smaller ≡ true) (λ b. smaller ≡ nat_lt (bytes_of c) (bytes_of b))
 
 pub is_less : (best : Option Config) (c : Config) (smaller : Bool) → Tells best c smaller → smaller ≡ true → IfSome best (λ b. bytes_of c < bytes_of b)
-is_less None c smaller tells yes = tt
-is_less (Some b) c smaller tells yes = ltb-true (bytes_of c) (bytes_of b) (sym tells ∙ yes)
+is_less None c smaller tells is_true = tt
+is_less (Some b) c smaller tells is_true = ltb-true (bytes_of c) (bytes_of b) (sym tells ∙ is_true)
 
 pub is_no_less : (most : ℕ) (best : Option Config) (c : Config) (n : Counts) (smaller : Bool) → Tells best c smaller → smaller ≡ false
     → (best ≡ None → most < n.misses) × IfSome best (λ b. n.misses ≤ most → bytes_of b ≤ bytes_of c)
-is_no_less most None c n smaller tells no = (λ none. absurd (false≢true (sym no ∙ tells)), tt)
-is_no_less most (Some b) c n smaller tells no = (λ none. absurd cc, λ low. ltb-false (bytes_of c) (bytes_of b) (sym tells ∙ no))
+is_no_less most None c n smaller tells is_false = (λ none. absurd (false≢true (sym is_false ∙ tells)), tt)
+is_no_less most (Some b) c n smaller tells is_false = (λ none. absurd cc, λ low. ltb-false (bytes_of c) (bytes_of b) (sym tells ∙ is_false))
 
 pub misses_more : (most : ℕ) (best : Option Config) (c : Config) (n : Counts) → most < n.misses
     → (best ≡ None → most < n.misses) × IfSome best (λ b. n.misses ≤ most → bytes_of b ≤ bytes_of c)

@@ -1,7 +1,7 @@
 use Rattle.std.proofs.Common.{◌≡◌, ◌∷◌, ◌++◌, ◌∙◌, [], ap, sym, append_assoc}
 use Rattle.cache_core.specs.declared.outcome.Counts.{Counts}
 use Rattle.sweep_core.specs.declared.space.Config.{Config}
-use Rattle.callers.proofs.Choosing.{chosen, kept, is_less, is_no_less, misses_more}
+use Rattle.callers.proofs.Choosing.{Stays, chosen, kept, is_less, is_no_less, misses_more}
 use Rattle.callers.proofs.smallest.smallest_of.Goals as goal
 use Rattle.callers.proofs.smallest.smallest_of.Goals.{
     else-counts-most-via-then-counts-most+else-is_smaller,
@@ -26,7 +26,7 @@ loop-config-preserved c =
     let i = c.loop-config.invariant in
     let row : Config × Counts = (c.in-Some.config, c.in-Some.counts) in
     let sizes = rw c.in-Some.ensures.steps at i.4 in
-    let stays = elim c.else-counts-most.branch [
+    let stays : Stays c.args.most c.loop-config.best row.0 row.1 = elim c.else-counts-most.branch [
       | else-counts-most-via-then-counts-most+else-is_smaller w ↦
           is_no_less c.args.most c.loop-config.best row.0 row.1 w.is_smaller.result w.is_smaller.ensures w.if-is_smaller.false
       | else-counts-most-via-else-counts-most w ↦ misses_more c.args.most c.loop-config.best row.0 row.1 w.if-counts-most.false
