@@ -18,6 +18,12 @@ BYTE_CLOCK       mixed  2,4,3   the clock of LRU has only 8 bits
 TICKS_AT_MISSES  mixed  2,2,3   in which a hit does not advance the clock of LRU
 TICKS_AFTER_MISSES mixed 2,4,3  of LRU, and a miss does once its block is in
 SHORT_TAG        wide   0,2,4   tags have only 16 bits
+SIGNED_CLOCK     mixed  0,2,4   the clock of LRU is signed and has only 8 bits
+NRU              mixed  2,4,3   and where there is none all bits are cleared (NRU)
+HAND             mixed  2,4,3   gets a second chance (the clock algorithm)
+MASK_IS_S        mixed  4,2,4   the mask of the set is s and not 2 to the power of s, less 1
+BLOCKS_OF_16     mixed  2,4,3   blocks have 16 bytes, whatever -b is
+SHORT_LINES      wide   2,4,3   a line of the trace is read into 16 bytes, and longer ones are lost
 BYTE_TAG         order  2,4,3   tags have only 8 bits
 TAG_IS_ADDRESS   mixed  4,2,4   the offset is taken for a part of the tag
 TAG_WITHOUT_SET  mixed  2,1,4   the tag is the address without s bits, with b bits of the offset

@@ -79,6 +79,10 @@ static address_t place(address_t address)
         return address >> (block_bits + 1) & (sets - 1);
     if (HAS(OFFSET_KEPT))
         return address % sets;
+    if (HAS(MASK_IS_S))
+        return block & set_bits;
+    if (HAS(BLOCKS_OF_16))
+        return (address >> 4) % sets;
     return block % sets;
 }
 
@@ -93,7 +97,26 @@ static int is_victim(struct line *line, struct line *other)
         return line < other;
     if (HAS(AT_RANDOM))
         return rand() & 1;
-    return line->used < other->used;
+    return (long)line->used < (long)other->used;
+}
+
+/* The line with a clear reference bit, or with HAND the first one from the hand of the set on. */
+static struct line *unused(struct line *set, struct line *end)
+{
+    static int hands[1 << 20];
+    int *hand = HAS(HAND) ? &hands[(set - lines) / ways] : &(int){0}, count = (int)(end - set);
+    if (HAS(HAND)) {
+        for (; set[*hand].uses; *hand = (*hand + 1) % count)
+            set[*hand].uses = 0;
+        *hand = (*hand + 1) % count;
+        return set + (*hand + count - 1) % count;
+    }
+    for (struct line *line = set; line < end; line++)
+        if (!line->uses)
+            return line;
+    for (struct line *line = set; line < end; line++)
+        line->uses = 0;
+    return set;
 }
 
 static address_t tag_of(address_t address)
@@ -102,6 +125,8 @@ static address_t tag_of(address_t address)
         return address >> block_bits;
     if (HAS(TAG_IS_ADDRESS))
         return address;
+    if (HAS(BLOCKS_OF_16))
+        return address >> 4 >> set_bits;
     if (HAS(TAG_WITHOUT_SET))
         return address >> set_bits;
     if (HAS(TAG_TOO_SHORT))
@@ -130,6 +155,7 @@ static void touch(address_t address, char kind)
     struct line *set = lines + place(address) * apart(), *victim = set, *end = set + looked_at();
     now += !HAS(TICKS_AT_MISSES) && !HAS(TICKS_AFTER_MISSES);
     now &= HAS(SHORT_CLOCK) ? 0xffff : HAS(BYTE_CLOCK) ? 0xff : ~0ul;
+    now = HAS(SIGNED_CLOCK) ? (unsigned long)(signed char)now : now;
     for (struct line *line = set; line < end; line++)
         if ((line->valid || HAS(NO_VALID)) && line->tag == tag) {
             hit(line, kind);
@@ -143,6 +169,8 @@ static void touch(address_t address, char kind)
     for (struct line *line = set + 1; line < end; line++)
         if (victim->valid && (!line->valid || is_victim(line, victim)))
             victim = line;
+    if (victim->valid && (HAS(NRU) || HAS(HAND)))
+        victim = unused(set, end);
     miss(victim, tag);
 }
 

@@ -63,6 +63,11 @@ def cut(held):
     return lambda all: [one._replace(address=int(one.digits[:held - 3], 16)) for one in all]
 
 
+def lost(held):
+    """The same, where lines that do not fit are not taken."""
+    return lambda all: [one for one in all if 4 + len(one.digits) + len(str(one.size)) <= held]
+
+
 def of_blocks(bits):
     """The block bits are these, whatever -b says."""
     return {"set_of": lambda address, s, b: address >> bits & (1 << s) - 1,
@@ -122,6 +127,7 @@ MISTAKES = {
     "the array has 64 lines for a set, and more run into the next set": {"apart": 64},
     "a line of the trace is read into 12 bytes, and long addresses are cut": {"taken": cut(11)},
     "a line of the trace is read into 16 bytes, and long addresses are cut": {"taken": cut(15)},
+    "a line of the trace is read into 16 bytes, and longer ones are lost": {"taken": lost(15)},
     "the last line of the trace counts twice (while !feof)": {"taken": lambda all: all + all[-1:]},
     "the last line of the trace is lost": {"taken": lambda all: all[:-1]},
     "the first line of the trace is lost": {"taken": lambda all: all[1:]},
