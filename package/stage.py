@@ -42,7 +42,7 @@ def put_tools(tree):
     to, found = tree / "lib/cachesim", tools()
     absent = [name for name, path in found.items() if not is_compiled(TOP / "tools" / path)]
     ignored = shutil.ignore_patterns("*.[ch]", "*.md", ".*", "__pycache__", "Makefile")
-    shutil.copytree(TOP / "tools", to, ignore=ignored)
+    shutil.copytree(TOP / "tools", to, ignore=ignored, symlinks=True)
     for name in absent:
         (to / found.pop(name)).unlink()
     for name, path in found.items():
@@ -88,8 +88,14 @@ def stage(tree, is_whole):
     texts = helps(program, found)
     put_completion(share, texts)
     names = "|".join(map(re.escape, found))
-    written = {f"cachesim-{name}": pages.of_tool(name, texts[f"cachesim-{name}"], names)
-               for name in found}
+    written = {}
+    for name, path in found.items():
+        first = (TOP / "tools" / path).resolve().name
+        if first == name:
+            written[f"cachesim-{name}"] = pages.of_tool(name, texts[f"cachesim-{name}"], names)
+        else:  # another name of a tool
+            write(share / f"man/man1/cachesim-{name}.1.gz",
+                  gzip.compress(f".so man1/cachesim-{first}.1\n".encode(), mtime=0))
     if shutil.which("lowdown"):
         written["cachesim"] = pages.of_program(texts, names)
     else:

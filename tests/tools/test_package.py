@@ -252,7 +252,8 @@ class Package(unittest.TestCase):
             ran = run(link, "--help", env={"PATH": f"{link.parent}:/usr/bin:/bin"})
             self.assertEqual(ran.returncode, 0, ran.stderr)
             packed = (tree / f"usr/share/man/man1/{link.name}.1.gz").read_bytes()
-            self.assertIn(link.name.replace("-", "\\-"), gzip.decompress(packed).decode())
+            name = f"cachesim-{link.resolve().name}"
+            self.assertIn(name, gzip.decompress(packed).decode().replace("\\-", "-"))
 
     def test_nothing_of_the_kit_is_needed(self):
         needed = re.findall(r"(?m)^\s*(?:/\S*/)?([\w.-]+?)(?:\.so\S*)", run("ldd", PROGRAM).stdout)
