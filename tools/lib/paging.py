@@ -8,6 +8,10 @@ import sys
 from lib.tool import fail, faults_of, misused
 
 
+# The number of ways from which on a search costs about the same
+DEEPEST = 256
+
+
 def number_of_jobs(word):
     if word == "auto":
         return len(os.sched_getaffinity(0))
@@ -43,9 +47,10 @@ class Pair:
     def cost(self, before):
         """What a pair adds to a page behind another pair, or None: the part of the references that
         it looks at, and its searches for those that it does not find in front. What the pair before
-        it finds in front it need not look at."""
-        looks = min(1, 2.7 / before.size**0.18) if before and before.bsize == self.bsize else 1
-        return looks + 13 * math.log2(1 + int(self.assoc)) / self.size**0.57
+        it finds in front it need not look at. A search costs about the same from some depth on."""
+        looks = min(1, 4 / before.size**0.35) if before and before.bsize == self.bsize else 1
+        depth = math.log2(1 + min(int(self.assoc), DEEPEST))
+        return looks + 3 * depth / (int(self.bsize) * int(self.sets) ** 0.2)
 
 
 class Page:
