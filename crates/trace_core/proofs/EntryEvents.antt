@@ -1,7 +1,7 @@
 -- The events of an entry, and of one entry more.
-use Rattle.std.proofs.Common.{◌≡◌, ℕ, zero, suc, ◌*◌, ◌≤◌, List, [], ◌∷◌, ◌++◌, Option, None, Some, map, sym, ap, ◌∙◌, arith}
+use Rattle.std.proofs.Common.{◌≡◌, ℕ, ◌*◌, ◌≤◌, List, [], ◌∷◌, ◌++◌, Option, None, Some, map, sym, ap, ◌∙◌, arith}
 use Rattle.std.proofs.Common.{length, length-append}
-use Rattle.std.proofs.lemmas.List.{flat_map_more}
+use Rattle.std.proofs.lemmas.List.{flat_map_more, map_push}
 use Rattle.std.specs.List.{filter, flat_map}
 use Rattle.std.specs.Option.{option_to_list}
 use Rattle.trace_core.specs.Events.{events_of, keeps, references}
@@ -62,3 +62,9 @@ events_within kind (e ∷ es) =
 pub events_more : (kind : Kind) (es : List Entry) (e : Entry)
     → flat_map (events_of kind) (es ++ e ∷ []) ≡ flat_map (events_of kind) es ++ events_of kind e
 events_more kind es e = sym (flat_map_more (events_of kind) [] es e)
+
+-- so it is where the entries bear the numbers of their lines
+pub collected-more : (kind : Kind) (xs : List (ℕ × Entry)) (x : ℕ × Entry)
+    → flat_map (events_of kind) (map (λ y. y.1) (xs ++ x ∷ [])) ≡ flat_map (events_of kind) (map (λ y. y.1) xs) ++ events_of kind x.1
+collected-more kind xs x =
+    ap (flat_map (events_of kind)) (map_push (λ y. y.1) xs x) ∙ events_more kind (map (λ y. y.1) xs) x.1

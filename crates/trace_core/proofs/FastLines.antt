@@ -1,4 +1,4 @@
--- What a line in the form that most have stands for.
+-- Lines of the usual form, and their meaning.
 use Rattle.std.proofs.Common.{◌≡◌, ℕ, zero, suc, ◌<◌, ◌==◌, ◌&&◌, ◌||◌, ◌+◌, ◌-◌, ◌≤◌, Bool, true, false, List, []}
 use Rattle.std.proofs.Common.{◌∷◌, ◌++◌, length, take, drop, get_or, refl, sym, ap, ◌∙◌, arith, rules, tests, append_assoc}
 use Rattle.std.specs.Prelude.{None, Some, Ok, nat_lt, nat_le}

@@ -1,4 +1,4 @@
--- What a run of a task did to its devices, by how it ended.
+-- The ways in which a run of a task ends, and what it did to its devices.
 use Rattle.std.proofs.Common.{◌≡◌, ◌≢◌, ℕ, List, true, false, Result, Ok, Err, inl, refl, sym, ap, ◌∙◌, subst}
 use Rattle.std.specs.Prelude.{OnOk, IsErrAnd}
 use Rattle.std.specs.Io.KnownBytes.{Appends}

@@ -1,4 +1,4 @@
--- What the reading of a text says of its first line.
+-- The reading of a text by its first line.
 use Rattle.std.proofs.Common.{◌≡◌, ℕ, suc, zero, ◌+◌, ◌<◌, ◌≤◌, Bool, true, false, cond, ltb, List, [], ◌∷◌, ◌++◌, length}
 use Rattle.std.proofs.Common.{take, drop, get_or, None, Some, Err, refl, ap, arith, rules, tests, length-append}
 use Rattle.std.specs.List.{onto_first}

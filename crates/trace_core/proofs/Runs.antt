@@ -1,4 +1,4 @@
--- What a reader has read of a source.
+-- A reader's way through a source.
 use Rattle.std.proofs.Common.{◌≡◌, ◌≢◌, ℕ, List, [], ◌++◌, Bool, true, false, Option, None, Some, ◌⊎◌, inl, inr, ⊎_elim, refl}
 use Rattle.std.proofs.Common.{sym, ap, ◌∙◌, subst}
 use Rattle.std.proofs.lemmas.List.{append-nil}
@@ -149,7 +149,7 @@ module _ (f : Format) (limit : ℕ) where
 pub Reached-begun : {p : Progress} (v : SourceView) → p ≡ begun p.format p.limit → Reached p.format p.limit v v [] p
 Reached-begun {p} v is = subst (λ (q : Progress). Reached p.format p.limit v v [] q) (sym is) (Reached-start p.format p.limit v)
 
--- what a reader reached that was begun so
+-- a reader that was begun with this format and limit
 pub Reached-from : {f : Format} {limit : ℕ} {start now : SourceView} {first p : Progress} {xs : List (ℕ × Entry)} → first ≡ begun f limit
     → Reached first.format first.limit start now xs p → Reached f limit start now xs p
 Reached-from {start = start} {now = now} {p = p} {xs = xs} is run =

@@ -1,4 +1,4 @@
--- What a scan's steps do, by what its calls answered.
+-- The steps of a scan, by the answers of its calls.
 use Rattle.std.proofs.Common.{◌≡◌, ℕ, ◌+◌, ◌<◌, ◌≤◌, false, ltb, List, [], ◌∷◌, ◌++◌, length, take, drop, get_or, Option}
 use Rattle.std.proofs.Common.{None, Some, Result, Ok, Err, refl, sym, ap, ◌∙◌, subst, arith, rules, tests}
 use Rattle.std.specs.Io.KnownBytes.{IsAtEnd}

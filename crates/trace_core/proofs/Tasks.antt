@@ -1,4 +1,4 @@
--- What a run has read and has to write, by how its reader ended.
+-- The bytes that a run has read and has to write, by how its reader ended.
 use Rattle.std.proofs.Common.{◌≡◌, ◌≢◌, ℕ, List, [], ◌++◌, true, false, Option, None, Some, refl, sym, ap, ◌∙◌, subst, append_assoc}
 use Rattle.std.proofs.lemmas.List.{map-append}
 use Rattle.std.specs.Option.{IfSome}

@@ -1,6 +1,6 @@
 -- A loop over the entries of a trace: what was read, and what its run has done at each of its ends.
-use Rattle.std.proofs.Common.{◌≡◌, ℕ, ◌*◌, ◌<◌, ◌≤◌, List, [], ◌∷◌, ◌++◌, Option, None, Some}
-use Rattle.std.proofs.Common.{Result, Ok, Err, true, refl, sym, ap, ◌∙◌, subst, arith, append-nil}
+use Rattle.std.proofs.Common.{◌≡◌, ℕ, ◌<◌, ◌≤◌, List, [], ◌∷◌, ◌++◌, Option, None, Some}
+use Rattle.std.proofs.Common.{Result, Ok, Err, true, sym, ap, ◌∙◌, subst, arith, append-nil}
 use Rattle.std.proofs.Common.{length, length-append}
 use Rattle.std.proofs.lemmas.List.{map_push}
 use Rattle.std.specs.Prelude.{IfOk, IfSome}
@@ -15,7 +15,7 @@ use Rattle.trace_core.specs.Task.{Task, Finished, Stopped, WriteFailed, HasRead,
 use Rattle.trace_core.proofs.Runs.{Reached-start, Reached-from}
 use Rattle.trace_core.proofs.Tasks.{ReadWhole, WritesAlong}
 use Rattle.trace_core.proofs.Performing.{Finished-written, Stopped-at, WriteFailed-early, WriteFailed-late}
-use Rattle.trace_core.proofs.Written.{Wrote-none, Wrote-more, WrotePart-after, WroteLast-after, WroteLastPart-after}
+use Rattle.trace_core.proofs.Written.{WrotePart-after, WroteLast-after, WroteLastPart-after}
 
 -- The invariant of such a loop: the entries that were read have a line each, and this holds of them.
 pub record Reads (format : Format) (limit : ℕ) (start now : SourceView) (p : Progress)
@@ -58,14 +58,14 @@ module _ {format : Format} {limit : ℕ} {start mid now : SourceView} {p q : Pro
       }
 
   -- it returned the end, or a fault
-  pub reads-end : {found : Option (ℕ × Entry)} → answer ≡ Ok found → found ≡ None → HasRead format limit start now q Holds
+  abbrev pub reads-end : {found : Option (ℕ × Entry)} → answer ≡ Ok found → found ≡ None → HasRead format limit start now q Holds
   reads-end was is = record {
     read = old.read;
     reached = rw (was ∙ ap Ok is, append-nil old.read) at (reads_on _ _ _ old.read old.reached);
     holds = old.holds;
   }
 
-  pub reads-fault : {x : TraceFault} → answer ≡ Err x → HasRead format limit start now q Holds
+  abbrev pub reads-fault : {x : TraceFault} → answer ≡ Err x → HasRead format limit start now q Holds
   reads-fault was = record {
     read = old.read;
     reached = rw (was, append-nil old.read) at (reads_on _ _ _ old.read old.reached);
@@ -73,9 +73,14 @@ module _ {format : Format} {limit : ℕ} {start mid now : SourceView} {p q : Pro
   }
 
 -- a reader that began with this format and limit
-pub read-from : {format : Format} {limit : ℕ} {start now : SourceView} {first p : Progress} {Holds : List Entry → Type 0}
+abbrev pub read-from : {format : Format} {limit : ℕ} {start now : SourceView} {first p : Progress} {Holds : List Entry → Type 0}
     → first ≡ begun format limit → HasRead first.format first.limit start now p Holds → HasRead format limit start now p Holds
 read-from is run = record { read = run.read; reached = Reached-from is run.reached; holds = run.holds }
+
+-- less may be said of what was read
+pub holds-less : {format : Format} {limit : ℕ} {start now : SourceView} {p : Progress} {Holds Holds' : List Entry → Type 0}
+    → ((es : List Entry) → Holds es → Holds' es) → HasRead format limit start now p Holds → HasRead format limit start now p Holds'
+holds-less less run = record { read = run.read; reached = run.reached; holds = less (entries_of run.read) run.holds }
 
 -- A run of a task, whose loop has come to one of its ends, with the output for what was read.
 module _ {task : Task} {start now : SourceView} {p : Progress} {Holds : List Entry → Type 0} {sink between : SinkView}

@@ -1,4 +1,4 @@
--- What a sink took over several calls.
+-- The bytes that a sink took over several calls.
 use Rattle.std.proofs.Common.{ℕ, ◌+◌, List, [], ◌++◌, Option, None, Some, Result, Ok, Err, inl, inr, take, length}
 use Rattle.std.proofs.Common.{refl, sym, ap, ◌∙◌, arith, append_assoc, length-append, subst}
 use Rattle.std.proofs.Math.Seq.{take-append-add, take-length}

@@ -1,4 +1,4 @@
--- What one line means, or its fault.
+-- The meaning of a line, or its fault.
 use Rattle.std.specs.Prelude.{ℕ, ◌==◌, nat_lt, ◌||◌, Bool, false, List, [], ◌∷◌, Option, None, Some, Result, Ok, Err, if◌then◌else◌}
 use Rattle.std.specs.List.{before_first, after_first}
 use Rattle.trace_core.specs.Fields.{without_trailing, fields, number_written, without_0x}
@@ -97,7 +97,7 @@ abbrev pub is_message : List ℕ → Bool
 is_message [] = false
 is_message (c ∷ cs) = c == 61 || c == 45 || c == 42
 
--- What a line means: an entry, or nothing if it is skipped; or the fault of its leftmost bad field.
+-- The meaning of a line: an entry, or nothing if it is skipped; or the fault of its leftmost bad field.
 abbrev pub meaning : Format → List ℕ → Result (Option Entry) LineFault
 meaning Din line = din_meaning (fields (without_trailing line))
 meaning Lackey line = if is_message line then Ok None else lackey_meaning (fields (without_trailing line))

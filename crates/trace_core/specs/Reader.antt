@@ -11,7 +11,8 @@ use Rattle.trace_core.specs.declared.fault.TraceFault.TheVariants as fault
 use Rattle.trace_core.specs.declared.state.ReaderState.{ReaderState}
 use Rattle.trace_core.specs.declared.state.ReaderState.TheVariants as state
 
--- What a reader has done: how many lines it has read, which bytes were delivered to it and not yet read, and whether it goes on.
+-- The progress of a reader: how many lines it has read, which bytes were delivered and not yet read (none once it has stopped),
+-- and whether it goes on.
 pub record Progress : Type 0 where
   pub format : Format
   pub limit : ℕ

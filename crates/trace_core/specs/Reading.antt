@@ -1,4 +1,4 @@
--- What a text gives: its entries with their line numbers, and the fault at which they end. What is at fault, and which fault comes
+-- The reading of a text: its entries with their line numbers, and the fault at which they end. What is at fault, and which fault comes
 -- first, is this project's own rule.
 use Rattle.std.specs.Prelude.{ℕ, ◌+◌, nat_lt, List, [], ◌∷◌, length, take, drop, map, filter_map, Option, None, Some, Result, Ok, Err}
 use Rattle.std.specs.Prelude.{if◌then◌else◌, flat_map}

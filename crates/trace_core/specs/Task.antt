@@ -1,4 +1,4 @@
--- What a run over a trace reads, and what it has to write.
+-- Runs over traces: what each has to read and write, and what it did.
 use Rattle.std.specs.Prelude.{◌≡◌, ℕ, List, [], ◌++◌, map, Option, None, Some, Bool, true, false, Result, Err, IfSome, OnOk}
 use Rattle.std.specs.Io.KnownBytes.{Appends, IsAtEnd}
 use Rattle.trace_core.specs.Device.{SourceView, SinkView, WritesPrefix, one_more, failures_after, FlushesAfter, FlushesAtMostOnce}
@@ -11,7 +11,7 @@ use Rattle.trace_core.specs.declared.fault.RunFault.{RunFault}
 use Rattle.trace_core.specs.declared.fault.RunFault.TheVariants.{Memory, Trace, Write}
 use Rattle.trace_core.specs.declared.state.ReaderState.TheVariants as state
 
--- What a run over a trace reads, and what it has to write.
+-- The task of a run over a trace: what it reads, and what it has to write.
 pub record Task : Type 0 where
   -- the format of the trace
   pub format : Format

@@ -126,7 +126,7 @@ fn hexadecimal_digit(c: u8) -> u32
     DIGITS[c as usize]
 }
 
-/// What the table has for a byte that is not a hexadecimal digit.
+/// The table's entry for a byte that is not a hexadecimal digit.
 const NO_DIGIT: u32 = 65536;
 
 /// For each byte its value as a hexadecimal digit, or `NO_DIGIT`.

@@ -1,8 +1,8 @@
-//! What a trace says: items, flushes, and the references of an item.
+//! The entries of a trace, items and flushes, and the references of an item.
 ghost use Rattle.std.specs.Prelude.{◌≡◌};
 ghost use Rattle.trace_core.specs.Events.{references, keeps};
 
-/// What an item does with its address.
+/// The operation of an item on its address.
 #[derive(Clone, Copy, Debug, PartialEq, Eq)]
 pub enum Op {
     /// An instruction is fetched.
@@ -23,7 +23,7 @@ pub struct Item {
     pub size: u32,
 }
 
-/// What a line stands for, if it isn't skipped.
+/// The meaning of a line that isn't skipped.
 #[derive(Clone, Copy, Debug, PartialEq, Eq)]
 pub enum Entry {
     Item(Item),
@@ -46,7 +46,7 @@ pub struct Ref {
     pub addr: u64,
 }
 
-/// What a cache is given: a reference or a flush.
+/// A step of a cache: a reference or a flush.
 #[derive(Clone, Copy, Debug, PartialEq, Eq)]
 pub enum Event {
     Reference(Ref),

@@ -44,8 +44,8 @@ pub(crate) fn read_plain_line(format: Format, text: &[u8]) -> Option<(Item, usiz
     Some((item, end))
 }
 
-/// The same with any blanks beside the label. Without it a sweep of one cache over two million
-/// lines that are padded with blanks takes 1.7 times as long, and `din` 1.6 times.
+/// As `read_plain_line`, but with any blanks beside the label. Without it a sweep of one cache over
+/// two million lines that are padded with blanks takes 1.7 times as long, and `din` 1.6 times.
 #[inline(always)]
 pub(crate) fn read_spaced_line(format: Format, text: &[u8]) -> Option<(Item, usize)>
     ensures line { IfSome result (λ found. IsFirstByte (is_byte 10) text.now (Some found.1)) }
@@ -64,7 +64,7 @@ pub(crate) fn read_spaced_line(format: Format, text: &[u8]) -> Option<(Item, usi
 }
 
 /// The index of a line's LF in its text, if it comes after a CR, or after a blank and a comment.
-/// What follows the line's last field that matters is `rest`.
+/// `rest` is the text behind the last field that matters.
 #[inline(never)]
 fn late_end(text: &[u8], rest: &[u8]) -> Option<usize>
     requires { length rest.now ≤ length text.now }

@@ -36,7 +36,7 @@ pub enum LineFault {
     Size,
 }
 
-/// What a line means, given without its LF: an entry, or nothing if it is skipped. The line may
+/// The meaning of a line, given without its LF: an entry, or nothing if it is skipped. It may
 /// have any length, and a byte 10 in it is a byte like any other.
 pub fn read_line(format: Format, line: &[u8]) -> Result<Option<Entry>, LineFault>
     ensures { result ≡ meaning format line.now }
@@ -50,7 +50,7 @@ pub fn read_line(format: Format, line: &[u8]) -> Result<Option<Entry>, LineFault
     }
 }
 
-/// What a din line means, given without the blanks and CRs at its end.
+/// The meaning of a din line, given without the blanks and CRs at its end.
 fn read_din(line: &[u8]) -> Result<Option<Entry>, LineFault>
     ensures { result ≡ din_meaning (fields line.now) }
 {
@@ -66,7 +66,7 @@ fn read_din(line: &[u8]) -> Result<Option<Entry>, LineFault>
     Ok(din_entry(label, addr))
 }
 
-/// What a din line with one of the labels `0` to `4` means.
+/// The meaning of a din line with one of the labels `0` to `4`.
 fn din_entry(label: u8, addr: u64) -> Option<Entry>
     ensures { result ≡ din_entry label addr }
 {
@@ -77,7 +77,7 @@ fn din_entry(label: u8, addr: u64) -> Option<Entry>
     }
 }
 
-/// What a din line with this label does with its address, if anything.
+/// The operation of a din line with this label, if it has one.
 #[inline(always)]
 pub(crate) fn din_op(label: u8) -> Option<Op>
     ensures { result ≡ din_op label }
@@ -123,8 +123,8 @@ pub(crate) fn without_0x(text: &[u8]) -> &[u8]
     }
 }
 
-/// What a lackey line means that is not one of Valgrind's messages, given without the blanks and
-/// CRs at its end.
+/// The meaning of a lackey line that is not one of Valgrind's messages, given without the blanks
+/// and CRs at its end.
 fn read_lackey(line: &[u8]) -> Result<Option<Entry>, LineFault>
     ensures { result ≡ lackey_meaning (fields line.now) }
 {
@@ -140,8 +140,8 @@ fn read_lackey(line: &[u8]) -> Result<Option<Entry>, LineFault>
     read_lackey_access(op, rest)
 }
 
-/// What the labels from `I` to `S` mean. A table, since the labels of a trace come in no order that
-/// a processor predicts.
+/// The operations of the labels from `I` to `S`. A table, since the labels of a trace come in no
+/// order that a processor predicts.
 static LACKEY_OPS: [Option<Op>; 11] = [
     Some(Op::Fetch),
     None,
@@ -156,7 +156,7 @@ static LACKEY_OPS: [Option<Op>; 11] = [
     Some(Op::Store),
 ];
 
-/// What a label of a lackey line means.
+/// The operation of a lackey line with this label, if it has one.
 #[inline(always)]
 pub(crate) fn lackey_op(label: u8) -> Option<Op>
     ensures { result ≡ lackey_op label }
@@ -185,7 +185,7 @@ fn read_lackey_access(op: Op, rest: &[u8]) -> Result<Option<Entry>, LineFault>
     Ok(Some(Entry::Item(Item { op, addr, size })))
 }
 
-/// What is before the first comma, and after it.
+/// The bytes before the first comma, and those after it.
 fn split_comma(field: &[u8]) -> (&[u8], &[u8])
     ensures before { result.0.now ≡ before_first is_comma field.now }
     ensures after { result.1.now ≡ after_first is_comma field.now }

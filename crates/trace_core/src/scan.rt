@@ -287,7 +287,7 @@ impl Scan {
 
 ghost use Rattle.trace_core.specs.Reading.{judge};
 
-/// What line number `line` stands for, or its fault.
+/// The entry of line number `line`, if it has one, or its fault.
 #[inline(always)]
 fn judge(format: Format, line: u64, bytes: &[u8]) -> Result<Option<Entry>, TraceFault>
     ensures { (limit : ℕ) → line ≤ limit → result ≡ judge format limit line bytes.now }

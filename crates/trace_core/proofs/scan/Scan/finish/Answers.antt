@@ -1,5 +1,5 @@
 -- What a scan does at the end of its source with a last line that has no LF.
-use Rattle.std.proofs.Common.{rules, tests, ap, ◌≡◌, ◌+◌, ◌<◌, length, refl}
+use Rattle.std.proofs.Common.{rules, tests, ap, ◌≡◌, ◌+◌, ◌<◌, length}
 use Rattle.std.specs.Option.{option_to_list}
 use Rattle.trace_core.proofs.Advancing.{numbered}
 use Rattle.trace_core.proofs.Steps.{no-line, judged-as, steps-last, steps-bad_last}

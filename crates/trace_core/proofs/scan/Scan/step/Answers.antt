@@ -1,5 +1,5 @@
 -- What a scan does with a byte past the limit, and with a line of the spaced form.
-use Rattle.std.proofs.Common.{arith, rules, tests, ap, ◌<◌, [], length, refl}
+use Rattle.std.proofs.Common.{arith, rules, tests, ap, ◌<◌, [], length}
 use Rattle.trace_core.specs.Scan.{progress}
 use Rattle.trace_core.proofs.Deliveries.{Delivers-none}
 use Rattle.trace_core.proofs.Steps.{steps-item, steps-past}

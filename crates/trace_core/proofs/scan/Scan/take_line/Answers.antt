@@ -1,5 +1,5 @@
 -- What a scan does with a line that was delivered with its LF.
-use Rattle.std.proofs.Common.{rules, ap, ◌≡◌, ◌+◌, take, refl}
+use Rattle.std.proofs.Common.{rules, ap, ◌≡◌, ◌+◌, take}
 use Rattle.std.specs.Option.{option_to_list}
 use Rattle.trace_core.specs.Scan.{progress}
 use Rattle.trace_core.proofs.Advancing.{numbered}
