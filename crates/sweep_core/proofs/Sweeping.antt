@@ -43,7 +43,7 @@ pub swept-after : {r : Request} {format : Format} {limit : ℕ} {start now : Sou
     → SweepStandsFor r [] made → xs ≡ made → (run : Feeds r.kind format limit start now p xs ys) → zs ≡ ys → SweepStandsFor r (events_read r.kind run.read) zs
 swept-after {r = r} {made = made} {zs = zs} begin same run end =
     let es = events_read r.kind run.read in
-    let are : zs ≡ all_after es made = end ∙ run.fed ∙ ap (all_after es) same in
+    let are : zs ≡ all_after es made = end ∙ run.holds ∙ ap (all_after es) same in
     record {
       space = begin.space;
       pairs = ap (map (λ x. pair_of x.first)) are ∙ map-map (λ x. pair_of x.first) (pair_after_events es) made ∙ begin.pairs;

@@ -6,9 +6,8 @@ use Rattle.trace_core.specs.declared.events.Event.{Event}
 use Rattle.trace_core.specs.declared.events.Event.TheVariants as event
 use Rattle.trace_core.specs.Device.{SourceView}
 use Rattle.trace_core.specs.Events.{events_of, keeps}
-use Rattle.trace_core.specs.Reader.{Progress, Reached}
-use Rattle.trace_core.specs.Task.{entries_of}
-use Rattle.trace_core.specs.declared.events.Entry.{Entry}
+use Rattle.trace_core.specs.Reader.{Progress}
+use Rattle.trace_core.specs.Task.{HasRead}
 use Rattle.trace_core.specs.declared.events.Kind.{Kind}
 use Rattle.trace_core.specs.declared.line.Format.{Format}
 use Rattle.trace_core.specs.declared.fault.TraceFault.{TraceFault}
@@ -63,12 +62,7 @@ abbrev pub state_after : Result (Unit {0}) TraceFault → ReaderState
 state_after (Ok done) = state.Ended
 state_after (Err fault) = state.Failed fault
 
--- These entries were read of a source, and what they give a cache was fed to each profile.
-pub record Feeds (kind : Kind) (format : Format) (limit : ℕ) (start now : SourceView) (p : Progress)
-    (old new : List PairProfile) : Type 0 where
-  -- the entries, with the numbers of their lines
-  pub read : List (ℕ × Entry)
-  -- the reader has come so far
-  pub reached : Reached format limit start now read p
-  -- the profiles after their events
-  pub fed : new ≡ all_after (flat_map (events_of kind) (entries_of read)) old
+-- entries were read of a source, and what they give a cache was fed to each profile
+abbrev pub Feeds : Kind → Format → ℕ → SourceView → SourceView → Progress → List PairProfile → List PairProfile → Type 0
+Feeds kind format limit start now p old new =
+    HasRead format limit start now p (λ es. new ≡ all_after (flat_map (events_of kind) es) old)

@@ -1,18 +1,21 @@
--- What was read was fed, but for references that a profile finds in front, and each line that is read brings the end nearer.
-use Rattle.std.proofs.Common.{◌+◌, ◌-◌, ◌*◌, ◌≤◌}
+-- What was read was fed, but for references that a profile finds in front, and each line that is read brings the
+-- end nearer.
+use Rattle.std.proofs.Common.{◌≡◌, ◌-◌, ◌*◌, ◌≤◌, length}
+use Rattle.std.specs.List.{flat_map}
+use Rattle.trace_core.specs.Events.{events_of}
 use Rattle.trace_core.specs.declared.limits.TheConstants.{MAX_LINES}
-use Rattle.profile_core.specs.declared.profile.TheConstants.{MAX_REFERENCES}
-use Rattle.sweep_core.specs.Pass.{Feeds}
+use Rattle.trace_core.proofs.WholeTraces.{Reads}
+use Rattle.sweep_core.specs.Pass.{all_after}
 use Rattle.sweep_core.specs.Implied.{FedAtMost, all_caught_up}
 use Rattle.sweep_core.proofs.pass.read_entries.Given as goal
 
--- the entries that were read were fed, and two references can be for each line that may come
+-- the entries that were read were fed, at most two references each
 abbrev pub invariant-loop-entry : goal.invariant-loop-entry
 invariant-loop-entry g l =
-    Feeds l.kind l.fn.lines.format l.fn.lines.limit (g.S.Source.view l.initial.source) (g.S.Source.view l.source) l.lines l.fn.profiles
-    (all_caught_up l.fed l.profiles)
-    × FedAtMost l.fed l.profiles
-    × (l.fed + 2 * (MAX_LINES - l.lines.lines) ≤ MAX_REFERENCES)
+    Reads l.fn.lines.format l.fn.lines.limit (g.S.Source.view l.initial.source) (g.S.Source.view l.source) l.lines
+    (λ es. (all_caught_up l.fed l.profiles ≡ all_after (flat_map (events_of l.kind) es) l.fn.profiles)
+    × FedAtMost l.fed l.profiles × (l.fed ≤ 2 * length es))
+    × (l.lines.lines ≤ MAX_LINES)
 
 abbrev pub decreases-loop-entry : goal.decreases-loop-entry
 decreases-loop-entry g l = l.lines.limit - l.lines.lines
