@@ -1,5 +1,7 @@
 -- The loop of `csim` goes on while the reader has lines left.
 use Rattle.std.proofs.Common.{◌-◌}
+use Rattle.trace_core.specs.declared.line.Format.TheVariants.{Lackey}
+use Rattle.trace_core.proofs.WholeTraces.{Reads}
 use Rattle.commands.proofs.CsimLemmas.{Simulated}
 use Rattle.commands.proofs.csim.csim.Given as goal
 
@@ -8,7 +10,8 @@ abbrev pub invariant-loop-simulation : goal.invariant-loop-simulation
 invariant-loop-simulation g l =
     let source = g.S.Source.view in
     let sink = g.K.Sink.view in
-    Simulated l.fn.geometry l.verbose l.fn.max_lines (source l.initial.source) (source l.source) (sink l.initial.sink) (sink l.sink) l.lines l.simulation
+    Reads Lackey l.fn.max_lines (source l.initial.source) (source l.source) l.lines
+    (Simulated l.fn.geometry l.verbose (sink l.initial.sink) (sink l.sink) l.simulation)
 
 abbrev pub decreases-loop-simulation : goal.decreases-loop-simulation
 decreases-loop-simulation g l = l.lines.limit - l.lines.lines
