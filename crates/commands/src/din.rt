@@ -1,9 +1,11 @@
 //! The command `din`.
-ghost use Rattle.std.specs.Prelude.{◌≡◌, ◌≤◌, IfOk, MatchResult};
+ghost use Rattle.std.specs.Prelude.{◌≡◌, ◌≤◌, ◌+◌, IfOk, MatchResult};
+ghost use Rattle.trace_core.specs.Events.{events_of};
 ghost use Rattle.trace_core.specs.Reader.{begun};
-ghost use Rattle.trace_core.specs.Task.{Performs};
+ghost use Rattle.trace_core.specs.Task.{HasRead, Performs};
+ghost use Rattle.cache_core.specs.declared.system.TheConstants.{MAX_STEPS};
 ghost use Rattle.cache_core.specs.SystemSteps.{SystemValue, stats_of};
-ghost use Rattle.commands.specs.DinPass.{StepsThrough};
+ghost use Rattle.commands.specs.DinPass.{AddsEvents, StepsThrough};
 ghost use Rattle.commands.specs.DinText.{din_task};
 
 use crate::din_text::set_report;
@@ -12,7 +14,7 @@ use cache_core::plan::Plan;
 use cache_core::stats::Stats;
 use cache_core::system::System;
 use std::alloc::Global;
-use trace_core::events::{Entry, refs_of};
+use trace_core::events::{Entry, Kind, refs_of};
 use trace_core::fault::{RunFault, TraceFault};
 use trace_core::io::{Sink, Source};
 use trace_core::line::Format;
@@ -49,8 +51,7 @@ pub fn din<S: Source, K: Sink>(
     Ok(())
 }
 
-/// Steps a new system through a trace, all the references of an entry or a flush, and returns what
-/// it counted.
+/// Steps a new system through a trace, and returns what it counted.
 fn stats_of_trace<S: Source>(
     mut system: System,
     lines: &mut Lines,
@@ -58,23 +59,33 @@ fn stats_of_trace<S: Source>(
 ) -> Result<Stats, TraceFault>
     requires begun { lines.old ≡ begun lines.old.format lines.old.limit }
     requires new { system.steps ≡ 0 }
-    ensures stepped { (end : SystemValue) × StepsThrough lines.old.format lines.old.limit
-        (S.view source.old) (S.view source.new) lines.new system end
+    ensures stepped { (end : SystemValue) × HasRead lines.old.format lines.old.limit
+        (S.view source.old) (S.view source.new) lines.new (StepsThrough system end)
         × IfOk result (λ stats. stats ≡ stats_of end) }
     ensures reports { MatchResult result (λ _. lines.new.state ≡ ReaderState.Ended)
         (λ fault. lines.new.state ≡ ReaderState.Failed fault) }
 {
     while let Some((_, entry)) = lines.next(source)? {
-        match entry {
-            Entry::Item(item) => {
-                let (first, second) = refs_of(item);
-                system.step(first);
-                if let Some(second) = second {
-                    system.step(second);
-                }
-            }
-            Entry::Flush => system.flush(),
-        }
+        step(&mut system, entry);
     }
     Ok(system.stats())
+}
+
+/// Steps the caches through an entry, all its references or a flush.
+#[inline(always)]
+fn step(system: &mut System, entry: Entry)
+    requires { system.old.steps + 2 ≤ MAX_STEPS }
+    ensures stands { AddsEvents system.old (events_of Kind.All entry) system.new }
+    ensures steps { system.new.steps ≤ system.old.steps + 2 }
+{
+    match entry {
+        Entry::Item(item) => {
+            let (first, second) = refs_of(item);
+            system.step(first);
+            if let Some(second) = second {
+                system.step(second);
+            }
+        }
+        Entry::Flush => system.flush(),
+    }
 }

@@ -1,14 +1,20 @@
 //! The command `log`.
-ghost use Rattle.std.specs.Prelude.{◌≤◌};
+ghost use Rattle.std.specs.Prelude.{◌≡◌, ◌≤◌, ◌+◌, ◌++◌, ℕ, List};
+ghost use Rattle.trace_core.specs.declared.events.Event.{Event};
+ghost use Rattle.trace_core.specs.Events.{events_of};
 ghost use Rattle.trace_core.specs.Task.{Performs};
-ghost use Rattle.commands.specs.LogText.{log_task};
+ghost use Rattle.cache_core.specs.declared.system.TheConstants.{MAX_STEPS};
+ghost use Rattle.cache_core.specs.Arrivals.{arrivals_from};
+ghost use Rattle.cache_core.specs.Plans.{PlannedCaches, IsPlan};
+ghost use Rattle.cache_core.specs.SystemStands.{SystemStandsFor};
+ghost use Rattle.commands.specs.LogText.{arrival_lines, log_task};
 
 use crate::log_text::LogText;
 use crate::text::write_last;
 use cache_core::plan::Plan;
 use cache_core::system::System;
 use std::alloc::Global;
-use trace_core::events::{Entry, refs_of};
+use trace_core::events::{Entry, Kind, refs_of};
 use trace_core::fault::RunFault;
 use trace_core::io::{Sink, Source, write_all};
 use trace_core::line::Format;
@@ -40,19 +46,33 @@ pub fn log<S: Source, K: Sink>(
     let mut system = System::new(alloc, plan, seed)?;
     let mut log = LogText::new();
     while let Some((_, entry)) = lines.next(source)? {
-        log.clear();
-        match entry {
-            Entry::Item(item) => {
-                let (first, second) = refs_of(item);
-                system.step_observed(first, &mut log);
-                if let Some(second) = second {
-                    system.step_observed(second, &mut log);
-                }
-            }
-            Entry::Flush => system.flush_observed(&mut log),
-        }
+        step(&mut system, entry, &mut log);
         write_all(sink, log.text.as_slice())?;
     }
     write_last(&[], sink)?;
     Ok(())
+}
+
+/// Steps the caches through an entry, all its references or a flush. The text becomes the lines of
+/// its arrivals.
+#[inline(always)]
+fn step(system: &mut System, entry: Entry, log: &mut LogText)
+    requires { system.old.steps + 2 ≤ MAX_STEPS }
+    ensures { (plan : PlannedCaches) (seed : ℕ) (events : List Event) → IsPlan plan →
+        SystemStandsFor plan seed events system.old →
+        SystemStandsFor plan seed (events ++ events_of Kind.All entry) system.new
+        × (log.new.text ≡ arrival_lines (arrivals_from plan seed events (events_of Kind.All entry)))
+    }
+{
+    log.clear();
+    match entry {
+        Entry::Item(item) => {
+            let (first, second) = refs_of(item);
+            system.step_observed(first, log);
+            if let Some(second) = second {
+                system.step_observed(second, log);
+            }
+        }
+        Entry::Flush => system.flush_observed(log),
+    }
 }

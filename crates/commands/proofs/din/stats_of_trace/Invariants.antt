@@ -1,13 +1,14 @@
 -- The loop of `din` goes on while the reader has lines left.
-use Rattle.std.proofs.Common.{◌-◌, ◌*◌, ◌≤◌}
+use Rattle.std.proofs.Common.{◌-◌, ◌*◌, ◌≤◌, length}
+use Rattle.trace_core.proofs.WholeTraces.{Reads}
 use Rattle.commands.specs.DinPass.{StepsThrough}
 use Rattle.commands.proofs.din.stats_of_trace.Given as goal
 
--- the system was stepped through the entries that were read, at most two references a line
+-- the system was stepped through the entries that were read, at most two references each
 abbrev pub invariant-loop-system : goal.invariant-loop-system
 invariant-loop-system g l =
-    StepsThrough l.fn.lines.format l.fn.lines.limit (g.S.Source.view l.initial.source) (g.S.Source.view l.source) l.lines l.fn.system l.system
-    × (l.system.steps ≤ 2 * l.lines.lines)
+    Reads l.fn.lines.format l.fn.lines.limit (g.S.Source.view l.initial.source) (g.S.Source.view l.source) l.lines
+    (λ es. StepsThrough l.fn.system l.system es × (l.system.steps ≤ 2 * length es))
 
 abbrev pub decreases-loop-system : goal.decreases-loop-system
 decreases-loop-system g l = l.lines.limit - l.lines.lines
