@@ -5,7 +5,6 @@ pub mod FastLines
 pub mod Readings
 pub mod Buffers
 pub mod Splits
-pub mod Collecting
 pub mod Entries
 pub mod Runs
 pub mod Turns

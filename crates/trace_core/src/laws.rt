@@ -128,7 +128,7 @@ pub fn whole_trace_gives_its_events()
 {}
 
 /// What one more entry gives a cache comes after what those before it give.
-/// Lemma: `Collecting.collected-more`.
+/// Lemma: `EntryEvents.collected-more`.
 pub fn events_come_entry_by_entry()
     ensures { (kind : Kind) (given : List (ℕ × Entry)) (next : ℕ × Entry) →
         flat_map (events_of kind) (entries_of (given ++ next ∷ []))
