@@ -61,8 +61,8 @@ fn step(system: &mut System, entry: Entry, log: &mut LogText)
     ensures { (plan : PlannedCaches) (seed : ℕ) (events : List Event) → IsPlan plan →
         SystemStandsFor plan seed events system.old →
         SystemStandsFor plan seed (events ++ events_of Kind.All entry) system.new
-        × (log.new.text ≡ arrival_lines (arrivals_from plan seed events (events_of Kind.All entry)))
-    }
+        × (log.new.text
+        ≡ arrival_lines (arrivals_from plan seed events (events_of Kind.All entry))) }
 {
     log.clear();
     match entry {

@@ -20,9 +20,10 @@ pub loop-system-preserved : goal.loop-system-preserved
 loop-system-preserved g c =
     let so_far = c.loop-system.invariant in
     let es = entries_of so_far.read in
-    reads-more so_far c.next.ensures.reached c.next.ensures.entry c.in_ok-entry.was c.in-Some.is
-    (steps-more es c.in-Some.entry so_far.holds.0 c.step.ensures.stands,
-    omega (arith, so_far.holds.1, c.step.ensures.steps, length-append es (c.in-Some.entry ∷ [])))
+    reads-more so_far c.next.ensures.reached c.next.ensures.entry c.in_ok-entry.was c.in-Some.is (
+      steps-more es c.in-Some.entry so_far.holds.0 c.step.ensures.stands,
+      omega (arith, so_far.holds.1, c.step.ensures.steps, length-append es (c.in-Some.entry ∷ [])),
+    )
 
 pub returns-in_err-entry-clause-stepped : goal.returns-in_err-entry-clause-stepped
 returns-in_err-entry-clause-stepped g c =

@@ -46,9 +46,11 @@ loop-entry-preserved-in-Some-second g c =
     let mid = all_caught_up c.feed_kept.new.fed c.feed_kept.new.profiles in
     let new = all_caught_up c.feed_kept-in-Some-second.new.fed c.feed_kept-in-Some-second.new.profiles in
     let fed = fed-both c.args.kind old mid new c.in-Item.is c.refs_of-second.ensures c.in-Some-second.is first.caught second.caught in (
-      reads-more so_far c.next.ensures.reached c.next.ensures.entry c.in_ok-entry.was c.in-Some.is
-          (fed-more c.args.kind c.args.profiles.now old new es c.in-Some.entry so_far.holds.0 fed, second.behind,
-          omega (arith, so_far.holds.2, first.more, second.more, length-append es (c.in-Some.entry ∷ []))),
+      reads-more so_far c.next.ensures.reached c.next.ensures.entry c.in_ok-entry.was c.in-Some.is (
+        fed-more c.args.kind c.args.profiles.now old new es c.in-Some.entry so_far.holds.0 fed,
+        second.behind,
+        omega (arith, so_far.holds.2, first.more, second.more, length-append es (c.in-Some.entry ∷ [])),
+      ),
       omega (arith, c.next.ensures.within, c.next.ensures.limited),
     )
 
@@ -60,9 +62,11 @@ loop-entry-preserved-in_default-second g c =
     let old = all_caught_up c.loop-entry.fed c.loop-entry.profiles in
     let new = all_caught_up c.feed_kept.new.fed c.feed_kept.new.profiles in
     let fed = fed-one c.args.kind old new c.in-Item.is c.refs_of-second.ensures c.in_default-second.is one.caught in (
-      reads-more so_far c.next.ensures.reached c.next.ensures.entry c.in_ok-entry.was c.in-Some.is
-          (fed-more c.args.kind c.args.profiles.now old new es c.in-Some.entry so_far.holds.0 fed, one.behind,
-          omega (arith, so_far.holds.2, one.more, length-append es (c.in-Some.entry ∷ []))),
+      reads-more so_far c.next.ensures.reached c.next.ensures.entry c.in_ok-entry.was c.in-Some.is (
+        fed-more c.args.kind c.args.profiles.now old new es c.in-Some.entry so_far.holds.0 fed,
+        one.behind,
+        omega (arith, so_far.holds.2, one.more, length-append es (c.in-Some.entry ∷ [])),
+      ),
       omega (arith, c.next.ensures.within, c.next.ensures.limited),
     )
 
@@ -73,10 +77,11 @@ loop-entry-preserved g c =
     let xs = c.loop-entry.profiles in
     let fed = ap (all_caught_up c.loop-entry.fed) c.flush.ensures ∙ caught-flush c.loop-entry.fed xs
     ∙ ap (λ e. all_after (events_of c.args.kind e) (all_caught_up c.loop-entry.fed xs)) (sym c.in-Flush.is) in (
-      reads-more so_far c.next.ensures.reached c.next.ensures.entry c.in_ok-entry.was c.in-Some.is
-          (fed-more c.args.kind c.args.profiles.now (all_caught_up c.loop-entry.fed xs) _ es c.in-Some.entry so_far.holds.0 fed,
-          subst (FedAtMost c.loop-entry.fed) (sym c.flush.ensures) (few-flush c.loop-entry.fed xs so_far.holds.1),
-          omega (arith, so_far.holds.2, length-append es (c.in-Some.entry ∷ []))),
+      reads-more so_far c.next.ensures.reached c.next.ensures.entry c.in_ok-entry.was c.in-Some.is (
+        fed-more c.args.kind c.args.profiles.now (all_caught_up c.loop-entry.fed xs) _ es c.in-Some.entry so_far.holds.0 fed,
+        subst (FedAtMost c.loop-entry.fed) (sym c.flush.ensures) (few-flush c.loop-entry.fed xs so_far.holds.1),
+        omega (arith, so_far.holds.2, length-append es (c.in-Some.entry ∷ [])),
+      ),
       omega (arith, c.next.ensures.within, c.next.ensures.limited),
     )
 
