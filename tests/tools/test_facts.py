@@ -156,7 +156,7 @@ class Times(unittest.TestCase):
         minutes = re.search(r"make # (\w+) minutes on four processors", pages["README.md"])[1]
         self.assertIn(f"proves and builds the program ({minutes} minutes on four processors)",
                       pages["Makefile"].replace("# ", ""))
-        self.assertIn(f"{minutes} minutes on four processors", flat("package/build"))
+        self.assertIn(f"{minutes} minutes on four processors", flat("package/build.py"))
         test = re.search(r"make test # (\d+ minutes):", pages["README.md"])[1]
         self.assertRegex(pages["tests/README.md"], rf"`all` \| [^|]* \| {test} ")
 
