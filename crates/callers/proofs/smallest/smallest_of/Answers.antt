@@ -4,9 +4,9 @@ use Rattle.sweep_core.specs.declared.space.Config.{Config}
 use Rattle.callers.proofs.Choosing.{Stays, chosen, kept, is_less, is_no_less, misses_more}
 use Rattle.callers.proofs.smallest.smallest_of.Goals as goal
 use Rattle.callers.proofs.smallest.smallest_of.Goals.{
-    else-counts-most-via-then-counts-most+else-is_smaller,
-    else-counts-most-via-else-counts-most,
-  }
+  else-counts-most-via-then-counts-most+else-is_smaller,
+  else-counts-most-via-else-counts-most,
+}
 
 pub loop-config-preserved-then-is_smaller : goal.loop-config-preserved-then-is_smaller
 loop-config-preserved-then-is_smaller c =
