@@ -161,7 +161,8 @@ class Transpose(LabTest):
         self.assertTrue(said.endswith("wrong\n    4x4  it makes more than 1,000,000 accesses\n"))
         self.assertIn("row by row\n    4x4  hits:15 misses:22 evictions:20\n", said)
         ran = self.transpose("--size", "4x4", TRANS, CC="cc -DCRASHES")
-        self.assertIn("wrong\n    4x4  it ended by signal 11: Segmentation fault", ran.stdout.decode())
+        told = "wrong\n    4x4  it ended by signal 11: Segmentation fault"
+        self.assertIn(told, ran.stdout.decode())
         self.assertTrue(comes(lambda: not those_that_name(self.private), 60))
 
     def interrupted(self, number):

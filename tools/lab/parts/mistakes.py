@@ -155,7 +155,8 @@ MISTAKES = {
     "the offset is taken for a part of the tag": {"tag_of": lambda address, s, b: address},
     "the tag is the address without s bits, with b bits of the offset": {
         "tag_of": lambda address, s, b: address >> s},
-    "the tag is shifted by one bit too many": {"tag_of": lambda address, s, b: address >> s + b + 1},
+    "the tag is shifted by one bit too many": {
+        "tag_of": lambda address, s, b: address >> s + b + 1},
     "the set is shifted by one bit too many": {
         "set_of": lambda address, s, b: address >> b + 1 & (1 << s) - 1},
     "the set is shifted by one bit too few": {
