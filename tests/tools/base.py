@@ -166,7 +166,7 @@ def cache(size, bsize, *more, place="l1-d"):
 def copy_tools(to, *tools):
     """Copies tools to another folder, with the parts of all tools, but nothing compiled."""
     shutil.copytree(TOOLS / "lib", to / "lib", ignore=shutil.ignore_patterns("__pycache__"))
-    for tool in tools:
+    for tool in ("Makefile", *tools):
         shutil.copy(TOOLS / tool, to)
 
 

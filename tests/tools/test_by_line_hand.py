@@ -201,7 +201,7 @@ class Sources(Hand):
         return ("-", "--program", program, *cache("1k", 16, "-l1-dassoc", "64")), text
 
     def test_inlined(self):
-        """A count stands at the innermost line of the file; shares are those of the whole trace."""
+        """In callgrind's format a count stands at the innermost line."""
         given, text = self.inlined()
         text = f"{text}0 3000\n0 4000\n0 5000\n0 6000\n".encode()
         names = "line", "inlined", "function", "references", "misses", "share"
@@ -210,16 +210,8 @@ class Sources(Hand):
             ("inlined.c:6", "inlined.c:3", "main", 2, 1, "16.667"),
             ("inlined.c:7", "", "main", 2, 1, "16.667"),
         ])
-        none, some = ["."] * 5, "2 (25.0%) 1 (16.7%) 1 0 0".split()
-        counts = [none, none, some, none, none, none, some, none]
-        told = self.annotated("inlined.c", *given, stdin=text)
-        self.assertEqual([line.split() for line in told], [
-            [*COUNTS, "source"],
-            "8 (100.0%) 6 (100.0%) 6 0 0 the whole trace".split(),
-            "4 (50.0%) 2 (33.3%) 2 0 0 this file".split(),
-            none,
-            *([*found, *line.split()] for found, line in zip(counts, INLINED.splitlines())),
-        ])
+        counts = self.by_source("inlined.c", *given, stdin=text)
+        self.assertEqual(counts, {3: [2, 1, 1, 0], 7: [2, 1, 1, 0]})
 
     @base.needs("valgrind")
     def test_callgrind(self):
@@ -267,8 +259,7 @@ class Sources(Hand):
         given = "-", "--program", program, *ONE_LINE
         rows = self.rows(*given, "--by", "line", stdin=text)
         self.assertEqual(self.references(rows, "line"), {"a/same.c:1": 2, "b/same.c:1": 1})
-        last = self.annotated("b/same.c", *given, stdin=text)[-1]  # a form feed ends no line
-        self.assertEqual(last.split()[:4], ["1", "(33.3%)", "1", "(50.0%)"])
+        self.assertEqual(self.by_source("b/same.c", *given, stdin=text), {1: [1, 1, 1, 0]})
 
     @base.needs("g++")
     def test_code_of_headers(self):
@@ -283,8 +274,7 @@ class Sources(Hand):
         rows = self.rows(*given, "--by", "line", stdin=fetches(own))
         self.assertEqual({row["line"].split(":")[0] for row in rows}, {"predefined_ops.h"})
         at, = (int(name.split()[0], 16) for name in names if name.endswith(" own(int)"))
-        source = self.annotated("own.h", *given, stdin=fetches([at]))
-        self.assertEqual([line.split()[0] for line in source[4:]], [".", "1", ".", "."])
+        self.assertEqual([*self.by_source("own.h", *given, stdin=fetches([at]))], [2])
 
     def test_variables_of_one_name(self):
         """Static ones have their file behind the name, and their address if that is the same too;

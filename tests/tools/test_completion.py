@@ -195,7 +195,7 @@ OF_TOOLS = {
     "din-table": f"-h --help {OF_DIN}",
     "over-time": f"-h --help --each --cache --format {OF_DIN}",
     "by-page": f"-h --help --page --cache --format {OF_DIN}",
-    "by-line": "-h --help --at --program --base --map --by --evicted-by --annotate --callgrind "
+    "by-line": "-h --help --at --program --base --map --by --evicted-by --callgrind "
     f"{OF_DIN}",
     "second-level": f"-h --help --format {OF_DIN}",
     **dict.fromkeys(("pages", "three-c", "warm"), f"-h --help {OF_SWEEP}"),

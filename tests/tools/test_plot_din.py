@@ -93,7 +93,7 @@ class Measure(PlotTest):
         self.refused(self.plot("--measure", "cost", "t.csv", "-"), 1, fault)
 
     def test_refused(self):
-        self.write("t.csv", f"{table.HEADER},conflict\n64,1,1,64,50,50,49,-7\n")
+        self.write("t.csv", f"{table.HEADER},conflict\n64,1,1,64,50,50,49,-7-\n")
         for option, name, fault in (
             ("--measure=x", "eight.csv", "no column x; there are bsize, sets, assoc, size, hits"),
             ("--measure=conflict", "t.csv", "line 2: conflict is no number\n"),

@@ -115,7 +115,7 @@ class SecondLevel(log_base.Filtering, base.ToolTest):
         copy, commands = self.folder / "a copy", self.folder / "commands"
         base.copy_tools(copy, "second-level")
         commands.mkdir()
-        for command in "cat dirname grep mkdir mktemp readlink rm".split():
+        for command in "cat make mkdir mv rm sh".split():
             (commands / command).symlink_to(shutil.which(command))
         arguments = [copy / "second-level", "-", *self.CACHE]
         given = {"stdin": b"0 18\n", "env": {"PATH": str(commands)}}
@@ -123,9 +123,10 @@ class SecondLevel(log_base.Filtering, base.ToolTest):
         told = b"second-level: cc is missing: apt-get install gcc\n"
         self.assertEqual((ran.returncode, ran.stdout, ran.stderr), (1, LAST, told))
         self.assertEqual(self.good(self.run_command(copy / "second-level", "--build")), "")
-        self.assertEqual([path.name for path in (copy / "out").iterdir()], ["second-level"])
+        self.assertTrue((copy / "out/second-level").exists())
         # what is installed has no C file, and needs no compiler
-        (copy / "lib/second-level.c").unlink()
+        for path in (copy / "lib").rglob("*.[ch]"):
+            path.unlink()
         self.assertEqual(self.good(self.run_command(*arguments, **given)), "0 10\n")
 
     def test_a_reader_that_goes(self):

@@ -129,10 +129,14 @@ class Beginning(Shared):
         self.assertGreaterEqual(len(tools), 10)
         interrupt = "import os, signal\nos.kill(os.getpid(), signal.SIGINT)\n"
         for folder in (copy, copy / "lab"):
-            (folder / "argparse.py").write_text(interrupt)
+            for module in ("contextlib", "argparse"):
+                (folder / f"{module}.py").write_text(interrupt)
         for tool in tools:
             ran = self.run_command(tool, "--help")
-            self.assertEqual((ran.returncode, ran.stdout + ran.stderr), (-signal.SIGINT, b""), tool)
+            is_trace = tool.name in ("lab-trace", "second-level", "to-din", "trace")
+            last = f"{tool.name} failed: what stands above is not all\n" * is_trace
+            got = ran.returncode, ran.stdout.decode(), ran.stderr
+            self.assertEqual(got, (-signal.SIGINT, last, b""), tool)
 
 
 class PackedTraces(Shared):

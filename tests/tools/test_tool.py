@@ -3,11 +3,12 @@
 import argparse
 import os
 import shutil
+import signal
 import subprocess
 import unittest
 
 import common
-from base import ToolTest, copy_tools
+from base import ToolTest, comes, copy_tools
 from lib import tool
 
 
@@ -36,7 +37,7 @@ class Several(unittest.TestCase):
 
 
 class Compiling(ToolTest):
-    def test_a_header_that_changed(self):
+    def test_a_source_that_changed(self):
         copy_tools(self.folder, "to-din")
         given = {"env": {"CFLAGS": "-O0"}}
         self.good(self.run_command(self.folder / "to-din", "--build", **given))
@@ -44,19 +45,76 @@ class Compiling(ToolTest):
         before = made.stat().st_ino
         self.good(self.run_command(self.folder / "to-din", "--build", **given))
         self.assertEqual(made.stat().st_ino, before)
-        later = made.stat().st_mtime + 1
-        (self.folder / "lib/a.h").touch()
-        os.utime(self.folder / "lib/a.h", (later, later))
+        self.later(self.folder / "lib/to-din.c", made)
         self.good(self.run_command(self.folder / "to-din", "--build", **given))
         self.assertNotEqual(made.stat().st_ino, before)
 
+    def test_a_header_that_changed(self):
+        """What has it is compiled again, and what has not is left."""
+        copy_tools(self.folder)
+        words = ("make", "-s", "-C", self.folder, "out/to-din", "out/by-line")
+        made = [self.folder / word for word in words[-2:]]
+        self.good(self.run_command(*words))
+        before = [part.stat().st_ino for part in made]
+        self.later(self.folder / "lib/by_line/by-line-trace.h", made[1])
+        self.good(self.run_command(*words))
+        kept = [part.stat().st_ino == number for part, number in zip(made, before)]
+        self.assertEqual(kept, [True, False])
+        self.good(self.run_command(*words, "CFLAGS=-O0"))  # other words for the compiler
+        kept = [part.stat().st_ino == number for part, number in zip(made, before)]
+        self.assertEqual(kept, [False, False])
+
+    @staticmethod
+    def later(source, made):
+        before = source.stat().st_mtime - 1
+        os.utime(made, (before, before))
+
+    def made(self):
+        return [path.name for path in (self.folder / "out").glob("[!.]*")]
+
     def test_a_signal(self):
-        """It leaves nothing of what was being compiled."""
+        """It leaves nothing of what was being compiled, also where the tool alone gets it."""
         copy_tools(self.folder, "to-din")
-        path = self.stand_in("cc", "kill -TERM $PPID", "exec sleep 60")
-        ran = self.run_command(self.folder / "to-din", "--build", env=path, seconds=20)
-        self.assertEqual((ran.stderr, ran.returncode), (b"", -15))
-        self.assertEqual(list((self.folder / "out").iterdir()), [])
+        begun = self.folder / "begun"
+        path = self.stand_in("cc", f"touch '{begun}' \"${{@: -2:1}}\"", "exec sleep 60")
+        given = {**self.in_folder(**path), "stderr": subprocess.PIPE, "start_new_session": True}
+        for number in (signal.SIGTERM, signal.SIGINT, signal.SIGHUP):
+            with subprocess.Popen([self.folder / "to-din", "--build"], **given) as running:
+                self.assertTrue(comes(begun.exists))
+                self.assertNotEqual(self.made(), [])
+                running.send_signal(number)
+                told = self.end_of(running)[1]
+            self.assertEqual((told, running.returncode), (b"", -number))
+            self.assertTrue(comes(lambda: not self.made()))
+            begun.unlink()
+
+    def test_a_compiler_that_fails(self):
+        """Nothing of a part is left, which would be taken for the whole."""
+        copy_tools(self.folder, "to-din")
+        into = 'echo "cc1: no memory" >&2; echo > "${@: -2:1}"'
+        for end in ("exit 1", "kill -KILL $$"):
+            path = self.stand_in("cc", into, end)
+            ran = self.run_command(self.folder / "to-din", "addresses", env=path)
+            told = f"to-din: {self.folder}/out/to-din can't be compiled\n"
+            lines = ran.stderr.decode().splitlines(keepends=True)
+            self.assertEqual((ran.returncode, lines[0], lines[-1]), (1, "cc1: no memory\n", told))
+            self.assertIn(b"what stands above is not all", ran.stdout)
+            self.assertEqual(self.made(), [])
+
+    def test_what_is_missing(self):
+        """make and the compiler are named with their packages."""
+        copy_tools(self.folder, "to-din")
+        commands = self.folder / "commands"
+        commands.mkdir()
+        told = "to-din: {} is missing: apt-get install {}\n"
+        for command, package in ("make", "make"), ("cc", "gcc"), ("clang", "clang"):
+            env = {"PATH": str(commands), "CC": "" if command in ("make", "cc") else command}
+            env = {name: value for name, value in env.items() if value}
+            ran = self.run_command(self.folder / "to-din", "--build", env=env)
+            self.assertEqual(ran.stderr.decode(), told.format(command, package))
+            for name in "make sh mkdir cat rm mv".split():
+                if not (commands / name).exists():
+                    (commands / name).symlink_to(shutil.which(name))
 
     def test_two_at_once(self):
         """Each compiles to a file of its own, which then takes its place: in a copy of the tool."""
@@ -68,6 +126,6 @@ class Compiling(ToolTest):
         both = [subprocess.Popen([self.folder / "to-din", "--build"], **given) for _ in range(2)]
         ends = [(each.communicate(timeout=60)[1], each.returncode) for each in both]
         self.assertEqual(ends, [(b"", 0)] * 2)
-        self.assertEqual([path.name for path in (self.folder / "out").iterdir()], ["to-din"])
+        self.assertEqual(self.made(), ["to-din"])
         ran = self.run_command(self.folder / "to-din", "addresses", stdin=b"10\n")
         self.assertEqual(self.good(ran), "0 10\n")

@@ -319,7 +319,7 @@ class StandIn(TraceTest):
     def test_what_is_missing(self):
         few = self.folder / "few"
         few.mkdir()
-        for name in ("bash", "cat", "dirname", "od", "readlink", "sed", "uname"):
+        for name in ("bash", "cat", "make", "mkdir", "mv", "rm", "sh"):
             os.symlink(shutil.which(name), few / name)
         env, missing = {"PATH": str(few)}, "is missing: apt-get install"
         self.fails(f"{QEMU} {missing} qemu-user", env=env)

@@ -1,8 +1,56 @@
-"""What the tools share, and the parts of those that have several. Each tool reads something
-of it first: an interrupt while Python reads what else the tool needs then ends it without a
-traceback, as later where it has nothing to end or remove."""
+"""What the tools share, and the parts of those that have several. Each tool reads something of it
+first, in words that older Pythons know: these end with one line, and so does a fault that no tool
+has foreseen, such as too little memory."""
 
+import os
 import signal
+import sys
 
-if signal.getsignal(signal.SIGINT) is signal.default_int_handler:  # and is not ignored
-    signal.signal(signal.SIGINT, signal.SIG_DFL)
+NAME = os.path.basename(sys.argv[0])
+# what ends a tool without a word that its reader waits for ends its trace in no line of one
+WRITES_A_TRACE = NAME.replace("cachesim-", "") in ("lab-trace", "second-level", "to-din", "trace")
+
+
+def end_early(text, status):
+    """Ends the tool with a line, where it can't even begin."""
+    line = "%s: %s\n" % (NAME, text)
+    streams = [sys.stderr] + [sys.stdout] * (WRITES_A_TRACE and not os.isatty(1))
+    for stream in streams:
+        try:
+            stream.write(line)
+            stream.flush()
+        except (AttributeError, OSError):  # it is closed, or full
+            pass
+    os._exit(status)
+
+
+def last_fault(kind, fault, trace):
+    """What ends a tool in place of a traceback where the system refuses something."""
+    if issubclass(kind, MemoryError):
+        text = "out of memory"
+    elif issubclass(kind, (OSError, ImportError)):
+        text = getattr(fault, "strerror", None) or str(fault)
+    else:
+        sys.__excepthook__(kind, fault, trace)
+        return
+    end_early(text, 125 if NAME.endswith("trace") else 1)
+
+
+def stop_early(number, _):
+    """Ends a trace in a line that no simulator takes, also where the tool has only begun."""
+    signal.signal(number, signal.SIG_DFL)
+    is_output = not any(word.startswith(("-o", "--output")) for word in sys.argv)
+    if is_output and not os.isatty(1):
+        os.write(1, ("%s failed: what stands above is not all\n" % NAME).encode())
+    os.kill(os.getpid(), number)
+
+
+if sys.version_info < (3, 9):
+    end_early("Python 3.9 or later is needed, and /usr/bin/python3 is %d.%d"
+              % sys.version_info[:2], 125 if NAME.endswith("trace") else 1)
+sys.excepthook = last_fault
+# a signal while Python reads what else the tool needs ends it without a traceback, as later where
+# it has nothing to end or remove
+for each in (signal.SIGHUP, signal.SIGINT, signal.SIGTERM):
+    if signal.getsignal(each) != signal.SIG_IGN:
+        signal.signal(each, stop_early if WRITES_A_TRACE else signal.SIG_DFL)

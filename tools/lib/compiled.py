@@ -1,48 +1,58 @@
-"""The C parts of tools, which are compiled at their first use."""
+"""The C parts of tools, which make compiles at their first use."""
 
-import glob
 import os
-import subprocess
-import tempfile
+import signal
+import sys
 
 from lib import tool
-from lib.signals import stop_at_signals
+from lib.processes import Group, Helper
 
 
-def compiled(name, source, *flags):
-    """The path of a part, out/NAME, compiled where it is older than its source or a header beside
-    that. The installed tools come with out/ and without the C files. The environment's CC and flags
-    are heeded; those named here come last."""
-    binary, source = f"{tool.HERE}/out/{name}", f"{tool.HERE}/lib/{source}"
-    if not os.path.exists(source):
+class Make(Helper):
+    """make with its compiler, which a signal to the tool ends."""
+
+    def kill(self):
+        if self.is_running:
+            os.killpg(self.number, signal.SIGTERM)
+            os.waitpid(self.number, 0)
+            self.is_running = False
+
+
+def newest_source():
+    """When the C code was last written; None where the tools are installed, without it."""
+    files = [os.path.join(folder, name) for folder, _, names in os.walk(f"{tool.HERE}/lib")
+             for name in names if name.endswith((".c", ".h"))]
+    return max(map(os.path.getmtime, files), default=None)
+
+
+def compiled(name):
+    """The path of a part, out/NAME, compiled where it may be older than its source."""
+    binary, newest = f"{tool.HERE}/out/{name}", newest_source()
+    if newest is None or os.path.exists(binary) and os.path.getmtime(binary) > newest:
         return binary
-    parts = [source, *glob.glob(f"{os.path.dirname(source)}/*.h")]
-    newest = max(os.stat(part).st_mtime for part in parts)
-    if os.path.exists(binary) and os.stat(binary).st_mtime > newest:
-        return binary
-    words = {key: os.environ.get(key, "").split() for key in ("CC", "CPPFLAGS", "LDFLAGS")}
-    compiler = words["CC"] or ["cc"]
-    if words["CC"]:
-        tool.needs(compiler[0], os.path.basename(compiler[0]))
-    else:
-        tool.needs("cc", "gcc")
-    own = os.environ.get("CFLAGS", "-O2 -Wall -Wextra").split()
-    stop_at_signals()
-    made = None
     try:
         os.makedirs(f"{tool.HERE}/out", exist_ok=True)
-        file, made = tempfile.mkstemp(prefix=f"{name}.", dir=f"{tool.HERE}/out")
-        os.close(file)
-        command = [*compiler, *words["CPPFLAGS"], *own, *words["LDFLAGS"], *flags]
-        if subprocess.run([*command, "-o", made, source], check=False).returncode:
-            tool.fail(f"{source} can't be compiled")
-        os.chmod(made, 0o755)  # for all who may use the folder
-        os.replace(made, binary)
-        made = None
+        can_write = os.access(f"{tool.HERE}/out", os.W_OK)
     except OSError:
+        can_write = False
+    if not can_write:
         tool.fail(f"{tool.HERE}/out can't be written: 'make tools' compiles the C parts, by "
                   "someone who may write there")
-    finally:
-        if made:
-            os.unlink(made)
+    make(f"out/{name}")
     return binary
+
+
+def make(target):
+    """Has make do its work. What it says is shown where it fails."""
+    tool.needs("make", "make")
+    env = {name: os.environ[name] for name in os.environ if name not in ("MAKEFLAGS", "MFLAGS")}
+    with Group() as group:
+        words = ["make", "-s", "-C", tool.HERE, target]
+        maker = group.start(Make, words, env=env, setpgroup=0)
+        maker.wait()
+    if maker.code:
+        told = [line for line in maker.told.split("\n") if not line.startswith("make: ")]
+        is_missing = told and " is missing: apt-get install " in told[-1]
+        if told and not is_missing:
+            print("\n".join(told), file=sys.stderr)
+        tool.fail(told[-1] if is_missing else f"{tool.HERE}/{target} can't be compiled")

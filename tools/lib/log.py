@@ -1,11 +1,16 @@
 """What the tools that filter `cachesim log` share: their arguments, and the log in pieces."""
 
+import contextlib
+import fcntl
 import os
 import re
 import sys
 
-from lib import runs, tool
+from lib import processes, streams, tool
 
+ROOM = 1 << 20  # the bytes that the log may be ahead
+NO_OUTCOME = bytes(set(range(256)) - set(b"Whm\n"))
+TO_LETTERS = bytes.maketrans(b"10", b"hm")
 HELPS = {"{caches}": """\
 TRACE is a file, which may end in .gz, .xz or .zst, or - for standard input.
 It is read once. The OPTIONs are those of
@@ -45,12 +50,14 @@ def judge_cache(cache, options):
         tool.misused(f"no option is of {cache}")
 
 
-class Logging(runs.Process):
+class Logging(processes.Process):
     """The run of `cachesim log`, whose log goes to a pipe. It tells of its end alone where it is
     not the reader that has ended."""
 
     def __init__(self, program, options, stdin):
         self.pipe, write = os.pipe()
+        with contextlib.suppress(OSError):  # less room will do
+            fcntl.fcntl(write, fcntl.F_SETPIPE_SZ, ROOM)
         super().__init__([program, "log", *options], stdin=stdin, stdout=write)
         os.close(write)
 
@@ -61,9 +68,9 @@ class Logging(runs.Process):
 
 def over(trace, options, take):
     """Has `take` called with each piece of the log, of whole lines. A fault ends the tool."""
-    runs.keep_places()
+    streams.keep_places()
     program = tool.find_cachesim()
-    with runs.Group() as group:
+    with processes.Group() as group:
         source, unpacker = group.start_source(trace)
         logging = group.start(Logging, program, options, source, ends=(source,))
         take(logging.pipe)
@@ -72,14 +79,24 @@ def over(trace, options, take):
             unpacker.wait()
 
 
-def pieces(source):
-    """What is read from a descriptor, in pieces of whole lines."""
-    held = b""
+def pieces(source, least=0):
+    """What is read from a descriptor, in pieces of whole lines, each of so many bytes or more."""
+    held, length = [], 0
     while piece := os.read(source, 1 << 18):
-        whole, feed, rest = piece.rpartition(b"\n")
-        if feed:
-            yield held + whole + feed
-            held = b""
-        held += rest
-    if held:
-        yield held
+        held.append(piece)
+        length += len(piece)
+        if length < least or b"\n" not in piece:
+            continue
+        whole, feed, rest = b"".join(held).rpartition(b"\n")
+        yield whole + feed
+        held, length = [rest], len(rest)
+    if length:
+        yield b"".join(held)
+
+
+def outcomes(text, cache):
+    """Of each reference that came to a cache, whose name begins so, h or m. Its lines get a mark,
+    and of all lines but this and the letters h and m nothing is left: Wh is a hit, Wm a miss."""
+    text = (b"\n" + text).replace(b"flush", b"").replace(b"\n" + cache.encode(), b"\nW")
+    text = text.translate(None, NO_OUTCOME)
+    return text.replace(b"Wh", b"1").replace(b"Wm", b"0").translate(TO_LETTERS, b"hmW\n")

@@ -2,10 +2,9 @@
 
 import math
 import os
-import signal
 import sys
 
-from lib.tool import fail, faults_of, misused
+from lib import processes, tool
 
 
 # The number of ways from which on a search costs about the same
@@ -16,17 +15,8 @@ def number_of_jobs(word):
     if word == "auto":
         return len(os.sched_getaffinity(0))
     if not (word.isascii() and word.isdigit() and int(word)):
-        misused(f"{word} is no number of jobs")
+        tool.misused(f"{word} is no number of jobs")
     return int(word)
-
-
-def start(command, stdin=0, stdout=1, stderr=2, path=None, **given):
-    """Starts a command, or the program at a path, with these descriptors as its first three.
-    Returns its process's number."""
-    # where it is ignored, the end of a process can't be waited for
-    signal.signal(signal.SIGCHLD, signal.SIG_DFL)
-    ends = [(os.POSIX_SPAWN_DUP2, *end) for end in zip((stdin, stdout, stderr), range(3))]
-    return os.posix_spawnp(path or command[0], command, os.environ, file_actions=ends, **given)
 
 
 class Pair:
@@ -69,17 +59,14 @@ class Page:
 
 def rows_of(program, options):
     """The lines of a table, for an empty trace. Options that the program refuses end this tool."""
-    read, write = os.pipe()
-    with faults_of(f"{program} can't be run"):
-        lister = start([program, "sweep", "-t", "/dev/null", *options], stdout=write)
-    os.close(write)
-    with open(read, "rb") as lines:
-        yield from lines
-    status = os.waitstatus_to_exitcode(os.waitpid(lister, 0)[1])
-    if status < 0:
-        fail(f"the list of the rows ended with signal {-status}")
-    if status:
-        sys.exit(status)
+    code, table, told = processes.ran([program, "sweep", "-t", "/dev/null", *options])
+    if told:
+        print(told, file=sys.stderr)
+    if code < 0:
+        tool.fail(f"the list of the rows ended with signal {-code}")
+    if code:
+        sys.exit(code)
+    return table.splitlines(keepends=True)
 
 
 def pairs_of(program, options):
@@ -137,7 +124,7 @@ def split(options):
 def pages_of(program, most, options):
     """For each page of a table, the arguments of a sweep that write it."""
     if any(word.startswith("-t") for word in options):
-        misused("leave out -t: each page reads the same trace")
+        tool.misused("leave out -t: each page reads the same trace")
     pairs = pairs_of(program, options)
     arguments, after = split(options)
     pages = []

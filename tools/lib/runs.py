@@ -1,5 +1,5 @@
-"""Processes that run side by side: those that a tool joins by pipes; and, for sweep-parallel and
-din-table, runs of the program over one trace. A pipe is read once, and handed to all."""
+"""Runs of the program over one trace, for tools that make a table of them. All runs count the same
+references: a pipe is read once and handed to all, and a file must not change meanwhile."""
 
 import contextlib
 import fcntl
@@ -7,139 +7,12 @@ import os
 import select
 import signal
 import stat
-import tempfile
 
-from lib import paging, tool
-from lib.signals import heed_stops, put_off_stops, stop_at_signals
+from lib import tool
+from lib.processes import Fault, Group, Process, is_packed, uninterrupted
 
 PIECE = 1 << 18  # the bytes that are read at once
 ROOM = 1 << 20  # the bytes that may wait for a run, so that it may fall behind for a while
-UNPACKERS = {".gz": ("gzip", "gzip"), ".xz": ("xz", "xz-utils"), ".zst": ("zstd", "zstd")}
-
-
-class Fault(Exception):
-    """What ends the tool: its message and its status."""
-
-    def __init__(self, text, status=1):
-        super().__init__(text)
-        self.text, self.status = text, status
-
-
-def is_packed(trace):
-    return trace.endswith(tuple(UNPACKERS))
-
-
-def opened(trace):
-    """The descriptor that a trace is read from which is not packed."""
-    return 0 if trace == "-" else os.open(trace, os.O_RDONLY)
-
-
-def end_text(code):
-    return f"status {code}" if code > 0 else f"signal {-code}"
-
-
-@contextlib.contextmanager
-def uninterrupted():
-    """Holds back what would interrupt the tool, so that it knows each process that it starts."""
-    put_off_stops()
-    try:
-        yield
-    finally:
-        heed_stops()
-
-
-class Process:
-    """A process over the trace. What it tells, and writes to no other place, is kept in memory."""
-
-    # what a terminal sends to all processes is for the tool alone, which ends the others
-    BLOCKED = (signal.SIGHUP, signal.SIGINT)
-
-    def __init__(self, command, stdin=0, stdout=None, stderr=None, path=None):
-        self.kept, self.messages = os.memfd_create("kept"), os.memfd_create("messages")
-        self.name, self.text = os.path.basename(path or command[0]), b""
-        self.number = paging.start(command, stdin, self.kept if stdout is None else stdout,
-                                   self.messages if stderr is None else stderr, path,
-                                   setsigmask=self.BLOCKED,
-                                   setsigdef=[signal.SIGPIPE])  # which Python ignores
-        self.is_running = True
-
-    def fault(self, code):
-        """What is told where it failed: its own message, if it could write one."""
-        if code in (1, 2) and self.message():
-            return Fault(self.message(), code)
-        return Fault(f"{tool.NAME}: {self.name} ended with {end_text(code)}")
-
-    def message(self):
-        return os.pread(self.messages, PIECE, 0).decode(errors="replace").strip()
-
-    def ended(self, status):
-        """Takes note of its end, and of what it has written. It is a fault where it failed."""
-        self.is_running = False
-        code = os.waitstatus_to_exitcode(status)
-        if code:
-            raise self.fault(code)
-        os.close(self.messages)
-        with open(self.kept, "rb") as file:
-            file.seek(0)
-            self.text = file.read()
-
-    def wait(self):
-        if self.is_running:
-            self.ended(os.waitpid(self.number, 0)[1])
-
-    def kill(self):
-        if self.is_running:
-            with contextlib.suppress(ProcessLookupError):  # its end was taken, and not noted
-                os.kill(self.number, signal.SIGKILL)
-                os.waitpid(self.number, 0)
-            self.is_running = False
-
-
-class Filter(Process):
-    """A process that writes the tool's output. The tool ends like it where its reader goes away."""
-
-    def fault(self, code):
-        if code == -signal.SIGPIPE:
-            raise SystemExit(tool.READER_GONE)
-        return super().fault(code)
-
-
-class Group:
-    """Processes that a tool starts, all of which are ended with it. A fault of one ends the tool
-    with its message, and so does one that can't be started."""
-
-    def __init__(self):
-        self.processes = []
-
-    def __enter__(self):
-        stop_at_signals()
-        return self
-
-    def start(self, kind, *given, ends=(), **more):
-        """Starts a process of some kind, and closes these ends of pipes, which it now has."""
-        with uninterrupted():
-            self.processes.append(kind(*given, **more))
-        for end in ends:
-            if end > 2:
-                os.close(end)
-        return self.processes[-1]
-
-    def start_source(self, trace):
-        """The descriptor that a trace is read from, and the process that unpacks it, if any does,
-        which is ended with the others."""
-        if not is_packed(trace):
-            return opened(trace), None
-        unpacker = self.start(Unpacker, trace)
-        return unpacker.pipe, unpacker
-
-    def __exit__(self, _, fault, __):
-        with uninterrupted():
-            for process in self.processes:
-                process.kill()
-        if isinstance(fault, Fault):
-            tool.end(fault.text, fault.status)
-        if isinstance(fault, OSError):
-            tool.fail(f"no more processes can be started: {fault.strerror}")
 
 
 class Run(Process):
@@ -179,30 +52,6 @@ class Run(Process):
             return int(lines.readline().split()[1])
 
 
-class Unpacker(Process):
-    """What writes the text of a compressed trace to a pipe."""
-
-    def __init__(self, trace):
-        self.trace = trace
-        self.pipe, write = os.pipe()
-        command, package = next(UNPACKERS[end] for end in UNPACKERS if trace.endswith(end))
-        tool.needs(command, package)
-        super().__init__([command, "-dcq" if command == "zstd" else "-dc", "--", trace],
-                         stdout=write)
-        os.close(write)
-
-    def ended(self, status):
-        """Where its reader has gone away, that tells why."""
-        if os.waitstatus_to_exitcode(status) == -signal.SIGPIPE:
-            self.is_running = False
-        else:
-            super().ended(status)
-
-    def fault(self, code):
-        text = self.message().split("\n")[-1] or f"what unpacks it ended with {end_text(code)}"
-        return Fault(f"{tool.NAME}: {self.trace} can't be read: {text}")
-
-
 class Runs:
     """The runs over a trace, at most so many of them at once. What can be read only once is kept in
     a file without a name where there are more of them: the first runs read along, so that a bad
@@ -211,13 +60,9 @@ class Runs:
     def __init__(self, group, trace, commands, jobs, part, is_read_once=False):
         self.group, self.trace, self.commands, self.jobs = group, trace, commands, jobs
         self.part, self.runs, self.spool, self.handed = part, [], None, 0
-        self.is_read_once, self.size = is_read_once or trace == "-" or is_packed(trace), 0
-        try:
-            found = os.stat(trace)
-        except OSError:
-            return  # each run tells it
-        self.size = found.st_size
-        self.is_read_once |= not (stat.S_ISREG(found.st_mode) or stat.S_ISDIR(found.st_mode))
+        # where there is no such file, each run tells it
+        is_special = os.path.exists(trace) and not (os.path.isfile(trace) or os.path.isdir(trace))
+        self.is_read_once = is_read_once or trace == "-" or is_packed(trace) or is_special
 
     def start_next(self):
         """Starts the next run, where there is one."""
@@ -249,6 +94,7 @@ class Runs:
     def keep(self, piece):
         if len(self.commands) <= self.jobs:
             return
+        import tempfile
         try:
             with uninterrupted():
                 self.spool = self.spool or tempfile.TemporaryFile(buffering=0)
@@ -301,7 +147,7 @@ class Runs:
             done = sum(not run.is_running for run in self.runs)
             return f"{done} of {len(self.commands)} runs done"
         least = min(run.bytes_read() for run in self.runs if run.is_running)
-        return f"{100 * least // self.size} % of the trace read"
+        return f"{100 * least // os.path.getsize(self.trace)} % of the trace read"
 
     def tell(self, *_):
         """Shows that on the terminal's line."""
@@ -331,39 +177,23 @@ def show(text):
         os.write(2, f"\r{text}\033[K".encode())
 
 
-def keep_places():
-    """Opens what fails as well for closed standard descriptors, lest a file take their place."""
-    for number in range(3):
-        try:
-            os.fstat(number)
-        except OSError:
-            os.open("/dev/null", os.O_RDONLY if number else os.O_WRONLY)
-
-
-def write_all(text, fault, is_told=True):
-    """Writes some bytes to standard output. Where that fails, the tool ends with this message; if
-    it is not to be told, without a word where a reader has gone away."""
-    left = memoryview(text)
+def state_of(trace):
+    """What changes with a file that is written to or replaced; None of what is no regular file."""
     try:
-        while left:
-            left = left[os.write(1, left):]
-    except OSError as error:
-        if isinstance(error, BrokenPipeError) and not is_told:
-            raise SystemExit(tool.READER_GONE) from None
-        tool.fail(fault)
+        found = os.stat(trace)
+    except OSError:
+        return None
+    state = found.st_dev, found.st_ino, found.st_size, found.st_mtime_ns
+    return state if stat.S_ISREG(found.st_mode) else None
 
 
-def write_out(texts, place=""):
-    """Writes some bytes one after another."""
-    for text in texts:
-        write_all(text, f"{place}write failed", is_told=False)
-
-
-def over(trace, commands, jobs, part="", is_read_once=False):
+def over(trace, commands, jobs, part="", is_read_once=False, state=None):
     """Runs commands over a trace, at most so many at once, and returns what each has written. Each
     is a text that names it, and words to which the trace is added; and how many lines it gets, if
-    not all. Where one fails, the others are ended, and the tool ends with its message and status.
-    How far they are is shown after `part`."""
+    not all. Where one fails, the others are ended, and the tool ends with its message and status;
+    so it does where several read a file that is no longer in the given state, or in that at the
+    beginning. How far they are is shown after `part`."""
+    state = state or state_of(trace)
     with Group() as group:
         runs = Runs(group, trace, commands, jobs, part, is_read_once)
         with progress_of(runs):
@@ -371,4 +201,10 @@ def over(trace, commands, jobs, part="", is_read_once=False):
             if runs.is_read_once:
                 runs.read_once()
             runs.finish()
+        if not runs.is_read_once and state_of(trace) != state:
+            raise Fault(f"{tool.NAME}: {changed(trace)}")
     return [run.text for run in runs.runs]
+
+
+def changed(trace):
+    return f"{trace} has changed while it was read: not all runs have counted the same references"

@@ -2,11 +2,15 @@
 
 import contextlib
 import os
+import resource
 import signal
 import stat
 import sys
 
+from lib import tool
+
 STOPS = (signal.SIGHUP, signal.SIGINT, signal.SIGTERM)
+LAST = 1 << 13  # the bytes that a last line may take the place of
 
 
 class Stopped(SystemExit):
@@ -36,6 +40,21 @@ def stop_at_signals():
             signal.signal(number, stop)
 
 
+def out_of_time(*_):
+    signal.signal(signal.SIGXCPU, signal.SIG_IGN)
+    tool.fail("the limit of processor time is met")
+
+
+def limit_time():
+    """Has the limit of processor time end the tool so that it can tell it: a second earlier, where
+    the system would kill it else."""
+    soft, hard = resource.getrlimit(resource.RLIMIT_CPU)
+    if soft != resource.RLIM_INFINITY:
+        signal.signal(signal.SIGXCPU, out_of_time)
+        if soft == hard > 1:
+            resource.setrlimit(resource.RLIMIT_CPU, (hard - 1, hard))
+
+
 @contextlib.contextmanager
 def ends_by_signal():
     """Within this, a tool that a signal ends is seen to have ended by it."""
@@ -45,6 +64,19 @@ def ends_by_signal():
         signal.signal(end.code - 128, signal.SIG_DFL)
         os.kill(os.getpid(), end.code - 128)
         sys.exit(end.code)
+
+
+def put_last(line):
+    """Ends standard output in a line; a file that has no more room, or may not grow, in place of
+    what it ends in."""
+    with contextlib.suppress(OSError):
+        if os.write(1, line) == len(line):
+            return
+    found = os.fstat(1)
+    if stat.S_ISREG(found.st_mode):
+        end = max(0, found.st_size - LAST)
+        os.ftruncate(1, end)
+        os.pwrite(1, b"\n" + line, end)
 
 
 class WholeTrace:
@@ -62,12 +94,14 @@ class WholeTrace:
         if fault is None or isinstance(fault, SystemExit) and not fault.code:
             return
         with contextlib.suppress(OSError):
-            self.spoil(f"{os.path.basename(sys.argv[0])} failed: what stands above is not all\n")
+            self.spoil(f"{tool.NAME} failed: what stands above is not all\n")
 
     def spoil(self, line):
+        if self.output is None:
+            return
         if self.output == "-":
             if not os.isatty(1):
-                os.write(1, line.encode())
+                put_last(line.encode())
             return
         kind = os.stat(self.output).st_mode
         if stat.S_ISFIFO(kind) or stat.S_ISREG(kind):

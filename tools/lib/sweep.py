@@ -1,7 +1,8 @@
 """What the tools share that make a table of their own from those of sweeps: three-c and warm."""
 
-from lib import paging, runs, tool
-from lib.signals import ends_by_signal
+import functools
+
+from lib import paging, runs, streams, tool
 
 
 def options_of(words, place):
@@ -19,13 +20,28 @@ def options_of(words, place):
     return words, shared
 
 
+def numbers(fields):
+    return [int(field) if field.isdigit() else field for field in fields]
+
+
 class Table:
     """A table or several: the names of its columns, and rows of numbers. A page has no header."""
 
     def __init__(self, lines):
         self.header = lines[0] if lines and not lines[0][:1].isdigit() else None
-        self.rows = [[int(field) if field.isdigit() else field for field in line.split(",")]
-                     for line in lines if line[:1].isdigit()]
+        self.lines = [line for line in lines if line[:1].isdigit()]
+
+    @functools.cached_property
+    def rows(self):
+        return [numbers(line.split(",")) for line in self.lines]
+
+    def rows_of(self, wanted):
+        """Those of some block sizes and sizes: of a long table the others are not looked at."""
+        wanted = {f"{bsize},{size}" for bsize, size in wanted}
+        for line in self.lines:
+            bsize, _, _, size, _ = line.split(",", 4)
+            if f"{bsize},{size}" in wanted:
+                yield numbers(line.split(","))
 
     @classmethod
     def caches(cls, program, options):
@@ -43,10 +59,9 @@ def over(trace, program, sweeps):
     name = program.rpartition("/")[2]
     commands = [(name, words if words[0][:1] != "-" else [program, "sweep", *words], *more)
                 for words, *more in sweeps]
-    with ends_by_signal():
-        texts = runs.over(trace, commands, len(commands), is_read_once=True)
+    texts = runs.over(trace, commands, len(commands), is_read_once=True)
     return [Table(text.decode().splitlines()) for text in texts]
 
 
 def deliver(lines):
-    runs.write_out(["".join(f"{line}\n" for line in lines).encode()], "standard output: ")
+    streams.write_out(["".join(f"{line}\n" for line in lines).encode()], "standard output: ")

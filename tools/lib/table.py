@@ -4,15 +4,18 @@ import fractions
 import re
 from typing import NamedTuple
 
-from lib.tool import faults_of
+from lib.tool import faults_of, warn
 
 HEADER = "bsize,sets,assoc,size,hits,misses,evictions"
 # columns that count references, those of `three-c` too: they are shown in per cent of all
 # references, and any other column, such as one of cycles, in its own unit
 COUNTS = ("hits", "misses", "evictions", "compulsory", "capacity", "conflict")
+# which `three-c` leaves empty for a cache of too many lines
+MAY_BE_EMPTY = ("capacity", "conflict")
 # no longer than a picture's axis can bear
 WHOLE = re.compile("[0-9]{1,64}")
-NUMBER = re.compile("[0-9]{1,64}([.][0-9]{1,64})?")
+# conflict misses may be below 0
+NUMBER = re.compile("-?[0-9]{1,64}([.][0-9]{1,64})?")
 
 
 class Row(NamedTuple):
@@ -66,7 +69,7 @@ class BadTable(Exception):
 def number_of(text, column, place):
     """The exact number that a field of a measure says."""
     if not NUMBER.fullmatch(text):
-        is_long = re.fullmatch("[0-9.]{65,}", text)
+        is_long = re.fullmatch("-?[0-9.]{65,}", text)
         raise BadTable(f"{place}: {column} is {'too long a' if is_long else 'no'} number")
     return fractions.Fraction(text)
 
@@ -84,9 +87,10 @@ def read_table(lines, name, measure="misses"):
     """The rows of a table, given its lines. A page without a header will do; `name` is for the
     fault. A header may name more columns after those of a sweep, which some tools add: of these
     only the measure is read."""
-    rows = []
+    rows, seen, empty = [], set(), 0
     columns = HEADER.split(",")
     own = len(columns)
+    judge_end(lines, name)
     for number, line in enumerate(lines, 1):
         line = line.rstrip("\r\n")
         fields = line.split(",")
@@ -98,14 +102,29 @@ def read_table(lines, name, measure="misses"):
         row = Row(*map(int, fields[:own]))
         if row.size != row.bsize * row.sets * row.assoc:
             raise BadTable(f"{name}: line {number}: size is not bsize * sets * assoc")
+        if row.cache in seen:
+            raise BadTable(f"{name}: two rows for the cache {','.join(map(str, row.cache))}")
+        seen.add(row.cache)
         if measure != "misses":
             field = fields[column_of(columns, measure, name)]
+            if not field and measure in MAY_BE_EMPTY:
+                empty += 1
+                continue
             value = number_of(field, measure, f"{name}: line {number}")
             row = row._replace(value=value, is_count=measure in COUNTS)
         rows.append(row)
     if not rows:
-        raise BadTable(f"{name}: a table without a row")
+        what = f"any {measure}" if empty else "a row"
+        raise BadTable(f"{name}: a table without {what}")
+    if empty:
+        warn(f"{name}: {empty} of {len(seen)} caches have no {measure}, and are left out")
     return rows
+
+
+def judge_end(lines, name):
+    """Refuses a table of which the last row may be cut, even inside a number."""
+    if lines and not lines[-1].endswith("\n"):
+        raise BadTable(f"{name}: line {len(lines)} has no end: the table was cut off there")
 
 
 def lines_of(name):

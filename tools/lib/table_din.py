@@ -2,10 +2,9 @@
 
 import math
 import re
-import statistics
 from typing import NamedTuple
 
-from lib.table import WHOLE, BadTable, column_of, number_of
+from lib.table import WHOLE, BadTable, column_of, judge_end, number_of
 
 # an option of a cache, as a column has it
 OPTION = re.compile("(l[12]-[diu])(size|sets|bsize|assoc|repl|walloc|wback)")
@@ -42,6 +41,7 @@ class Case(NamedTuple):
     @property
     def deviation(self):
         """The standard deviation of a sample."""
+        import statistics
         return statistics.stdev(map(float, self.values)) if len(self.values) > 1 else 0.0
 
 
@@ -132,6 +132,7 @@ def judge_columns(columns, measure, name):
 
 def read_table(lines, name, measure=None):
     """The table that some lines are. Without a measure it is of the misses of the last cache."""
+    judge_end(lines, name)
     columns = lines[0].rstrip("\r\n").split(",")
     measure = measure or usual_measure(columns)
     judge_columns(columns, measure, name)

@@ -1,16 +1,16 @@
-"""What the tools share: their name, faults and arguments, sizes, the program, and what they write.
-A tool in a folder below tools/ reads it so:
+"""What the tools share: their name, faults and arguments, sizes, files and the program. A tool in a
+folder below tools/ reads it so:
 
     sys.path.insert(1, str(pathlib.Path(__file__).resolve().parents[1]))
     tool = importlib.import_module("lib.tool")
+
+What few tools need is imported where it is used, since each module takes a millisecond or more.
 """
 
-import argparse
 import contextlib
 import os
 import re
-import shutil
-import subprocess
+import stat
 import sys
 
 HERE = os.path.dirname(os.path.dirname(os.path.realpath(__file__)))  # the tools
@@ -29,8 +29,15 @@ def end(text, status):
 
 
 def fail(text, status=FAILED):
-    """Ends the tool with one line on standard error."""
+    """Ends the tool with one line on standard error, also where a name has several."""
+    text = "".join(letter if letter >= " " else repr(letter)[1:-1] for letter in text)
     end(f"{NAME}: {text}", failure or status)
+
+
+def warn(text):
+    """A line on standard error."""
+    with contextlib.suppress(OSError, AttributeError):
+        print(f"{NAME}: {text}", file=sys.stderr, flush=True)
 
 
 def misused(text):
@@ -53,18 +60,10 @@ def called(name):
     return installed if os.path.exists(f"{HERE}/../../bin/{installed}") else name
 
 
-class Arguments(argparse.ArgumentParser):
-    """The arguments of a tool, whose help begins with its own text. A fault of them is one line."""
-
-    def __init__(self, text, **given):
-        super().__init__(prog=NAME, description=text,
-                         formatter_class=argparse.RawDescriptionHelpFormatter, **given)
-
-    def error(self, message):
-        misused(message)
-
-    def print_help(self, file=None):
-        write_lines(self.format_help().splitlines())
+def Arguments(text, **given):  # noqa: N802 - a class where it is used
+    """The parser of a tool's arguments, whose help begins with the tool's own text."""
+    from lib import arguments
+    return arguments.Arguments(text, **given)
 
 
 def options(words, flags):
@@ -89,9 +88,16 @@ def look_for_help(arguments, texts=()):
         sys.exit()
 
 
+def which(command):
+    """The path of a command, or None."""
+    folders = [""] if "/" in command else os.environ.get("PATH", os.defpath).split(os.pathsep)
+    paths = (os.path.join(folder, command) for folder in folders)
+    return next((path for path in paths if os.path.isfile(path) and os.access(path, os.X_OK)), None)
+
+
 def needs(command, package):
     """Ends the tool where a command is missing, naming Debian's package."""
-    if not shutil.which(command):
+    if not which(command):
         fail(f"{command} is missing: apt-get install {package}")
 
 
@@ -101,17 +107,59 @@ def is_option(word):
 
 
 def readable(trace):
-    """Ends the tool where a trace is neither '-' nor something that can be read."""
+    """Ends the tool where a trace is neither '-' nor something that can be read, or is the file
+    that standard output goes to."""
     if trace != "-" and (os.path.isdir(trace) or not os.access(trace, os.R_OK)):
         fail(f"{trace}: no file that can be read")
+    with contextlib.suppress(OSError):  # it is closed
+        if is_same(0 if trace == "-" else trace, 1):
+            fail(f"{'standard input' if trace == '-' else trace} is standard output too")
+
+
+def is_same(file, other):
+    """Whether two names or descriptors are of one file, whose contents would be lost; also of one
+    that is not there yet."""
+    try:
+        found = os.stat(file), os.stat(other)
+    except OSError:
+        names = [os.path.realpath(name) for name in (file, other) if isinstance(name, str)]
+        return len(names) == 2 and names[0] == names[1]
+    return os.path.samestat(*found) and stat.S_ISREG(found[0].st_mode)
+
+
+def apart(outputs, inputs=()):
+    """Ends the tool where a file that it is to write is read too, or is another such file. Each has
+    what it is called by its name or descriptor, which may be empty."""
+    written = [(name, file) for name, file in outputs if file not in (None, "")]
+    for number, (name, file) in enumerate(written):
+        for other, path in [*inputs, *written[:number]]:
+            if path not in (None, "") and is_same(path, file):
+                misused(f"{name} and {other} are one file")
+
+
+def bytes_of(text):
+    """The number of bytes that a scaled number as 512, 32k or 1m says, or None."""
+    digits = text[:-1] if text[-1:].lower() in ("k", "m", "g") else text
+    is_size = digits.isascii() and digits.isdigit()
+    return int(digits) << UNITS[text[len(digits):].lower()] if is_size else None
 
 
 def size_of(text):
-    """The number of bytes that a scaled number as 512, 32k or 1m says."""
-    digits = text[:-1] if text[-1:].lower() in ("k", "m", "g") else text
-    if not (digits.isascii() and digits.isdigit()):
-        raise argparse.ArgumentTypeError(f"{text!r} is no size such as 512, 32k or 1m")
-    return int(digits) << UNITS[text[len(digits):].lower()]
+    """The same for an argument's parser."""
+    size = bytes_of(text)
+    if size is None:
+        raise no_argument(no_size(text))
+    return size
+
+
+def no_size(text):
+    return f"{text!r} is no size such as 512, 32k or 1m"
+
+
+def no_argument(text):
+    """What a parser of arguments takes for a fault of one."""
+    from argparse import ArgumentTypeError
+    return ArgumentTypeError(text)
 
 
 def size_text(size):
@@ -141,12 +189,10 @@ def find_cachesim():
 
 def is_cachesim(path):
     """Whether a program writes an empty trace's table, with any counts. Others may end well too."""
+    from lib import processes
     words = [path, *"sweep --bsize 1 --sets 1 --assoc 1 --size 1 -t /dev/null".split()]
-    try:
-        ran = subprocess.run(words, stdin=subprocess.DEVNULL, capture_output=True, check=False)
-    except OSError:
-        return False
-    return re.fullmatch(rb"bsize,sets,assoc,size,.*\n1,1,1,1,.*\n", ran.stdout) is not None
+    _, table, _ = processes.ran(words)
+    return re.fullmatch(rb"bsize,sets,assoc,size,.*\n1,1,1,1,.*\n", table) is not None
 
 
 def write_lines(lines):

@@ -6,11 +6,9 @@ import collections
 import functools
 import os
 import re
-import shutil
-import subprocess
 from typing import NamedTuple
 
-from lib import tool
+from lib import processes, tool
 
 PAGE = 4096
 ANY_TEXT = {"encoding": "utf-8", "errors": "surrogateescape"}
@@ -57,17 +55,27 @@ def prefix_of(path):
     return "" if prefix.split("-")[0] == os.uname().machine else prefix
 
 
+def is_elf(path):
+    """Whether a file can be read and begins as an ELF file does."""
+    try:
+        with open(path, "rb") as file:
+            return file.read(4) == b"\x7fELF"
+    except OSError:
+        return False
+
+
 def output_of(command, path, *options, text=None):
     """What a command of binutils or LLVM, with options of which the last may take the path, writes
-    of a file; nothing where it can't read it."""
+    of an ELF file; nothing of another. Without its answer a table would look whole, so the tool
+    ends where it fails."""
+    if not is_elf(path):
+        return ""
     prefix = "" if command == LLVM else prefix_of(path)
+    package = "llvm" if command == LLVM else f"binutils-{prefix}".rstrip("-")
     words = [f"{prefix}-{command}" if prefix else command, *options, path]
-    try:
-        ran = subprocess.run(words, input=text, capture_output=True, encoding="utf-8",
-                             errors="replace", env={**os.environ, "LC_ALL": "C"}, check=False)
-    except FileNotFoundError:
-        tool.fail(f"{words[0]} is missing: apt-get install {f'binutils-{prefix}'.rstrip('-')}")
-    return ran.stdout if ran.returncode == 0 else ""
+    text = None if text is None else text.encode()
+    said = processes.output_of(words, package, text, path, {**os.environ, "LC_ALL": "C"})
+    return said.decode(errors="replace")
 
 
 @functools.cache
@@ -80,7 +88,7 @@ def segments_of(path):
 @functools.cache
 def line_finder():
     """The command that tells the lines of addresses."""
-    return LLVM if shutil.which(LLVM) else "addr2line"
+    return LLVM if tool.which(LLVM) else "addr2line"
 
 
 class Loaded:
@@ -88,7 +96,7 @@ class Loaded:
 
     def __init__(self, path, base):
         self.path, self.base = path, base
-        self.name = os.path.basename(path)
+        self.name = " ".join(os.path.basename(path).splitlines())
         self.regions = [Range(at + base, at + size + base, f"({self.name})")
                         for _, at, size in segments_of(path)]
 

@@ -1,16 +1,13 @@
 """The tables of by-line, with the names of what was counted."""
 
-from lib import runs, tool
+from lib import streams, tool
 from lib.by_line import elf
 
 import collections
 import csv
 import io
-import os
-import sys
 from typing import NamedTuple
 
-KEYS = ("line", "function", "object")
 COUNTS = ("references", "misses", "compulsory", "capacity", "conflict")
 MOST_INLINED = 8
 NO_FETCH = elf.Frame("(no fetch before it)", None, 0)
@@ -113,45 +110,6 @@ def table_of_evictions(asked, cells, pairs):
         yield [*key, misses, share(misses)]
 
 
-def counts_in(path, cells):
-    """The counts of the instructions by their innermost line in a source file."""
-    name, real = os.path.basename(path), os.path.realpath(path)
-    found = {frame.file for cell in cells for frame in cell.frames
-             if frame.file and os.path.basename(frame.file) == name}
-    files = [file for file in found if os.path.realpath(file) == real] or found
-    if not files:
-        tool.fail(f"{path}: no reference is from a line of it: compile the program with -g, and"
-                  " name it by --map or --program")
-    own = ((next((frame.line for frame in reversed(cell.frames) if frame.file in files), None),
-            cell.counts) for cell in cells)
-    return sums(pair for pair in own if pair[0])
-
-
-def annotated(asked, cells):
-    """The lines of a source file with counts before them."""
-    with tool.faults_of(asked.annotate), open(asked.annotate, **elf.ANY_TEXT) as source:
-        lines = [line.rstrip("\n") for line in source]  # as for compilers a form feed ends none
-    used = COUNTS[:3] if asked.only_compulsory else COUNTS
-    counts = counts_in(asked.annotate, cells) if cells else {}
-    all_of_them, in_file = ([sum(column) for column in zip(*rows)] or [0] * len(COUNTS)
-                            for rows in ([cell.counts for cell in cells], counts.values()))
-    rows = [(all_of_them, "the whole trace"), (in_file, "this file"), (None, "")]
-    rows += [(counts.get(number), line) for number, line in enumerate(lines, 1)]
-    texts = texts_of(all_of_them, all_of_them)
-    widths = [max(len(name), len(text)) for name, text in zip(used, texts)]
-    yield "  ".join([*(name.rjust(width) for name, width in zip(used, widths)), "source"])
-    for numbers, line in rows:
-        texts = ["."] * len(used) if numbers is None else texts_of(numbers, all_of_them)
-        yield "  ".join([*(text.rjust(width) for text, width in zip(texts, widths)), line]).rstrip()
-
-
-def texts_of(numbers, all_of_them):
-    """Counts, of which the references and the misses have their share of all."""
-    shares = [f" ({100 * number / max(1, total):.1f}%)"
-              for number, total in zip(numbers[:2], all_of_them)]
-    return [f"{number:,}{share}" for number, share in zip(numbers, [*shares, "", "", ""])]
-
-
 def in_callgrind_format(asked, cells):
     """The counts by function and innermost line, without conflict misses, which may be below 0."""
     used = COUNTS[:3 if asked.only_compulsory else 4]
@@ -178,10 +136,6 @@ def in_callgrind_format(asked, cells):
     yield from ("", f"totals: {totals}")
 
 
-def warn(text):
-    print(f"{tool.NAME}: {text}", file=sys.stderr)
-
-
 def length_of(path):
     """How many lines a source file has; more than any where it can't be read."""
     try:
@@ -199,14 +153,14 @@ def warn_of_lines(cells):
         for file, line in {(frame.file, frame.line) for frame in cell.frames if frame.file}:
             files[file][line] += cell.counts[0]
     if files and elf.line_finder() != elf.LLVM:
-        warn("llvm-addr2line is missing: apt-get install llvm; addr2line may name a wrong file for"
-             " code of headers")
+        tool.warn("llvm-addr2line is missing: apt-get install llvm; addr2line may name a wrong file"
+                  " for code of headers")
     for path, lines in sorted(files.items()):
         length = length_of(path)
         behind = sum(count for line, count in lines.items() if line > length)
         if behind:
-            warn(f"{path}: {behind} references are at lines behind its end, {length}: is it the"
-                 " file that was compiled?")
+            tool.warn(f"{path}: {behind} references are at lines behind its end, {length}: is it"
+                      " the file that was compiled?")
 
 
 def lines_of(rows):
@@ -221,13 +175,11 @@ def report(asked, text, objects, layout):
     if asked.callgrind:
         with tool.faults_of(asked.callgrind), open(asked.callgrind, "w", **elf.ANY_TEXT) as file:
             file.writelines(f"{line}\n" for line in in_callgrind_format(asked, cells))
-    if asked.annotate or asked.callgrind or "line" in asked.by:
+    if asked.callgrind or "line" in asked.by:
         warn_of_lines(cells)
-    if asked.annotate:
-        lines = annotated(asked, cells)
-    elif asked.evicted_by:
+    if asked.evicted_by:
         lines = lines_of(table_of_evictions(asked, cells, pairs))
     else:
         lines = lines_of(table(asked, cells))
     text = "".join(f"{line}\n" for line in lines)
-    runs.write_out([text.encode(*elf.ANY_TEXT.values())], "standard output: ")
+    streams.write_out([text.encode(*elf.ANY_TEXT.values())], "standard output: ")

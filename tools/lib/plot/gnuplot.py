@@ -2,14 +2,12 @@
 
 import math
 import os
-import subprocess
-import sys
 import textwrap
 from typing import NamedTuple
 
+from lib import processes, tool
 from lib.plot import pictures
 from lib.plot.canvas import NARROW, Frame, frames
-from lib.tool import NAME, fail
 
 MARKS = (7, 5, 9, 11, 13, 6, 4)
 DASHES = ("solid", "(9,4)", "(2,3)", "(9,3,2,3)", "(16,5)", "(5,3)", "(9,3,2,3,2,3)")
@@ -293,17 +291,16 @@ def script(drawn, canvas, title, measure):
 
 def drawn_by(script):
     """What gnuplot draws by a script, in UTF-8: else it warns of letters that it can't convert."""
-    try:
-        ran = subprocess.run(["gnuplot", "-d"], input=script.encode(), capture_output=True,
-                             env={**os.environ, "LC_ALL": "C.UTF-8"})
-    except FileNotFoundError:
-        fail("gnuplot is missing: apt-get install gnuplot-nox")
-    message = " ".join(ran.stderr.decode(errors="replace").split())
-    if ran.returncode or not ran.stdout:
-        fail(f"gnuplot failed: {message}")
-    if message:
-        print(f"{NAME}: gnuplot: {message}", file=sys.stderr)
-    return ran.stdout
+    tool.needs("gnuplot", "gnuplot-nox")
+    code, picture, told = processes.ran(["gnuplot", "-d"], script.encode(),
+                                        {**os.environ, "LC_ALL": "C.UTF-8"})
+    told = " ".join(told.split())
+    if code or not picture:
+        how = f" with {processes.end_text(code)}" if code < 0 else ""
+        tool.fail(f"gnuplot failed{how}: {told or 'it drew nothing'}")
+    if told:
+        tool.warn(f"gnuplot: {told}")
+    return picture
 
 
 def lines_of(drawn):

@@ -3,6 +3,7 @@
 import html
 import json
 import math
+import site
 
 from lib.plot import pictures
 from lib.plot import sweep as plot_sweep
@@ -252,6 +253,7 @@ def as_script(data):
 
 def plotly():
     """The text of plotly for browsers."""
+    site.main()  # the tools else begin without Debian's packages, which takes less time
     try:
         from plotly.offline import get_plotlyjs
         return get_plotlyjs()

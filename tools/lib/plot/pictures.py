@@ -3,10 +3,9 @@
 import math
 from typing import NamedTuple
 
+from lib.plot import MOST_LINES
 from lib.tool import size_text
 
-NAMES = ("size", "block", "pareto", "curve")
-MOST_LINES = 7
 # of Okabe and Ito, but for a pale yellow: all people can tell them apart, also the colour-blind
 COLOURS = ("#0072b2", "#d55e00", "#009e73", "#cc79a7", "#e69f00", "#56b4e9", "#000000")
 PALE, FRONT, BLACK = "#bbbbbb", "#d55e00", "#000000"
@@ -130,20 +129,23 @@ def evenly(values, most=MOST_LINES):
     return chosen if chosen[-1] == values[-1] else [*chosen[: most - 1], values[-1]]
 
 
-def linear_axis(greatest, closest, most):
-    """An axis from 0 to a bit above a value, whose ticks are at least `closest` of it apart."""
-    high = 1.05 * greatest or 1.0
-    power = 10.0 ** math.floor(math.log10(high * closest))
-    step = next(step * power for step in (1, 2, 5, 10, 20) if step * power >= high * closest)
-    values = [step * count for count in range(int(high / step) + 1)]
+def linear_axis(least, greatest, closest, most):
+    """An axis from 0, or a bit below a value below 0, to a bit above a value, whose ticks are at
+    least `closest` of it apart."""
+    low, high = 1.05 * min(least, 0), 1.05 * max(greatest, 0)
+    high = high or (0.0 if low else 1.0)
+    span = high - low
+    power = 10.0 ** math.floor(math.log10(span * closest))
+    step = next(step * power for step in (1, 2, 5, 10, 20) if step * power >= span * closest)
+    values = [step * count for count in range(math.ceil(low / step), int(high / step) + 1)]
     ticks = [(value, number_text(value)) for value in values if value <= most]
-    return Axis(0.0, high, False, ticks, [], 0.0)
+    return Axis(low, high, False, ticks, [], 0.0)
 
 
 def number_text(value):
     """A number in few letters: 0.05, 2000, 20M."""
     for unit, letter in ((1e12, "T"), (1e9, "G"), (1e6, "M"), (1e3, "k")):
-        if unit <= value < 1e15:
+        if unit <= abs(value) < 1e15:
             return f"{value / unit:.6g}{letter}"
     return f"{value:.6g}".replace("e-0", "e-").replace("e+", "e")
 
@@ -167,12 +169,13 @@ def log_axis(values, closest, most):
     foot = least / span ** 0.12 if 0 in values else 0.0
     low, high = (foot or least) / span ** 0.12, greatest * span ** 0.05
     ticks = [(value, number_text(value)) for value in log_ticks(low, high, closest)
-             if 0.999 * least <= value <= min(high, most)]
+             if (0.999 * least if foot else low) <= value <= min(high, most)]
     apart = closest * math.log(high / low)
     ticks = [tick for tick in ticks if not foot or math.log(tick[0] / foot) >= apart]
-    decades = range(math.floor(math.log10(least)), math.ceil(math.log10(high)))
+    lowest = least if foot else low  # nothing stands between the foot and the least value
+    decades = range(math.floor(math.log10(lowest)), math.ceil(math.log10(high)))
     minor = [digit * 10.0 ** decade for decade in decades for digit in range(1, 10)]
-    minor = [value for value in minor if len(decades) < 7 and least <= value <= high
+    minor = [value for value in minor if len(decades) < 7 and lowest <= value <= high
              and all(abs(value / tick - 1) > 0.01 for tick, _ in ticks)]
     return Axis(low, high, True, [(foot, "0")] * bool(foot) + ticks, minor, foot)
 
@@ -182,9 +185,9 @@ def value_axis(points, measure, closest):
     values = [value for point in points for value in (point.y, *point.ends)]
     above = [value for value in values if value]
     most = 100 if measure.is_percent and max(values) <= 100 else math.inf
-    if above and max(above) >= 5 * min(above):
+    if above and min(values) >= 0 and max(above) >= 5 * min(above):
         return log_axis(values, closest, most)
-    return linear_axis(max(values), 1.5 * closest, most)
+    return linear_axis(min(values), max(values), 1.5 * closest, most)
 
 
 def size_axis(sizes, closest):

@@ -16,17 +16,13 @@ MOST_CHOICES = 64  # of a menu of a page
 
 def judge(rows, name):
     """Ends the tool where the rows are not of one sweep."""
-    seen = set()
     for row in rows:
         cache = ",".join(map(str, row.cache))
         if not 0 < row.size < 1 << 64 or row.references >= 1 << 64:
             fail(f"{name}: {cache} is no cache of a sweep")
-        if row.cache in seen:
-            fail(f"{name}: two rows for the cache {cache}")
         if row.references != rows[0].references:
             fail(f"{name}: the rows are not of one trace: {rows[0].references} references in the"
                  f" first row, {row.references} in that of {cache}")
-        seen.add(row.cache)
 
 
 def measure_of(column):

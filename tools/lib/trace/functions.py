@@ -1,28 +1,27 @@
 """Where the functions of a program are, by which `trace` begins and stops."""
 
 import re
-import subprocess
 
-from lib import tool
+from lib import processes, tool
 
 SYMBOL = re.compile(r"([0-9a-f]*) ([tTwWi]) (.*)")
 CODE = re.compile(r" *LOAD +0x\w+ 0x(\w+) 0x\w+ 0x\w+ 0x\w+ ..E ", re.M)
 
 
-def output_of(*command):
-    """What a command of binutils writes; nothing where it can't read its file."""
-    ran = subprocess.run(command, capture_output=True, check=False)
-    return ran.stdout.decode(errors="surrogateescape") if ran.returncode == 0 else ""
+def output_of(path, *command):
+    """What a command of binutils writes of a file."""
+    said = processes.output_of([*command, "--", path], "binutils", of=path)
+    return said.decode(errors="surrogateescape")
 
 
 def symbols(path, *options):
     """The functions of a file: each as its address, the letter of nm, and its name."""
-    lines = output_of("nm", "--defined-only", *options, "--", path).split("\n")
+    lines = output_of(path, "nm", "--defined-only", *options).split("\n")
     return [match.groups() for match in map(SYMBOL.fullmatch, lines) if match]
 
 
 def start_of_code(path):
-    starts = CODE.findall(output_of("readelf", "-lW", "--", path))
+    starts = CODE.findall(output_of(path, "readelf", "-lW"))
     return int(starts[0], 16) if starts else 0  # none is no program, which QEMU refuses
 
 
@@ -52,6 +51,7 @@ def address_of(path, name):
 
 def places(program, names):
     """The distances of functions from the code's start."""
+    tool.needs("nm", "binutils")
     start = start_of_code(program.path)
     for name in names:
         address = address_of(program.path, name)

@@ -2,8 +2,6 @@
 
 import os
 import re
-import shutil
-from typing import NamedTuple
 
 from lib import tool
 
@@ -13,12 +11,11 @@ MACHINES = {(2, 62): "x86_64", (1, 3): "i386", (2, 183): "aarch64", (1, 40): "ar
             (2, 243): "riscv64"}
 
 
-class Program(NamedTuple):
+class Program:
     """A file, its machine, and the words that it gets: its name and its arguments."""
 
-    path: str
-    machine: str
-    words: list
+    def __init__(self, path, machine, words):
+        self.path, self.machine, self.words = path, machine, words
 
 
 def no_program(status, text):
@@ -28,7 +25,7 @@ def no_program(status, text):
 def found(name, script=""):
     """The file of a program, or of a script's interpreter."""
     called = f"{name}, the interpreter of {script}," if script else name
-    path = name if "/" in name else shutil.which(name)
+    path = name if "/" in name else tool.which(name)
     if path is None or not os.path.exists(path):
         no_program(ABSENT, f"{called} is not found")
     path = f"./{path}" if path.startswith("-") else path

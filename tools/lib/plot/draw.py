@@ -1,0 +1,119 @@
+"""What tools/plot draws of the tables that it is given, and where that goes."""
+
+import os
+import shutil
+import tempfile
+
+from lib import table, table_din
+from lib.plot import canvas as plot_canvas
+from lib.plot import din as plot_din
+from lib.plot import gnuplot as plot_gnuplot
+from lib.plot import page as plot_page
+from lib.plot import sweep as plot_sweep
+from lib.plot import tables as plot_tables
+from lib.tool import fail, faults_of, write_lines
+
+
+def canvas_of(asked, count):
+    """The canvas for the ending of OUT."""
+    if asked.out == "-":
+        terminal = shutil.get_terminal_size()
+        return plot_canvas.text(terminal.columns, terminal.lines - 1)
+    return plot_canvas.KINDS[asked.ending](count, asked.size, asked.mono, asked.scale)
+
+
+def is_special(out):
+    """Whether OUT is a pipe or a device, which is written to and not replaced."""
+    return os.path.exists(out) and not os.path.isfile(out)
+
+
+def write_file(out, data):
+    """Writes a file beside OUT and moves it into place, so that a failure leaves what was there.
+    But a pipe or a device stays. The new file may be read by those who may read the old one."""
+    place = os.path.realpath(out)
+    mask = os.umask(0)
+    os.umask(mask)
+    with faults_of(out):
+        if is_special(out):
+            with open(out, "wb") as file:
+                file.write(data)
+            return
+        handle, fresh = tempfile.mkstemp(dir=os.path.dirname(place), prefix=".plot-")
+        try:
+            with open(handle, "wb") as file:
+                file.write(data)
+            mode = os.stat(place).st_mode & 0o777 if os.path.exists(place) else 0o666 & ~mask
+            os.chmod(fresh, mode)
+            os.replace(fresh, place)
+        except BaseException:
+            os.unlink(fresh)
+            raise
+
+
+def of_several(asked, given):
+    """The picture of several tables, its measure, and a function for the page."""
+    if len({table_din.is_din(lines) for lines, _ in given}) > 1:
+        fail("tables of sweeps and of din have no picture in common")
+    if table_din.is_din(given[0][0]):
+        drawn, measure = plot_tables.of_dins(asked, given)
+    else:
+        column = column_of(asked)
+        read = [rows_of(file, *each, column) for file, each in zip(asked.tables, given)]
+        tables = map(plot_tables.Rows, asked.tables, plot_tables.names_of(asked.tables), read)
+        drawn, measure = plot_tables.of_sweeps(asked, [*tables], plot_sweep.measure_of(column))
+    counts = f"{len(given)} tables"
+    return drawn, measure, lambda: plot_page.page(drawn, measure, asked.title, counts, asked.mono)
+
+
+def column_of(asked):
+    """The column of a sweep's table that is drawn."""
+    if asked.across:
+        fail(f"{asked.table}: --across is for a table of din")
+    return asked.measure or "misses"
+
+
+def rows_of(file, lines, name, column):
+    rows = table.read_table(lines, name, column)
+    plot_sweep.judge(rows, file)
+    return rows
+
+
+def of_sweep(asked, lines, name):
+    """The pictures of a sweep's table, their measure, and a function for the page."""
+    column = column_of(asked)
+    rows, measure = rows_of(asked.table, lines, name, column), plot_sweep.measure_of(column)
+    if not rows[0].references:
+        asked.title = f"{asked.title} (no references)".strip()
+    drawn = plot_sweep.drawn(asked, rows, measure)
+    return drawn, measure, lambda: plot_page.of_sweep(drawn, rows, measure, asked.title, asked.mono)
+
+
+def of_din(asked, lines, name):
+    """The same for a table of din."""
+    columns, given = lines[0].strip().split(","), table_din.read_table(lines, name)
+    across = plot_din.across_of(asked, given.options, plot_din.varied(given), asked.table)
+    column = asked.measure or plot_din.chosen_measure(columns, across)
+    given = table_din.read_table(lines, name, column)
+    measure = plot_din.measure_of(given)
+    drawn = plot_din.drawn(asked, given, across, measure)
+    return drawn, measure, lambda: plot_page.of_din(drawn, given, measure, asked.title, asked.mono)
+
+
+def draw(asked, given):
+    """Draws the tables that some lines are, and writes what is asked for."""
+    if len(given) > 1:
+        drawn, measure, page = of_several(asked, given)
+    else:
+        one = of_din if table_din.is_din(given[0][0]) else of_sweep
+        drawn, measure, page = one(asked, *given[0])
+    if asked.ending == ".html":
+        write_file(asked.out, page().encode())
+        return
+    canvas = canvas_of(asked, len(drawn))
+    script = plot_gnuplot.script(drawn, canvas, asked.title, measure)
+    if asked.script:
+        write_lines(script.splitlines())
+    elif asked.out == "-":
+        write_lines(plot_gnuplot.lines_of(plot_gnuplot.drawn_by(script)))
+    else:
+        write_file(asked.out, plot_gnuplot.drawn_by(script))

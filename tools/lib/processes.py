@@ -1,0 +1,257 @@
+"""Processes that a tool starts and joins by pipes: each ends with the tool, and its fault names
+it."""
+
+import contextlib
+import os
+import signal
+
+from lib import tool
+from lib.signals import heed_stops, limit_time, put_off_stops, stop_at_signals
+
+TOLD = 1 << 18  # the bytes of its messages that are looked at
+UNPACKERS = {".gz": ("gzip", "gzip"), ".xz": ("xz", "xz-utils"), ".zst": ("zstd", "zstd")}
+PR_SET_CHILD_SUBREAPER = 36
+
+
+class Fault(Exception):
+    """What ends the tool: its message and its status."""
+
+    def __init__(self, text, status=1):
+        super().__init__(text)
+        self.text, self.status = text, status
+
+
+def start(command, stdin=0, stdout=1, stderr=2, path=None, env=None, **given):
+    """Starts a command, or the program at a path, with these descriptors as its first three.
+    Returns its process's number."""
+    # where it is ignored, the end of a process can't be waited for
+    if signal.getsignal(signal.SIGCHLD) == signal.SIG_IGN:
+        signal.signal(signal.SIGCHLD, signal.SIG_DFL)
+    ends = [(os.POSIX_SPAWN_DUP2, *end) for end in zip((stdin, stdout, stderr), range(3))]
+    return os.posix_spawnp(path or command[0], command, env or os.environ, file_actions=ends,
+                           **given)
+
+
+def end_text(code):
+    return f"status {code}" if code > 0 else f"signal {-code}"
+
+
+def is_packed(trace):
+    return trace.endswith(tuple(UNPACKERS))
+
+
+def opened(trace):
+    """The descriptor that a trace is read from which is not packed."""
+    return 0 if trace == "-" else os.open(trace, os.O_RDONLY)
+
+
+@contextlib.contextmanager
+def uninterrupted():
+    """Holds back what would interrupt the tool, so that it knows each process that it starts."""
+    put_off_stops()
+    try:
+        yield
+    finally:
+        heed_stops()
+
+
+class Process:
+    """A process over the trace. What it tells, and writes to no other place, is kept in memory."""
+
+    # what a terminal sends to all processes is for the tool alone, which ends the others
+    BLOCKED = (signal.SIGHUP, signal.SIGINT)
+
+    def __init__(self, command, stdin=0, stdout=None, stderr=None, path=None, **given):
+        self.kept, self.messages = os.memfd_create("kept"), os.memfd_create("messages")
+        self.name, self.text = os.path.basename(path or command[0]), b""
+        self.number = start(command, stdin, self.kept if stdout is None else stdout,
+                            self.messages if stderr is None else stderr, path,
+                            setsigmask=self.BLOCKED,
+                            setsigdef=[signal.SIGPIPE], **given)  # which Python ignores
+        self.is_running = True
+
+    def fault(self, code):
+        """What is told where it failed: its own message, if it could write one."""
+        if code in (1, 2) and self.message():
+            return Fault(self.message(), code)
+        return Fault(f"{tool.NAME}: {self.name} ended with {end_text(code)}")
+
+    def message(self):
+        return os.pread(self.messages, TOLD, 0).decode(errors="replace").strip()
+
+    def ended(self, status):
+        """Takes note of its end, and of what it has written. It is a fault where it failed."""
+        self.is_running = False
+        code = os.waitstatus_to_exitcode(status)
+        if code:
+            raise self.fault(code)
+        self.close()
+
+    def close(self):
+        """Keeps what it has written."""
+        os.close(self.messages)
+        with open(self.kept, "rb") as file:
+            file.seek(0)
+            self.text = file.read()
+
+    def wait(self):
+        if self.is_running:
+            self.ended(os.waitpid(self.number, 0)[1])
+
+    def kill(self):
+        if self.is_running:
+            with contextlib.suppress(ProcessLookupError, ChildProcessError):  # not noted its end
+                os.kill(self.number, signal.SIGKILL)
+                os.waitpid(self.number, 0)
+            self.is_running = False
+
+    def go_on(self):
+        """Lets it go on where it was stopped alone: whoever stops the tool stops both."""
+        with contextlib.suppress(ChildProcessError):
+            if self.is_running and os.waitid(os.P_PID, self.number, os.WSTOPPED | os.WNOHANG):
+                os.kill(self.number, signal.SIGCONT)
+
+
+class Filter(Process):
+    """A process that writes the tool's output. The tool ends like it where its reader goes away."""
+
+    def fault(self, code):
+        if code == -signal.SIGPIPE:
+            raise SystemExit(tool.READER_GONE)
+        return super().fault(code)
+
+
+class Unpacker(Process):
+    """What writes the text of a compressed trace to a pipe."""
+
+    def __init__(self, trace):
+        self.trace = trace
+        self.pipe, write = os.pipe()
+        command, package = next(UNPACKERS[end] for end in UNPACKERS if trace.endswith(end))
+        tool.needs(command, package)
+        super().__init__([command, "-dcq" if command == "zstd" else "-dc", "--", trace],
+                         stdout=write)
+        os.close(write)
+
+    def ended(self, status):
+        """Where its reader has gone away, that tells why."""
+        if os.waitstatus_to_exitcode(status) == -signal.SIGPIPE:
+            self.is_running = False
+        else:
+            super().ended(status)
+
+    def fault(self, code):
+        text = self.message().split("\n")[-1] or f"{self.name} ended with {end_text(code)}"
+        return Fault(f"{tool.NAME}: {self.trace} can't be read: {text}")
+
+
+class Group:
+    """Processes that a tool starts, all of which are ended with it. A fault of one ends the tool
+    with its message, and so does one that can't be started."""
+
+    def __init__(self):
+        self.processes, self.before = [], None
+
+    def __enter__(self):
+        stop_at_signals()
+        limit_time()
+        self.before = signal.signal(signal.SIGCHLD, self.look_after)
+        return self
+
+    def look_after(self, *of_signal):
+        for process in self.processes:
+            process.go_on()
+        if callable(self.before):  # that of a group around this one
+            self.before(*of_signal)
+
+    def start(self, kind, *given, ends=(), **more):
+        """Starts a process of some kind, and closes these ends of pipes, which it now has."""
+        with uninterrupted():
+            running = [process for process in self.processes if process.is_running]
+            self.processes = [*running, kind(*given, **more)]
+        for end in ends:
+            if end > 2:
+                os.close(end)
+        return self.processes[-1]
+
+    def start_source(self, trace):
+        """The descriptor that a trace is read from, and the process that unpacks it, if any does,
+        which is ended with the others."""
+        if not is_packed(trace):
+            return opened(trace), None
+        unpacker = self.start(Unpacker, trace)
+        return unpacker.pipe, unpacker
+
+    def __exit__(self, _, fault, __):
+        with uninterrupted():
+            for process in self.processes:
+                process.kill()
+        signal.signal(signal.SIGCHLD, self.before or signal.SIG_DFL)
+        if isinstance(fault, Fault):
+            tool.end(fault.text, fault.status)
+        if isinstance(fault, OSError):
+            tool.fail(f"no more processes can be started: {fault.strerror}")
+        if isinstance(fault, MemoryError):
+            tool.fail("out of memory")
+
+
+class Helper(Process):
+    """A program that tells the tool something. How it ended is for who asked it."""
+
+    def ended(self, status):
+        self.is_running, self.code = False, os.waitstatus_to_exitcode(status)
+        self.told = self.message()
+        self.close()
+
+
+def given(text):
+    """A descriptor of a file without a name that has this text."""
+    file = os.memfd_create("text")
+    with open(file, "wb", closefd=False) as into:
+        into.write(text)
+    os.lseek(file, 0, os.SEEK_SET)
+    return file
+
+
+def ran(words, text=None, env=None):
+    """How a program ended that is given this text, as a status or below 0 a signal; what it wrote;
+    and what it told. It ends with the tool, which fails where the program can't be run."""
+    with Group() as group:
+        stdin = os.open(os.devnull, os.O_RDONLY) if text is None else given(text)
+        read, write = os.pipe()  # which no limit of a file's size is for
+        try:
+            helper = group.start(Helper, words, stdin, write, env=env, ends=(stdin, write))
+        except OSError as fault:
+            tool.fail(f"{words[0]} can't be run: {fault.strerror}")
+        with open(read, "rb") as file:
+            output = file.read()
+        helper.wait()
+    return helper.code, output, helper.told
+
+
+def output_of(words, package, text=None, of="", env=None):
+    """What a command of Debian's package writes, with a text as its input. Where it is missing or
+    fails, the tool does so, and names it and the file that it is asked `of`."""
+    tool.needs(words[0], package)
+    code, output, told = ran(words, text, env)
+    if code:
+        last = told.rpartition("\n")[2]
+        place = f"{of}: " if of else ""
+        tool.fail(f"{place}{words[0]} ended with {end_text(code)}{': ' * bool(last)}{last}")
+    return output
+
+
+def adopt_orphans():
+    """Has what a process leaves behind become this one's child."""
+    import ctypes
+    ctypes.CDLL(None).prctl(PR_SET_CHILD_SUBREAPER, 1, 0, 0, 0)
+
+
+def end_orphans():
+    """Ends all children of this process, and theirs, which it has adopted."""
+    with contextlib.suppress(ChildProcessError):  # none is left
+        while True:
+            with open(f"/proc/self/task/{os.getpid()}/children", encoding="ascii") as file:
+                for child in file.read().split():
+                    os.kill(int(child), signal.SIGKILL)
+            os.waitpid(-1, 0)
