@@ -80,7 +80,7 @@ Valgrind writes it: ' L 7ffe10,8'; a modify is a read and a write.
 pub const CSIM_ABOUT: &str = "Runs the data references of a lackey trace through one LRU cache";
 
 /// How `csim` is called.
-pub const CSIM_USAGE: &str = "cachesim csim [-v] -s <N> -E <N> -b <N> -t <FILE>";
+pub const CSIM_USAGE: &str = "cachesim csim [OPTIONS] -s <N> -E <N> -b <N> -t <FILE>";
 
 /// The text after the options of `csim`.
 pub const CSIM: &str = help_text!(
