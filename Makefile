@@ -39,7 +39,7 @@ demo:
 	@package/target demo
 
 tools:
-	@package/compile
+	@$(MAKE) -s -C tools
 
 test: kit
 	@python3 tests/all

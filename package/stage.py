@@ -3,12 +3,12 @@
 import gzip
 import re
 import shutil
-import subprocess
 import sys
 
 import completion
 import pages
 from shared import TOP, said, tool, tools, words_in
+from lib.compiled import compiled
 
 BUILT = TOP / "crates/cachesim/out/cachesim"
 # where each shell looks for the completion of a command
@@ -28,12 +28,15 @@ def write(path, content):
 
 
 def is_compiled(path):
-    """Whether the C parts of a tool are there, or can be compiled."""
-    parts = [f"out/{part}" for part in PART.findall(path.read_text(encoding="utf-8"))]
-    command = ["make", "-s", "-C", TOP / "tools", *parts]
-    if not (TOP / "tools/Makefile").exists():
-        command = [path, "--build"]
-    return not parts or not subprocess.run(command, stdout=2, check=False).returncode
+    """Whether the C parts of a tool are there, or can be compiled; a line says why they can't."""
+    try:
+        for part in PART.findall(path.read_text(encoding="utf-8")):
+            compiled(part)
+    except SystemExit as end:
+        if end.code != tool.FAILED:
+            raise  # a signal
+        return False
+    return True
 
 
 def put_tools(tree):
