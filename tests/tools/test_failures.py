@@ -1,5 +1,6 @@
 """A tool that ends with status 0 has given its whole answer, whatever failed on the way: each
-command that it runs, its standard streams, its descriptors, and signals."""
+command that it runs, its standard streams, its limits, and signals. It ends soon, without a
+traceback, and leaves no process and no file. System folders are read-only in all runs."""
 
 import concurrent.futures
 import os
@@ -11,53 +12,66 @@ import subprocess
 import tempfile
 import time
 
-from base import EXAMPLES, PROGRAM, TOOLS, TOP, ToolTest, copy_tools
-from trace_base import TRACED, program_of
+from base import (EXAMPLES, PROGRAM, TOOLS, TOP, ToolTest, comes, copy_tools, needs,
+                  processes)
+from trace_base import TRACED, program_of, symbols_of
 
 SPACE = "--bsize 16 --sets 1-4 --assoc 1-2 --size 64".split()
 CACHE = "-l1-dsize 128 -l1-dbsize 16 -l1-dassoc 2".split()
 QEMU = f"qemu-{platform.machine()}"
 FAKE = {"FAKE_VERSION": "7.2.22", "FAKE_HELP": "-plugin ..", "FAKE_START": "0"}
-# what each tool is given: files, and in the place of INPUT a trace
+LARGE = "--bsize 1 --sets 131072 --assoc 1 --size 128k".split()
+# what each tool is given: files, and in the place of INPUT a trace. Behind a blank stands what it is
+# asked for beside its usual work, by options that call other commands
 RUNS = {
     "best": ["table.csv"],
     "by-line": ["INPUT", *CACHE],
+    "by-line names": ["lines.din", *CACHE, "--program", "traced", "--callgrind", "counts"],
     "by-page": ["INPUT", *CACHE],
     "din-table": ["2", "INPUT", *CACHE[:2], "-l1-dbsize", "16,32"],
     "lab/lab-csim": "-s 1 -E 2 -b 4 -t handout.lackey".split(),
+    "lab/lab-trace": ["./program"],
     "lab/replay": "-s 1 -E 2 -b 4 -t handout.lackey --text".split(),
     "over-time": ["INPUT", *CACHE, "--each", "50"],
     "pages": ["2", *SPACE],
     "plot": ["--script", "table.csv", "-"],
+    "plot text": ["table.csv", "-"],
     "second-level": ["INPUT", *CACHE],
     "sweep-parallel": ["2", "INPUT", *SPACE],
     "three-c": ["INPUT", *SPACE],
+    "three-c large": ["INPUT", *LARGE],
     "to-din": ["lackey", "handout.lackey"],
     "trace": ["./program", "2:1", "many:100"],
+    "trace lackey": ["--with", "lackey", "--kind", "d", "./program"],
+    "trace to": ["--to", "main", "./traced", "2:1", "many:100"],
     "warm": ["9", "INPUT", *SPACE],
 }
 OF_A_TRACE = [tool for tool, words in RUNS.items() if "INPUT" in words]
-WRITES_A_TRACE = ("second-level", "to-din", "trace")
-# all that they run, but for Python and bash by their paths; a command that is not here is not found
-COMMANDS = """addr2line awk bash cat cp dirname env gnuplot grep gzip head mkdir mkfifo mktemp mv nm
-od paste readelf readlink rm sed sort tail tee tr uname wc xz zstd""".split()
+WRITES_A_TRACE = ("lab/lab-trace", "second-level", "to-din", "trace")
+OF_VALGRIND = ("lab/lab-trace", "trace lackey")  # which has no room in some limits
+# all that they run; a command that is not here is not found
+COMMANDS = "addr2line awk gnuplot gzip llvm-addr2line nm readelf valgrind xz zstd".split()
 # counts the calls of a command, and fails in that one which the environment names
 STAND_IN = """\
 #!/bin/bash
 set -o noclobber
 for ((at = 1; at < 99; at++)); do { : > "$CALLS/${0##*/}.$at"; } 2> /dev/null && break; done
-if [ "${0##*/}.$at" = "${FAILING-}" ]; then [ "$WAY" = killed ] && kill -KILL $$; exit 1; fi
+if [ "${0##*/}.$at" = "${FAILING-}" ]; then
+    case $WAY in killed) kill -KILL $$ ;; stopped) kill -STOP $$ ;; *) exit 1 ;; esac
+fi
 exec -a "${0##*/}" REAL "$@"
 """
 # how a tool is started
 PIPES = {"stdout": subprocess.PIPE, "stderr": subprocess.PIPE, "start_new_session": True}
 
 
+@needs("bubblewrap", "binutils", "gnuplot-nox", "llvm", "valgrind", "xz-utils", "zstd")
 class FailureTest(ToolTest):
     @classmethod
     def setUpClass(cls):
         """A copy of the tools with stand-ins for all commands, and a folder with what they read."""
         cls.place = pathlib.Path(tempfile.mkdtemp(prefix="cachesim-failures-"))
+        cls.place.chmod(0o755)  # for another user
         cls.addClassCleanup(shutil.rmtree, cls.place, ignore_errors=True)
         cls.tools, cls.commands, cls.given = (
             cls.place / name for name in ("tools", "commands", "given"))
@@ -67,7 +81,7 @@ class FailureTest(ToolTest):
         shutil.copytree(TOOLS / "lab", cls.tools / "lab")
         (cls.tools / "out").mkdir()
         # after the end of trace-run nothing is left that could mark the end of the trace
-        for name in ("by-line", "trace-plugin.so", "trace-run"):
+        for name in ("by-line", "trace-plugin.so", "trace-run", "to-din"):
             shutil.copy(TOOLS / "out" / name, cls.tools / "out")
         cls.commands.mkdir()
         real = {name: path for name in COMMANDS if (path := shutil.which(name))}
@@ -84,9 +98,26 @@ class FailureTest(ToolTest):
         with open(given / "trace.gz", "wb") as file:
             subprocess.run(["gzip", "-c", given / "trace.din"], stdout=file, check=True)
         shutil.copy(TOP / "tests/cases/inputs/handout.lackey", given)
+        shutil.copy(EXAMPLES / "sort.din", given / "long.din")
+        shutil.copy(EXAMPLES / "transpose.lackey", given / "long.lackey")
+        for pack in (["xz", "-k"], ["zstd", "-q"]):
+            subprocess.run([*pack, given / "trace.din"], check=True)
         shutil.copy(shutil.which("true"), given / "program")
+        traced = program_of(TRACED / "own_arrays.c", "-g")
+        shutil.copy(traced, given / "traced")
+        start, size = symbols_of(traced)["first"]
+        lines = [f"2 {at:x}\n0 {symbols_of(traced)['first_array'][0]:x}\n"
+                 for at in range(start, start + size)]
+        (given / "lines.din").write_text("".join(lines))
         sweep = [PROGRAM, "sweep", *SPACE, "-t", given / "trace.din"]
         (given / "table.csv").write_bytes(subprocess.check_output(sweep))
+
+    def confined(self):
+        """What keeps a run from writing to the system's folders."""
+        words = ["--ro-bind", "/", "/", "--dev-bind", "/dev", "/dev", "--proc", "/proc"]
+        for folder in (self.place, self.folder):
+            words += ["--bind", str(folder), str(folder)]
+        return [shutil.which("bwrap"), *words, "--die-with-parent", "--"]
 
     @staticmethod
     def replace(path, real):
@@ -95,12 +126,13 @@ class FailureTest(ToolTest):
 
     def words(self, tool, trace="trace.din"):
         words = (trace if word == "INPUT" else word for word in RUNS[tool])
-        return [str(self.tools / tool), *words]
+        return [str(self.tools / tool.split()[0]), *words]
 
     def environment(self, calls, **more):
-        calls.mkdir()
         private = calls / "private"
-        private.mkdir()
+        for folder in (calls, private):
+            folder.mkdir()
+            folder.chmod(0o777)  # also where umask is another
         own = {"PATH": self.commands, "CACHESIM": self.commands / "cachesim", "CALLS": calls}
         own = {name: str(path) for name, path in {**own, "TMPDIR": private}.items()}
         return {**own, "LC_ALL": "C.UTF-8", "PYTHONDONTWRITEBYTECODE": "1", **FAKE, **more}
@@ -112,15 +144,16 @@ class FailureTest(ToolTest):
         folder = calls / "in"
         shutil.copytree(self.given, folder)
         given = {"env": env, "cwd": folder, "stdin": subprocess.DEVNULL, **PIPES}
+        folder.chmod(0o777)
         command = ["/bin/bash", "-c", f'{before} "$@" {after}', "bash", *words]
+        command = [*self.confined(), *command]
         with subprocess.Popen(command, **given) as running:
             out, told = self.end_of(running)
         ran = subprocess.CompletedProcess(words, running.returncode, out, told)
+        self.assertTrue(comes(lambda: not processes(running.pid)), f"{name} leaves a process")
         ran.private = [path.name for path in (calls / "private").iterdir()]
         ran.calls = sorted(path.name for path in calls.iterdir() if path.is_file())
-        # nothing marks the end of a trace before the tool's folder is found, or without an output
-        is_early = more.get("FAILING") in ("dirname.1", "readlink.1")
-        ran.is_at_begin = is_early or bool(before or after)
+        ran.is_at_begin = bool(before or after)  # there may be no output that can be marked
         shutil.rmtree(calls)
         return ran
 
@@ -135,15 +168,19 @@ class FailureTest(ToolTest):
         """A run that ended well has the whole answer. One that failed has no part of it; or a
         trace that no simulator takes."""
         self.assertNotIn("Traceback", what)
-        if ran.returncode == 0:
+        if ran.returncode == 0 and tool in OF_VALGRIND:  # whose stack is elsewhere in each run
+            self.assertTrue(whole[-9:].endswith(b"\n") and b"failed" not in ran.stdout, what)
+            self.assertAlmostEqual(len(ran.stdout) / len(whole), 1, delta=0.1, msg=what)
+        elif ran.returncode == 0:
             self.assertEqual(ran.stdout, whole, what)
-        elif tool not in WRITES_A_TRACE:
+        elif tool.split()[0] not in WRITES_A_TRACE:
             self.assertIn(ran.stdout, (b"", whole), what)
         elif ran.stdout != whole and (ran.stdout or not ran.is_at_begin):
             self.assert_no_trace(ran.stdout, what)
 
     def assert_no_trace(self, text, what):
-        sweep = [PROGRAM, "sweep", *SPACE, "-t", "/dev/stdin"]
+        form = ["--format", "l"] if text.startswith((b"I ", b" ")) else []
+        sweep = [PROGRAM, "sweep", *SPACE, *form, "-t", "/dev/stdin"]
         swept = subprocess.run(sweep, input=text, capture_output=True, check=False)
         self.assertNotEqual(swept.returncode, 0, what)
 
@@ -164,14 +201,43 @@ class Commands(FailureTest):
     def test_each_command_in_turn(self):
         for tool in RUNS:
             is_packed = tool in ("sweep-parallel", "warm", "second-level")
-            for trace in ("trace.din", "trace.gz") if is_packed else ("trace.din",):
+            packed = ("trace.gz", "trace.din.xz", "trace.din.zst") if is_packed else ()
+            for trace in ("trace.din", *packed):
                 with self.subTest(tool=tool, trace=trace):
-                    whole, calls = self.whole(tool, trace)
-                    words = (self.words(tool, trace),)
-                    runs = [(f"{call} {way}", words, {"FAILING": call, "WAY": way})
-                            for call in calls for way in ("fails", "killed")]
-                    for _ in self.each(tool, whole, runs):
-                        pass
+                    self.judge_commands(tool, trace)
+
+    def judge_commands(self, tool, trace):
+        """A command that fails or is killed is named, and one that is stopped goes on."""
+        whole, calls = self.whole(tool, trace)
+        words, ways = (self.words(tool, trace),), ["fails", "killed"]
+        # a program under trace is its user's; replay looks at a single run
+        ways += ["stopped"] * (not tool.startswith(("trace", "lab/replay")))
+        runs = [(f"{call} {way}", words, {"FAILING": call, "WAY": way})
+                for call in calls for way in ways]
+        for what, ran in self.each(tool, whole, runs):
+            command, way = what.rsplit(" ", 1)
+            command, told = command.rpartition(".")[0], ran.stderr.decode()
+            if way == "stopped":
+                self.assertEqual(ran.returncode, 0, (what, told))
+            elif ran.returncode and command not in ("valgrind", QEMU):  # the program's own status
+                self.assertRegex(told, rf"(?m)\A.*({command}|page \d|the run of|row).*$", what)
+
+    def test_each_command_missing(self):
+        """It is named with its package."""
+        for tool in RUNS:
+            whole, calls = self.whole(tool)
+            called = {call.rpartition(".")[0] for call in calls}
+            for command in called - {"cachesim", "second-level", "to-din"}:
+                few = self.folder / f"few {tool} {command}".replace("/", "")
+                few.mkdir()
+                for path in self.commands.iterdir():
+                    if path.name != command:
+                        (few / path.name).symlink_to(path)
+                runs = [(f"without {command}", (self.words(tool),), {"PATH": str(few)})]
+                for what, ran in self.each(tool, whole, runs):
+                    told = ran.stderr.decode()
+                    is_named = f"{command} is missing: apt-get install" in told
+                    self.assertTrue(is_named or command == "awk" and "awk" in told, (tool, what, told))
 
 
 class Surroundings(FailureTest):
@@ -194,6 +260,115 @@ class Surroundings(FailureTest):
                         for most in limits]
                 for what, ran in self.each(tool, whole, runs):
                     self.assertEqual(ran.private, [], f"{tool} {what}")
+
+
+class Limits(FailureTest):
+    """What the system may refuse: sizes of files, memory, processes, processor time, room."""
+
+    def judge_limits(self, limits, tools=RUNS):
+        for tool in tools:
+            with self.subTest(tool):
+                whole, _ = self.whole(tool)
+                runs = [(limit, (self.words(tool), limit), {}) for limit in limits]
+                for what, ran in self.each(tool, whole, runs):
+                    self.assertEqual(ran.private, [], f"{tool} {what}")
+
+    def test_sizes_of_files(self):
+        self.judge_limits(f"ulimit -f {blocks};" for blocks in (0, 1, 4))
+
+    def test_memory(self):
+        tools = [tool for tool in RUNS if tool not in OF_VALGRIND]
+        self.judge_limits([f"ulimit -v {size};" for size in (30000, 40000, 60000, 120000)], tools)
+
+    def test_processes(self):
+        """As another user, for whom there is such a limit: no tool waits for one that isn't there."""
+        user = "setpriv --reuid 65534 --clear-groups --" if os.geteuid() == 0 else ""
+        path = f"PATH=$PATH:{os.path.dirname(shutil.which('setpriv'))}"
+        limits = [f"ulimit -u {most};" for most in (1, 2, 3, 4, 6)]
+        for tool in RUNS:
+            with self.subTest(tool):
+                whole, _ = self.whole(tool)
+                line = f'{path}; exec {user} /bin/bash -c \'{{}} exec "$@"\' bash'
+                runs = [(limit, (self.words(tool), line.format(limit)), {}) for limit in limits]
+                for _ in self.each(tool, whole, runs):
+                    pass
+
+    def test_processor_time(self):
+        """One line tells of it, and all ends; where the system kills the tool, nothing does."""
+        endless = "PATH=/usr/bin:$PATH; exec 0< <(exec yes '0 10');"
+        for tool in ("by-page", "over-time", "warm", "three-c", "second-level", "sweep-parallel"):
+            for limit in ("-St 1", "-t 2"):
+                name = f"{tool} {limit}"
+                ran = self.run_in(name, self.words(tool, "-"), f"{endless} ulimit {limit};")
+                told = ran.stderr.decode()
+                self.assertNotEqual(ran.returncode, 0, told)
+                self.assertRegex(told, r"\A[^\n]*(processor time|signal 24|signal 9)[^\n]*\n", name)
+                self.assertNotIn("Traceback", told)
+
+    def test_full_devices(self):
+        for tool in RUNS:
+            with self.subTest(tool):
+                ran = self.run_in("full", self.words(tool), "", "> /dev/full")
+                told = ran.stderr.decode()
+                self.assertNotEqual(ran.returncode, 0)
+                self.assertEqual((told.count("\n"), "Traceback" in told), (1, False), told)
+
+    def test_a_reader_that_goes_where_signals_are_ignored(self):
+        """As after `trap '' PIPE`."""
+        path = "PATH=/usr/bin:$PATH"
+        for tool in RUNS:
+            with self.subTest(tool):
+                before = f"trap '' PIPE; {path}; set -o pipefail;"
+                ran = self.run_in("reader", self.words(tool), before, "| true")
+                self.assertNotIn(b"Traceback", ran.stderr)
+                self.assertLessEqual(ran.stderr.count(b"\n"), 1, ran.stderr)
+
+
+    def test_a_trace_that_is_cut(self):
+        """In a file that may not grow it ends in a line that no simulator takes."""
+        for tool in ("second-level", "to-din", "trace", "trace lackey", "lab/lab-trace"):
+            with self.subTest(tool):
+                words = [{"many:100": "many:900000", "handout.lackey": "long.lackey"}.get(word, word)
+                         for word in self.words(tool, "long.din")]
+                blocks = {"second-level": 1, "to-din": 1, "trace": 4000}.get(tool, 16)
+                ran = self.run_in("cut", words, f"ulimit -f {blocks};", "> cut; /bin/cat cut; exit 1")
+                self.assert_no_trace(ran.stdout, ran.stderr)
+                self.assertGreater(len(ran.stdout), 0)
+                self.assertRegex(ran.stdout, rb"\n[\w-]+ failed: what stands above is not all\n\Z")
+
+
+class Names(FailureTest):
+    NAMES = "a b", "-x", "'\"$HOME`x`\\n", "line\nfeed", "é", os.fsdecode(b"\xff\xfe"), "x=y", "%s"
+
+    def test_odd_names(self):
+        """Of a trace that is there, and of one that is not."""
+        for tool in OF_A_TRACE:
+            whole, _ = self.whole(tool)
+            for name in self.NAMES:
+                with self.subTest(tool=tool, name=name):
+                    copy = self.words(tool, name)
+                    before = 'cp -- trace.din "$NAME" && rm trace.din;'
+                    before = f"PATH=/usr/bin:$PATH; {before} PATH=${{PATH#*:}};"
+                    ran = self.run_in("there", copy, before, NAME=name)
+                    self.assertEqual((ran.returncode, ran.stdout, ran.stderr), (0, whole, b""))
+                    ran = self.run_in("not there", copy)
+                    self.assertIn(ran.returncode, (1, 2), ran.stderr)  # or it is an option
+                    self.assertNotIn(b"Traceback", ran.stderr)
+
+    def test_a_folder(self):
+        """By its name; and as standard input, where Python itself doesn't begin."""
+        for tool in OF_A_TRACE:
+            with self.subTest(tool):
+                ran = self.run_in("folder", self.words(tool, "."))
+                told = ran.stderr.decode()
+                self.assertEqual((ran.returncode, told.count("\n")), (1, 1), told)
+                if tool in WRITES_A_TRACE:
+                    self.assert_no_trace(ran.stdout, told)
+                else:
+                    self.assertEqual(ran.stdout, b"")
+                ran = self.run_in("folder", self.words(tool, "-"), "", "< .")
+                self.assertEqual((ran.returncode, ran.stdout), (1, b""))
+                self.assertIn(b"<stdin> is a directory", ran.stderr)
 
 
 class Signals(FailureTest):
@@ -226,3 +401,4 @@ class Signals(FailureTest):
         else:
             self.assertEqual(out, b"")
         self.assertEqual(list((calls / "private").iterdir()), [])
+        self.assertTrue(comes(lambda: not processes(running.pid)))

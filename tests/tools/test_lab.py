@@ -5,9 +5,10 @@ import re
 import shutil
 import signal
 import subprocess
+import threading
 import time
 
-from base import EXAMPLES, PROGRAM, TOP, catches, copy_tools, needs, processes
+from base import EXAMPLES, PROGRAM, TOP, catches, copy_tools, ended, needs, processes
 from lab_base import LAB, STUDENTS, LabTest, StudentTest, comes, is_running
 
 YI = TOP / "tests/cases/inputs/handout.lackey"
@@ -15,6 +16,7 @@ YI_LINES = ["L 10,1 miss", "M 20,1 miss hit", "L 22,1 hit", "S 18,1 hit", "L 110
             "L 210,1 miss eviction", "M 12,1 miss eviction hit"]
 YI_TEXT = "".join(f"{line} \n" for line in YI_LINES) + "hits:4 misses:5 evictions:3\n"
 ONE = "-s 4 -E 1 -b 4 -t"
+LAST = "lab-trace failed: what stands above is not all\n"
 TRACES = {
     "yi.trace": YI.read_text(),
     "order.trace": "I  400,3\n L 10,1\n L 20,1\nI  403,2\n L 10,1\n S 30,8\n L 20,1\n",
@@ -261,8 +263,13 @@ class Trace(LabTest):
         ran = self.trace("sh", "-c", "kill -ABRT $$")
         self.assertEqual((ran.stderr, ran.returncode), (b"", 134))
         self.assertTrue(ran.stdout)
-        self.refused(self.trace("absent"), 127, "absent: command not found")
-        self.refused(self.trace("/etc/passwd"), 126, "/etc/passwd: Permission denied")
+        for program, status, told in (("absent", 127, "absent: command not found"),
+                                      ("/etc/passwd", 126, "/etc/passwd: Permission denied")):
+            ran = self.trace(program)
+            self.assertEqual((ran.returncode, ran.stdout.decode()), (status, LAST))
+            self.assertIn(told, ran.stderr.decode())
+            csim = self.run_command(PROGRAM, "csim", *ONE.split(), "/dev/stdin", stdin=ran.stdout)
+            self.refused(csim, 1, "cachesim: line 1: bad label\n")
 
     @needs("valgrind")
     def test_outputs_that_fail(self):
@@ -280,7 +287,7 @@ class Trace(LabTest):
         ran = self.trace("true", env=env)
         said = "lab-trace: Valgrind itself failed; the trace ends there\n"
         said = f"\nhost stacktrace:\n==1== at 0\n{said}"
-        self.ends(ran, 125, said, "I  0400d7d4,8\n")
+        self.ends(ran, 125, said, f"I  0400d7d4,8\n{LAST}")
         self.assertEqual(list(self.private.iterdir()), [])
 
     def test_a_signal_as_the_program_begins(self):
@@ -303,9 +310,40 @@ class Trace(LabTest):
 
     def test_wrong_arguments_and_a_missing_valgrind(self):
         message = "lab-trace: no program; 'lab-trace --help' explains the arguments\n"
-        self.refused(self.trace(), 125, message)
-        self.refused(self.trace("--all", "ls"), 125, "lab-trace: unknown option --all; ")
+        self.ends(self.trace(), 125, message, LAST)
+        ran = self.trace("--all", "ls")
+        self.assertEqual((ran.returncode, ran.stdout.decode()), (125, LAST))
+        self.assertIn("lab-trace: unknown option --all; ", ran.stderr.decode())
         self.assertTrue(self.good(self.trace("--help")).startswith("lab-trace PROGRAM ARGS.. "))
-        (self.private / "readlink").symlink_to(shutil.which("readlink"))
         message = "lab-trace: valgrind is missing: apt-get install valgrind\n"
-        self.refused(self.trace("ls", env={"PATH": str(self.private)}), 125, message)
+        self.ends(self.trace("ls", env={"PATH": str(self.private)}), 125, message, LAST)
+
+    @needs("valgrind")
+    def test_a_signal_ends_what_the_program_has_started(self):
+        """Also where the tool alone gets it; and the trace ends in a line that is none of one."""
+        script = "(sleep 60 & sleep 60) & echo begun >&2; sleep 60"
+        for number in (signal.SIGTERM, signal.SIGHUP, signal.SIGINT):
+            given = {**self.in_folder(MARK=str(self.folder)), "stdout": subprocess.PIPE,
+                     "stderr": subprocess.PIPE, "start_new_session": True}
+            with ended(subprocess.Popen([LAB / "lab-trace", "sh", "-c", script], **given)) as ran:
+                got = self.drain(ran)
+                self.assertTrue(comes(lambda: len(processes(ran.pid)) >= 4, 60))
+                ran.send_signal(number)
+                self.assertEqual(ran.wait(timeout=20), -number)
+                self.assertTrue(comes(lambda: not processes(ran.pid)))
+                self.assertTrue(got().endswith(LAST.encode()))
+
+    @staticmethod
+    def drain(running):
+        """Reads what a process writes. The answer waits for it, and is the end of it."""
+        end = []
+
+        def read():
+            last = b""
+            while piece := running.stdout.read(1 << 16):
+                last = (last + piece)[-200:]
+            end.append(last)
+
+        reader = threading.Thread(target=read)
+        reader.start()
+        return lambda: (reader.join(), end[0])[1]

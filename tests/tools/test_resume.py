@@ -59,14 +59,41 @@ class Resumed(ParallelTest):
             self.assertEqual((self.resume().stderr.decode(), self.table()), (told, text))
 
     def test_another_trace(self):
-        """Its rows tell of another number of references."""
+        """The last rows are not its own, also where it has as many references."""
         begun = self.TABLE[:len(HEADER) + 20]
-        for trace, options in ((DIN, self.FOUR), (self.NINE, [*self.FOUR, "--kind", "i"])):
+        swapped = self.NINE.read_text().splitlines(keepends=True)
+        swapped = self.write("swapped.din", "".join(sorted(swapped)))
+        for trace, options in ((DIN, self.FOUR), (self.NINE, [*self.FOUR, "--kind", "i"]),
+                               (swapped, self.FOUR)):
             self.write("t.csv", begun)
             ran = self.resume(*options, trace=trace)
-            told = "t.csv is of another trace or of other options: see line 3\n"
+            told = "t.csv is of another trace or of other options: see line 2\n"
             self.refused(ran, 1, f"sweep-parallel: {told}")
             self.assertEqual(self.table(), begun[:len(HEADER) + 16])
+
+    def test_a_trace_that_goes_on_another_time(self):
+        """From each row on: what is there was of a trace that differs in its last reference."""
+        whole, other = self.sweep(*SMALL, "-t", DIN), self.folder / "other.din"
+        lines = DIN.read_text().splitlines(keepends=True)
+        other.write_text("".join([*lines[:-1], "0 7fffffff0\n"]))
+        rows = whole.splitlines(keepends=True)
+        changed = self.sweep(*SMALL, "-t", other).splitlines(keepends=True)
+        differ = sum(row != new for row, new in zip(rows, changed))
+        self.assertGreater(differ, len(rows) // 2)
+        for count in range(2, len(rows), 5):
+            # of the last pair that is there
+            pair = rows[count - 1].split(",")[:2]
+            last = [at for at in range(count) if rows[at].split(",")[:2] == pair]
+            self.write("t.csv", "".join(rows[:count]))
+            ran = self.resume(*SMALL, trace=other)
+            if any(rows[at] != changed[at] for at in last):
+                self.refused(ran, 1, "t.csv is of another trace or of other options: see line ")
+                self.assertEqual(self.table(), "".join(rows[:count]))
+
+    def test_a_trace_that_is_the_table(self):
+        self.write("t.csv", "")
+        ran = self.resume(trace="./t.csv")
+        self.refused(ran, 2, "sweep-parallel: --resume and the trace are one file; ")
 
     def test_faults(self):
         (self.folder / "folder").mkdir()

@@ -1,5 +1,6 @@
 """What is asked of every tool: help, lines that are not too long, and what the linters say."""
 
+import ast
 import os
 import pathlib
 import subprocess
@@ -35,7 +36,8 @@ def written_in(word):
 def tools():
     """The executables under tools/ and package/, but for debhelper's rules."""
     folders = (f"{base.TOOLS}/", f"{base.PACKAGING}/")
-    found = [path for path in scripts() if path.startswith(folders) and os.access(path, os.X_OK)]
+    found = [path for path in scripts() if path.startswith(folders) and os.access(path, os.X_OK)
+             and not os.path.islink(path)]
     found.remove(str(base.PACKAGING / "debian/rules"))
     assert str(base.TOOLS / "best") in found, "files have lost their modes: no tool would be tested"
     return found
@@ -81,6 +83,32 @@ class Scripts(base.ToolTest):
                     text = self.good(self.run_command(path, "--help"))
                     self.assertGreaterEqual(text.count(f"\n    tests/{path.name}"), 1)
                     self.assertRegex(text, r"[Ff]or\s+example")
+
+
+class Pythons(base.ToolTest):
+    """A Python older than 3.9 reads each tool, and ends with one line."""
+
+    def tools(self):
+        mine = [pathlib.Path(path) for path in tools() if path.startswith(f"{base.TOOLS}/")]
+        return [path for path in mine if b"python3" in first_line(path)]
+
+    def test_what_it_reads(self):
+        lib = [base.TOOLS / folder / "__init__.py" for folder in ("lib", "lab/parts")]
+        for path in (*self.tools(), *lib):
+            with self.subTest(path):
+                ast.parse(path.read_text(), feature_version=(3, 6))
+
+    def test_what_it_says(self):
+        old = ("import runpy, sys; sys.argv = sys.argv[1:]; sys.version_info = (3, 8, 18); "
+               "sys.path[0] = sys.argv[0].rpartition('/')[0]; "
+               "runpy.run_path(sys.argv[0], run_name='__main__')")
+        for path in self.tools():
+            with self.subTest(path):
+                ran = self.run_command("/usr/bin/python3", "-BES", "-c", old, path, "--help")
+                line = (f"{path.name}: Python 3.9 or later is needed, and /usr/bin/python3 is 3.8\n")
+                is_trace = path.name in ("lab-trace", "second-level", "to-din", "trace")
+                status = 125 if path.name in ("lab-trace", "trace") else 1
+                self.ends(ran, status, line, line * is_trace)
 
 
 class Widths(unittest.TestCase):

@@ -120,11 +120,45 @@ class Pages(ParallelTest):
     @needs("parallel")
     def test_by_gnu_parallel(self):
         """As the help shows it."""
-        shown = self.good(self.run_tool("pages", "--help"))
+        shown = self.good(self.run_tool("sweep-parallel", "--help"))
         script = f'pages() {{ "{TOOLS}/pages" "$@"; }}; set -e; HOME=$PWD; pages 4 '
-        script += shown.split("\n    pages 4 ")[1].replace("trace.din", shlex.quote(str(DIN)))
+        script += shown.split("\n    sweep-parallel --pages 4 ")[1].replace("trace.din", shlex.quote(str(DIN)))
         self.good(self.run_command("bash", "-c", script))
         self.assertEqual((self.folder / "table.csv").read_text(), self.sweep(*SPACE, "-t", DIN))
+
+
+class Growing(ParallelTest):
+    """A file that is written to while runs read it: all rows are of the same references, or the tool
+    fails."""
+
+    def grown(self, tool, *words, change):
+        """A run in which one of the program's runs waits until the trace has changed."""
+        self.write("t.din", DIN.read_bytes())
+        waits = f'if mkdir first 2> /dev/null; then {change}; fi'
+        return self.run_tool(tool, *words, env=self.program(waits))
+
+    def test_changes(self):
+        before = DIN.read_text().splitlines(keepends=True)
+        self.write("same.din", "".join([*before[:-1], "0 7fffffff0\n"]))
+        changes = "echo 0 10 >> t.din", "mv same.din t.din", "truncate -s -5 t.din", "touch t.din"
+        told = "t.din has changed while it was read: not all runs have counted the same references"
+        calls = (("sweep-parallel", 3, "t.din", *SPACE),
+                 ("sweep-parallel", "--resume", "t.csv", 1, "t.din", *SMALL),
+                 ("din-table", 2, "t.din", "-l1-dsize", "1k-4k", "-l1-dbsize", "16"))
+        for (tool, *words), change in itertools.product(calls, changes):
+            self.write("same.din", "".join([*before[:-1], "0 7fffffff0\n"]))
+            ran = self.grown(tool, *words, change=change)
+            (self.folder / "first").rmdir()
+            self.refused(ran, 1, f"{tool}: {told}\n")
+
+    def test_what_is_read_once(self):
+        """It may change: all runs get the same bytes."""
+        self.write("t.din", DIN.read_bytes())
+        for tool, *words in (("three-c", "t.din"), ("warm", 100, "t.din")):
+            wanted = self.good(self.run_tool(tool, *words, *SPACE))
+            got = self.good(self.grown(tool, *words, *SPACE, change="echo 0 10 > t.new"))
+            (self.folder / "first").rmdir()
+            self.assertEqual(got, wanted)
 
 
 class SameBytes(ParallelTest):

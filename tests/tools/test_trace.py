@@ -146,6 +146,13 @@ class StandIn(TraceTest):
             lines = "".join(f"0 {at:x}\n" for at in range(20000)[skip:][:int(count)])
             self.assertEqual(ran.stdout.decode(), lines)
 
+    def test_where_a_trace_begins_after_a_skip(self):
+        """At each of some thousand references, also at the ends of what QEMU hands over at once."""
+        for skip in (999, 1000, 1001, 4095, 4096, 4097, 8192, 12345):
+            ran = self.steps("many:20000", options=("--skip", skip, "--count", 3))
+            lines = "".join(f"0 {at:x}\n" for at in range(skip, skip + 3))
+            self.ends(ran, 0, "", lines)
+
     def test_nothing_is_left_by_skip(self):
         """A trace of nothing would give a table of zeros."""
         for skip, steps in (20000, "many:20000"), (999999, "many:20000 exit:9"), (1, "0:1 kill"):

@@ -62,8 +62,9 @@ def rows_of(program, options):
     code, table, told = processes.ran([program, "sweep", "-t", "/dev/null", *options])
     if told:
         print(told, file=sys.stderr)
-    if code < 0:
-        tool.fail(f"the list of the rows ended with signal {-code}")
+    if code < 0 or code and not told:
+        tool.fail(f"{os.path.basename(program)} ended with {processes.end_text(code)}, and no list "
+                  "of the rows")
     if code:
         sys.exit(code)
     return table.splitlines(keepends=True)

@@ -169,6 +169,7 @@ class Group:
         with uninterrupted():
             running = [process for process in self.processes if process.is_running]
             self.processes = [*running, kind(*given, **more)]
+        self.look_after()  # what was told before it was known
         for end in ends:
             if end > 2:
                 os.close(end)

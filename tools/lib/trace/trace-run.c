@@ -24,7 +24,7 @@
 #include <unistd.h>
 #include "trace-memory.h"
 
-enum { OWN_FAULT = 125, CANNOT_RUN = 126, TEXT = 1 << 20, PATIENCE = 2 };
+enum { OWN_FAULT = 125, CANNOT_RUN = 126, TEXT = 1 << 20, PATIENCE = 2, LAST = 1 << 13 };
 enum { LONGEST = sizeof "0 0123456789abcdef" };
 
 static struct memory *memory;               // where QEMU is the tracer
@@ -72,6 +72,16 @@ static void drain(void) {
 static void put_mark(const char *message) {
     used = (size_t)snprintf(text, TEXT, "%s: %s\n", program_invocation_short_name, message);
     drain();
+}
+
+// The same of a file that has no more room, in place of what it ends in.
+static void mark_full_file(void) {
+    static const char mark[] = "\ntrace failed: what stands above is not all\n";
+    struct stat of;
+    if (fstat(trace, &of) || !S_ISREG(of.st_mode)) return;
+    off_t end = of.st_size > LAST ? of.st_size - LAST : 0;
+    if (ftruncate(trace, end) || pwrite(trace, mark, sizeof mark - 1, end) < 0)
+        warn("%s can't be marked", trace_name);
 }
 
 // Ends with a message, in which the trace ends too.
@@ -270,7 +280,6 @@ static void watch_signals(void) {
     for (size_t i = 0; i < sizeof passed_on / sizeof *passed_on; i++)
         sigaction(passed_on[i], &action, NULL);
     signal(SIGPIPE, SIG_IGN);  // a failing write tells it
-    signal(SIGXFSZ, SIG_IGN);
 }
 
 static void start(char **words) {
@@ -282,6 +291,7 @@ static void start(char **words) {
     if (program < 0) fail(OWN_FAULT, "no process for the program");
     if (!program) {
         prctl(PR_SET_PDEATHSIG, SIGKILL);
+        signal(SIGXFSZ, SIG_DFL);
         if (getppid() != own) _exit(OWN_FAULT);
         sigprocmask(SIG_SETMASK, &before, NULL);
         execvp(*words, words);
@@ -301,7 +311,7 @@ static bool is_cut(void) {
 }
 
 static int judged(void) {
-    if (converter_failed) fail(OWN_FAULT, "the tracer's lines can't be converted");
+    if (converter_failed) fail(OWN_FAULT, "to-din failed: the tracer's lines can't be converted");
     if (!closed && !ran)
         fail(CANNOT_RUN, "the program can't be run: see the message of its tracer");
     if (is_cut() && goes_to_a_pipe()) {
@@ -309,6 +319,7 @@ static int judged(void) {
     } else if (skips && !wrote && !fault && !stopped) {
         fail(OWN_FAULT, "--skip omits all references of the program");
     }
+    if (fault && fault != EPIPE) mark_full_file();
     if (close(trace) && !fault) fault = errno;
     if (fault == EPIPE) {
         signal(SIGPIPE, SIG_DFL);
@@ -364,6 +375,7 @@ static void trace_by_lines(char **words) {
 
 int main(int words_count, char **words) {
     if (words_count < 10) errx(OWN_FAULT, "this is the inner half of trace");
+    signal(SIGXFSZ, SIG_IGN);  // and so it is here
     trace = atoi(words[1]);
     trace_name = words[2];
     kind = *words[3];
