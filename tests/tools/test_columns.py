@@ -82,7 +82,7 @@ class Columns(ToolTest):
         self.assertRegex(drawn, r"(?m)^ *-4 \|")
 
     def test_the_lowest_tick(self):
-        """On a logarithmic axis there is one below the least value, where its decade begins there."""
+        """On a logarithmic axis there are some below the least value."""
         rows = "".join(f"16,{sets},1,{16 * sets},{10000 - misses},{misses},9\n"
                        for sets, misses in ((1, 5000), (2, 900), (4, 103)))
         self.write("t.csv", f"{table.HEADER}\n{rows}")

@@ -21,8 +21,8 @@ CACHE = "-l1-dsize 128 -l1-dbsize 16 -l1-dassoc 2".split()
 QEMU = f"qemu-{platform.machine()}"
 FAKE = {"FAKE_VERSION": "7.2.22", "FAKE_HELP": "-plugin ..", "FAKE_START": "0"}
 LARGE = "--bsize 1 --sets 131072 --assoc 1 --size 128k".split()
-# what each tool is given: files, and in the place of INPUT a trace. Behind a blank stands what it is
-# asked for beside its usual work, by options that call other commands
+# what each tool is given: files, and in the place of INPUT a trace. Behind a blank stands what it
+# is asked for beside its usual work, by options that call other commands
 RUNS = {
     "best": ["table.csv"],
     "by-line": ["INPUT", *CACHE],
@@ -236,8 +236,7 @@ class Commands(FailureTest):
                 runs = [(f"without {command}", (self.words(tool),), {"PATH": str(few)})]
                 for what, ran in self.each(tool, whole, runs):
                     told = ran.stderr.decode()
-                    is_named = f"{command} is missing: apt-get install" in told
-                    self.assertTrue(is_named or command == "awk" and "awk" in told, (tool, what, told))
+                    self.assertIn(f"{command} is missing: apt-get install", told, (tool, what))
 
 
 class Surroundings(FailureTest):
@@ -281,7 +280,7 @@ class Limits(FailureTest):
         self.judge_limits([f"ulimit -v {size};" for size in (30000, 40000, 60000, 120000)], tools)
 
     def test_processes(self):
-        """As another user, for whom there is such a limit: no tool waits for one that isn't there."""
+        """As another user, for whom there is a limit: no tool waits for one that isn't there."""
         user = "setpriv --reuid 65534 --clear-groups --" if os.geteuid() == 0 else ""
         path = f"PATH=$PATH:{os.path.dirname(shutil.which('setpriv'))}"
         limits = [f"ulimit -u {most};" for most in (1, 2, 3, 4, 6)]
@@ -323,15 +322,15 @@ class Limits(FailureTest):
                 self.assertNotIn(b"Traceback", ran.stderr)
                 self.assertLessEqual(ran.stderr.count(b"\n"), 1, ran.stderr)
 
-
     def test_a_trace_that_is_cut(self):
         """In a file that may not grow it ends in a line that no simulator takes."""
         for tool in ("second-level", "to-din", "trace", "trace lackey", "lab/lab-trace"):
             with self.subTest(tool):
-                words = [{"many:100": "many:900000", "handout.lackey": "long.lackey"}.get(word, word)
-                         for word in self.words(tool, "long.din")]
+                longer = {"many:100": "many:900000", "handout.lackey": "long.lackey"}
+                words = [longer.get(word, word) for word in self.words(tool, "long.din")]
                 blocks = {"second-level": 1, "to-din": 1, "trace": 4000}.get(tool, 16)
-                ran = self.run_in("cut", words, f"ulimit -f {blocks};", "> cut; /bin/cat cut; exit 1")
+                after = "> cut; /bin/cat cut; exit 1"
+                ran = self.run_in("cut", words, f"ulimit -f {blocks};", after)
                 self.assert_no_trace(ran.stdout, ran.stderr)
                 self.assertGreater(len(ran.stdout), 0)
                 self.assertRegex(ran.stdout, rb"\n[\w-]+ failed: what stands above is not all\n\Z")

@@ -105,10 +105,12 @@ class Pythons(base.ToolTest):
         for path in self.tools():
             with self.subTest(path):
                 ran = self.run_command("/usr/bin/python3", "-BES", "-c", old, path, "--help")
-                line = (f"{path.name}: Python 3.9 or later is needed, and /usr/bin/python3 is 3.8\n")
+                told = ran.stderr.decode()
+                line = rf"\A{path.name}: Python 3\.9 or later is needed, and .* is 3\.8\n\Z"
+                self.assertRegex(told, line)
                 is_trace = path.name in ("lab-trace", "second-level", "to-din", "trace")
                 status = 125 if path.name in ("lab-trace", "trace") else 1
-                self.ends(ran, status, line, line * is_trace)
+                self.ends(ran, status, told, told * is_trace)
 
 
 class Widths(unittest.TestCase):

@@ -122,14 +122,15 @@ class Pages(ParallelTest):
         """As the help shows it."""
         shown = self.good(self.run_tool("sweep-parallel", "--help"))
         script = f'pages() {{ "{TOOLS}/pages" "$@"; }}; set -e; HOME=$PWD; pages 4 '
-        script += shown.split("\n    sweep-parallel --pages 4 ")[1].replace("trace.din", shlex.quote(str(DIN)))
+        shown = shown.split("\n    sweep-parallel --pages 4 ")[1]
+        script += shown.replace("trace.din", shlex.quote(str(DIN)))
         self.good(self.run_command("bash", "-c", script))
         self.assertEqual((self.folder / "table.csv").read_text(), self.sweep(*SPACE, "-t", DIN))
 
 
 class Growing(ParallelTest):
-    """A file that is written to while runs read it: all rows are of the same references, or the tool
-    fails."""
+    """A file that is written to while runs read it: all rows are of the same references, or the
+    tool fails."""
 
     def grown(self, tool, *words, change):
         """A run in which one of the program's runs waits until the trace has changed."""

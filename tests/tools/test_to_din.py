@@ -377,7 +377,7 @@ class Faults(ToDin):
         copy_tools(self.folder, "to-din")
         path = self.folder / "bin"
         path.mkdir()
-        for name in ("dirname", "readlink"):
+        for name in "cat make mkdir mv rm sh".split():
             (path / name).symlink_to(shutil.which(name))
         few = {"tool": self.folder / "to-din", "env": {"PATH": str(path)}}
         self.faulty("pin", "to-din: cc is missing: apt-get install gcc", **few)

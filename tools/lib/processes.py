@@ -191,7 +191,9 @@ class Group:
         if isinstance(fault, Fault):
             tool.end(fault.text, fault.status)
         if isinstance(fault, OSError):
-            tool.fail(f"no more processes can be started: {fault.strerror}")
+            name = os.path.basename(fault.filename or "")
+            what = f"{name} can't be run" if name else "no more processes can be started"
+            tool.fail(f"{what}: {fault.strerror}")
         if isinstance(fault, MemoryError):
             tool.fail("out of memory")
 
