@@ -9,7 +9,7 @@ import signal
 import subprocess
 import termios
 
-from base import CROSS, EXAMPLES, copy_tools, needs
+from base import CROSS, EXAMPLES, TOOLS, copy_tools, needs
 from trace_base import SPACE, TRACED, TraceTest, program_of, symbols_of, traced, within
 
 
@@ -172,6 +172,19 @@ class Both:
             lines, out = self.traced_to_file("--", *call, status=natively.returncode, env=env)
             self.assertEqual(out, natively.stdout.decode())
             self.assertGreater(len(lines), 10000)
+
+
+    def test_the_environment(self):
+        """The program has that of the tool, without what Python sets for itself in the locale C."""
+        given = {"PATH": os.environ["PATH"], "SOME": "words"}
+        for more in {}, {"LC_CTYPE": "C.UTF-8"}, {"LC_ALL": "C"}:
+            words = [TOOLS / "trace", "--with", self.with_, "-o", "t.din", "/usr/bin/env"]
+            ran = subprocess.run(words, env={**given, **more}, cwd=self.folder, timeout=60,
+                                 capture_output=True, check=True)
+            lines = ran.stdout.decode().splitlines()
+            self.assertLessEqual({"SOME=words"}, {*lines})
+            locale = [line for line in lines if line.startswith("LC_")]
+            self.assertEqual(locale, [f"{name}={more[name]}" for name in more])
 
 
 @needs("qemu-user")

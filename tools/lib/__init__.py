@@ -49,6 +49,11 @@ if sys.version_info < (3, 9):
     end_early("Python 3.9 or later is needed, and /usr/bin/python3 is %d.%d"
               % sys.version_info[:2], 125 if NAME.endswith("trace") else 1)
 sys.excepthook = last_fault
+if "LC_CTYPE" in os.environ:
+    # in the locale C Python sets it for itself, but what it starts must have the user's own
+    with open("/proc/self/environ", "rb") as given:
+        if not any(word.startswith(b"LC_CTYPE=") for word in given.read().split(b"\0")):
+            del os.environ["LC_CTYPE"]
 # a signal while Python reads what else the tool needs ends it without a traceback, as later where
 # it has nothing to end or remove
 for each in (signal.SIGHUP, signal.SIGINT, signal.SIGTERM):
