@@ -173,7 +173,6 @@ class Both:
             self.assertEqual(out, natively.stdout.decode())
             self.assertGreater(len(lines), 10000)
 
-
     def test_the_environment(self):
         """The program has that of the tool, without what Python sets for itself in the locale C."""
         given = {"PATH": os.environ["PATH"], "SOME": "words"}
