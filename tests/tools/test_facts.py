@@ -141,7 +141,7 @@ class Times(unittest.TestCase):
         caches = re.search(r"^typical \|.*?\| (\d+) \|", (base.TOP / "docs/speed.md").read_text(),
                            re.M)[1]
         parallel = re.search(r"`tools/sweep-parallel 4`, the same \| the same \| ([\d.]+) s", speed)
-        told = re.search(r"A sweep of (\d+) caches over (\w+) million references takes ([\d.]+) "
+        told = re.search(r"A sweep of (\d+) caches over (\w+) million references.*? takes ([\d.]+) "
                          r"seconds and ([\d.]+) MB, and with four processes ([\d.]+) seconds",
                          readme)
         self.assertEqual((told[1], told[2], lines), (caches, "ten", "10,000,000"))
