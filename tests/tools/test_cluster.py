@@ -181,10 +181,11 @@ class Submitting(ToolTest):
 
     def test_an_older_python(self):
         """Its words are those of Python 3.6, and it ends in one line with one below 3.9."""
-        ast.parse((CLUSTER / "submit").read_text(), feature_version=(3, 6))
+        for path in CLUSTER / "submit", TOOLS / "lib/__init__.py":
+            ast.parse(path.read_text(), feature_version=(3, 6))
         older = "import runpy, sys; sys.version_info = (3, 8, 10); sys.argv = ['submit']; "
         ran = self.run_command("python3", "-c", f"{older}runpy.run_path('{CLUSTER / 'submit'}')")
-        self.refused(ran, 1, "submit: Python 3.9 or later is needed, and this is 3.8\n")
+        self.refused(ran, 1, "submit: Python 3.9 or later is needed, and ", " is 3.8\n")
 
     def test_refused(self):
         (self.folder / "there").mkdir()

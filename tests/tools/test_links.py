@@ -14,7 +14,8 @@ ANY = re.compile(r"NAME|/out\b|\.\.")
 PAGES = sorted(base.TOP.glob("crates/*/CALLING.md"))
 CODE = re.compile(r"`([^`]+)`")
 NAME = re.compile(r"[A-Za-z]\w+")
-USE = re.compile(r"^    use (\w+)::(?:(\w+)::)?(?:\{(.*)\}|(\w+));$", re.M)
+FENCED = re.compile(r"^```.*?^```$", re.M | re.S)
+USE = re.compile(r"^(?:    )?use (\w+)::(?:(\w+)::)?(?:\{(.*)\}|(\w+));$", re.M)
 ROOT = re.compile(r"^pub (?:mod (\w+);|use [\w:]+?::(?:\{([^}]*)\}|(\w+));)", re.M)
 
 
@@ -49,12 +50,13 @@ def unknown(text, crate):
     """The names of a page for callers that no library has, and those that a `use` doesn't find."""
     crates = [path.parts[-2] for path in base.TOP.glob("crates/*/src")]
     known = {word for each in crates for word in [each, *words_of(each)]}
-    for code in CODE.findall(text):
+    for code in CODE.findall(FENCED.sub("", text)):
         if code.split("/")[0] not in ("specs", "src", "tests"):
             yield from (name for name in NAME.findall(code) if name not in known)
-        elif not code.startswith("tests") and not (base.TOP / "crates" / crate / code).exists():
+        # a page may speak of a file of another crate
+        elif not code.startswith("tests") and not any(base.TOP.glob(f"crates/*/{code}")):
             yield code
-    for used, module, names, name in USE.findall(text):
+    for used, module, names, name in (use for use in USE.findall(text) if use[0] in crates):
         source = base.TOP / "crates" / used / "src" / f"{module or 'lib'}.rt"
         items = source.read_text() if source.exists() else ""
         one = r"^pub \w+ (\w+)()()"

@@ -150,7 +150,7 @@ class Package(unittest.TestCase):
                 # a call of tool.needs, or a row of runs.UNPACKERS
                 needs_it = rf'(?:\bneeds\([^\s,]+|": \("\w+"), "{package}"\)'
                 named |= set(re.findall(needs_it, text))
-        named -= {"gcc", "gzip"}  # all is compiled there; it is always there
+        named -= {"gcc", "make", "gzip"}  # all is compiled there; it is always there
         suggested = self.field("Suggests")
         there = set(re.findall(r"[a-z][\w+.-]*", f"{self.field('Recommends')}, {suggested}"))
         self.assertEqual(named - there, set())

@@ -377,9 +377,10 @@ class Faults(ToDin):
         copy_tools(self.folder, "to-din")
         path = self.folder / "bin"
         path.mkdir()
+        few = {"tool": self.folder / "to-din", "env": {"PATH": str(path)}}
+        self.faulty("pin", "to-din: make is missing: apt-get install make", **few)
         for name in "cat make mkdir mv rm sh".split():
             (path / name).symlink_to(shutil.which(name))
-        few = {"tool": self.folder / "to-din", "env": {"PATH": str(path)}}
         self.faulty("pin", "to-din: cc is missing: apt-get install gcc", **few)
         din = self.good(self.run_command(few["tool"], "pin", SAMPLES / "pin.txt"))
         self.assertEqual(din.splitlines(), COPY_DATA)
