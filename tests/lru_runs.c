@@ -1,4 +1,4 @@
-// A run of an LRU cache of one set for each power of two of lines, to compare tables and times with.
+// A run of an LRU cache of one set for each power of two of lines, to compare tables and times.
 //
 //     lru_runs BSIZE MOST TRACE
 //
