@@ -7,6 +7,7 @@ import signal
 
 from lib import tool
 from lib.signals import heed_stops, limit_time, put_off_stops, stop_at_signals
+from lib.streams import keep_places
 
 TOLD = 1 << 18  # the bytes of its messages that are looked at
 UNPACKERS = {".gz": ("gzip", "gzip"), ".xz": ("xz", "xz-utils"), ".zst": ("zstd", "zstd")}
@@ -153,6 +154,7 @@ class Group:
         self.processes, self.before = [], None
 
     def __enter__(self):
+        keep_places()  # else a pipe could be what a process gets as another stream
         stop_at_signals()
         limit_time()
         self.before = signal.signal(signal.SIGCHLD, self.look_after)
