@@ -251,7 +251,8 @@ class Surroundings(FailureTest):
                         self.assertNotEqual(ran.returncode, 0, f"{tool} {place}")
 
     def test_few_descriptors(self):
-        for tool in RUNS:
+        # under Valgrind the program itself ends with a status for want of them: its trace is whole
+        for tool in (tool for tool in RUNS if tool not in OF_VALGRIND):
             with self.subTest(tool):
                 whole, _ = self.whole(tool)
                 limits = (5, 6, 7, 8, 9, 10, 12, 14, 17)  # with fewer Python doesn't begin
