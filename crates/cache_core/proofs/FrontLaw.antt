@@ -1,6 +1,8 @@
 -- An access that finds its block in the first slot of its set.
 use Rattle.std.proofs.Common.{◌≡◌, ℕ, zero, suc, ◌+◌, ◌-◌, ◌*◌, ◌^◌, ◌<◌, ◌≤◌, Bool, true, false, List, [], ◌∷◌, length, get_or}
 use Rattle.std.proofs.Common.{set, take, drop, Option, Some, None, refl, sym, ◌∙◌, subst, arith, length-take, length-drop}
+use Rattle.std.proofs.Common.{ap, not, is_some, ◌==◌}
+use Rattle.std.specs.Prelude.{IsTrue, ◌↔◌, if◌then◌else◌}
 use Rattle.std.proofs.lemmas.List.{set-get_or}
 use Rattle.std.proofs.lemmas.List.Elements.{All-get_or}
 use Rattle.std.proofs.lemmas.List.Quantifiers.{position-Some}
@@ -12,13 +14,16 @@ use Rattle.cache_core.specs.declared.design.Design.{Design}
 use Rattle.cache_core.specs.declared.design.Repl.{Repl}
 use Rattle.cache_core.specs.Geometry.{block_of, set_of}
 use Rattle.cache_core.specs.Outcomes.{outcome_of, on_hit, dirties}
+use Rattle.cache_core.specs.Outcomes.{two_options, writes_through}
 use Rattle.cache_core.specs.Order.{Moves, Touches, Hits, Visits, VisitsAt, Accesses, with_dirty_at, position_of, DirtiesByWrites}
+use Rattle.cache_core.specs.Order.{holds_first, hits_in_front}
 use Rattle.cache_core.specs.Rules.{Place, InFront, InPlace, rules}
 use Rattle.cache_core.specs.Slab.{IsCacheSlab, Addressable, sets_of, slab_contents}
 use Rattle.cache_core.proofs.Addresses.{marked_fits}
 use Rattle.cache_core.proofs.DirtyLaw.{slab_dirty}
 use Rattle.cache_core.proofs.Lawful.{marked_length}
 use Rattle.cache_core.proofs.Slabs.{start_le, IsWritten, segment_slots, with_segment, set_read, slab_kept, slab_access, length-sets_of}
+use Rattle.cache_core.proofs.Slabs.{slab_read}
 
 -- a slot that is moved to the front from there, or stays, leaves the order
 moved_in_front : (p : Place) (x : Slot) (xs : List Slot) → Moves p (x ∷ xs) 0 (x ∷ xs)
@@ -116,3 +121,73 @@ module _ (d : Design) (filled : List ℕ) (k ways : ℕ) (slots : List Slot) (re
   front_dirty outcome e =
       subst (λ ns. DirtiesByWrites (sets_of d.geometry.e slots filled) ref outcome (sets_of d.geometry.e (with_segment ways k slots marked) ns)) kept
       (slab_dirty d filled k count ways slots marked i written None (λ n. n) (λ n. n) ref outcome (visited None (λ n. n) outcome e))
+
+-- a block that is found at the first index is that of the first slot
+first_there : (block : ℕ) (slots : List Slot) → position_of block slots ≡ Some 0 →
+    holds_first block slots ≡ true
+first_there block [] found = absurd (grind (arith, found))
+first_there block (x ∷ xs) found =
+    (position-Some (λ (s : Slot). s.block == block) (x ∷ xs) 0 x found).1
+
+-- and a block of the first slot is found at the first index
+there_first : (block : ℕ) (slots : List Slot) → holds_first block slots ≡ true →
+    position_of block slots ≡ Some 0
+there_first block [] holds = absurd (grind (arith, holds))
+there_first block (x ∷ xs) holds = rw holds (grind arith)
+
+-- a test for the first index tells whether the first slot holds a block
+first_told : (b : Bool) (block : ℕ) (slots : List Slot) →
+    (IsTrue b ↔ (position_of block slots ≡ Some 0)) → holds_first block slots ≡ b
+first_told true block slots tells = grind (arith, first_there block slots, tells)
+first_told false block slots tells = grind (arith, there_first block slots, tells)
+
+-- nothing is sent on where the first of two options is none
+nothing_sent : (refs : List Ref) →
+    (length refs == 0) ≡ not (is_some (get_or (two_options refs) 0 None))
+nothing_sent [] = refl
+nothing_sent (x ∷ []) = refl
+nothing_sent (x ∷ y ∷ refs) = grind arith
+
+itself : (b : Bool) → (if b then true else false) ≡ b
+itself true = refl
+itself false = refl
+
+neither : (b : Bool) → (if b then false else false) ≡ false
+neither true = refl
+neither false = refl
+
+-- a reference that is sent on is none that hits in front and sends nothing on
+pub passed_on : (d : Design) (sets : List (List Slot)) (ref : Ref) (outcome : Outcome) →
+    outcome ≡ outcome_of (on_hit d.write ref) →
+    is_some (get_or outcome.down 0 None) ≡ true → hits_in_front d sets ref ≡ false
+passed_on d sets ref outcome is sent =
+    let down : is_some (get_or (two_options (writes_through d.write ref)) 0 None) ≡ true =
+    rw is at sent in
+    rw (nothing_sent (writes_through d.write ref), down)
+    (neither (holds_first (block_of d.geometry ref.addr)
+    (get_or sets (set_of d.geometry ref.addr) [])))
+
+module _ (d : Design) (filled : List ℕ) (k ways : ℕ) (slots : List Slot) (ref : Ref)
+    (i : IsCacheSlab d slots filled) (ways_are : ways ≡ d.geometry.e)
+    (set_is : k ≡ set_of d.geometry ref.addr) (within : k < 2 ^ d.geometry.s) where
+  -- the first filled slot is that of the set's slots
+  first_in_set : holds_first (block_of d.geometry ref.addr)
+      (get_or (sets_of d.geometry.e slots filled) (set_of d.geometry ref.addr) [])
+      ≡ holds_first (block_of d.geometry ref.addr) (segment_slots ways filled k slots)
+  first_in_set = rw (ways_are, ← set_is)
+      (ap (holds_first (block_of d.geometry ref.addr))
+      (sym (slab_read d.geometry.e filled k slots (omega (arith, i.sets, within)) i.within)))
+
+  -- where nothing is sent on, the test of the first slot tells whether a reference hits in front
+  pub told_in_front : (first : Bool) (outcome : Outcome) →
+      outcome ≡ outcome_of (on_hit d.write ref) →
+      is_some (get_or outcome.down 0 None) ≡ false →
+      (IsTrue first ↔ (position_of (block_of d.geometry ref.addr)
+      (segment_slots ways filled k slots) ≡ Some 0)) →
+      hits_in_front d (sets_of d.geometry.e slots filled) ref ≡ first
+  told_in_front first outcome is sent tells =
+      let down : is_some (get_or (two_options (writes_through d.write ref)) 0 None) ≡ false =
+      rw is at sent in
+      rw (first_in_set, first_told first (block_of d.geometry ref.addr)
+      (segment_slots ways filled k slots) tells,
+      nothing_sent (writes_through d.write ref), down) (itself first)

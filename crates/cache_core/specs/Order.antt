@@ -11,6 +11,7 @@ use Rattle.cache_core.specs.declared.design.Design.{Design}
 use Rattle.cache_core.specs.declared.design.Repl.{Repl}
 use Rattle.cache_core.specs.Geometry.{block_of, set_of}
 use Rattle.cache_core.specs.Outcomes.{outcome_of, on_hit, on_placing, on_passing, dirties, allocates}
+use Rattle.cache_core.specs.Outcomes.{writes_through}
 use Rattle.cache_core.specs.Rules.{Place, InFront, InPlace, Victim, Last, Drawn, rules, draws}
 
 -- the slot at an index comes to the front, or stays where it is
@@ -71,6 +72,11 @@ with_dirty_at true slots at =
 abbrev pub position_of : ℕ → List Slot → Option ℕ
 position_of block slots = position (λ x. x.block == block) slots
 
+-- whether the first of these slots holds a block
+abbrev pub holds_first : ℕ → List Slot → Bool
+holds_first block [] = false
+holds_first block (slot ∷ slots) = slot.block == block
+
 -- a reference whose block is at an index of its set
 pub record Hits (d : Design) (policy : Option Repl) (numbers : ℕ → ℕ) (ref : Ref) (at : ℕ) (old : List Slot) (outcome : Outcome) (new : List Slot)
     (rest : ℕ → ℕ) : Type 0 where
@@ -113,6 +119,12 @@ pub record Contents : Type 0 where
 -- the slots of a set
 abbrev pub slots_of : List (List Slot) → ℕ → List Slot
 slots_of sets set = slice_index_or sets set []
+
+-- whether a reference finds its block in the first filled slot of its set, and sends nothing on
+abbrev pub hits_in_front : Design → List (List Slot) → Ref → Bool
+hits_in_front d sets ref =
+    if holds_first (block_of d.geometry ref.addr) (slots_of sets (set_of d.geometry ref.addr))
+    then length (writes_through d.write ref) == 0 else false
 
 -- one access: its set is visited, and the others stay
 pub record Accesses (old : Contents) (ref : Ref) (outcome : Outcome) (new : Contents) : Type 0 where

@@ -1,5 +1,5 @@
 -- One step of a system, over what it holds.
-use Rattle.std.specs.Prelude.{◌≡◌, ◌≤◌, ℕ, ◌+◌, ◌*◌, ◌^◌, Bool, List, [], ◌∷◌, Option, Some, None, if◌then◌else◌}
+use Rattle.std.specs.Prelude.{◌≡◌, ◌≤◌, ℕ, ◌+◌, ◌*◌, ◌^◌, Bool, false, List, [], ◌∷◌, Option, Some, None, if◌then◌else◌}
 use Rattle.std.specs.Prelude.{MatchOption, MatchBool, is_some, is_none}
 use Rattle.trace_core.specs.declared.events.Ref.{Ref}
 use Rattle.trace_core.specs.Events.{is_fetch, is_write, one_if}
@@ -8,6 +8,7 @@ use Rattle.cache_core.specs.declared.stats.CacheStats.{CacheStats}
 use Rattle.cache_core.specs.declared.stats.Stats.{Stats}
 use Rattle.cache_core.specs.declared.system_cache.SystemCache.{SystemCache}
 use Rattle.cache_core.specs.declared.system.Memory.{Memory}
+use Rattle.cache_core.specs.Order.{hits_in_front}
 use Rattle.cache_core.specs.Systems.{random_numbers_for}
 use Rattle.cache_core.specs.declared.plan.PlannedCache.{PlannedCache}
 use Rattle.cache_core.specs.Plans.{PlannedCaches}
@@ -53,6 +54,19 @@ AccessesFirst cache ref None next = (cache ≡ None) × (next ≡ None)
 AccessesFirst cache ref (Some down) next =
     (old : SystemCache) × (new : SystemCache) × (outcome : Outcome) × (cache ≡ Some old) × (next ≡ Some new) × (down ≡ outcome.down)
     × Enters old ref outcome new
+
+-- whether a first-level cache is there, hits in front at a reference, and sends nothing down
+abbrev pub first_hits_in_front : Option SystemCache → Ref → Bool
+first_hits_in_front None ref = false
+first_hits_in_front (Some cache) ref = hits_in_front cache.cache.design cache.cache.sets ref
+
+-- whether the cache that takes a reference has its block in front, and sends nothing down
+abbrev pub level_hits_in_front :
+    Option SystemCache → Option SystemCache → Option SystemCache → Ref → Bool
+level_hits_in_front i d u ref =
+    if is_some u then first_hits_in_front u ref
+    else if is_fetch ref.access then first_hits_in_front i ref
+    else first_hits_in_front d ref
 
 -- a system: its caches, what reached memory, the references that no cache took, and its steps
 pub record SystemValue : Type 0 where

@@ -1,13 +1,14 @@
 //! One cache, under any policy.
 ghost use Rattle.std.specs.Prelude.{◌≡◌, ◌≤◌, ◌<◌, ◌+◌, ◌*◌, ◌^◌, ℕ, length, take, Some};
 ghost use Rattle.std.specs.Prelude.{IfOk, All, Option, IfSome, option_to_list, count_by};
-ghost use Rattle.std.specs.Prelude.{replicate, IsTrue, ◌↔◌, None};
+ghost use Rattle.std.specs.Prelude.{replicate, IsTrue, ◌↔◌, None, is_some};
 ghost use Rattle.cache_core.specs.declared.design.Repl.{Repl};
 ghost use Rattle.cache_core.specs.Geometry.{IsGeometry, address_of};
 ghost use Rattle.cache_core.specs.Outcomes.{outcome_of, on_hit, on_placing, on_passing, dirties, hit_in_front};
 ghost use Rattle.cache_core.specs.Outcomes.{allocates, writes_through, block_load_access};
 ghost use Rattle.cache_core.specs.Order.{Touches, Visits, position_of, Accesses, FlushesCache};
 ghost use Rattle.cache_core.specs.Order.{with_dirty_at, dirty_slots, DirtiesByWrites};
+ghost use Rattle.cache_core.specs.Order.{hits_in_front};
 ghost use Rattle.cache_core.specs.Slab.{Addressable, IsCacheSlab, slab_contents, sets_of};
 ghost use Rattle.cache_core.specs.Touched.{Covers, ListsFilled, no_sets};
 
@@ -118,6 +119,8 @@ impl<P: Replacement> Cache<P> {
             (contents_of P.policy P.words self.new)) }
         ensures dirty { IfSome result (λ outcome.
             DirtiesByWrites self.old.sets reference outcome self.new.sets) }
+        ensures answers { is_some result
+            ≡ hits_in_front self.old.design self.old.sets reference }
         ensures outcome { IfSome result (λ outcome. outcome ≡ hit_in_front) }
         ensures kept { result ≡ None → self.new ≡ self.old }
     {
@@ -194,6 +197,8 @@ fn visit_front(
     ensures dirty { IfSome result (λ outcome.
         DirtiesByWrites (sets_of design.geometry.e slots.old filled.now) reference outcome
         (sets_of design.geometry.e slots.new filled.now)) }
+    ensures answers { is_some result
+        ≡ hits_in_front design (sets_of design.geometry.e slots.old filled.now) reference }
     ensures outcome { IfSome result (λ outcome. outcome ≡ hit_in_front) }
     ensures kept { result ≡ None → slots.new ≡ slots.old }
 {

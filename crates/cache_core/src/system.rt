@@ -5,6 +5,7 @@ ghost use Rattle.cache_core.specs.SystemSteps.{present_refs, all_reach, Descends
 ghost use Rattle.cache_core.specs.SystemSteps.{AccessesFirst, AccessesFirstLevel, EmptiesCache};
 ghost use Rattle.cache_core.specs.SystemSteps.{accesses_of, memory_accesses, stats_held};
 ghost use Rattle.cache_core.specs.SystemSteps.{IsNewCache, nothing_down};
+ghost use Rattle.cache_core.specs.SystemSteps.{first_hits_in_front, level_hits_in_front};
 ghost use Rattle.cache_core.specs.SystemStands.{PlannedCacheStandsFor};
 ghost use Rattle.cache_core.specs.Arrivals.{Saw, arrives, arrivals_below, all_arrivals_below};
 ghost use Rattle.cache_core.specs.Arrivals.{at_memory, first_arrivals, flushes};
@@ -287,8 +288,10 @@ fn first_level<O: Observer>(
 #[inline(always)]
 fn access_first_in_front(cache: &mut Option<SystemCache>, reference: Ref) -> bool
     requires { accesses_of cache.old < 2 ^ 62 }
-    ensures { MatchBool result (AccessesFirst cache.old reference (Some nothing_down) cache.new)
+    ensures value { MatchBool result
+        (AccessesFirst cache.old reference (Some nothing_down) cache.new)
         (cache.new ≡ cache.old) }
+    ensures answers { result ≡ first_hits_in_front cache.old reference }
 {
     match cache {
         Some(cache) => cache.access_in_front(reference),
@@ -305,9 +308,10 @@ fn access_first_level_in_front(
     reference: Ref,
 ) -> bool
     requires { accesses_of i.old + accesses_of d.old + accesses_of u.old < 2 ^ 62 }
-    ensures { MatchBool result
+    ensures value { MatchBool result
         (AccessesFirstLevel i.old d.old u.old reference (Some nothing_down) i.new d.new u.new)
         ((i.new ≡ i.old) × (d.new ≡ d.old) × (u.new ≡ u.old)) }
+    ensures answers { result ≡ level_hits_in_front i.old d.old u.old reference }
 {
     if u.is_some() {
         return access_first_in_front(u, reference);

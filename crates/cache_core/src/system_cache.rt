@@ -1,7 +1,7 @@
 //! A cache of a system, with what it counted. Its policy is chosen at run time.
 ghost use Rattle.std.specs.Prelude.{◌≡◌, ◌≤◌, ◌<◌, ◌+◌, ◌^◌, ◌∷◌, [], Some, IfOk, MatchBool};
 ghost use Rattle.cache_core.specs.Arrivals.{Saw, arrival_at};
-ghost use Rattle.cache_core.specs.Order.{dirty_slots};
+ghost use Rattle.cache_core.specs.Order.{dirty_slots, hits_in_front};
 ghost use Rattle.cache_core.specs.Outcomes.{hit_in_front};
 ghost use Rattle.cache_core.specs.CacheStats.{accesses, IsCounted};
 ghost use Rattle.cache_core.specs.SystemCaches.{policy_of, random_numbers_of};
@@ -97,8 +97,10 @@ impl SystemCache {
     #[inline(always)]
     pub(crate) fn access_in_front(&mut self, reference: Ref) -> bool
         requires { accesses self.old.stats < 2 ^ 62 }
-        ensures { MatchBool result (Enters self.old reference hit_in_front self.new)
+        ensures value { MatchBool result (Enters self.old reference hit_in_front self.new)
             (self.new ≡ self.old) }
+        ensures answers { result
+            ≡ hits_in_front self.old.cache.design self.old.cache.sets reference }
     {
         match self.cache.access_in_front(reference) {
             Some(outcome) => {

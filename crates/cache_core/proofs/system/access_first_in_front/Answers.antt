@@ -14,5 +14,7 @@ held : (b : Bool) (cache : Option SystemCache) (old new : SystemCache) (ref : Re
 held true cache old new ref is e = (old, new, hit_in_front, is, refl, refl, e)
 held false cache old new ref is e = ap Some e ∙ sym is
 
-pub returns-in-Some : goal.returns-in-Some
-returns-in-Some c = held c.access_in_front.result c.args.cache.now _ c.access_in_front.new.self c.args.reference c.in-Some.is c.access_in_front.ensures
+pub returns-in-Some-clause-value : goal.returns-in-Some-clause-value
+returns-in-Some-clause-value c =
+    held c.access_in_front.result c.args.cache.now _ c.access_in_front.new.self
+    c.args.reference c.in-Some.is c.access_in_front.ensures.value

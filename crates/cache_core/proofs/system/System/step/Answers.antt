@@ -8,7 +8,8 @@ pub returns-then-access_first_level_in_front-clause-stands : goal.returns-then-a
 returns-then-access_first_level_in_front-clause-stands c = λ plan seed events good stands.
     step_law plan seed events _ c.args.reference _ good stands (rw (← c.self.view_is) record {
       down = Some nothing_down;
-      first = rw c.if-access_first_level_in_front.true at c.access_first_level_in_front.ensures;
+      first = rw c.if-access_first_level_in_front.true
+          at c.access_first_level_in_front.ensures.value;
       lower = (refl, refl);
       bypassed = omega arith;
       steps = refl;
