@@ -1,11 +1,16 @@
--- The smallest cache of some rows, and of one row more.
-use Rattle.std.proofs.Common.{◌≡◌, ◌≤◌, ◌<◌, ℕ, Bool, true, false, List, [], ◌∷◌, ◌++◌, None, Some, Option, refl, sym, ◌∙◌, arith}
+-- The smallest cache of some rows, of one row more, and of the rows that were read.
+use Rattle.std.proofs.Common.{◌≡◌, ◌≤◌, ◌<◌, ℕ, Bool, true, false, List, [], ◌∷◌, ◌++◌, None, Some, Option, refl, ap, sym, ◌∙◌, subst, arith}
 use Rattle.std.specs.Prelude.{IfSome, MatchOption, nat_lt}
 use Rattle.std.specs.List.{AllByRecursion as Each}
 use Rattle.std.proofs.lemmas.Bool.{ltb-true, ltb-false, false≢true}
 use Rattle.std.proofs.lemmas.List.Elements.{Contains-append_left, Contains-push}
+use Rattle.std.proofs.lemmas.Option.{IfSome_then}
+use Rattle.trace_core.specs.Reading.{events}
 use Rattle.cache_core.specs.declared.outcome.Counts.{Counts}
 use Rattle.sweep_core.specs.Space.{bytes_of}
+use Rattle.sweep_core.specs.Rows.{CountedSweep, counted_rows, counted_sweep}
+use Rattle.sweep_core.specs.SweepText.{rows_of}
+use Rattle.sweep_core.specs.declared.request.Request.{Request}
 use Rattle.sweep_core.specs.declared.space.Config.{Config}
 use Rattle.callers.specs.Smallest.{IsSmallest, IsSmallestIfAny}
 
@@ -69,3 +74,11 @@ pub misses_more : (most : ℕ) (best : Option Config) (c : Config) (n : Counts) 
     → (best ≡ None → most < n.misses) × IfSome best (λ b. n.misses ≤ most → bytes_of b ≤ bytes_of c)
 misses_more most None c n above = (λ none. above, tt)
 misses_more most (Some b) c n above = (λ none. above, λ low. absurd (omega (arith, above, low)))
+
+-- the smallest of the rows that were counted is that of the text's
+pub smallest_read : (most : ℕ) (r : Request) (remaining : Option (List ℕ)) (counts : CountedSweep) (rows : List (Config × Counts)) (found : Option Config)
+    → rows ≡ counts.rows → IfSome remaining (λ text. counts ≡ counted_sweep r (events r.format r.kind text)) → IsSmallestIfAny most rows found
+    → IfSome remaining (λ text. IsSmallestIfAny most (counted_rows (events r.format r.kind text) (rows_of r)) found)
+smallest_read most r remaining counts rows found same known smallest =
+    IfSome_then remaining known (λ text is.
+    subst (λ rows. IsSmallestIfAny most rows found) (same ∙ ap (λ (c : CountedSweep). c.rows) is) smallest)
