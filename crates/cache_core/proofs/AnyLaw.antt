@@ -16,9 +16,9 @@ use Rattle.cache_core.specs.declared.outcome.Slot.{Slot}
 use Rattle.cache_core.specs.declared.outcome.Outcome.{Outcome}
 use Rattle.cache_core.specs.declared.design.Repl.{Repl}
 use Rattle.cache_core.specs.Geometry.{GeometryValue, block_of, set_of_block}
-use Rattle.cache_core.specs.Outcomes.{outcome_of, on_placing, dirties, allocates}
-use Rattle.cache_core.specs.Machine.{Machine, MachineState, Line, slot_of, is_block, lines_of_set, is_full, with_line_at, key_at, placing}
-use Rattle.cache_core.specs.Machine.{Step, passing, start, step_at}
+use Rattle.cache_core.specs.Outcomes.{outcome_of, on_placing, is_dirtied, is_allocated}
+use Rattle.cache_core.specs.Machine.{Machine, MachineState, Line, slot_of, is_block, lines_of_set, is_full, with_line_at, key_at, placing_step}
+use Rattle.cache_core.specs.Machine.{Step, passing_step, start, step_at}
 use Rattle.cache_core.specs.Order.{Contents, VisitsAt, Fills, PassesOn, Hits, TakesIn, slots_of, position_of, with_dirty_at}
 use Rattle.cache_core.specs.Rules.{Place, rules}
 use Rattle.cache_core.specs.Stands.{Absent, Distinct}
@@ -115,7 +115,7 @@ module _ (m : Machine) (st : MachineState) (ref : Ref) (policy : Option Repl) (n
 
   -- the slot of the block where it is placed
   abbrev slot : Slot
-  slot = record { block = b; dirty = dirties m.design.write ref.access }
+  slot = record { block = b; dirty = is_dirtied m.design.write ref.access }
 
   -- the sets after a line goes among those of the block's set, where the slots are the same again
   record Goes (p : Place) (y : Line) (gone : Option Line) : Type 0 where
@@ -140,7 +140,7 @@ module _ (m : Machine) (st : MachineState) (ref : Ref) (policy : Option Repl) (n
       AgreesUpToOrder m st k false (λ gone. step_at m ref b gone st (Some line)) new outcome
   hit_agrees line at e q there hits =
       let r : Found b here line = found b here line e in
-      let mark : Bool = dirties m.design.write ref.access in
+      let mark : Bool = is_dirtied m.design.write ref.access in
       let to : Place = (rules m.policy).touched in
       let y : Line = with_mark mark line in
       let z : Line = record y { key = key_at to clock line.key } in
@@ -168,12 +168,12 @@ module _ (m : Machine) (st : MachineState) (ref : Ref) (policy : Option Repl) (n
   to = (rules m.policy).placed
 
   abbrev line_new : ℕ → Line
-  line_new there = record { block = b; key = key_at to clock there; dirty = dirties m.design.write ref.access }
+  line_new there = record { block = b; key = key_at to clock there; dirty = is_dirtied m.design.write ref.access }
 
   -- a miss that places its block in a set that is not full
   insert_agrees : Absent b here → length slots < g.e → IsPermutation (slot ∷ slots) new →
       outcome ≡ outcome_of (on_placing g m.design.write ref b None) →
-      AgreesUpToOrder m st k (is_full m st k) (λ gone. placing m ref b gone st) new outcome
+      AgreesUpToOrder m st k (is_full m st k) (λ gone. placing_step m ref b gone st) new outcome
   insert_agrees a free t o =
       let long : length here ≡ length slots = sym (length-map here slot_of) ∙ length_permutation slots (map slot_of here) perm in
       let not_full : ltb (length here) g.e ≡ true = lt-ltb (length here) g.e (omega (arith, free, long)) in
@@ -192,7 +192,7 @@ module _ (m : Machine) (st : MachineState) (ref : Ref) (policy : Option Repl) (n
   -- in a full set, where this line leaves
   leaving_agrees : (x : Slot) (rest : List Slot) (r : LineAt x here) → Absent b here → length slots ≡ g.e → IsPermutation slots (x ∷ rest) →
       IsPermutation (slot ∷ rest) new → outcome ≡ outcome_of (on_placing g m.design.write ref b (Some x)) →
-      AgreesUpToOrder m st k (is_full m st k) (λ gone. placing m ref b gone st) new outcome
+      AgreesUpToOrder m st k (is_full m st k) (λ gone. placing_step m ref b gone st) new outcome
   leaving_agrees x rest r a whole left t o =
       let full : ltb (length here) g.e ≡ false =
       le-ltb (length here) g.e (omega (arith, whole, sym (length-map here slot_of) ∙ length_permutation slots (map slot_of here) perm)) in
@@ -227,7 +227,7 @@ module _ (m : Machine) (st : MachineState) (ref : Ref) (policy : Option Repl) (n
 
   fill_agrees : (number : ℕ) (evicted : Option Slot) → Absent b here → TakesIn None number g.e slots slot evicted new →
       outcome ≡ outcome_of (on_placing g m.design.write ref b evicted) →
-      AgreesUpToOrder m st k (is_full m st k) (λ gone. placing m ref b gone st) new outcome
+      AgreesUpToOrder m st k (is_full m st k) (λ gone. placing_step m ref b gone st) new outcome
   fill_agrees number None a t o = insert_agrees a t.0 t.1 o
   fill_agrees number (Some x) a t o =
       let counted : 1 ≤ line_sum (one_for x) here =
@@ -242,7 +242,7 @@ module _ (m : Machine) (st : MachineState) (ref : Ref) (policy : Option Repl) (n
 
   miss_agrees : (fills : Bool) → Absent b here →
       MatchBool fills (Fills m.design policy numbers ref slots outcome new rest) (PassesOn numbers ref slots outcome new rest) →
-      AgreesUpToOrder m st k (fills && is_full m st k) (λ gone. cond fills (placing m ref b gone st) (passing ref st)) new outcome
+      AgreesUpToOrder m st k (fills && is_full m st k) (λ gone. cond fills (placing_step m ref b gone st) (passing_step ref st)) new outcome
   miss_agrees true a v =
       fill_agrees 0 outcome.evicted a (lawful_place policy (numbers 0) 0 g.e slots slot outcome.evicted new some v.order) v.effect
   miss_agrees false a v = record { gone = None; may = refl; effect = v.effect; held = rw v.order perm; distinct = d; others = λ j ne. refl }
@@ -250,7 +250,7 @@ module _ (m : Machine) (st : MachineState) (ref : Ref) (policy : Option Repl) (n
   -- a hit or a miss, by the block's line and by its index
   step_agrees : (o : Option Line) (index : Option ℕ) → find (is_block b) here ≡ o → position_of b slots ≡ index →
       VisitsAt index m.design policy numbers ref slots outcome new rest →
-      AgreesUpToOrder m st k (is_none o && allocates m.design.allocate ref.access && is_full m st k) (λ gone. step_at m ref b gone st o)
+      AgreesUpToOrder m st k (is_none o && is_allocated m.design.allocate ref.access && is_full m st k) (λ gone. step_at m ref b gone st o)
       new outcome
   step_agrees (Some line) (Some at) e q v =
       let p = placed_held b here slots at d perm q in
@@ -258,7 +258,7 @@ module _ (m : Machine) (st : MachineState) (ref : Ref) (policy : Option Repl) (n
       hit_agrees line at e q (ap slot_of (sym same) ∙ p.slot) v
   step_agrees (Some line) None e q v = absurd (held_placed b here line slots perm e q)
   step_agrees None (Some at) e q v = let p = placed_held b here slots at d perm q in absurd cc
-  step_agrees None None e q v = miss_agrees (allocates m.design.allocate ref.access) (not_found b here e) v
+  step_agrees None None e q v = miss_agrees (is_allocated m.design.allocate ref.access) (not_found b here e) v
 
 pub any_access : AnyAccessLaw
 any_access m st old ref outcome new some i a =

@@ -12,9 +12,9 @@ use Rattle.cache_core.specs.declared.system_cache.SystemCache.{SystemCache}
 use Rattle.cache_core.specs.declared.system.Memory.{Memory}
 use Rattle.cache_core.specs.Geometry.{block_of}
 use Rattle.cache_core.specs.Order.{Visits, VisitsAt, Fills, PassesOn, position_of}
-use Rattle.cache_core.specs.Outcomes.{allocates, on_hit, on_placing, on_passing, two_options}
+use Rattle.cache_core.specs.Outcomes.{is_allocated, on_hit, on_placing, on_passing, two_options}
 use Rattle.cache_core.specs.CacheSteps.{Enters}
-use Rattle.cache_core.specs.SystemSteps.{AccessesFirst, AllDescend, AccessesUnified, AccessesSplit, AccessesFirstLevel, present_refs, all_reach}
+use Rattle.cache_core.specs.SystemSteps.{AccessesFirst, AllDescend, AccessesUnified, AccessesSplit, AccessesFirstLevel, present_refs, memory_after_all}
 use Rattle.cache_core.specs.SystemSteps.{copybacks_of, accesses_of, memory_accesses}
 
 -- one reference at a cache, if it is there
@@ -37,7 +37,7 @@ visit_sends d policy numbers rest ref old o new v = by_place (position_of (block
     by_miss false m = ((on_passing ref).down, ap (λ (x : Outcome). x.down) m.effect)
 
     by_place : (at : Option ℕ) → VisitsAt at d policy numbers ref old o new rest → (xs : List Ref) × (o.down ≡ two_options xs)
-    by_place None m = by_miss (allocates d.allocate ref.access) m
+    by_place None m = by_miss (is_allocated d.allocate ref.access) m
     by_place (Some at) h = ((on_hit d.write ref).down, ap (λ (x : Outcome). x.down) h.effect)
 
 sends : (old : SystemCache) (ref : Ref) (o : Outcome) (new : SystemCache) → Enters old ref o new → (xs : List Ref) × (o.down ≡ two_options xs)
@@ -92,8 +92,8 @@ all_grow (ref ∷ refs) second memory next after (mid, half, d, r) = grind (arit
 
 -- what a cache sends down reaches memory one place after the other
 two_reach : (memory : Memory) (xs : List Ref) →
-    all_reach (all_reach memory (present_refs (get_or (two_options xs) 0 None ∷ []))) (present_refs (get_or (two_options xs) 1 None ∷ []))
-    ≡ all_reach memory (present_refs (two_options xs))
+    memory_after_all (memory_after_all memory (present_refs (get_or (two_options xs) 0 None ∷ []))) (present_refs (get_or (two_options xs) 1 None ∷ []))
+    ≡ memory_after_all memory (present_refs (two_options xs))
 two_reach memory xs = grind arith
 
 -- and stands there in order
@@ -106,5 +106,5 @@ pub sent_two : (old : SystemCache) (ref : Ref) (o : Outcome) (new : SystemCache)
 sent_two old ref o new e = let (xs, is) = sends old ref o new e in rw is (two_sent xs)
 
 pub sent_reach : (memory : Memory) (old : SystemCache) (ref : Ref) (o : Outcome) (new : SystemCache) → Enters old ref o new →
-    all_reach (all_reach memory (present_refs (get_or o.down 0 None ∷ []))) (present_refs (get_or o.down 1 None ∷ [])) ≡ all_reach memory (present_refs o.down)
+    memory_after_all (memory_after_all memory (present_refs (get_or o.down 0 None ∷ []))) (present_refs (get_or o.down 1 None ∷ [])) ≡ memory_after_all memory (present_refs o.down)
 sent_reach memory old ref o new e = let (xs, is) = sends old ref o new e in rw is (two_reach memory xs)

@@ -5,12 +5,12 @@ use Rattle.std.specs.List.{remove}
 use Rattle.std.proofs.lemmas.List.{length-map, get_or-map, length-replicate, map-set, nil_from_length, drop_all, take_at}
 use Rattle.std.proofs.lemmas.List.Elements.{All-set, All-get_or, All-replicate, All-map}
 use Rattle.std.proofs.Math.Seq.{map-set_same}
-use Rattle.deep_list.specs.Deep.{Deep, index_of}
-use Rattle.deep_list.specs.Deep.{exchanged as exchanged_list}
-use Rattle.cache_core.specs.DeepSets.{IsDeepSets, blocks_in, emptied, exchanged}
+use Rattle.deep_list.specs.Deep.{Deep, index_of_block}
+use Rattle.deep_list.specs.Deep.{sets_after_exchange as exchanged_list}
+use Rattle.cache_core.specs.DeepSets.{IsDeepSets, blocks_in, cleared_sets, sets_after_exchange}
 use Rattle.cache_core.specs.Touched.{TouchedValue, Covers, ListsFilled, after_count, no_sets}
 use Rattle.cache_core.proofs.TouchedSets.{covers_change, covers_none, no_count, next_listed}
-use Rattle.cache_core.proofs.TouchedSets.{emptied as emptied_count}
+use Rattle.cache_core.proofs.TouchedSets.{cleared_sets as emptied_count}
 
 -- no list
 abbrev pub nothing : Deep
@@ -40,40 +40,40 @@ module _ (capacity : ℕ) (touched : TouchedValue) (lists : List Deep) (k out in
     few = omega (arith, h.few, length-set lists k new);
     capacities = All-set (λ (d : Deep). d.cap ≡ capacity) lists k new cap h.capacities;
     within = All-set (λ (d : Deep). length d.blocks ≤ capacity) lists k new
-        (omega (arith, cap, length-take old.cap (in_front ∷ remove old.blocks (index_of out old.blocks)))) h.within;
+        (omega (arith, cap, length-take old.cap (in_front ∷ remove old.blocks (index_of_block out old.blocks)))) h.within;
     covered = subst (Covers (after_count k (length old.blocks) (length new.blocks) touched)) (sym counts)
         (covers_change touched (blocks_in lists) k (length old.blocks) (length new.blocks) (omega (arith, lt, length-map lists count)) before h.covered);
   }
 
   pub exchange_view : map (λ (d : Deep). d.blocks) (set lists k new)
-      ≡ set (map (λ (d : Deep). d.blocks) lists) k (exchanged capacity out in_front (get_or (map (λ (d : Deep). d.blocks) lists) k []))
+      ≡ set (map (λ (d : Deep). d.blocks) lists) k (sets_after_exchange capacity out in_front (get_or (map (λ (d : Deep). d.blocks) lists) k []))
   exchange_view =
       let blocks : old.blocks ≡ get_or (map (λ (d : Deep). d.blocks) lists) k [] =
       ap (λ (d : Deep). d.blocks) is ∙ sym (get_or-map (λ (d : Deep). d.blocks) lists k nothing [] lt) in
       map-set (λ (d : Deep). d.blocks) lists k new
-      ∙ ap (λ c. set (map (λ (d : Deep). d.blocks) lists) k (exchanged c out in_front old.blocks)) cap
-      ∙ ap (λ xs. set (map (λ (d : Deep). d.blocks) lists) k (exchanged capacity out in_front xs)) blocks
+      ∙ ap (λ c. set (map (λ (d : Deep). d.blocks) lists) k (sets_after_exchange c out in_front old.blocks)) cap
+      ∙ ap (λ xs. set (map (λ (d : Deep). d.blocks) lists) k (sets_after_exchange capacity out in_front xs)) blocks
 
   -- how a block stands among them
   pub old_view : old.blocks ≡ get_or (map (λ (d : Deep). d.blocks) lists) k []
   old_view = ap (λ (d : Deep). d.blocks) is ∙ sym (get_or-map (λ (d : Deep). d.blocks) lists k nothing [] lt)
 
-counts_none : (lists : List Deep) → blocks_in (map emptied lists) ≡ replicate (length lists) 0
+counts_none : (lists : List Deep) → blocks_in (map cleared_sets lists) ≡ replicate (length lists) 0
 counts_none [] = refl
 counts_none (d ∷ lists) = ap (λ ns. 0 ∷ ns) (counts_none lists)
 
 -- all lists are emptied
 pub emptied_kept : (capacity : ℕ) (touched : TouchedValue) (lists : List Deep) → IsDeepSets capacity touched lists →
-    IsDeepSets capacity (no_sets touched) (map emptied lists)
+    IsDeepSets capacity (no_sets touched) (map cleared_sets lists)
 emptied_kept capacity touched lists h = record {
   small = h.small;
-  few = omega (arith, h.few, length-map lists emptied);
-  capacities = All-map (λ (d : Deep). d.cap ≡ capacity) emptied lists h.capacities;
-  within = All-map (λ (d : Deep). length d.blocks ≤ capacity) emptied lists (λ k d lt. omega arith);
-  covered = covers_none (no_sets touched) touched.capacity (length lists) (blocks_in (map emptied lists)) refl (counts_none lists);
+  few = omega (arith, h.few, length-map lists cleared_sets);
+  capacities = All-map (λ (d : Deep). d.cap ≡ capacity) cleared_sets lists h.capacities;
+  within = All-map (λ (d : Deep). length d.blocks ≤ capacity) cleared_sets lists (λ k d lt. omega arith);
+  covered = covers_none (no_sets touched) touched.capacity (length lists) (blocks_in (map cleared_sets lists)) refl (counts_none lists);
 }
 
-pub emptied_view : (lists : List Deep) → map (λ (d : Deep). d.blocks) (map emptied lists) ≡ map (λ (xs : List ℕ). []) (map (λ (d : Deep). d.blocks) lists)
+pub emptied_view : (lists : List Deep) → map (λ (d : Deep). d.blocks) (map cleared_sets lists) ≡ map (λ (xs : List ℕ). []) (map (λ (d : Deep). d.blocks) lists)
 emptied_view [] = refl
 emptied_view (d ∷ lists) = ap (λ (xs : List (List ℕ)). [] ∷ xs) (emptied_view lists)
 
@@ -108,7 +108,7 @@ all_written new rest n long = take_at new rest n long
 
 -- one listed set more is emptied
 module _ (sets : List ℕ) (lists first : List Deep) (i : ℕ) (old new : Deep) (lt : i < length sets) (k_lt : get_or sets i 0 < length lists)
-    (is : old ≡ get_or lists (get_or sets i 0) nothing) (cleared : new ≡ emptied old) where
+    (is : old ≡ get_or lists (get_or sets i 0) nothing) (cleared : new ≡ cleared_sets old) where
   abbrev k : ℕ
   k = get_or sets i 0
 
@@ -118,19 +118,19 @@ module _ (sets : List ℕ) (lists first : List Deep) (i : ℕ) (old new : Deep) 
       (ap (set (blocks_in lists) k) (sym (ap count cleared)) ∙ sym (map-set count lists k new))
       (emptied_count k (drop (i + 1) sets) (blocks_in lists) (next_listed sets (blocks_in lists) i lt h))
 
-  pub still_same : map emptied lists ≡ map emptied first → map emptied (set lists k new) ≡ map emptied first
-  still_same same = map-set_same emptied lists k new nothing (ap emptied (cleared ∙ ap emptied is)) ∙ same
+  pub still_same : map cleared_sets lists ≡ map cleared_sets first → map cleared_sets (set lists k new) ≡ map cleared_sets first
+  still_same same = map-set_same cleared_sets lists k new nothing (ap cleared_sets (cleared ∙ ap cleared_sets is)) ∙ same
 
 -- lists without blocks
-all_empty : (lists : List Deep) (n : ℕ) → blocks_in lists ≡ replicate n 0 → map emptied lists ≡ lists
+all_empty : (lists : List Deep) (n : ℕ) → blocks_in lists ≡ replicate n 0 → map cleared_sets lists ≡ lists
 all_empty [] n e = refl
 all_empty (d ∷ lists) zero e = absurd (omega (arith, ap length e))
 all_empty (d ∷ lists) (suc n) e =
     let none : d.blocks ≡ [] = nil_from_length d.blocks (ap (λ ns. get_or ns 0 0) e) in
-    ap (λ (xs : List ℕ). record d { blocks = xs } ∷ map emptied lists) (sym none) ∙ ap (λ ds. d ∷ ds) (all_empty lists n (ap (drop 1) e))
+    ap (λ (xs : List ℕ). record d { blocks = xs } ∷ map cleared_sets lists) (sym none) ∙ ap (λ ds. d ∷ ds) (all_empty lists n (ap (drop 1) e))
 
 pub all_cleared : (sets : List ℕ) (lists first : List Deep) (i : ℕ) → length sets ≤ i → ListsFilled (drop i sets) (blocks_in lists) →
-    map emptied lists ≡ map emptied first → lists ≡ map emptied first
+    map cleared_sets lists ≡ map cleared_sets first → lists ≡ map cleared_sets first
 all_cleared sets lists first i le h same =
     sym (all_empty lists (length (blocks_in lists)) (no_count (blocks_in lists) (subst (λ xs. ListsFilled xs (blocks_in lists)) (drop_all i sets le) h)))
     ∙ same

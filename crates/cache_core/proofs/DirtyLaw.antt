@@ -12,7 +12,7 @@ use Rattle.cache_core.specs.declared.outcome.Outcome.{Outcome}
 use Rattle.cache_core.specs.declared.design.Design.{Design}
 use Rattle.cache_core.specs.declared.design.Repl.{Repl}
 use Rattle.cache_core.specs.Geometry.{block_of}
-use Rattle.cache_core.specs.Outcomes.{allocates}
+use Rattle.cache_core.specs.Outcomes.{is_allocated}
 use Rattle.cache_core.specs.Order.{Visits, VisitsAt, Hits, Fills, PassesOn, TakesIn, with_dirty_at, position_of, dirty_in, is_dirty, dirty_slots}
 use Rattle.cache_core.specs.Order.{DirtiesByWrites}
 use Rattle.cache_core.specs.Slab.{IsCacheSlab, sets_of}
@@ -54,7 +54,7 @@ visit_dirty d policy numbers rest ref old outcome new e v = by_index (position_o
   where
     by_index : (o : Option ℕ) → position_of (block_of d.geometry ref.addr) old ≡ o → VisitsAt o d policy numbers ref old outcome new rest →
         dirty_in new + one_if (is_dirty outcome.evicted) ≤ dirty_in old + one_if (is_write ref.access)
-    by_index None q u = miss_dirty d policy numbers rest ref old outcome new (allocates d.allocate ref.access) e u
+    by_index None q u = miss_dirty d policy numbers rest ref old outcome new (is_allocated d.allocate ref.access) e u
     by_index (Some at) q u =
         hit_dirty d policy numbers rest ref old outcome new at (position-Some _ old at (record { block = 0; dirty = false }) q).0 u
 

@@ -10,11 +10,11 @@ use Rattle.trace_core.specs.declared.events.Event.TheVariants as event
 use Rattle.trace_core.specs.Events.{one_if}
 use Rattle.cache_core.specs.declared.design.WriteMode.TheVariants.{Through}
 use Rattle.cache_core.specs.Geometry.{block_of, set_of}
-use Rattle.cache_core.specs.Machine.{Machine, MachineState, Line, is_block, lines_of_set, exchange, least, lesser, victim, with_line_at}
-use Rattle.cache_core.specs.Machine.{leaves, step, step_at, step_with, next, dirty_count}
+use Rattle.cache_core.specs.Machine.{Machine, MachineState, Line, is_block, lines_of_set, exchange, least_line, lesser_line, victim, with_line_at}
+use Rattle.cache_core.specs.Machine.{victim_line, step, step_at, step_with, next, dirty_count}
 use Rattle.cache_core.specs.Rules.{Place, InFront, InPlace, Victim, rules}
 use Rattle.cache_core.specs.Stands.{DownLaw}
-use Rattle.cache_core.specs.AnyPolicy.{MayLeave, needs_victim}
+use Rattle.cache_core.specs.AnyPolicy.{MayLeave, is_evicting}
 use Rattle.cache_core.proofs.Lists.{cases}
 
 -- a line is not dirty, if there is one
@@ -55,14 +55,14 @@ clean_find p (l ∷ ls) line h e =
     (λ _ q. clean_find p ls line (All-tail IsClean l ls h) q) e
 
 clean_lesser : (l : Line) (o : Option Line) → l.dirty ≡ false → NoneDirty o →
-    (lesser l o).dirty ≡ false
+    (lesser_line l o).dirty ≡ false
 clean_lesser l o e h = grind arith
 
-clean_least : (ls : List Line) (line : Line) → Clean ls → least ls ≡ Some line → line.dirty ≡ false
+clean_least : (ls : List Line) (line : Line) → Clean ls → least_line ls ≡ Some line → line.dirty ≡ false
 clean_least [] line h e = absurd cc
 clean_least (l ∷ ls) line h e =
-    let same : lesser l (least ls) ≡ line = cc in
-    ap (λ (x : Line). x.dirty) (sym same) ∙ clean_lesser l (least ls) (All-head IsClean l ls h) (λ x q. clean_least ls x (All-tail IsClean l ls h) q)
+    let same : lesser_line l (least_line ls) ≡ line = cc in
+    ap (λ (x : Line). x.dirty) (sym same) ∙ clean_lesser l (least_line ls) (All-head IsClean l ls h) (λ x q. clean_least ls x (All-tail IsClean l ls h) q)
 
 clean_victim : (v : Victim) (way : ℕ) (ls : List Line) (line : Line) → Clean ls → victim v way ls ≡ Some line → line.dirty ≡ false
 clean_victim v way ls line h e = grind (arith, clean_least, clean_find)
@@ -82,11 +82,11 @@ clean_fold m st [] w h = h
 clean_fold m st (event.Reference ref ∷ events) w h =
     let b = block_of m.design.geometry ref.addr in
     clean_fold m (step m st ref).after events w
-    (clean_step_at m ref b (leaves m st (set_of m.design.geometry ref.addr)) st (find (is_block b) st.lines) w refl h)
+    (clean_step_at m ref b (victim_line m st (set_of m.design.geometry ref.addr)) st (find (is_block b) st.lines) w refl h)
 clean_fold m st (event.Flush ∷ events) w h = clean_fold m (next m st event.Flush) events w (All-nil IsClean)
 
 -- what is sent down
-clean_leaves : (m : Machine) (st : MachineState) (set : ℕ) (line : Line) → Clean st.lines → leaves m st set ≡ Some line → line.dirty ≡ false
+clean_leaves : (m : Machine) (st : MachineState) (set : ℕ) (line : Line) → Clean st.lines → victim_line m st set ≡ Some line → line.dirty ≡ false
 clean_leaves m st set line h e =
     let here : List Line = lines_of_set m.design.geometry set st.lines in
     let v = (rules m.policy).victim in
@@ -118,10 +118,10 @@ any_clean m st ref gone h w =
     clean_count (step_at m ref block gone st o).after.lines (clean_step_at m ref block gone st o w refl (count_clean st.lines (h w)))
 
 pub any_few : (m : Machine) (st : MachineState) (ref : Ref) (gone : Option Line) → (m.design.write ≡ Through → dirty_count st ≡ 0) →
-    MayLeave (needs_victim m st ref) (lines_of_set m.design.geometry (set_of m.design.geometry ref.addr) st.lines) gone →
+    MayLeave (is_evicting m st ref) (lines_of_set m.design.geometry (set_of m.design.geometry ref.addr) st.lines) gone →
     length (step_with m ref gone st).effect.down ≤ 2
 any_few m st ref gone h may =
     let block = block_of m.design.geometry ref.addr in
     let here = lines_of_set m.design.geometry (set_of m.design.geometry ref.addr) st.lines in
     step_most m ref block gone st (find (is_block block) st.lines)
-    (λ w line e. may_clean (needs_victim m st ref) here gone line (All-filter _ IsClean st.lines (count_clean st.lines (h w))) may e)
+    (λ w line e. may_clean (is_evicting m st ref) here gone line (All-filter _ IsClean st.lines (count_clean st.lines (h w))) may e)

@@ -17,7 +17,7 @@ use Rattle.cache_core.specs.Machine.{Machine, run, step}
 use Rattle.cache_core.specs.Plans.{IsPlannedCache}
 use Rattle.cache_core.specs.Stands.{CacheStandsFor}
 use Rattle.cache_core.specs.CacheSteps.{system_cache_contents, Enters}
-use Rattle.cache_core.specs.Systems.{machine_of, takes, events_for, sends, cache_stats, counts_if_planned}
+use Rattle.cache_core.specs.Systems.{machine_of, is_taken_by, events_for, sends, cache_stats, counts_if_planned}
 use Rattle.cache_core.specs.SystemSteps.{present_refs, AccessesFirst, AccessesUnified, AccessesSplit, AccessesFirstLevel, stats_held}
 use Rattle.cache_core.specs.SystemStands.{PlannedCacheStandsFor}
 use Rattle.cache_core.proofs.RunLaw.{access_run}
@@ -103,26 +103,26 @@ module _ (seed : ℕ) (name : CacheName) (planned : Option PlannedCache) (events
   abbrev more : List Event
   more = events_for name (events ++ event.Reference ref ∷ [])
 
-  sends_taken : takes name ref ≡ true → sends seed name planned events ref ≡ sends_of seed planned (events_for name events) ref
+  sends_taken : is_taken_by name ref ≡ true → sends seed name planned events ref ≡ sends_of seed planned (events_for name events) ref
   sends_taken t = by_plan planned
     where
       by_plan : (p : Option PlannedCache) → sends seed name p events ref ≡ sends_of seed p (events_for name events) ref
       by_plan None = refl
       by_plan (Some p) = ap (λ b. cond b (step (machine_of seed p) (run (machine_of seed p) (events_for name events)) ref).effect.down []) t
 
-  sends_left : takes name ref ≡ false → sends seed name planned events ref ≡ []
+  sends_left : is_taken_by name ref ≡ false → sends seed name planned events ref ≡ []
   sends_left t = by_plan planned
     where
       by_plan : (p : Option PlannedCache) → sends seed name p events ref ≡ []
       by_plan None = refl
       by_plan (Some p) = ap (λ b. cond b (step (machine_of seed p) (run (machine_of seed p) (events_for name events)) ref).effect.down []) t
 
-  kept_taken : (cache : Option SystemCache) → takes name ref ≡ true →
+  kept_taken : (cache : Option SystemCache) → is_taken_by name ref ≡ true →
       KeptIfPlanned seed planned (events_for name events ++ event.Reference ref ∷ []) cache →
       KeptIfPlanned seed planned more cache
   kept_taken cache t k = subst (λ (es : List Event). KeptIfPlanned seed planned es cache) (sym (events_taken name events ref t)) k
 
-  kept_left : (cache next : Option SystemCache) → takes name ref ≡ false → next ≡ cache →
+  kept_left : (cache next : Option SystemCache) → is_taken_by name ref ≡ false → next ≡ cache →
       KeptIfPlanned seed planned (events_for name events) cache →
       KeptIfPlanned seed planned more next
   kept_left cache next t e k = rw (e, events_left name events ref t) k
@@ -134,7 +134,7 @@ pub record FirstKept (seed : ℕ) (pi pd pu : Option PlannedCache) (events : Lis
   pub d_kept : KeptIfPlanned seed pd (events_for L1D (events ++ event.Reference ref ∷ [])) d
   pub u_kept : KeptIfPlanned seed pu (events_for L1U (events ++ event.Reference ref ∷ [])) u
   pub all_sent : down_list down ≡ sends seed L1I pi events ref ++ sends seed L1D pd events ref ++ sends seed L1U pu events ref
-  pub untaken : is_none down ≡ not (is_some pu || (is_some pi && takes L1I ref) || (is_some pd && takes L1D ref))
+  pub untaken : is_none down ≡ not (is_some pu || (is_some pi && is_taken_by L1I ref) || (is_some pd && is_taken_by L1D ref))
 
 none_first : (o p : Option PlannedCache) (a b : Bool) → a ≡ true → b ≡ false → is_none o ≡ not ((is_some o && a) || (is_some p && b))
 none_first o p a b s t = grind arith

@@ -12,7 +12,7 @@ use Rattle.cache_core.specs.declared.plan.PlannedCache.{PlannedCache}
 use Rattle.cache_core.specs.declared.plan.CacheName.{CacheName}
 use Rattle.cache_core.specs.declared.plan.CacheName.TheVariants.{L1I, L1D, L1U, L2U}
 use Rattle.cache_core.specs.Plans.{PlannedCaches}
-use Rattle.cache_core.specs.Systems.{machine_of, events_for, first_level_sends, below, flush_counts_if_planned}
+use Rattle.cache_core.specs.Systems.{machine_of, events_for, first_level_references, below, flush_counts_if_planned}
 use Rattle.cache_core.specs.Arrivals.{flushes, arrivals_of}
 use Rattle.cache_core.specs.LogLaws.{planned_of, events_at, names_in, name_if_there, names_of, dirty_at}
 use Rattle.cache_core.specs.LogLaws.{FlushNamesLaw, FlushCountsLaw}
@@ -71,7 +71,7 @@ module _ (plan : PlannedCaches) (seed : ℕ) where
   counts_reference L2U earlier ref =
       cc (
         below_push plan seed earlier ref,
-        flush_counts_refs seed plan.second (below plan seed earlier) (first_level_sends plan seed earlier ref),
+        flush_counts_refs seed plan.second (below plan seed earlier) (first_level_references plan seed earlier ref),
       )
 
   counts_flush : (name : CacheName) (earlier : List Event) →

@@ -15,15 +15,15 @@ use Rattle.cache_core.specs.declared.plan.CacheName.{CacheName}
 use Rattle.cache_core.specs.declared.plan.CacheName.TheVariants.{L1I, L1D, L1U}
 use Rattle.cache_core.specs.Machine.{run, step}
 use Rattle.cache_core.specs.Plans.{PlannedCaches}
-use Rattle.cache_core.specs.Systems.{machine_of, events_for, first_level_sends, below}
-use Rattle.cache_core.specs.Arrivals.{victim_of, all_arrivals_below, passes, arrivals_of, arrivals_from}
-use Rattle.cache_core.specs.LogLaws.{sends_by_line, direct, indirect, Follow, FollowLaw}
+use Rattle.cache_core.specs.Systems.{machine_of, events_for, first_level_references, below}
+use Rattle.cache_core.specs.Arrivals.{victim_of, all_arrivals_below, references_passed, arrivals_of, arrivals_from}
+use Rattle.cache_core.specs.LogLaws.{required_references_of, direct_references, second_level_references, Follow, FollowLaw}
 
 -- a line says what its reference sends
 says_of : (seed : ℕ) (planned : PlannedCache) (before : List Event) (ref : Ref) →
     let effect = (step (machine_of seed planned) (run (machine_of seed planned) before) ref).effect in
-    sends_by_line (Some planned) ref effect.hit (option_map (victim_of planned.design.geometry) effect.evicted)
-    ≡ passes seed (Some planned) before ref
+    required_references_of (Some planned) ref effect.hit (option_map (victim_of planned.design.geometry) effect.evicted)
+    ≡ references_passed seed (Some planned) before ref
 says_of seed planned before ref = grind arith
 
 abbrev plan_with : Option PlannedCache → Option PlannedCache → Option PlannedCache → Option PlannedCache → PlannedCaches
@@ -31,7 +31,7 @@ plan_with i d u second = record { i = i; d = d; u = u; second = second }
 
 lower_follows : (i d u second : Option PlannedCache) (seed : ℕ) (before : List Event) (refs : List Ref) (rest : List Arrival) →
     Follow (plan_with i d u second) [] [] rest →
-    Follow (plan_with i d u second) (direct second refs) (indirect second refs) (all_arrivals_below seed second before refs ++ rest)
+    Follow (plan_with i d u second) (direct_references second refs) (second_level_references second refs) (all_arrivals_below seed second before refs ++ rest)
 lower_follows i d u None seed before [] rest f = f
 lower_follows i d u None seed before (ref ∷ refs) rest f = (refl, lower_follows i d u None seed (before ++ event.Reference ref ∷ []) refs rest f)
 lower_follows i d u (Some second) seed before [] rest f = f
@@ -54,16 +54,16 @@ module _ (seed : ℕ) (second : Option PlannedCache) (earlier : List Event) (add
       let ref : Ref = record { access = access; addr = addr } in
       let here = events_for name earlier in
       let effect = (step (machine_of seed planned) (run (machine_of seed planned) here) ref).effect in
-      let sends = sends_by_line (Some planned) ref effect.hit (option_map (victim_of planned.design.geometry) effect.evicted) in
-      first_level_sends plan seed earlier ref ≡ passes seed (Some planned) here ref →
-      Follow plan (direct second sends) (indirect second sends)
-      (all_arrivals_below seed second (below plan seed earlier) (first_level_sends plan seed earlier ref) ++ rest)
+      let sends = required_references_of (Some planned) ref effect.hit (option_map (victim_of planned.design.geometry) effect.evicted) in
+      first_level_references plan seed earlier ref ≡ references_passed seed (Some planned) here ref →
+      Follow plan (direct_references second sends) (second_level_references second sends)
+      (all_arrivals_below seed second (below plan seed earlier) (first_level_references plan seed earlier ref) ++ rest)
   sent_follow i d u name planned access f e =
       let plan = plan_with i d u second in
       let ref : Ref = record { access = access; addr = addr } in
-      let down = first_level_sends plan seed earlier ref in
+      let down = first_level_references plan seed earlier ref in
       subst (λ (sends : List Ref).
-      Follow plan (direct second sends) (indirect second sends) (all_arrivals_below seed second (below plan seed earlier) down ++ rest))
+      Follow plan (direct_references second sends) (second_level_references second sends) (all_arrivals_below seed second (below plan seed earlier) down ++ rest))
       (e ∙ sym (says_of seed planned (events_for name earlier) ref)) (lower_follows i d u second seed (below plan seed earlier) down rest f)
 
   reference_follows : (i d u : Option PlannedCache) → (is_some u && (is_some i || is_some d)) ≡ false → (access : Access) → Before i d u →

@@ -13,8 +13,8 @@ use Rattle.cache_core.specs.declared.outcome.Outcome.{Outcome}
 use Rattle.cache_core.specs.declared.design.Design.{Design}
 use Rattle.cache_core.specs.declared.design.Repl.{Repl}
 use Rattle.cache_core.specs.Geometry.{block_of, set_of}
-use Rattle.cache_core.specs.Outcomes.{outcome_of, on_hit, dirties}
-use Rattle.cache_core.specs.Outcomes.{two_options, writes_through}
+use Rattle.cache_core.specs.Outcomes.{outcome_of, on_hit, is_dirtied}
+use Rattle.cache_core.specs.Outcomes.{two_options, through_writes}
 use Rattle.cache_core.specs.Order.{Moves, Touches, Hits, Visits, VisitsAt, Accesses, with_dirty_at, position_of, DirtiesByWrites}
 use Rattle.cache_core.specs.Order.{holds_first, hits_in_front}
 use Rattle.cache_core.specs.Rules.{Place, InFront, InPlace, rules}
@@ -54,7 +54,7 @@ module _ (d : Design) (filled : List ℕ) (k ways : ℕ) (slots : List Slot) (re
 
   -- the segment with its first slot marked
   abbrev pub marked : List Slot
-  marked = with_dirty_at (dirties d.write ref.access) segment 0
+  marked = with_dirty_at (is_dirtied d.write ref.access) segment 0
 
   some : 0 < length (take count segment)
   some = (position-Some _ (take count segment) 0 (record { block = 0; dirty = false }) first).0
@@ -75,11 +75,11 @@ module _ (d : Design) (filled : List ℕ) (k ways : ℕ) (slots : List Slot) (re
         length-drop (k * d.geometry.e) slots,
       ))
 
-  marked_in : take count marked ≡ with_dirty_at (dirties d.write ref.access) (take count segment) 0
-  marked_in = take_marked (dirties d.write ref.access) count segment filled_some
+  marked_in : take count marked ≡ with_dirty_at (is_dirtied d.write ref.access) (take count segment) 0
+  marked_in = take_marked (is_dirtied d.write ref.access) count segment filled_some
 
   written : IsWritten d k count ways marked
-  written = record { ways_are = ways_are; within = within; long = marked_length (dirties d.write ref.access) segment 0 ∙ long; few = few }
+  written = record { ways_are = ways_are; within = within; long = marked_length (is_dirtied d.write ref.access) segment 0 ∙ long; few = few }
 
   kept : set filled k count ≡ filled
   kept = set-get_or filled k 0
@@ -87,7 +87,7 @@ module _ (d : Design) (filled : List ℕ) (k ways : ℕ) (slots : List Slot) (re
   visited : (policy : Option Repl) (numbers : ℕ → ℕ) (outcome : Outcome) → outcome ≡ outcome_of (on_hit d.write ref) →
       Visits d policy numbers ref (segment_slots ways filled k slots) outcome (take count marked) numbers
   visited policy numbers outcome e =
-      let dirty = dirties d.write ref.access in
+      let dirty = is_dirtied d.write ref.access in
       let hits : Hits d policy numbers ref 0 (take count segment) outcome (take count marked) numbers = record {
         order = subst (λ new. Touches policy (with_dirty_at dirty (take count segment) 0) 0 new) (sym marked_in)
             (touched_in_front policy (with_dirty_at dirty (take count segment) 0) (omega (arith, some, marked_length dirty (take count segment) 0)));
@@ -105,7 +105,7 @@ module _ (d : Design) (filled : List ℕ) (k ways : ℕ) (slots : List Slot) (re
       (All-get_or (Addressable d.geometry.b) (sets_of d.geometry.e slots filled) k [] in_sets i.addresses) in
       subst (IsCacheSlab d (with_segment ways k slots marked)) kept
       (slab_kept d filled k count ways slots marked i written
-      (subst (Addressable d.geometry.b) (sym marked_in) (marked_fits d.geometry.b (dirties d.write ref.access) (take count segment) 0 some here)))
+      (subst (Addressable d.geometry.b) (sym marked_in) (marked_fits d.geometry.b (is_dirtied d.write ref.access) (take count segment) 0 some here)))
 
   -- the access, under every policy
   pub front_access : (policy : Option Repl) (numbers : ℕ → ℕ) (outcome : Outcome) → k ≡ set_of d.geometry ref.addr →
@@ -161,9 +161,9 @@ pub passed_on : (d : Design) (sets : List (List Slot)) (ref : Ref) (outcome : Ou
     outcome ≡ outcome_of (on_hit d.write ref) →
     is_some (get_or outcome.down 0 None) ≡ true → hits_in_front d sets ref ≡ false
 passed_on d sets ref outcome is sent =
-    let down : is_some (get_or (two_options (writes_through d.write ref)) 0 None) ≡ true =
+    let down : is_some (get_or (two_options (through_writes d.write ref)) 0 None) ≡ true =
     rw is at sent in
-    rw (nothing_sent (writes_through d.write ref), down)
+    rw (nothing_sent (through_writes d.write ref), down)
     (neither (holds_first (block_of d.geometry ref.addr)
     (get_or sets (set_of d.geometry ref.addr) [])))
 
@@ -186,8 +186,8 @@ module _ (d : Design) (filled : List ℕ) (k ways : ℕ) (slots : List Slot) (re
       (segment_slots ways filled k slots) ≡ Some 0)) →
       hits_in_front d (sets_of d.geometry.e slots filled) ref ≡ first
   told_in_front first outcome is sent tells =
-      let down : is_some (get_or (two_options (writes_through d.write ref)) 0 None) ≡ false =
+      let down : is_some (get_or (two_options (through_writes d.write ref)) 0 None) ≡ false =
       rw is at sent in
       rw (first_in_set, first_told first (block_of d.geometry ref.addr)
       (segment_slots ways filled k slots) tells,
-      nothing_sent (writes_through d.write ref), down) (itself first)
+      nothing_sent (through_writes d.write ref), down) (itself first)

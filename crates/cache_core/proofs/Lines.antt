@@ -7,7 +7,7 @@ use Rattle.std.proofs.lemmas.Bool.Decides.{eqb_tells}
 use Rattle.cache_core.specs.Geometry.{GeometryValue, set_of_block}
 use Rattle.cache_core.proofs.Lists.{cases, filter_comm, find-filter}
 use Rattle.cache_core.specs.declared.design.Repl.{Repl}
-use Rattle.cache_core.specs.Machine.{Line, is_block, lines_of_set, without, exchange, least, with_line_at, key_at}
+use Rattle.cache_core.specs.Machine.{Line, is_block, lines_of_set, without, exchange, least_line, with_line_at, key_at}
 use Rattle.cache_core.specs.Rules.{Place, InFront, InPlace, rules}
 use Rattle.cache_core.specs.Stands.{Falls, CountsUp, InOrder, Absent, Distinct}
 
@@ -129,7 +129,7 @@ pub falls_last : (n : ℕ) (xs : List Line) (x : Line) → Falls n (xs ++ x ∷ 
 falls_last n [] x f = f.0
 falls_last n (z ∷ xs) x f = omega (arith, f.0, falls_last z.key xs x f.1)
 
-pub least_last : (n : ℕ) (xs : List Line) (x : Line) → Falls n (xs ++ x ∷ []) → least (xs ++ x ∷ []) ≡ Some x
+pub least_last : (n : ℕ) (xs : List Line) (x : Line) → Falls n (xs ++ x ∷ []) → least_line (xs ++ x ∷ []) ≡ Some x
 least_last n [] x f = refl
 least_last n (z ∷ xs) x f = grind (arith, falls_last z.key xs x f.1, least_last z.key xs x f.1)
 

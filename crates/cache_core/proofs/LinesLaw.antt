@@ -14,8 +14,8 @@ use Rattle.cache_core.specs.declared.plan.CacheName.{CacheName}
 use Rattle.cache_core.specs.declared.plan.CacheName.TheVariants.{L1I, L1D, L1U, L2U}
 use Rattle.cache_core.specs.Machine.{run, step, with_effects}
 use Rattle.cache_core.specs.Plans.{PlannedCaches}
-use Rattle.cache_core.specs.Systems.{machine_of, takes, events_for, first_level_sends, below, is_taken}
-use Rattle.cache_core.specs.Arrivals.{arrives, arrives_first, all_arrivals_below, at_memory, passes, lower_arrivals, arrivals_of, arrivals_from}
+use Rattle.cache_core.specs.Systems.{machine_of, is_taken_by, events_for, first_level_references, below, is_taken}
+use Rattle.cache_core.specs.Arrivals.{cache_arrivals, first_level_arrivals, all_arrivals_below, at_memory, references_passed, lower_arrivals, arrivals_of, arrivals_from}
 use Rattle.cache_core.specs.LogLaws.{is_same, planned_of, events_at, lines_at, access_line, access_lines, LinesLaw, GrowthLaw}
 use Rattle.cache_core.proofs.Pushes.{with_effects_push, with_effects_flush}
 use Rattle.cache_core.proofs.SystemPushes.{events_taken, events_left, events_flush, below_push, below_flush, with_refs, with_refs-cons, untaken_sent}
@@ -30,7 +30,7 @@ same L2U = refl
 -- a line more for each reference
 module _ (seed : ℕ) (name : CacheName) where
   lines_push : (planned : Option PlannedCache) (events : List Event) (ref : Ref) →
-      access_lines seed name planned (events ++ event.Reference ref ∷ []) ≡ access_lines seed name planned events ++ arrives seed name planned events ref
+      access_lines seed name planned (events ++ event.Reference ref ∷ []) ≡ access_lines seed name planned events ++ cache_arrivals seed name planned events ref
   lines_push None events ref = refl
   lines_push (Some planned) events ref =
       let m = machine_of seed planned in
@@ -47,23 +47,23 @@ module _ (seed : ℕ) (name : CacheName) where
   none_shown (Some planned) = refl
 
   all_shown : (planned : Option PlannedCache) (events : List Event) (ref : Ref) →
-      flat_map (lines_at name) (arrives seed name planned events ref) ≡ arrives seed name planned events ref
+      flat_map (lines_at name) (cache_arrivals seed name planned events ref) ≡ cache_arrivals seed name planned events ref
   all_shown None events ref = refl
   all_shown (Some planned) events ref = cc (same name)
 
   first_shown : (planned : Option PlannedCache) (earlier : List Event) (ref : Ref) →
       access_lines seed name planned (events_for name (earlier ++ event.Reference ref ∷ []))
-      ≡ access_lines seed name planned (events_for name earlier) ++ flat_map (lines_at name) (arrives_first seed name planned earlier ref)
+      ≡ access_lines seed name planned (events_for name earlier) ++ flat_map (lines_at name) (first_level_arrivals seed name planned earlier ref)
   first_shown None earlier ref = refl
-  first_shown (Some planned) earlier ref = by_test (takes name ref) refl
+  first_shown (Some planned) earlier ref = by_test (is_taken_by name ref) refl
     where
       before : List Arrival
       before = access_lines seed name (Some planned) (events_for name earlier)
 
       here : List Arrival
-      here = arrives seed name (Some planned) (events_for name earlier) ref
+      here = cache_arrivals seed name (Some planned) (events_for name earlier) ref
 
-      by_test : (b : Bool) → takes name ref ≡ b →
+      by_test : (b : Bool) → is_taken_by name ref ≡ b →
           access_lines seed name (Some planned) (events_for name (earlier ++ event.Reference ref ∷ []))
           ≡ before ++ flat_map (lines_at name) (cond b here [])
       by_test true t =
@@ -81,12 +81,12 @@ below_shown : (seed : ℕ) (second : Option PlannedCache) (before : List Event) 
 below_shown seed second before [] = ap (access_lines seed L2U second) (append-nil before) ∙ sym (append-nil (access_lines seed L2U second before))
 below_shown seed second before (ref ∷ refs) =
     let more = before ++ event.Reference ref ∷ [] in
-    let one = arrives seed L2U second before ref in
-    let memory = at_memory (passes seed second before ref) in
+    let one = cache_arrivals seed L2U second before ref in
+    let memory = at_memory (references_passed seed second before ref) in
     let later = all_arrivals_below seed second more refs in
     let seen : flat_map (lines_at L2U) (one ++ memory) ≡ one =
     flat_map-append (lines_at L2U) one memory ∙ ap (λ lines. flat_map (lines_at L2U) one ++ lines)
-    (quiet_memory (lines_at L2U) (λ r. refl) (passes seed second before ref))
+    (quiet_memory (lines_at L2U) (λ r. refl) (references_passed seed second before ref))
     ∙ append-nil (flat_map (lines_at L2U) one) ∙ all_shown seed L2U second before ref in
     ap (access_lines seed L2U second) (sym (with_refs-cons before ref refs)) ∙ below_shown seed second more refs
     ∙ ap (λ lines. lines ++ flat_map (lines_at L2U) later) (lines_push seed L2U second before ref)
@@ -101,7 +101,7 @@ module _ (plan : PlannedCaches) (seed : ℕ) where
   lower_shown earlier ref = ap (access_lines seed L2U plan.second) (below_push plan seed earlier ref) ∙ by_test (is_taken plan ref) refl
     where
       down : List Ref
-      down = first_level_sends plan seed earlier ref
+      down = first_level_references plan seed earlier ref
 
       before : List Event
       before = below plan seed earlier

@@ -17,12 +17,12 @@ use Rattle.cache_core.specs.declared.plan.CacheName.{CacheName}
 use Rattle.cache_core.specs.declared.plan.CacheName.TheVariants.{L1I, L1D, L1U, L2U}
 use Rattle.cache_core.specs.declared.stats.CacheStats.{CacheStats}
 use Rattle.cache_core.specs.declared.stats.Stats.{Stats}
-use Rattle.cache_core.specs.CacheStats.{no_counts, count_access, count_flush}
+use Rattle.cache_core.specs.CacheStats.{no_counts, stats_after_access, stats_after_flush}
 use Rattle.cache_core.specs.Geometry.{GeometryValue}
 use Rattle.cache_core.specs.Machine.{with_effects}
 use Rattle.cache_core.specs.Systems.{machine_of, below, counts_if_planned, flush_counts, flush_counts_if_planned, to_memory, system_run}
 use Rattle.cache_core.specs.Arrivals.{victim_of, arrivals}
-use Rattle.cache_core.specs.ArrivalStats.{count_arrival, no_stats, LogLaw}
+use Rattle.cache_core.specs.ArrivalStats.{stats_after_arrival, no_stats, LogLaw}
 use Rattle.cache_core.specs.LogLaws.{planned_of, events_at, lines_at, access_line, access_lines, dirty_at, refs_at_memory, refs_past, is_left_out}
 use Rattle.cache_core.proofs.SystemPushes.{two_flushes, stats_steps}
 use Rattle.cache_core.proofs.LowerLaw.{is_read_of, is_write_of}
@@ -32,13 +32,13 @@ use Rattle.cache_core.proofs.MemoryLaw.{memory_law, bypassed_law, left_out_is}
 
 -- what a line of a cache counts
 abbrev count_line : CacheStats → Arrival → CacheStats
-count_line s (Cache at ref hit victim) = count_access ref.access hit (option_map (λ v. v.dirty) victim) s
+count_line s (Cache at ref hit victim) = stats_after_access ref.access hit (option_map (λ v. v.dirty) victim) s
 count_line s (Memory ref) = s
 count_line s (Bypassed ref) = s
 count_line s (Flush at dirty) = s
 
 flush_then_lines : (dirty : ℕ) (s : CacheStats) (lines : List Arrival) →
-    fold count_line (count_flush dirty s) lines ≡ count_flush dirty (fold count_line s lines)
+    fold count_line (stats_after_flush dirty s) lines ≡ stats_after_flush dirty (fold count_line s lines)
 flush_then_lines dirty s [] = refl
 flush_then_lines dirty s (Cache at ref hit victim ∷ lines) = grind (arith, flush_then_lines dirty (count_line s (Cache at ref hit victim)) lines)
 flush_then_lines dirty s (Memory ref ∷ lines) = flush_then_lines dirty s lines
@@ -47,17 +47,17 @@ flush_then_lines dirty s (Flush at n ∷ lines) = flush_then_lines dirty s lines
 
 -- the counts of a cache after its lines
 abbrev counts_after : CacheName → List Arrival → CacheStats → CacheStats
-counts_after name log s = count_flush (sum (flat_map (dirty_at name) log)) (fold count_line s (flat_map (lines_at name) log))
+counts_after name log s = stats_after_flush (sum (flat_map (dirty_at name) log)) (fold count_line s (flat_map (lines_at name) log))
 
 -- and after one more flush
 one_flush : (dirty : ℕ) (counts : List ℕ) (lines : List Arrival) (s : Option CacheStats) →
-    option_map (λ c. count_flush (sum counts) (fold count_line c lines)) (option_map (count_flush dirty) s)
-    ≡ option_map (λ c. count_flush (sum (dirty ∷ counts)) (fold count_line c lines)) s
+    option_map (λ c. stats_after_flush (sum counts) (fold count_line c lines)) (option_map (stats_after_flush dirty) s)
+    ≡ option_map (λ c. stats_after_flush (sum (dirty ∷ counts)) (fold count_line c lines)) s
 one_flush dirty counts lines None = refl
 one_flush dirty counts lines (Some c) =
     ap Some
-    (ap (count_flush (sum counts)) (flush_then_lines dirty c lines) ∙ two_flushes dirty (sum counts) (fold count_line c lines)
-    ∙ ap (λ n. count_flush n (fold count_line c lines)) (sym (sum_by-cons (λ n. n) dirty counts)))
+    (ap (stats_after_flush (sum counts)) (flush_then_lines dirty c lines) ∙ two_flushes dirty (sum counts) (fold count_line c lines)
+    ∙ ap (λ n. stats_after_flush n (fold count_line c lines)) (sym (sum_by-cons (λ n. n) dirty counts)))
 
 -- how many dirty blocks the flushes of a cache find
 abbrev dirty_in : CacheName → List Arrival → ℕ
@@ -81,22 +81,22 @@ after log s = record {
 
 module _ (log : List Arrival) (s : Stats) where
   cached : (name : CacheName) (ref : Ref) (hit : Bool) (victim : Option Victim) →
-      after log (count_arrival s (Cache name ref hit victim)) ≡ after (Cache name ref hit victim ∷ log) s
+      after log (stats_after_arrival s (Cache name ref hit victim)) ≡ after (Cache name ref hit victim ∷ log) s
   cached name ref hit victim = grind arith
 
-  written : (name : CacheName) (dirty : ℕ) → (after log (count_arrival s (Flush name dirty))).memory_writes ≡ (after (Flush name dirty ∷ log) s).memory_writes
+  written : (name : CacheName) (dirty : ℕ) → (after log (stats_after_arrival s (Flush name dirty))).memory_writes ≡ (after (Flush name dirty ∷ log) s).memory_writes
   written L1I dirty = omega (arith, one_more L1I dirty log)
   written L1D dirty = omega (arith, one_more L1D dirty log)
   written L1U dirty = omega (arith, one_more L1U dirty log)
   written L2U dirty = omega (arith, one_more L2U dirty log)
 
-  emptied : (name : CacheName) (dirty : ℕ) → after log (count_arrival s (Flush name dirty)) ≡ after (Flush name dirty ∷ log) s
+  emptied : (name : CacheName) (dirty : ℕ) → after log (stats_after_arrival s (Flush name dirty)) ≡ after (Flush name dirty ∷ log) s
   emptied L1I dirty = grind (arith, one_flush dirty (flat_map (dirty_at L1I) log) (flat_map (lines_at L1I) log) s.l1i, written L1I dirty)
   emptied L1D dirty = grind (arith, one_flush dirty (flat_map (dirty_at L1D) log) (flat_map (lines_at L1D) log) s.l1d, written L1D dirty)
   emptied L1U dirty = grind (arith, one_flush dirty (flat_map (dirty_at L1U) log) (flat_map (lines_at L1U) log) s.l1u, written L1U dirty)
   emptied L2U dirty = grind (arith, one_flush dirty (flat_map (dirty_at L2U) log) (flat_map (lines_at L2U) log) s.l2u, written L2U dirty)
 
-  reached : (ref : Ref) → after log (count_arrival s (Memory ref)) ≡ after (Memory ref ∷ log) s
+  reached : (ref : Ref) → after log (stats_after_arrival s (Memory ref)) ≡ after (Memory ref ∷ log) s
   reached ref =
       grind (
         arith,
@@ -104,18 +104,18 @@ module _ (log : List Arrival) (s : Stats) where
         sum_by-cons (λ (x : Ref). cond (is_write_of x) 1 0) ref (flat_map refs_at_memory log),
       )
 
-  bypassed : (ref : Ref) → after log (count_arrival s (Bypassed ref)) ≡ after (Bypassed ref ∷ log) s
+  bypassed : (ref : Ref) → after log (stats_after_arrival s (Bypassed ref)) ≡ after (Bypassed ref ∷ log) s
   bypassed ref = grind arith
 
-none_more : (s : Option CacheStats) → option_map (count_flush 0) s ≡ s
+none_more : (s : Option CacheStats) → option_map (stats_after_flush 0) s ≡ s
 none_more s = grind arith
 
-counted : (log : List Arrival) (s : Stats) → fold count_arrival s log ≡ after log s
+counted : (log : List Arrival) (s : Stats) → fold stats_after_arrival s log ≡ after log s
 counted [] s = sym (simp (none_more, add-zero))
-counted (Cache name ref hit victim ∷ log) s = counted log (count_arrival s (Cache name ref hit victim)) ∙ cached log s name ref hit victim
-counted (Memory ref ∷ log) s = counted log (count_arrival s (Memory ref)) ∙ reached log s ref
-counted (Bypassed ref ∷ log) s = counted log (count_arrival s (Bypassed ref)) ∙ bypassed log s ref
-counted (Flush name dirty ∷ log) s = counted log (count_arrival s (Flush name dirty)) ∙ emptied log s name dirty
+counted (Cache name ref hit victim ∷ log) s = counted log (stats_after_arrival s (Cache name ref hit victim)) ∙ cached log s name ref hit victim
+counted (Memory ref ∷ log) s = counted log (stats_after_arrival s (Memory ref)) ∙ reached log s ref
+counted (Bypassed ref ∷ log) s = counted log (stats_after_arrival s (Bypassed ref)) ∙ bypassed log s ref
+counted (Flush name dirty ∷ log) s = counted log (stats_after_arrival s (Flush name dirty)) ∙ emptied log s name dirty
 
 -- the counts of a cache, by the laws of its lines
 victim_dirty : (g : GeometryValue) (evicted : Option Slot) →
@@ -131,10 +131,10 @@ same_counts seed name (Some planned) events log l f =
     let g = planned.design.geometry in
     let counts = flush_counts (machine_of seed planned) events in
     let effects = with_effects (machine_of seed planned) events in
-    ap₂ (λ (ns : List ℕ) (lines : List Arrival). Some (count_flush (sum ns) (fold count_line no_counts lines))) f l
-    ∙ ap (λ c. Some (count_flush (sum counts) c))
+    ap₂ (λ (ns : List ℕ) (lines : List Arrival). Some (stats_after_flush (sum ns) (fold count_line no_counts lines))) f l
+    ∙ ap (λ c. Some (stats_after_flush (sum counts) c))
     (fold-map count_line (access_line name g) no_counts effects
-    ∙ ap (λ step. fold step no_counts effects) (fun_ext (λ s. fun_ext (λ p. ap (λ e. count_access p.0.access p.1.hit e s) (victim_dirty g p.1.evicted))))
+    ∙ ap (λ step. fold step no_counts effects) (fun_ext (λ s. fun_ext (λ p. ap (λ e. stats_after_access p.0.access p.1.hit e s) (victim_dirty g p.1.evicted))))
     ∙ stats_steps [] effects)
 
 same_stats : {i i' d d' u u' l l' : Option CacheStats} {r r' w w' b b' : ℕ} → i ≡ i' → d ≡ d' → u ≡ u' → l ≡ l' → r ≡ r' → w ≡ w' → b ≡ b' →

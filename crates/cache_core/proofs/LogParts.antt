@@ -15,8 +15,8 @@ use Rattle.cache_core.specs.declared.plan.CacheName.{CacheName}
 use Rattle.cache_core.specs.declared.plan.CacheName.TheVariants.{L1I, L1D, L1U, L2U}
 use Rattle.cache_core.specs.LogLaws.{is_same, planned_of, events_at}
 use Rattle.cache_core.specs.Plans.{PlannedCaches}
-use Rattle.cache_core.specs.Systems.{takes, events_for, first_level_sends, below, is_taken}
-use Rattle.cache_core.specs.Arrivals.{arrives, arrives_first, arrivals_below, all_arrivals_below, at_memory, passes, flushes}
+use Rattle.cache_core.specs.Systems.{is_taken_by, events_for, first_level_references, below, is_taken}
+use Rattle.cache_core.specs.Arrivals.{cache_arrivals, first_level_arrivals, arrivals_below, all_arrivals_below, at_memory, references_passed, flushes}
 use Rattle.cache_core.specs.Arrivals.{lower_arrivals, arrivals_of, arrivals_from, arrivals}
 
 -- of four lists all but one are empty
@@ -47,16 +47,16 @@ module _ {X : Type 0} (p : Arrival → List X) where
   none_then xs ys e = flat_map-append p xs ys ∙ ap (λ zs. zs ++ flat_map p ys) e
 
   pub quiet_arrives : (seed : ℕ) (name : CacheName) (planned : Option PlannedCache) (before : List Event) (ref : Ref) → QuietAt name →
-      flat_map p (arrives seed name planned before ref) ≡ []
+      flat_map p (cache_arrivals seed name planned before ref) ≡ []
   quiet_arrives seed name None before ref q = refl
   quiet_arrives seed name (Some planned) before ref q = ap (λ xs. xs ++ []) (q ref _ _)
 
   pub quiet_first : (seed : ℕ) (name : CacheName) (planned : Option PlannedCache) (earlier : List Event) (ref : Ref) → QuietAt name →
-      flat_map p (arrives_first seed name planned earlier ref) ≡ []
+      flat_map p (first_level_arrivals seed name planned earlier ref) ≡ []
   quiet_first seed name None earlier ref q = refl
-  quiet_first seed name (Some planned) earlier ref q = by_test (takes name ref)
+  quiet_first seed name (Some planned) earlier ref q = by_test (is_taken_by name ref)
     where
-      by_test : (b : Bool) → flat_map p (cond b (arrives seed name (Some planned) (events_for name earlier) ref) []) ≡ []
+      by_test : (b : Bool) → flat_map p (cond b (cache_arrivals seed name (Some planned) (events_for name earlier) ref) []) ≡ []
       by_test true = quiet_arrives seed name (Some planned) (events_for name earlier) ref q
       by_test false = refl
 
@@ -69,8 +69,8 @@ module _ {X : Type 0} (p : Arrival → List X) where
   quiet_below seed second q m before [] = refl
   quiet_below seed second q m before (ref ∷ refs) =
       none_then (arrivals_below seed second before ref) (all_arrivals_below seed second (before ++ event.Reference ref ∷ []) refs)
-      (none_then (arrives seed L2U second before ref) (at_memory (passes seed second before ref)) (quiet_arrives seed L2U second before ref q)
-      ∙ quiet_memory m (passes seed second before ref))
+      (none_then (cache_arrivals seed L2U second before ref) (at_memory (references_passed seed second before ref)) (quiet_arrives seed L2U second before ref q)
+      ∙ quiet_memory m (references_passed seed second before ref))
       ∙ quiet_below seed second q m (before ++ event.Reference ref ∷ []) refs
 
   pub quiet_flush : (seed : ℕ) (name : CacheName) (planned : Option PlannedCache) (before : List Event) → QuietAtFlush name →
@@ -81,12 +81,12 @@ module _ {X : Type 0} (p : Arrival → List X) where
   -- what is picked from the lines of one event
   pub reference_parts : (plan : PlannedCaches) (seed : ℕ) (earlier : List Event) (ref : Ref) →
       flat_map p (arrivals_of plan seed earlier (event.Reference ref))
-      ≡ flat_map p (arrives_first seed L1I plan.i earlier ref) ++ flat_map p (arrives_first seed L1D plan.d earlier ref)
-      ++ flat_map p (arrives_first seed L1U plan.u earlier ref) ++ flat_map p (lower_arrivals plan seed earlier ref)
+      ≡ flat_map p (first_level_arrivals seed L1I plan.i earlier ref) ++ flat_map p (first_level_arrivals seed L1D plan.d earlier ref)
+      ++ flat_map p (first_level_arrivals seed L1U plan.u earlier ref) ++ flat_map p (lower_arrivals plan seed earlier ref)
   reference_parts plan seed earlier ref =
-      let i = arrives_first seed L1I plan.i earlier ref in
-      let d = arrives_first seed L1D plan.d earlier ref in
-      let u = arrives_first seed L1U plan.u earlier ref in
+      let i = first_level_arrivals seed L1I plan.i earlier ref in
+      let d = first_level_arrivals seed L1D plan.d earlier ref in
+      let u = first_level_arrivals seed L1U plan.u earlier ref in
       let lower = lower_arrivals plan seed earlier ref in
       flat_map-append p (i ++ d ++ u) lower
       ∙ ap (λ xs. xs ++ flat_map p lower) (flat_map-append p (i ++ d) u ∙ ap (λ xs. xs ++ flat_map p u) (flat_map-append p i d))
@@ -117,8 +117,8 @@ module _ {X : Type 0} (p : Arrival → List X) where
   quiet_lower plan seed earlier ref q m n = by_test (is_taken plan ref)
     where
       by_test : (b : Bool) →
-          flat_map p (cond b (all_arrivals_below seed plan.second (below plan seed earlier) (first_level_sends plan seed earlier ref)) (Bypassed ref ∷ [])) ≡ []
-      by_test true = quiet_below seed plan.second q m (below plan seed earlier) (first_level_sends plan seed earlier ref)
+          flat_map p (cond b (all_arrivals_below seed plan.second (below plan seed earlier) (first_level_references plan seed earlier ref)) (Bypassed ref ∷ [])) ≡ []
+      by_test true = quiet_below seed plan.second q m (below plan seed earlier) (first_level_references plan seed earlier ref)
       by_test false = ap (λ xs. xs ++ []) n
 
   -- what is picked from the lines of no cache but one, nor of memory, nor of what is bypassed
@@ -126,18 +126,18 @@ module _ {X : Type 0} (p : Arrival → List X) where
   OnlyAt name = ((other : CacheName) → is_same name other ≡ false → QuietAt other) × QuietAtMemory × ((ref : Ref) → p (Bypassed ref) ≡ [])
 
   pub at_first : (plan : PlannedCaches) (seed : ℕ) (earlier : List Event) (ref : Ref) (name : CacheName) → is_same name L2U ≡ false → OnlyAt name →
-      flat_map p (arrivals_of plan seed earlier (event.Reference ref)) ≡ flat_map p (arrives_first seed name (planned_of plan name) earlier ref)
+      flat_map p (arrivals_of plan seed earlier (event.Reference ref)) ≡ flat_map p (first_level_arrivals seed name (planned_of plan name) earlier ref)
   at_first plan seed earlier ref L1I first (q, m, n) =
       reference_parts plan seed earlier ref
-      ∙ only_first (flat_map p (arrives_first seed L1I plan.i earlier ref)) _ _ _ (quiet_first seed L1D plan.d earlier ref (q L1D refl))
+      ∙ only_first (flat_map p (first_level_arrivals seed L1I plan.i earlier ref)) _ _ _ (quiet_first seed L1D plan.d earlier ref (q L1D refl))
       (quiet_first seed L1U plan.u earlier ref (q L1U refl)) (quiet_lower plan seed earlier ref (q L2U refl) m (n ref))
   at_first plan seed earlier ref L1D first (q, m, n) =
       reference_parts plan seed earlier ref
-      ∙ only_second _ (flat_map p (arrives_first seed L1D plan.d earlier ref)) _ _ (quiet_first seed L1I plan.i earlier ref (q L1I refl))
+      ∙ only_second _ (flat_map p (first_level_arrivals seed L1D plan.d earlier ref)) _ _ (quiet_first seed L1I plan.i earlier ref (q L1I refl))
       (quiet_first seed L1U plan.u earlier ref (q L1U refl)) (quiet_lower plan seed earlier ref (q L2U refl) m (n ref))
   at_first plan seed earlier ref L1U first (q, m, n) =
       reference_parts plan seed earlier ref
-      ∙ only_third _ _ (flat_map p (arrives_first seed L1U plan.u earlier ref)) _ (quiet_first seed L1I plan.i earlier ref (q L1I refl))
+      ∙ only_third _ _ (flat_map p (first_level_arrivals seed L1U plan.u earlier ref)) _ (quiet_first seed L1I plan.i earlier ref (q L1I refl))
       (quiet_first seed L1D plan.d earlier ref (q L1D refl)) (quiet_lower plan seed earlier ref (q L2U refl) m (n ref))
   at_first plan seed earlier ref L2U first o = absurd (true≢false first)
 

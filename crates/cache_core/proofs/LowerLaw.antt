@@ -13,8 +13,8 @@ use Rattle.cache_core.specs.declared.system_cache.SystemCache.{SystemCache}
 use Rattle.cache_core.specs.declared.system.Memory.{Memory}
 use Rattle.cache_core.specs.Plans.{IsPlannedCache}
 use Rattle.cache_core.specs.Systems.{machine_of, to_memory}
-use Rattle.cache_core.specs.SystemSteps.{present_refs, all_reach, Descends, AllDescend}
-use Rattle.cache_core.specs.Arrivals.{passes}
+use Rattle.cache_core.specs.SystemSteps.{present_refs, memory_after_all, Descends, AllDescend}
+use Rattle.cache_core.specs.Arrivals.{references_passed}
 use Rattle.cache_core.proofs.SystemPushes.{memory_push, with_refs, with_refs-cons}
 use Rattle.cache_core.proofs.FirstLevelLaw.{enters, KeptIfPlanned, down_list}
 
@@ -34,7 +34,7 @@ pub record Lower (seed : ℕ) (planned : Option PlannedCache) (events : List Eve
 module _ (seed flushed : ℕ) where
   reached : (planned : Option PlannedCache) (events : List Event) (cache next : Option SystemCache) (memory after : Memory) (ref : Ref) →
       Lower seed planned events flushed cache memory → KeptIfPlanned seed planned (events ++ event.Reference ref ∷ []) next →
-      after ≡ all_reach memory (passes seed planned events ref) → Lower seed planned (events ++ event.Reference ref ∷ []) flushed next after
+      after ≡ memory_after_all memory (references_passed seed planned events ref) → Lower seed planned (events ++ event.Reference ref ∷ []) flushed next after
   reached planned events cache next memory after ref l k e = grind (arith, memory_push, sum_by-append)
 
   descends : (planned : Option PlannedCache) (events : List Event) (cache next : Option SystemCache) (memory after : Memory) (ref : Ref) →
@@ -46,7 +46,7 @@ module _ (seed flushed : ℕ) where
   descends (Some planned) events cache next memory after ref l low d =
       let e = subst (λ (s : Option SystemCache). Descends ref s memory next after) low.kept.1 d in
       let r = enters (machine_of seed planned) events low.kept.0 ref e.0 e.1 l.some low.kept.2 e.2 in
-      reached (Some planned) events cache next memory after ref low (e.1, e.3, r.kept) (e.4 ∙ ap (all_reach memory) r.sends)
+      reached (Some planned) events cache next memory after ref low (e.1, e.3, r.kept) (e.4 ∙ ap (memory_after_all memory) r.sends)
 
   -- nothing is sent down
   stays : (planned : Option PlannedCache) (events : List Event) (cache next : Option SystemCache) (memory after : Memory) →

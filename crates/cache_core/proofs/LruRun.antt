@@ -16,7 +16,7 @@ use Rattle.cache_core.specs.Outcomes.{Effect}
 use Rattle.cache_core.specs.Machine.{Machine, MachineState, Line, slot_of, is_block, lines_of_set, start, step, next, run, with_effects_from, effects}
 use Rattle.cache_core.specs.Stands.{IsSoundState}
 use Rattle.cache_core.specs.Windows.{Occurrence, window, window_after, distinct_of_set, is_hit, is_evict, occurrences, counts}
-use Rattle.cache_core.specs.LruLaws.{lru_machine, holds, HitLaw, VictimLaw, CountLaw, NextLaw, HitInclusion, HeldInclusion}
+use Rattle.cache_core.specs.LruLaws.{lru_machine, is_held, HitLaw, VictimLaw, CountLaw, NextLaw, HitInclusion, HeldInclusion}
 use Rattle.cache_core.proofs.Lists.{is}
 use Rattle.cache_core.proofs.Distances.{distinct_of_set-nil, distinct_of_set-other}
 use Rattle.cache_core.proofs.Occurrences.{occurrences_from, occurrences-from, window-nil, window-push}
@@ -104,7 +104,7 @@ any_set g x [] = refl
 any_set g x (l ∷ ls) = let same : l.block ≡ x → set_of_block g l.block ≡ set_of_block g x = ap (set_of_block g) in grind (arith, any_set g x ls)
 
 pub holds_is : (g : GeometryValue) (write : WriteMode) (w : List ℕ) (st : MachineState) (x : ℕ) → IsStacked g write w st →
-    holds st x ≡ list_any (is x) (take g.e (distinct_of_set g (set_of_block g x) w))
+    is_held st x ≡ list_any (is x) (take g.e (distinct_of_set g (set_of_block g x) w))
 holds_is g write w st x h = any_set g x st.lines ∙ ap (list_any (is x)) (h.fronts (set_of_block g x))
 
 -- the machine hits where the windows say so, and a block leaves there

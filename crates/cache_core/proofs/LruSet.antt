@@ -15,7 +15,7 @@ use Rattle.cache_core.specs.declared.design.WriteMode.{WriteMode}
 use Rattle.cache_core.specs.declared.design.AllocMode.TheVariants.{Always}
 use Rattle.cache_core.specs.declared.design.Repl.TheVariants.{Lru}
 use Rattle.cache_core.specs.Geometry.{GeometryValue, block_of, set_of_block}
-use Rattle.cache_core.specs.Outcomes.{dirties}
+use Rattle.cache_core.specs.Outcomes.{is_dirtied}
 use Rattle.cache_core.specs.Order.{Visits, VisitsAt, Touches, TakesIn, with_dirty_at, position_of}
 use Rattle.cache_core.specs.Windows.{Occurrence, distinct_of_set, distance, blocks_seen, is_hit, is_evict}
 use Rattle.cache_core.proofs.Lists.{is, other, IsOnce-take, remove_is, filter_all, list_any_is, position_or_len-take}
@@ -193,13 +193,13 @@ visit_moves g write numbers ref w old outcome new rest some h v = by_index (posi
     by_index : (o : Option ℕ) → position_of p.block old ≡ o →
         VisitsAt o (record { geometry = g; write = write; allocate = Always }) (Some Lru) numbers ref old outcome new rest → Moves g p outcome new
     by_index None e x =
-        fill_moves g p some (numbers 0) (dirties write ref.access) old new outcome outcome.evicted h (position_none p.block old e) x.order
+        fill_moves g p some (numbers 0) (is_dirtied write ref.access) old new outcome outcome.evicted h (position_none p.block old e) x.order
         (ap (λ (o : Outcome). o.hit) x.effect) refl
     by_index (Some at) e x =
         let f = position_some p.block old at e in
         let hit : is_hit g p ≡ true = is_hit_is g p ∙ ap (list_any (is p.block)) (sym h) ∙ f.there in
         record {
-          front = hit_moves g p some (dirties write ref.access) old new at h f x.order;
+          front = hit_moves g p some (is_dirtied write ref.access) old new at h f x.order;
           hits = ap (λ (o : Outcome). o.hit) x.effect ∙ sym hit;
           evicts = ap (λ (o : Outcome). is_some o.evicted) x.effect ∙ sym (evict_is g p true hit);
         }

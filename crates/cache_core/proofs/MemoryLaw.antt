@@ -14,8 +14,8 @@ use Rattle.cache_core.specs.declared.arrival.Arrival.TheVariants.{Bypassed}
 use Rattle.cache_core.specs.declared.plan.PlannedCache.{PlannedCache}
 use Rattle.cache_core.specs.declared.plan.CacheName.TheVariants.{L2U}
 use Rattle.cache_core.specs.Plans.{PlannedCaches}
-use Rattle.cache_core.specs.Systems.{first_level_sends, below, is_taken, to_memory}
-use Rattle.cache_core.specs.Arrivals.{arrives, arrivals_below, all_arrivals_below, at_memory, passes, lower_arrivals, arrivals_of}
+use Rattle.cache_core.specs.Systems.{first_level_references, below, is_taken, to_memory}
+use Rattle.cache_core.specs.Arrivals.{cache_arrivals, arrivals_below, all_arrivals_below, at_memory, references_passed, lower_arrivals, arrivals_of}
 use Rattle.cache_core.specs.LogLaws.{refs_at_memory, refs_past, is_left_out, MemoryLaw, BypassedLaw}
 use Rattle.cache_core.proofs.SystemPushes.{references_push, references_flush, below_push, below_flush, memory_push, memory_flush, memory_nil}
 use Rattle.cache_core.proofs.SystemPushes.{with_refs, with_refs-cons, untaken_sent}
@@ -29,11 +29,11 @@ all_at [] = refl
 all_at (ref ∷ refs) = ap (λ xs. ref ∷ xs) (all_at refs)
 
 one_at : (seed : ℕ) (second : Option PlannedCache) (before : List Event) (ref : Ref) →
-    at (arrivals_below seed second before ref) ≡ passes seed second before ref
+    at (arrivals_below seed second before ref) ≡ references_passed seed second before ref
 one_at seed second before ref =
-    none_then refs_at_memory (arrives seed L2U second before ref) (at_memory (passes seed second before ref))
+    none_then refs_at_memory (cache_arrivals seed L2U second before ref) (at_memory (references_passed seed second before ref))
     (quiet_arrives refs_at_memory seed L2U second before ref (λ r h v. refl))
-    ∙ all_at (passes seed second before ref)
+    ∙ all_at (references_passed seed second before ref)
 
 memory_below : (seed : ℕ) (second : Option PlannedCache) (before : List Event) (refs : List Ref) →
     to_memory seed second (with_refs before refs) ≡ to_memory seed second before ++ at (all_arrivals_below seed second before refs)
@@ -43,7 +43,7 @@ memory_below seed second before (ref ∷ refs) =
     let later = all_arrivals_below seed second more refs in
     ap (to_memory seed second) (sym (with_refs-cons before ref refs)) ∙ memory_below seed second more refs
     ∙ ap (λ xs. xs ++ at later) (memory_push seed second before ref)
-    ∙ append_assoc (to_memory seed second before) (passes seed second before ref) (at later)
+    ∙ append_assoc (to_memory seed second before) (references_passed seed second before ref) (at later)
     ∙ ap (λ xs. to_memory seed second before ++ xs)
     (sym (flat_map-append refs_at_memory (arrivals_below seed second before ref) later ∙ ap (λ xs. xs ++ at later) (one_at seed second before ref)))
 
@@ -55,7 +55,7 @@ module _ (plan : PlannedCaches) (seed : ℕ) where
   lower earlier ref = ap (to_memory seed plan.second) (below_push plan seed earlier ref) ∙ by_test (is_taken plan ref) refl
     where
       down : List Ref
-      down = first_level_sends plan seed earlier ref
+      down = first_level_references plan seed earlier ref
 
       before : List Event
       before = below plan seed earlier
@@ -102,9 +102,9 @@ module _ (plan : PlannedCaches) (seed : ℕ) where
       by_test : (b : Bool) →
           cond (not b) (ref ∷ []) []
           ≡ flat_map refs_past
-          (cond b (all_arrivals_below seed plan.second (below plan seed earlier) (first_level_sends plan seed earlier ref)) (Bypassed ref ∷ []))
+          (cond b (all_arrivals_below seed plan.second (below plan seed earlier) (first_level_references plan seed earlier ref)) (Bypassed ref ∷ []))
       by_test true =
-          sym (quiet_below refs_past seed plan.second (λ r h v. refl) (λ r. refl) (below plan seed earlier) (first_level_sends plan seed earlier ref))
+          sym (quiet_below refs_past seed plan.second (λ r h v. refl) (λ r. refl) (below plan seed earlier) (first_level_references plan seed earlier ref))
       by_test false = refl
 
   past_more : (earlier : List Event) (e : Event) → past (earlier ++ e ∷ []) ≡ past earlier ++ flat_map refs_past (arrivals_of plan seed earlier e)

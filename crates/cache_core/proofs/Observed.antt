@@ -16,12 +16,12 @@ use Rattle.cache_core.specs.declared.plan.CacheName.{CacheName}
 use Rattle.cache_core.specs.declared.plan.CacheName.TheVariants.{L1I, L1D, L1U, L2U}
 use Rattle.cache_core.specs.declared.system_cache.SystemCache.{SystemCache}
 use Rattle.cache_core.specs.declared.system.Memory.{Memory as SystemMemory}
-use Rattle.cache_core.specs.Arrivals.{arrival_at, arrives, arrives_first, all_arrivals_below, at_memory, first_arrivals, lower_arrivals, passes, flushes, Saw}
+use Rattle.cache_core.specs.Arrivals.{arrival_at, cache_arrivals, first_level_arrivals, all_arrivals_below, at_memory, first_arrivals, lower_arrivals, references_passed, flushes, Saw}
 use Rattle.cache_core.specs.CacheSteps.{Enters, Empties, system_cache_contents}
 use Rattle.cache_core.specs.Machine.{run, step}
 use Rattle.cache_core.specs.Plans.{IsPlan, IsPlannedCache, PlannedCaches}
 use Rattle.cache_core.specs.Stands.{CacheStandsFor}
-use Rattle.cache_core.specs.Systems.{machine_of, events_for, is_taken, below, first_level_sends}
+use Rattle.cache_core.specs.Systems.{machine_of, events_for, is_taken, below, first_level_references}
 use Rattle.cache_core.specs.SystemStands.{PlannedCacheStandsFor}
 use Rattle.cache_core.specs.SystemSteps.{present_refs, Descends}
 use Rattle.cache_core.proofs.DownLaw.{down_law}
@@ -43,8 +43,8 @@ module _ {O : Type 0} (has_seen : O → List Arrival → Type 0) where
 pub record Entered (seed : ℕ) (name : CacheName) (planned : Option PlannedCache) (events : List Event) (old : SystemCache) (ref : Ref)
     (outcome : Outcome) (new : SystemCache) : Type 0 where
   pub stands : PlannedCacheStandsFor seed planned (events ++ event.Reference ref ∷ []) (Some new)
-  pub seen : arrival_at name old.cache.design.geometry ref outcome.hit outcome.evicted ∷ [] ≡ arrives seed name planned events ref
-  pub sends : present_refs outcome.down ≡ passes seed planned events ref
+  pub seen : arrival_at name old.cache.design.geometry ref outcome.hit outcome.evicted ∷ [] ≡ cache_arrivals seed name planned events ref
+  pub sends : present_refs outcome.down ≡ references_passed seed planned events ref
 
 pub entered : (seed : ℕ) (name : CacheName) (planned : Option PlannedCache) (events : List Event) (old : SystemCache) (ref : Ref) (outcome : Outcome)
     (new : SystemCache) → IsPlannedCache planned → PlannedCacheStandsFor seed planned events (Some old) → Enters old ref outcome new →
@@ -102,38 +102,38 @@ is_planned seed planned events cache s = grind arith
 -- a reference at the first level is seen at the one cache that takes it
 module _ (seed : ℕ) (events : List Event) (ref : Ref) where
   unified : (i d u : Option PlannedCache) → (is_some u && (is_some i || is_some d)) ≡ false → is_some u ≡ true →
-      arrives seed L1U u (events_for L1U events) ref
-      ≡ arrives_first seed L1I i events ref ++ arrives_first seed L1D d events ref ++ arrives_first seed L1U u events ref
+      cache_arrivals seed L1U u (events_for L1U events) ref
+      ≡ first_level_arrivals seed L1I i events ref ++ first_level_arrivals seed L1D d events ref ++ first_level_arrivals seed L1U u events ref
   unified i d u apart there = grind arith
 
   at_fetch : (i d u : Option PlannedCache) → is_some u ≡ false → is_fetch ref.access ≡ true →
-      arrives seed L1I i (events_for L1I events) ref
-      ≡ arrives_first seed L1I i events ref ++ arrives_first seed L1D d events ref ++ arrives_first seed L1U u events ref
+      cache_arrivals seed L1I i (events_for L1I events) ref
+      ≡ first_level_arrivals seed L1I i events ref ++ first_level_arrivals seed L1D d events ref ++ first_level_arrivals seed L1U u events ref
   at_fetch i d u none t = grind arith
 
   at_data : (i d u : Option PlannedCache) → is_some u ≡ false → is_fetch ref.access ≡ false →
-      arrives seed L1D d (events_for L1D events) ref
-      ≡ arrives_first seed L1I i events ref ++ arrives_first seed L1D d events ref ++ arrives_first seed L1U u events ref
+      cache_arrivals seed L1D d (events_for L1D events) ref
+      ≡ first_level_arrivals seed L1I i events ref ++ first_level_arrivals seed L1D d events ref ++ first_level_arrivals seed L1U u events ref
   at_data i d u none t = grind arith
 
 module _ (plan : PlannedCaches) (seed : ℕ) (events : List Event) (ref : Ref) (good : IsPlan plan) where
-  pub seen_unified : is_some plan.u ≡ true → arrives seed L1U plan.u (events_for L1U events) ref ≡ first_arrivals plan seed events ref
+  pub seen_unified : is_some plan.u ≡ true → cache_arrivals seed L1U plan.u (events_for L1U events) ref ≡ first_arrivals plan seed events ref
   seen_unified there = unified seed events ref plan.i plan.d plan.u good.apart there
 
   pub seen_fetch : is_some plan.u ≡ false → is_fetch ref.access ≡ true →
-      arrives seed L1I plan.i (events_for L1I events) ref ≡ first_arrivals plan seed events ref
+      cache_arrivals seed L1I plan.i (events_for L1I events) ref ≡ first_arrivals plan seed events ref
   seen_fetch none t = at_fetch seed events ref plan.i plan.d plan.u none t
 
   pub seen_data : is_some plan.u ≡ false → is_fetch ref.access ≡ false →
-      arrives seed L1D plan.d (events_for L1D events) ref ≡ first_arrivals plan seed events ref
+      cache_arrivals seed L1D plan.d (events_for L1D events) ref ≡ first_arrivals plan seed events ref
   seen_data none t = at_data seed events ref plan.i plan.d plan.u none t
 
 -- what is seen below the first level, where a cache of it takes the reference and where none does
 module _ (plan : PlannedCaches) (seed : ℕ) (events : List Event) (ref : Ref) where
   abbrev lower : Bool → List Arrival
-  lower taken = cond taken (all_arrivals_below seed plan.second (below plan seed events) (first_level_sends plan seed events ref)) (Bypassed ref ∷ [])
+  lower taken = cond taken (all_arrivals_below seed plan.second (below plan seed events) (first_level_references plan seed events ref)) (Bypassed ref ∷ [])
 
-  pub seen_below : (refs : List Ref) → refs ≡ first_level_sends plan seed events ref → false ≡ not (is_taken plan ref) →
+  pub seen_below : (refs : List Ref) → refs ≡ first_level_references plan seed events ref → false ≡ not (is_taken plan ref) →
       all_arrivals_below seed plan.second (below plan seed events) refs ≡ lower_arrivals plan seed events ref
   seen_below refs e t = cc (e, by_test (is_taken plan ref) t)
     where

@@ -16,8 +16,8 @@ use Rattle.cache_core.specs.declared.design.Design.{Design}
 use Rattle.cache_core.specs.declared.design.WriteMode.TheVariants.{Back}
 use Rattle.cache_core.specs.declared.replacement.Lru.{Lru as LruPolicy}
 use Rattle.cache_core.specs.declared.simulation.Lookup.TheVariants.{MissEviction}
-use Rattle.cache_core.specs.DeepSets.{DeepSetsValue, brought, deep_lookup}
-use Rattle.deep_list.specs.Deep.{is_in}
+use Rattle.cache_core.specs.DeepSets.{DeepSetsValue, sets_after_touch, deep_lookup}
+use Rattle.deep_list.specs.Deep.{has_block}
 use Rattle.cache_core.specs.Geometry.{GeometryValue, block_of, set_of, set_of_block}
 use Rattle.cache_core.specs.LruLaws.{lru_machine, lru_contents, occurrence_after}
 use Rattle.cache_core.specs.LruSets.{near_geometry, IsBehind, LruSetsStandFor, far_lookup, pushed_back}
@@ -112,13 +112,13 @@ module _ (g : GeometryValue) (events : List Event) (ref : Ref) (old near : Cache
       ∙ ap (λ m. get_or (blocks_of slots) (m - 1) 0) last.0 ∙ ap (λ xs. get_or xs (ways - 1) 0) blocks_are
       ∙ get_or-take ways held (ways - 1) 0 (omega (arith, some))
 
-  apart : is_in victim.block (get_or deep.lists k []) ≡ false
+  apart : has_block victim.block (get_or deep.lists k []) ≡ false
   apart =
-      ap (is_in victim.block) list_is ∙ ap (λ x. is_in x rest) victim_is
+      ap (has_block victim.block) list_is ∙ ap (λ x. has_block x rest) victim_is
       ∙ last_apart ways held (IsOnce-take g.e stack (IsOnce-distinct_of_set g k p.window)) some filled
 
   abbrev deep' : DeepSetsValue
-  deep' = brought deep k p.block victim.block
+  deep' = sets_after_touch deep k p.block victim.block
 
   behind_here : get_or deep'.lists k [] ≡ drop ways (take g.e (distinct_of_set g k (p.block ∷ p.window)))
   behind_here =
@@ -152,7 +152,7 @@ module _ (g : GeometryValue) (events : List Event) (ref : Ref) (old near : Cache
   found : deep_lookup deep.capacity p.block (get_or deep.lists k []) ≡ lookup_at g p
   found =
       ap (deep_lookup deep.capacity p.block) list_is
-      ∙ sym (told g p (is_in p.block rest) (eqb (length rest) deep.capacity)
+      ∙ sym (told g p (has_block p.block rest) (eqb (length rest) deep.capacity)
       (hit_is g events ref old near (Some deep) outcome s access ∙ ap (λ b. b || list_any (is p.block) rest) miss)
       (full_is g.e ways deep.capacity (length stack) all full
       ∙ ap (λ m. eqb m deep.capacity) (omega (arith, length-drop ways held, length-take g.e stack))))
@@ -198,19 +198,19 @@ module _ (g : GeometryValue) (events : List Event) (ref : Ref) (old near : Cache
   push_within (Some deep) s = omega (arith, s.behind.sets, within g events ref old near deep outcome s access victim leaves, set_at (Some deep) s)
 
   pub push_apart : (far : Option DeepSetsValue) → LruSetsStandFor g events (record { near = old; far = far }) →
-      IfSome far (λ d. is_in victim.block (get_or d.lists set []) ≡ false)
+      IfSome far (λ d. has_block victim.block (get_or d.lists set []) ≡ false)
   push_apart None s = tt
   push_apart (Some deep) s =
-      subst (λ j. is_in victim.block (get_or deep.lists j []) ≡ false) (set_at (Some deep) s) (apart g events ref old near deep outcome s access victim leaves)
+      subst (λ j. has_block victim.block (get_or deep.lists j []) ≡ false) (set_at (Some deep) s) (apart g events ref old near deep outcome s access victim leaves)
 
   pub follows_push : (far : Option DeepSetsValue) → LruSetsStandFor g events (record { near = old; far = far }) →
       LruSetsStandFor g (events ++ event.Reference ref ∷ []) (record { near = near; far = pushed_back far set block victim.block })
       × (far_lookup far set block ≡ lookup_at g (occurrence_after g events ref))
   follows_push None s = follows_evict g events ref old near outcome s access victim leaves
   follows_push (Some deep) s =
-      subst (λ j. LruSetsStandFor g (events ++ event.Reference ref ∷ []) (record { near = near; far = Some (brought deep j block victim.block) })
+      subst (λ j. LruSetsStandFor g (events ++ event.Reference ref ∷ []) (record { near = near; far = Some (sets_after_touch deep j block victim.block) })
       × (deep_lookup deep.capacity block (get_or deep.lists j []) ≡ lookup_at g (occurrence_after g events ref))) (set_at (Some deep) s)
       (subst (λ b. LruSetsStandFor g (events ++ event.Reference ref ∷ [])
-      (record { near = near; far = Some (brought deep (set_of g ref.addr) b victim.block) })
+      (record { near = near; far = Some (sets_after_touch deep (set_of g ref.addr) b victim.block) })
       × (deep_lookup deep.capacity b (get_or deep.lists (set_of g ref.addr) []) ≡ lookup_at g (occurrence_after g events ref))) (block_is (Some deep) s)
       (pushed g events ref old near deep outcome s access victim leaves, found g events ref old near deep outcome s access victim leaves))

@@ -7,7 +7,7 @@ use Rattle.std.proofs.lemmas.List.{append-nil, length-append, map-append, length
 use Rattle.std.proofs.lemmas.Bool.{eq-eqb}
 use Rattle.cache_core.specs.declared.outcome.Slot.{Slot}
 use Rattle.cache_core.specs.declared.design.Repl.{Repl}
-use Rattle.cache_core.specs.Machine.{Line, slot_of, is_block, least, victim, with_line_at, with_touch, with_block, key_at}
+use Rattle.cache_core.specs.Machine.{Line, slot_of, is_block, least_line, victim, with_line_at, with_touch, with_block, key_at}
 use Rattle.cache_core.specs.Order.{Moves, Touches, Inserts, Exchanges, with_slot_at, victim_at, with_dirty_at, position_of}
 use Rattle.cache_core.specs.Rules.{Place, InFront, InPlace, Last, rules}
 use Rattle.cache_core.specs.Stands.{Falls, InOrder, Absent, IsGood}
@@ -131,7 +131,7 @@ line_at (l ∷ ls) (suc n) gone e =
 
 -- the line that leaves is that of the slot that leaves
 last_there : (n : ℕ) (xs : List Line) (x : Line) (ys : List Line) → Falls n (xs ++ x ∷ ys) →
-    victim_at Last 0 (map slot_of (xs ++ x ∷ ys)) ≡ length xs → least (xs ++ x ∷ ys) ≡ Some x
+    victim_at Last 0 (map slot_of (xs ++ x ∷ ys)) ≡ length xs → least_line (xs ++ x ∷ ys) ≡ Some x
 last_there n xs x [] f e = least_last n xs x f
 last_there n xs x (y ∷ ys) f e = absurd (omega (arith, e, length-map (xs ++ x ∷ y ∷ ys) slot_of, length-append xs (x ∷ y ∷ ys)))
 

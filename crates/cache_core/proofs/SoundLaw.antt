@@ -15,7 +15,7 @@ use Rattle.cache_core.specs.declared.outcome.Outcome.{Outcome}
 use Rattle.cache_core.specs.declared.design.Design.{Design}
 use Rattle.cache_core.specs.declared.design.Repl.{Repl}
 use Rattle.cache_core.specs.Geometry.{set_of_block, block_of}
-use Rattle.cache_core.specs.Outcomes.{outcome_of, on_hit, on_placing, on_passing, dirties, allocates}
+use Rattle.cache_core.specs.Outcomes.{outcome_of, on_hit, on_placing, on_passing, is_dirtied, is_allocated}
 use Rattle.cache_core.specs.Machine.{Machine, MachineState, slot_of, is_block, lines_of_set, start, step, next, run}
 use Rattle.cache_core.specs.Order.{Visits, VisitsAt, Fills, PassesOn, Moves, TakesIn, with_slot_at, victim_at, with_dirty_at, position_of, random_numbers_after}
 use Rattle.cache_core.specs.Rules.{Place, InFront, InPlace, rules}
@@ -81,7 +81,7 @@ visit_exists d p numbers ref slots r l = by_index (position_of b slots) refl
         (outcome : Outcome) × (new : List Slot) × (rest : ℕ → ℕ)
         × MatchBool al (Fills d (Some p) numbers ref slots outcome new rest) (PassesOn numbers ref slots outcome new rest) × (length new ≤ d.geometry.e)
     by_alloc true =
-        let x = place_exists p (numbers 0) d.geometry.e slots (record { block = b; dirty = dirties d.write ref.access }) r l in (
+        let x = place_exists p (numbers 0) d.geometry.e slots (record { block = b; dirty = is_dirtied d.write ref.access }) r l in (
           outcome_of (on_placing d.geometry d.write ref b x.evicted),
           x.new,
           random_numbers_after (Some p) x.evicted numbers,
@@ -101,10 +101,10 @@ visit_exists d p numbers ref slots r l = by_index (position_of b slots) refl
     }
 
     by_index : (o : Option ℕ) → position_of b slots ≡ o → Visited d p numbers ref slots
-    by_index None e = let x = by_alloc (allocates d.allocate ref.access) in visited None x.0 x.1 x.2 e x.3 x.4
+    by_index None e = let x = by_alloc (is_allocated d.allocate ref.access) in visited None x.0 x.1 x.2 e x.3 x.4
     by_index (Some at) e =
-        let s = with_dirty_at (dirties d.write ref.access) slots at in
-        let same : length s ≡ length slots = marked_length (dirties d.write ref.access) slots at in
+        let s = with_dirty_at (is_dirtied d.write ref.access) slots at in
+        let same : length s ≡ length slots = marked_length (is_dirtied d.write ref.access) slots at in
         let h : at < length s = omega (arith, (position-Some _ slots at (record { block = 0; dirty = false }) e).0, same) in
         let x = touch_exists (rules p).touched s at h in
         visited (Some at) (outcome_of (on_hit d.write ref)) x.0 numbers e (record { order = x.1; undrawn = refl; effect = refl })

@@ -10,9 +10,9 @@ use Rattle.trace_core.specs.declared.events.Ref.{Ref}
 use Rattle.cache_core.specs.declared.outcome.Slot.{Slot}
 use Rattle.cache_core.specs.declared.outcome.Outcome.{Outcome}
 use Rattle.cache_core.specs.Geometry.{GeometryValue, set_of_block, block_of}
-use Rattle.cache_core.specs.Outcomes.{outcome_of, on_placing, dirties, allocates}
-use Rattle.cache_core.specs.Machine.{Machine, MachineState, Line, slot_of, is_block, lines_of_set, without, with_line_at, key_at, leaves}
-use Rattle.cache_core.specs.Machine.{Step, placing, passing, step_at, step}
+use Rattle.cache_core.specs.Outcomes.{outcome_of, on_placing, is_dirtied, is_allocated}
+use Rattle.cache_core.specs.Machine.{Machine, MachineState, Line, slot_of, is_block, lines_of_set, without, with_line_at, key_at, victim_line}
+use Rattle.cache_core.specs.Machine.{Step, placing_step, passing_step, step_at, step}
 use Rattle.cache_core.specs.Order.{Contents, Accesses, Visits, VisitsAt, Fills, PassesOn, TakesIn, random_numbers_after, slots_of}
 use Rattle.cache_core.specs.Rules.{Place, InFront, InPlace, rules}
 use Rattle.cache_core.specs.Stands.{IsState, Absent, IsGood, IsSoundState}
@@ -79,13 +79,13 @@ module _ (m : Machine) (st : MachineState) (ref : Ref) (numbers : ℕ → ℕ) (
 
   -- the slot of the block where it is placed
   abbrev new : Slot
-  new = record { block = b; dirty = dirties m.design.write ref.access }
+  new = record { block = b; dirty = is_dirtied m.design.write ref.access }
 
   hit_agrees : (line : Line) → find (is_block b) st.lines ≡ Some line →
       Visits m.design (Some m.policy) numbers ref (map slot_of here) outcome slots rest →
-      Agrees m st (step_at m ref b (leaves m st k) st (Some line)) k slots rest outcome
+      Agrees m st (step_at m ref b (victim_line m st k) st (Some line)) k slots rest outcome
   hit_agrees line h v =
-      let d = dirties m.design.write ref.access in
+      let d = is_dirtied m.design.write ref.access in
       let f : find (is_block b) here ≡ Some line = find_in_set g b st.lines ∙ h in
       let t = touched m.policy st.clock b line d here (sound k) f in
       let to : Place = (rules m.policy).touched in
@@ -107,11 +107,11 @@ module _ (m : Machine) (st : MachineState) (ref : Ref) (numbers : ℕ → ℕ) (
   to = (rules m.policy).placed
 
   abbrev line_new : ℕ → Line
-  line_new there = record { block = b; key = key_at to (st.clock + 1) there; dirty = dirties m.design.write ref.access }
+  line_new there = record { block = b; key = key_at to (st.clock + 1) there; dirty = is_dirtied m.design.write ref.access }
 
   fill_agrees : (evicted : Option Slot) → Absent b here → TakesIn (Some m.policy) (numbers 0) g.e (map slot_of here) new evicted slots →
       rest ≡ random_numbers_after (Some m.policy) evicted numbers → outcome ≡ outcome_of (on_placing g m.design.write ref b evicted) →
-      Agrees m st (placing m ref b (leaves m st k) st) k slots rest outcome
+      Agrees m st (placing_step m ref b (victim_line m st k) st) k slots rest outcome
   fill_agrees None a p u o =
       let not_full : ltb (length here) g.e ≡ true = lt-ltb (length here) g.e (omega (arith, p.0, length-map here slot_of)) in
       let e = line_here to g k (line_new (length here)) None st.lines refl tt in
@@ -132,22 +132,22 @@ module _ (m : Machine) (st : MachineState) (ref : Ref) (numbers : ℕ → ℕ) (
       let e = line_here to g k (line_new x.line.key) (Some x.line) st.lines refl in_set in
       grind (arith, line_other)
 
-  pass_agrees : PassesOn numbers ref (map slot_of here) outcome slots rest → Agrees m st (passing ref st) k slots rest outcome
+  pass_agrees : PassesOn numbers ref (map slot_of here) outcome slots rest → Agrees m st (passing_step ref st) k slots rest outcome
   pass_agrees v = grind (arith, order_later)
 
   miss_agrees : (fills : Bool) → Absent b here →
       MatchBool fills (Fills m.design (Some m.policy) numbers ref (map slot_of here) outcome slots rest)
       (PassesOn numbers ref (map slot_of here) outcome slots rest) →
-      Agrees m st (cond fills (placing m ref b (leaves m st k) st) (passing ref st)) k slots rest outcome
+      Agrees m st (cond fills (placing_step m ref b (victim_line m st k) st) (passing_step ref st)) k slots rest outcome
   miss_agrees fills a v = grind (arith, fill_agrees, pass_agrees)
 
   pub step_agrees : (o : Option Line) → find (is_block b) st.lines ≡ o →
       Visits m.design (Some m.policy) numbers ref (map slot_of here) outcome slots rest →
-      Agrees m st (step_at m ref b (leaves m st k) st o) k slots rest outcome
+      Agrees m st (step_at m ref b (victim_line m st k) st o) k slots rest outcome
   step_agrees (Some line) e v = hit_agrees line e v
   step_agrees None e v =
       let a : Absent b here = not_found b here (find_in_set g b st.lines ∙ e) in
-      miss_agrees (allocates m.design.allocate ref.access) a
+      miss_agrees (is_allocated m.design.allocate ref.access) a
       (subst (λ o. VisitsAt o m.design (Some m.policy) numbers ref (map slot_of here) outcome slots rest) (position_absent b here a) v)
 
 -- the machine stays sound

@@ -14,7 +14,7 @@ use Rattle.cache_core.specs.declared.system_cache.SystemCache.{SystemCache}
 use Rattle.cache_core.specs.Machine.{Machine, run, dirty_count}
 use Rattle.cache_core.specs.Plans.{PlannedCaches, IsPlan}
 use Rattle.cache_core.specs.CacheSteps.{system_cache_contents, Empties}
-use Rattle.cache_core.specs.Systems.{machine_of, events_for, first_level_sends, below, flush_counts, flush_copybacks, is_taken}
+use Rattle.cache_core.specs.Systems.{machine_of, events_for, first_level_references, below, flush_counts, flush_copybacks, is_taken}
 use Rattle.cache_core.specs.SystemSteps.{SystemValue, present_refs, AccessesFirstLevel, AllDescend, StepsSystem, FlushesSystem, EmptiesCache}
 use Rattle.cache_core.specs.SystemSteps.{IsNewSystemCache, IsNewCache, IsNewSystem}
 use Rattle.cache_core.specs.SystemStands.{SystemStandsFor, NewSystemLaw, StepLaw, SystemFlushLaw}
@@ -78,7 +78,7 @@ module _ (plan : PlannedCaches) (seed : ℕ) (events : List Event) (ref : Ref) w
     ap sum (flush_counts_taken seed L1D plan.d events ref),
     ap sum (flush_counts_taken seed L1U plan.u events ref),
     ap (flush_copybacks seed plan.second) (below_push plan seed events ref)
-        ∙ ap sum (flush_counts_refs seed plan.second (below plan seed events) (first_level_sends plan seed events ref)),
+        ∙ ap sum (flush_counts_refs seed plan.second (below plan seed events) (first_level_references plan seed events ref)),
   )
 
   bypassed_step : (old new : ℕ) (down : Bool) → new ≡ old + one_if down → down ≡ is_untaken plan ref →
@@ -86,7 +86,7 @@ module _ (plan : PlannedCaches) (seed : ℕ) (events : List Event) (ref : Ref) w
   bypassed_step old new down moved untaken before = grind (arith, references_push, count_by_push)
 
   lower_step : (old new : SystemValue) (down : Option (List (Option Ref))) → IsPlan plan → SystemKept plan seed events old →
-      down_list down ≡ first_level_sends plan seed events ref →
+      down_list down ≡ first_level_references plan seed events ref →
       MatchOption down ((new.second ≡ old.second) × (new.memory ≡ old.memory))
       (λ refs. AllDescend (present_refs refs) old.second old.memory new.second new.memory) →
       Lower seed plan.second (below plan seed more) (flushed_all plan seed more) new.second new.memory
@@ -113,7 +113,7 @@ module _ (plan : PlannedCaches) (seed : ℕ) (events : List Event) (ref : Ref) w
 -- what a step sends down from the first level, and whether a cache of it takes the reference
 pub step_sends : (plan : PlannedCaches) (seed : ℕ) (events : List Event) (old : SystemValue) (ref : Ref) (down : Option (List (Option Ref)))
     (i d u : Option SystemCache) → IsPlan plan → SystemStandsFor plan seed events old → AccessesFirstLevel old.i old.d old.u ref down i d u →
-    (down_list down ≡ first_level_sends plan seed events ref) × (is_none down ≡ is_untaken plan ref)
+    (down_list down ≡ first_level_references plan seed events ref) × (is_none down ≡ is_untaken plan ref)
 step_sends plan seed events old ref down i d u p s f =
     let k = kept_of plan seed events old s in
     let kept = first_keeps seed events ref down old.i old.d old.u i d u plan.i plan.d plan.u p.i p.d p.u p.apart k.i k.d k.u f in

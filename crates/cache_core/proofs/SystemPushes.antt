@@ -18,23 +18,23 @@ use Rattle.cache_core.specs.declared.stats.CacheStats.{CacheStats}
 use Rattle.cache_core.specs.Outcomes.{Effect}
 use Rattle.cache_core.specs.Machine.{Machine, MachineState, start, run, next, step, with_effects, dirty_count}
 use Rattle.cache_core.specs.Plans.{PlannedCaches}
-use Rattle.cache_core.specs.CacheStats.{stats_from, count_access, count_flush}
-use Rattle.cache_core.specs.Systems.{takes, takes_event, events_for, first_level_sends, below_from, below, to_memory, is_taken}
+use Rattle.cache_core.specs.CacheStats.{stats_from, stats_after_access, stats_after_flush}
+use Rattle.cache_core.specs.Systems.{is_taken_by, is_event_of, events_for, first_level_references, below_from, below, to_memory, is_taken}
 use Rattle.cache_core.specs.Systems.{flush_counts_from, flush_counts, flush_counts_if_planned, cache_stats}
-use Rattle.cache_core.specs.Arrivals.{passes}
+use Rattle.cache_core.specs.Arrivals.{references_passed}
 use Rattle.cache_core.proofs.Pushes.{with_effects_push, with_effects_flush}
 
 -- the events of a cache of the first level
-pub events_taken : (name : CacheName) (events : List Event) (ref : Ref) → takes name ref ≡ true →
+pub events_taken : (name : CacheName) (events : List Event) (ref : Ref) → is_taken_by name ref ≡ true →
     events_for name (events ++ event.Reference ref ∷ []) ≡ events_for name events ++ event.Reference ref ∷ []
-events_taken name events ref t = cc (filter-append (takes_event name) events (event.Reference ref ∷ []), t)
+events_taken name events ref t = cc (filter-append (is_event_of name) events (event.Reference ref ∷ []), t)
 
-pub events_left : (name : CacheName) (events : List Event) (ref : Ref) → takes name ref ≡ false →
+pub events_left : (name : CacheName) (events : List Event) (ref : Ref) → is_taken_by name ref ≡ false →
     events_for name (events ++ event.Reference ref ∷ []) ≡ events_for name events
-events_left name events ref t = cc (filter-append (takes_event name) events (event.Reference ref ∷ []), t, append-nil (events_for name events))
+events_left name events ref t = cc (filter-append (is_event_of name) events (event.Reference ref ∷ []), t, append-nil (events_for name events))
 
 pub events_flush : (name : CacheName) (events : List Event) → events_for name (events ++ event.Flush ∷ []) ≡ events_for name events ++ event.Flush ∷ []
-events_flush name events = filter-append (takes_event name) events (event.Flush ∷ [])
+events_flush name events = filter-append (is_event_of name) events (event.Flush ∷ [])
 
 -- these references behind some events
 abbrev pub with_refs : List Event → List Ref → List Event
@@ -68,12 +68,12 @@ flush_counts_push seed planned events ref = grind (arith, flush_counts_push_from
 pub flush_counts_taken : (seed : ℕ) (name : CacheName) (planned : Option PlannedCache) (events : List Event) (ref : Ref) →
     flush_counts_if_planned seed planned (events_for name (events ++ event.Reference ref ∷ []))
     ≡ flush_counts_if_planned seed planned (events_for name events)
-flush_counts_taken seed name planned events ref = by_test (takes name ref) refl
+flush_counts_taken seed name planned events ref = by_test (is_taken_by name ref) refl
   where
     counts : List Event → List ℕ
     counts = flush_counts_if_planned seed planned
 
-    by_test : (b : Bool) → takes name ref ≡ b → counts (events_for name (events ++ event.Reference ref ∷ [])) ≡ counts (events_for name events)
+    by_test : (b : Bool) → is_taken_by name ref ≡ b → counts (events_for name (events ++ event.Reference ref ∷ [])) ≡ counts (events_for name events)
     by_test true t = ap counts (events_taken name events ref t) ∙ flush_counts_push seed planned (events_for name events) ref
     by_test false t = ap counts (events_left name events ref t)
 
@@ -89,15 +89,15 @@ flush_counts_nil seed planned = grind arith
 
 -- its statistics: an access and a flush may change places
 pub flush_then_access : (access : Access) (hit : Bool) (evicted : Option Bool) (dirty : ℕ) (s : CacheStats) →
-    count_access access hit evicted (count_flush dirty s) ≡ count_flush dirty (count_access access hit evicted s)
+    stats_after_access access hit evicted (stats_after_flush dirty s) ≡ stats_after_flush dirty (stats_after_access access hit evicted s)
 flush_then_access access hit evicted dirty s = grind arith
 
-pub two_flushes : (m n : ℕ) (s : CacheStats) → count_flush n (count_flush m s) ≡ count_flush (m + n) s
+pub two_flushes : (m n : ℕ) (s : CacheStats) → stats_after_flush n (stats_after_flush m s) ≡ stats_after_flush (m + n) s
 two_flushes m n s = ap (λ k. record s { copybacks = k }) (add_assoc s.copybacks m n)
 
 -- one access more, by the effect of its reference
 abbrev pub count_effect : CacheStats → Ref × Effect → CacheStats
-count_effect s p = count_access p.0.access p.1.hit (option_map (λ slot. slot.dirty) p.1.evicted) s
+count_effect s p = stats_after_access p.0.access p.1.hit (option_map (λ slot. slot.dirty) p.1.evicted) s
 
 some_is : (evicted : Option Slot) → is_some evicted ≡ is_some (option_map (λ slot. slot.dirty) evicted)
 some_is evicted = grind arith
@@ -114,16 +114,16 @@ pub counts_push : (m : Machine) (events : List Event) (ref : Ref) →
     cache_stats m (events ++ event.Reference ref ∷ []) ≡ count_effect (cache_stats m events) (ref, (step m (run m events) ref).effect)
 counts_push m events ref =
     let effect = (step m (run m events) ref).effect in
-    ap₂ (λ (ns : List ℕ) (all : List (Ref × Effect)). count_flush (sum ns) (stats_from all)) (flush_counts_push_from m start events ref)
+    ap₂ (λ (ns : List ℕ) (all : List (Ref × Effect)). stats_after_flush (sum ns) (stats_from all)) (flush_counts_push_from m start events ref)
     (with_effects_push m events ref)
-    ∙ ap (count_flush (sum (flush_counts m events))) (stats_push (with_effects m events) (ref, effect))
+    ∙ ap (stats_after_flush (sum (flush_counts m events))) (stats_push (with_effects m events) (ref, effect))
     ∙ sym (flush_then_access ref.access effect.hit (option_map (λ slot. slot.dirty) effect.evicted) (sum (flush_counts m events)) _)
 
 pub counts_flush : (m : Machine) (events : List Event) →
-    cache_stats m (events ++ event.Flush ∷ []) ≡ count_flush (dirty_count (run m events)) (cache_stats m events)
+    cache_stats m (events ++ event.Flush ∷ []) ≡ stats_after_flush (dirty_count (run m events)) (cache_stats m events)
 counts_flush m events =
-    ap₂ (λ (ns : List ℕ) (all : List (Ref × Effect)). count_flush (sum ns) (stats_from all)) (flush_counts_flush m events) (with_effects_flush m events)
-    ∙ ap (λ n. count_flush n (stats_from (with_effects m events))) (sum_by_push (λ n. n) (flush_counts m events) (dirty_count (run m events)))
+    ap₂ (λ (ns : List ℕ) (all : List (Ref × Effect)). stats_after_flush (sum ns) (stats_from all)) (flush_counts_flush m events) (with_effects_flush m events)
+    ∙ ap (λ n. stats_after_flush n (stats_from (with_effects m events))) (sum_by_push (λ n. n) (flush_counts m events) (dirty_count (run m events)))
     ∙ sym (two_flushes (sum (flush_counts m events)) (dirty_count (run m events)) _)
 
 -- the references
@@ -140,8 +140,8 @@ references_flush (event.Flush ∷ events) = references_flush events
 -- what is sent down from the first level
 below_push_from : (plan : PlannedCaches) (seed : ℕ) (earlier events : List Event) (ref : Ref) →
     below_from plan seed earlier (events ++ event.Reference ref ∷ [])
-    ≡ below_from plan seed earlier events ++ map (λ x. event.Reference x) (first_level_sends plan seed (earlier ++ events) ref)
-below_push_from plan seed earlier [] ref = cc (append-nil (map (λ x. event.Reference x) (first_level_sends plan seed earlier ref)), append-nil earlier)
+    ≡ below_from plan seed earlier events ++ map (λ x. event.Reference x) (first_level_references plan seed (earlier ++ events) ref)
+below_push_from plan seed earlier [] ref = cc (append-nil (map (λ x. event.Reference x) (first_level_references plan seed earlier ref)), append-nil earlier)
 below_push_from plan seed earlier (event.Reference r ∷ events) ref =
     grind (
       arith,
@@ -151,7 +151,7 @@ below_push_from plan seed earlier (event.Reference r ∷ events) ref =
 below_push_from plan seed earlier (event.Flush ∷ events) ref = grind (arith, append_assoc, below_push_from plan seed (earlier ++ event.Flush ∷ []) events ref)
 
 pub below_push : (plan : PlannedCaches) (seed : ℕ) (events : List Event) (ref : Ref) →
-    below plan seed (events ++ event.Reference ref ∷ []) ≡ below plan seed events ++ map (λ x. event.Reference x) (first_level_sends plan seed events ref)
+    below plan seed (events ++ event.Reference ref ∷ []) ≡ below plan seed events ++ map (λ x. event.Reference x) (first_level_references plan seed events ref)
 below_push plan seed events ref = below_push_from plan seed [] events ref
 
 below_flush_from : (plan : PlannedCaches) (seed : ℕ) (earlier events : List Event) →
@@ -171,7 +171,7 @@ below_flush plan seed events = below_flush_from plan seed [] events
 
 -- what reaches memory
 pub memory_push : (seed : ℕ) (planned : Option PlannedCache) (events : List Event) (ref : Ref) →
-    to_memory seed planned (events ++ event.Reference ref ∷ []) ≡ to_memory seed planned events ++ passes seed planned events ref
+    to_memory seed planned (events ++ event.Reference ref ∷ []) ≡ to_memory seed planned events ++ references_passed seed planned events ref
 memory_push seed planned events ref = grind (arith, references_push, with_effects_push, flat_map-append)
 
 pub memory_flush : (seed : ℕ) (planned : Option PlannedCache) (events : List Event) →
@@ -181,5 +181,5 @@ memory_flush seed planned events = grind (arith, references_flush, with_effects_
 pub memory_nil : (seed : ℕ) (planned : Option PlannedCache) → to_memory seed planned [] ≡ []
 memory_nil seed planned = grind arith
 
-pub untaken_sent : (plan : PlannedCaches) (seed : ℕ) (events : List Event) (ref : Ref) → is_taken plan ref ≡ false → first_level_sends plan seed events ref ≡ []
+pub untaken_sent : (plan : PlannedCaches) (seed : ℕ) (events : List Event) (ref : Ref) → is_taken plan ref ≡ false → first_level_references plan seed events ref ≡ []
 untaken_sent plan seed events ref e = grind arith

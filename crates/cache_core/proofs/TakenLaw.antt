@@ -14,7 +14,7 @@ use Rattle.cache_core.specs.declared.plan.CacheName.TheVariants.{L1I, L1D, L1U, 
 use Rattle.cache_core.specs.Geometry.{GeometryValue}
 use Rattle.cache_core.specs.Machine.{Machine, MachineState, start, step, next, with_effects_from}
 use Rattle.cache_core.specs.Plans.{PlannedCaches}
-use Rattle.cache_core.specs.Systems.{machine_of, takes, events_for}
+use Rattle.cache_core.specs.Systems.{machine_of, is_taken_by, events_for}
 use Rattle.cache_core.specs.Arrivals.{arrivals}
 use Rattle.cache_core.specs.LogLaws.{is_same, planned_of, events_at, refs_at, lines_at, access_line, access_lines, if_there}
 use Rattle.cache_core.specs.LogLaws.{FetchCacheLaw, DataCacheLaw, UnifiedCacheLaw, SecondLevelLaw}
@@ -62,19 +62,19 @@ module _ (name : CacheName) where
       by_plan (Some planned) here = refs_shown (machine_of seed planned) planned.design.geometry start here
 
   -- a cache of the first level gets what it takes
-  references_for : (events : List Event) → references_in (events_for name events) ≡ filter (takes name) (references_in events)
+  references_for : (events : List Event) → references_in (events_for name events) ≡ filter (is_taken_by name) (references_in events)
   references_for [] = refl
-  references_for (event.Reference ref ∷ events) = by_test (takes name ref) (references_for events)
+  references_for (event.Reference ref ∷ events) = by_test (is_taken_by name ref) (references_for events)
     where
-      by_test : (b : Bool) → references_in (events_for name events) ≡ filter (takes name) (references_in events) →
+      by_test : (b : Bool) → references_in (events_for name events) ≡ filter (is_taken_by name) (references_in events) →
           references_in (cond b (event.Reference ref ∷ events_for name events) (events_for name events))
-          ≡ cond b (ref ∷ filter (takes name) (references_in events)) (filter (takes name) (references_in events))
+          ≡ cond b (ref ∷ filter (is_taken_by name) (references_in events)) (filter (is_taken_by name) (references_in events))
       by_test true same = ap (λ refs. ref ∷ refs) same
       by_test false same = same
   references_for (event.Flush ∷ events) = references_for events
 
   taken : (planned : Option PlannedCache) (events : List Event) →
-      all_if_there planned (references_in (events_for name events)) ≡ if_there planned (takes name) (references_in events)
+      all_if_there planned (references_in (events_for name events)) ≡ if_there planned (is_taken_by name) (references_in events)
   taken None events = refl
   taken (Some planned) events = references_for events
 

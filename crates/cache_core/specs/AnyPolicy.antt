@@ -10,7 +10,7 @@ use Rattle.cache_core.specs.declared.design.WriteMode.TheVariants.{Through}
 use Rattle.cache_core.specs.Geometry.{block_of, set_of}
 use Rattle.cache_core.specs.Machine.{Machine, MachineState, Line, start, slot_of, is_block, lines_of_set, is_full, step_with, next, dirty_count}
 use Rattle.cache_core.specs.Order.{Touches, TakesIn, Contents, Accesses, FlushesCache, slots_of}
-use Rattle.cache_core.specs.Outcomes.{allocates, outcome_of}
+use Rattle.cache_core.specs.Outcomes.{is_allocated, outcome_of}
 use Rattle.cache_core.specs.Stands.{Distinct}
 
 -- a touch keeps the slots of its set
@@ -32,9 +32,9 @@ pub record HoldsSame (m : Machine) (st : MachineState) (c : Contents) : Type 0 w
   pub clean : m.design.write ≡ Through → dirty_count st ≡ 0
 
 -- whether a reference places its block in a full set
-abbrev pub needs_victim : Machine → MachineState → Ref → Bool
-needs_victim m st ref =
-    is_none (find (is_block (block_of m.design.geometry ref.addr)) st.lines) && allocates m.design.allocate ref.access
+abbrev pub is_evicting : Machine → MachineState → Ref → Bool
+is_evicting m st ref =
+    is_none (find (is_block (block_of m.design.geometry ref.addr)) st.lines) && is_allocated m.design.allocate ref.access
     && is_full m st (set_of m.design.geometry ref.addr)
 
 -- A line is evicted exactly if a block needs a victim, and then it is any line of the set.
@@ -45,7 +45,7 @@ MayLeave needed here (Some line) = (needed ≡ true) × Contains here line
 -- what one access is to the machine: its step, with some victim that it may have, and its effect; at most two references are sent down
 pub record AnyStep (m : Machine) (st : MachineState) (ref : Ref) (outcome : Outcome) (new : Contents) : Type 0 where
   pub gone : Option Line
-  pub may : MayLeave (needs_victim m st ref) (lines_of_set m.design.geometry (set_of m.design.geometry ref.addr) st.lines) gone
+  pub may : MayLeave (is_evicting m st ref) (lines_of_set m.design.geometry (set_of m.design.geometry ref.addr) st.lines) gone
   pub effect : outcome ≡ outcome_of (step_with m ref gone st).effect
   pub few : length (step_with m ref gone st).effect.down ≤ 2
   pub holds : HoldsSame m (step_with m ref gone st).after new

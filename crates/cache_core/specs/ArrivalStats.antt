@@ -11,28 +11,28 @@ use Rattle.cache_core.specs.declared.arrival.Arrival.TheVariants.{Cache, Memory,
 use Rattle.cache_core.specs.declared.stats.CacheStats.{CacheStats}
 use Rattle.cache_core.specs.declared.stats.Stats.{Stats}
 use Rattle.cache_core.specs.Plans.{PlannedCaches}
-use Rattle.cache_core.specs.CacheStats.{no_counts, count_access, count_flush}
+use Rattle.cache_core.specs.CacheStats.{no_counts, stats_after_access, stats_after_flush}
 use Rattle.cache_core.specs.Systems.{system_run}
 use Rattle.cache_core.specs.Arrivals.{arrivals}
 
 -- a change of the counts of the cache of this name, if there is one
-abbrev pub change_at : CacheName → (CacheStats → CacheStats) → Stats → Stats
-change_at L1I f s = record s { l1i = option_map f s.l1i }
-change_at L1D f s = record s { l1d = option_map f s.l1d }
-change_at L1U f s = record s { l1u = option_map f s.l1u }
-change_at L2U f s = record s { l2u = option_map f s.l2u }
+abbrev pub stats_with_change : CacheName → (CacheStats → CacheStats) → Stats → Stats
+stats_with_change L1I f s = record s { l1i = option_map f s.l1i }
+stats_with_change L1D f s = record s { l1d = option_map f s.l1d }
+stats_with_change L1U f s = record s { l1u = option_map f s.l1u }
+stats_with_change L2U f s = record s { l2u = option_map f s.l2u }
 
 -- with one more reference at memory
-abbrev pub count_at_memory : Ref → Stats → Stats
-count_at_memory ref s =
+abbrev pub stats_after_memory : Ref → Stats → Stats
+stats_after_memory ref s =
     record s { memory_reads = s.memory_reads + one_if (not (is_write ref.access)); memory_writes = s.memory_writes + one_if (is_write ref.access) }
 
 -- the statistics with one more arrival
-abbrev pub count_arrival : Stats → Arrival → Stats
-count_arrival s (Cache name ref hit victim) = change_at name (count_access ref.access hit (option_map (λ v. v.dirty) victim)) s
-count_arrival s (Memory ref) = count_at_memory ref s
-count_arrival s (Bypassed ref) = record s { bypassed = s.bypassed + 1 }
-count_arrival s (Flush name dirty) = (let t = change_at name (count_flush dirty) s in record t { memory_writes = t.memory_writes + dirty })
+abbrev pub stats_after_arrival : Stats → Arrival → Stats
+stats_after_arrival s (Cache name ref hit victim) = stats_with_change name (stats_after_access ref.access hit (option_map (λ v. v.dirty) victim)) s
+stats_after_arrival s (Memory ref) = stats_after_memory ref s
+stats_after_arrival s (Bypassed ref) = record s { bypassed = s.bypassed + 1 }
+stats_after_arrival s (Flush name dirty) = (let t = stats_with_change name (stats_after_flush dirty) s in record t { memory_writes = t.memory_writes + dirty })
 
 -- the statistics before any
 abbrev pub no_stats : PlannedCaches → Stats
@@ -49,4 +49,4 @@ no_stats plan = record {
 -- the statistics are the counts of the log
 abbrev pub LogLaw : Type 0
 LogLaw = (plan : PlannedCaches) (seed : ℕ) (events : List Event) →
-    fold count_arrival (no_stats plan) (arrivals plan seed events) ≡ system_run plan seed events
+    fold stats_after_arrival (no_stats plan) (arrivals plan seed events) ≡ system_run plan seed events

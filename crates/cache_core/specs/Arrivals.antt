@@ -15,7 +15,7 @@ use Rattle.cache_core.specs.declared.arrival.Arrival.TheVariants.{Cache, Memory,
 use Rattle.cache_core.specs.Geometry.{GeometryValue, address_of}
 use Rattle.cache_core.specs.Machine.{run, step, dirty_count}
 use Rattle.cache_core.specs.Plans.{PlannedCaches}
-use Rattle.cache_core.specs.Systems.{machine_of, takes, events_for, first_level_sends, below, is_taken}
+use Rattle.cache_core.specs.Systems.{machine_of, is_taken_by, events_for, first_level_references, below, is_taken}
 
 -- the address of an evicted block, and whether it was dirty
 abbrev pub victim_of : GeometryValue → Slot → Victim
@@ -26,22 +26,22 @@ abbrev pub arrival_at : CacheName → GeometryValue → Ref → Bool → Option 
 arrival_at name g ref hit evicted = Cache name ref hit (option_map (victim_of g) evicted)
 
 -- a reference arrives at a cache after these events, if the plan has the cache
-abbrev pub arrives : ℕ → CacheName → Option PlannedCache → List Event → Ref → List Arrival
-arrives seed name None before ref = []
-arrives seed name (Some planned) before ref =
+abbrev pub cache_arrivals : ℕ → CacheName → Option PlannedCache → List Event → Ref → List Arrival
+cache_arrivals seed name None before ref = []
+cache_arrivals seed name (Some planned) before ref =
     let m = machine_of seed planned in
     let effect = (step m (run m before) ref).effect in
     arrival_at name planned.design.geometry ref effect.hit effect.evicted ∷ []
 
 -- what the second level sends to memory for a reference after these events: the reference itself if the plan has no second level
-abbrev pub passes : ℕ → Option PlannedCache → List Event → Ref → List Ref
-passes seed None before ref = ref ∷ []
-passes seed (Some planned) before ref = (step (machine_of seed planned) (run (machine_of seed planned) before) ref).effect.down
+abbrev pub references_passed : ℕ → Option PlannedCache → List Event → Ref → List Ref
+references_passed seed None before ref = ref ∷ []
+references_passed seed (Some planned) before ref = (step (machine_of seed planned) (run (machine_of seed planned) before) ref).effect.down
 
 -- a reference at a cache of the first level, if the plan has the cache and it takes the reference
-abbrev pub arrives_first : ℕ → CacheName → Option PlannedCache → List Event → Ref → List Arrival
-arrives_first seed name None earlier ref = []
-arrives_first seed name (Some planned) earlier ref = if takes name ref then arrives seed name (Some planned) (events_for name earlier) ref else []
+abbrev pub first_level_arrivals : ℕ → CacheName → Option PlannedCache → List Event → Ref → List Arrival
+first_level_arrivals seed name None earlier ref = []
+first_level_arrivals seed name (Some planned) earlier ref = if is_taken_by name ref then cache_arrivals seed name (Some planned) (events_for name earlier) ref else []
 
 -- references at memory
 abbrev pub at_memory : List Ref → List Arrival
@@ -49,7 +49,7 @@ at_memory refs = map (λ ref. Memory ref) refs
 
 -- a reference that is sent down to the second level, and what that sends to memory
 abbrev pub arrivals_below : ℕ → Option PlannedCache → List Event → Ref → List Arrival
-arrivals_below seed second before ref = arrives seed L2U second before ref ++ at_memory (passes seed second before ref)
+arrivals_below seed second before ref = cache_arrivals seed L2U second before ref ++ at_memory (references_passed seed second before ref)
 
 -- references that are sent down, one after another
 abbrev pub all_arrivals_below : ℕ → Option PlannedCache → List Event → List Ref → List Arrival
@@ -65,12 +65,12 @@ flushes seed name (Some planned) before = Flush name (dirty_count (run (machine_
 -- a reference at the first level
 abbrev pub first_arrivals : PlannedCaches → ℕ → List Event → Ref → List Arrival
 first_arrivals plan seed earlier ref =
-    arrives_first seed L1I plan.i earlier ref ++ arrives_first seed L1D plan.d earlier ref ++ arrives_first seed L1U plan.u earlier ref
+    first_level_arrivals seed L1I plan.i earlier ref ++ first_level_arrivals seed L1D plan.d earlier ref ++ first_level_arrivals seed L1U plan.u earlier ref
 
 -- and below it, or past it
 abbrev pub lower_arrivals : PlannedCaches → ℕ → List Event → Ref → List Arrival
 lower_arrivals plan seed earlier ref =
-    if is_taken plan ref then all_arrivals_below seed plan.second (below plan seed earlier) (first_level_sends plan seed earlier ref) else Bypassed ref ∷ []
+    if is_taken plan ref then all_arrivals_below seed plan.second (below plan seed earlier) (first_level_references plan seed earlier ref) else Bypassed ref ∷ []
 
 -- the arrivals of an event that comes after earlier ones
 abbrev pub arrivals_of : PlannedCaches → ℕ → List Event → Event → List Arrival

@@ -25,8 +25,8 @@ abbrev pub no_counts : CacheStats
 no_counts = stats_from []
 
 -- one access more: whether it hits, and whether the block that it evicts is dirty, if it evicts one
-abbrev pub count_access : Access → Bool → Option Bool → CacheStats → CacheStats
-count_access access hit evicted s = record {
+abbrev pub stats_after_access : Access → Bool → Option Bool → CacheStats → CacheStats
+stats_after_access access hit evicted s = record {
   fetches = s.fetches + one_if (is_fetch access);
   fetch_misses = s.fetch_misses + one_if (is_fetch access && not hit);
   reads = s.reads + one_if (is_read access);
@@ -38,8 +38,8 @@ count_access access hit evicted s = record {
 }
 
 -- a flush more, which finds so many dirty blocks
-abbrev pub count_flush : ℕ → CacheStats → CacheStats
-count_flush dirty s = record s { copybacks = s.copybacks + dirty }
+abbrev pub stats_after_flush : ℕ → CacheStats → CacheStats
+stats_after_flush dirty s = record s { copybacks = s.copybacks + dirty }
 
 -- how many accesses are counted
 abbrev pub accesses : CacheStats → ℕ

@@ -6,7 +6,7 @@ use Rattle.cache_core.specs.declared.outcome.Outcome.{Outcome}
 use Rattle.cache_core.specs.declared.system_cache.SystemCache.{SystemCache}
 use Rattle.cache_core.specs.Order.{Contents, Accesses, FlushesCache}
 use Rattle.cache_core.specs.Slab.{contents_of}
-use Rattle.cache_core.specs.CacheStats.{count_access, count_flush}
+use Rattle.cache_core.specs.CacheStats.{stats_after_access, stats_after_flush}
 use Rattle.cache_core.specs.SystemCaches.{policy_of, random_numbers_of}
 
 -- what the cache holds
@@ -16,9 +16,9 @@ system_cache_contents cache = contents_of policy_of random_numbers_of cache.cach
 -- one reference at a cache of a system
 pub record Enters (old : SystemCache) (ref : Ref) (outcome : Outcome) (new : SystemCache) : Type 0 where
   pub access : Accesses (system_cache_contents old) ref outcome (system_cache_contents new)
-  pub counts : new.stats ≡ count_access ref.access outcome.hit (option_map (λ slot. slot.dirty) outcome.evicted) old.stats
+  pub counts : new.stats ≡ stats_after_access ref.access outcome.hit (option_map (λ slot. slot.dirty) outcome.evicted) old.stats
 
 -- one flush of it: its dirty lines are copybacks
 pub record Empties (old : SystemCache) (dirty : ℕ) (new : SystemCache) : Type 0 where
   pub flush : FlushesCache (system_cache_contents old) dirty (system_cache_contents new)
-  pub counts : new.stats ≡ count_flush dirty old.stats
+  pub counts : new.stats ≡ stats_after_flush dirty old.stats

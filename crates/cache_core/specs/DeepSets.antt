@@ -1,7 +1,7 @@
 -- The blocks behind the first ways of each set, in deep lists.
 use Rattle.std.specs.Prelude.{ℕ, ◌≡◌, ◌≤◌, ◌^◌, ◌==◌, List, [], ◌∷◌, length, map, take, All, if◌then◌else◌, slice_index_or, slice_set}
 use Rattle.std.specs.List.{remove}
-use Rattle.deep_list.specs.Deep.{Deep, is_in, index_of}
+use Rattle.deep_list.specs.Deep.{Deep, has_block, index_of_block}
 use Rattle.cache_core.specs.Touched.{TouchedValue, Covers}
 use Rattle.cache_core.specs.declared.simulation.Lookup.{Lookup}
 use Rattle.cache_core.specs.declared.simulation.Lookup.TheVariants.{Hit, Miss, MissEviction}
@@ -16,8 +16,8 @@ abbrev pub blocks_in : List Deep → List ℕ
 blocks_in lists = map (λ list. length list.blocks) lists
 
 -- a list without its blocks
-abbrev pub emptied : Deep → Deep
-emptied list = record list { blocks = [] }
+abbrev pub cleared_sets : Deep → Deep
+cleared_sets list = record list { blocks = [] }
 
 -- what is kept of the lists and of the sets that have some blocks
 pub record IsDeepSets (capacity : ℕ) (touched : TouchedValue) (lists : List Deep) : Type 0 where
@@ -28,17 +28,17 @@ pub record IsDeepSets (capacity : ℕ) (touched : TouchedValue) (lists : List De
   pub covered : Covers touched (blocks_in lists)
 
 -- a list with one block in front and without another, as far as there is room
-abbrev pub exchanged : ℕ → ℕ → ℕ → List ℕ → List ℕ
-exchanged capacity out in_front blocks = take capacity (in_front ∷ remove blocks (index_of out blocks))
+abbrev pub sets_after_exchange : ℕ → ℕ → ℕ → List ℕ → List ℕ
+sets_after_exchange capacity out in_front blocks = take capacity (in_front ∷ remove blocks (index_of_block out blocks))
 
 -- the lists with that of a set so exchanged
-abbrev pub brought : DeepSetsValue → ℕ → ℕ → ℕ → DeepSetsValue
-brought d set block given = record d { lists = slice_set d.lists set (exchanged d.capacity block given (slice_index_or d.lists set [])) }
+abbrev pub sets_after_touch : DeepSetsValue → ℕ → ℕ → ℕ → DeepSetsValue
+sets_after_touch d set block given = record d { lists = slice_set d.lists set (sets_after_exchange d.capacity block given (slice_index_or d.lists set [])) }
 
 -- how the look-up of a block goes that is not among the blocks before these
 abbrev pub deep_lookup : ℕ → ℕ → List ℕ → Lookup
 deep_lookup capacity block blocks =
-    if is_in block blocks then Hit else if length blocks == capacity then MissEviction else Miss
+    if has_block block blocks then Hit else if length blocks == capacity then MissEviction else Miss
 
 -- the lists without their blocks
 abbrev pub no_blocks : DeepSetsValue → DeepSetsValue

@@ -98,37 +98,37 @@ abbrev pub load : ℕ → Ref → Ref
 load b ref = record { access = (if is_fetch ref.access then Fetch else Read); addr = ref.addr - ref.addr % 2 ^ b }
 
 -- a write goes on unchanged if the cache writes through
-abbrev pub goes_on : WriteMode → Ref → List Ref
-goes_on Back ref = []
-goes_on Through ref = if is_write ref.access then ref ∷ [] else []
+abbrev pub writes_sent_on : WriteMode → Ref → List Ref
+writes_sent_on Back ref = []
+writes_sent_on Through ref = if is_write ref.access then ref ∷ [] else []
 
 -- whether a reference that misses goes on alone: a write, if the cache allocates no block for it
-abbrev pub goes_alone : AllocMode → Ref → Bool
-goes_alone Always ref = false
-goes_alone Never ref = is_write ref.access
+abbrev pub is_sent_alone : AllocMode → Ref → Bool
+is_sent_alone Always ref = false
+is_sent_alone Never ref = is_write ref.access
 
 -- What a cache must send to the next level by its line: at a hit the write that goes on; at a miss first the write of a dirty victim, then
 -- the load of the block, and then that write; or the write alone.
-abbrev pub must_send : Design → Ref → Bool → Option Victim → List Ref
-must_send design ref true victim = goes_on design.write ref
-must_send design ref false victim =
-    if goes_alone design.allocate ref then ref ∷ []
-    else victim_write victim ++ load design.geometry.b ref ∷ goes_on design.write ref
+abbrev pub required_references : Design → Ref → Bool → Option Victim → List Ref
+required_references design ref true victim = writes_sent_on design.write ref
+required_references design ref false victim =
+    if is_sent_alone design.allocate ref then ref ∷ []
+    else victim_write victim ++ load design.geometry.b ref ∷ writes_sent_on design.write ref
 
 -- the same by the line of a cache of a plan
-abbrev pub sends_by_line : Option PlannedCache → Ref → Bool → Option Victim → List Ref
-sends_by_line None ref hit victim = []
-sends_by_line (Some planned) ref hit victim = must_send planned.design ref hit victim
+abbrev pub required_references_of : Option PlannedCache → Ref → Bool → Option Victim → List Ref
+required_references_of None ref hit victim = []
+required_references_of (Some planned) ref hit victim = required_references planned.design ref hit victim
 
 -- what the first level sends is on its way to memory if there is no second level
-abbrev pub direct : Option PlannedCache → List Ref → List Ref
-direct None down = down
-direct (Some second) down = []
+abbrev pub direct_references : Option PlannedCache → List Ref → List Ref
+direct_references None down = down
+direct_references (Some second) down = []
 
 -- and else to the second level
-abbrev pub indirect : Option PlannedCache → List Ref → List Ref
-indirect None down = []
-indirect (Some second) down = down
+abbrev pub second_level_references : Option PlannedCache → List Ref → List Ref
+second_level_references None down = []
+second_level_references (Some second) down = down
 
 -- The lines of a log follow from one another; the first references are on their way to memory, and the others to the second level. One
 -- to memory arrives first; then the next at the second level, which may send more to memory. Only if none is on its way another
@@ -136,14 +136,14 @@ indirect (Some second) down = down
 abbrev pub Follow : PlannedCaches → List Ref → List Ref → List Arrival → Type 0
 Follow plan [] [] [] = Unit {0}
 Follow plan [] [] (Cache L1I ref hit victim ∷ lines) =
-    (let down = sends_by_line plan.i ref hit victim in Follow plan (direct plan.second down) (indirect plan.second down) lines)
+    (let down = required_references_of plan.i ref hit victim in Follow plan (direct_references plan.second down) (second_level_references plan.second down) lines)
 Follow plan [] [] (Cache L1D ref hit victim ∷ lines) =
-    (let down = sends_by_line plan.d ref hit victim in Follow plan (direct plan.second down) (indirect plan.second down) lines)
+    (let down = required_references_of plan.d ref hit victim in Follow plan (direct_references plan.second down) (second_level_references plan.second down) lines)
 Follow plan [] [] (Cache L1U ref hit victim ∷ lines) =
-    (let down = sends_by_line plan.u ref hit victim in Follow plan (direct plan.second down) (indirect plan.second down) lines)
+    (let down = required_references_of plan.u ref hit victim in Follow plan (direct_references plan.second down) (second_level_references plan.second down) lines)
 Follow plan [] [] (Bypassed ref ∷ lines) = Follow plan [] [] lines
 Follow plan [] [] (Flush name dirty ∷ lines) = Follow plan [] [] lines
-Follow plan [] (next ∷ down) (Cache L2U ref hit victim ∷ lines) = (ref ≡ next) × Follow plan (sends_by_line plan.second ref hit victim) down lines
+Follow plan [] (next ∷ down) (Cache L2U ref hit victim ∷ lines) = (ref ≡ next) × Follow plan (required_references_of plan.second ref hit victim) down lines
 Follow plan (next ∷ writes) down (Memory ref ∷ lines) = (ref ≡ next) × Follow plan writes down lines
 Follow plan _ _ _ = ⊥
 

@@ -26,8 +26,8 @@ abbrev pub lru_contents : CacheValue LruPolicy → Contents
 lru_contents cache = contents_of (λ _. Some Lru) (λ _ _. 0) cache
 
 -- whether a block is held
-abbrev pub holds : MachineState → ℕ → Bool
-holds st block = list_any (is_block block) st.lines
+abbrev pub is_held : MachineState → ℕ → Bool
+is_held st block = list_any (is_block block) st.lines
 
 -- one more reference, as it occurs after the list
 abbrev pub occurrence_after : GeometryValue → List Event → Ref → Occurrence
@@ -61,5 +61,5 @@ HitInclusion = (g : GeometryValue) (p : Occurrence) → IsTrue (is_hit g p) → 
 -- what a cache holds after a list of events, one with a line more in each set holds (Mattson and others 1970)
 abbrev pub HeldInclusion : Type 0
 HeldInclusion = (g : GeometryValue) (write : WriteMode) (events : List Event) (block : ℕ) → 1 ≤ g.e
-    → IsTrue (holds (run (lru_machine g write) events) block)
-    → IsTrue (holds (run (lru_machine (record g { e = g.e + 1 }) write) events) block)
+    → IsTrue (is_held (run (lru_machine g write) events) block)
+    → IsTrue (is_held (run (lru_machine (record g { e = g.e + 1 }) write) events) block)

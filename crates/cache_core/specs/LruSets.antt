@@ -6,7 +6,7 @@ use Rattle.cache_core.specs.declared.design.WriteMode.TheVariants.{Back}
 use Rattle.cache_core.specs.declared.replacement.Lru.{Lru as LruPolicy}
 use Rattle.cache_core.specs.declared.simulation.Lookup.{Lookup}
 use Rattle.cache_core.specs.declared.simulation.Lookup.TheVariants.{MissEviction}
-use Rattle.cache_core.specs.DeepSets.{DeepSetsValue, brought, deep_lookup}
+use Rattle.cache_core.specs.DeepSets.{DeepSetsValue, sets_after_touch, deep_lookup}
 use Rattle.cache_core.specs.Geometry.{GeometryValue}
 use Rattle.cache_core.specs.LruLaws.{lru_machine, lru_contents}
 use Rattle.cache_core.specs.Slab.{CacheValue}
@@ -50,4 +50,4 @@ far_lookup (Some far) set block = deep_lookup far.capacity block (slice_index_or
 
 -- the deep lists after a block that left the part in front of a set
 abbrev pub pushed_back : Option DeepSetsValue → ℕ → ℕ → ℕ → Option DeepSetsValue
-pushed_back far set block victim = option_map (λ d. brought d set block victim) far
+pushed_back far set block victim = option_map (λ d. sets_after_touch d set block victim) far

@@ -10,8 +10,8 @@ use Rattle.cache_core.specs.declared.outcome.Counts.{Counts}
 use Rattle.cache_core.specs.declared.design.Design.{Design}
 use Rattle.cache_core.specs.declared.design.Repl.{Repl}
 use Rattle.cache_core.specs.Geometry.{GeometryValue, block_of, set_of_block, set_of}
-use Rattle.cache_core.specs.Outcomes.{Effect, on_hit, on_placing, on_passing, dirties, allocates}
-use Rattle.cache_core.specs.Rules.{Place, InFront, InPlace, Victim, Last, Drawn, rules, draws}
+use Rattle.cache_core.specs.Outcomes.{Effect, on_hit, on_placing, on_passing, is_dirtied, is_allocated}
+use Rattle.cache_core.specs.Rules.{Place, InFront, InPlace, Victim, Last, Drawn, rules, is_random}
 
 -- a block that is held. Its key is the clock of the last touch or placing (LRU), the clock of placing
 -- (FIFO), or the way (random)
@@ -63,18 +63,18 @@ abbrev pub exchange : ℕ → Line → List Line → List Line
 exchange block new lines = map (λ line. if is_block block line then new else line) lines
 
 -- of two lines the one with the lesser key
-abbrev pub lesser : Line → Option Line → Line
-lesser line None = line
-lesser line (Some other) = if nat_lt line.key other.key then line else other
+abbrev pub lesser_line : Line → Option Line → Line
+lesser_line line None = line
+lesser_line line (Some other) = if nat_lt line.key other.key then line else other
 
 -- the line with the least key; no two lines of a set have the same one
-abbrev pub least : List Line → Option Line
-least [] = None
-least (line ∷ lines) = Some (lesser line (least lines))
+abbrev pub least_line : List Line → Option Line
+least_line [] = None
+least_line (line ∷ lines) = Some (lesser_line line (least_line lines))
 
 -- the victim in a full set: the line with the least key (LRU, FIFO), or the line of the way that was drawn (random)
 abbrev pub victim : Victim → ℕ → List Line → Option Line
-victim Last way lines = least lines
+victim Last way lines = least_line lines
 victim Drawn way lines = find (λ line. line.key == way) lines
 
 -- the lines with a new one: in front of them, or in the place of the line that goes, and behind them if none goes
@@ -116,34 +116,34 @@ pub record Step : Type 0 where
   pub effect : Effect
 
 -- a reference whose block is placed; this line of its set leaves, if any
-abbrev pub placing : Machine → Ref → ℕ → Option Line → MachineState → Step
-placing m ref block leaving st =
+abbrev pub placing_step : Machine → Ref → ℕ → Option Line → MachineState → Step
+placing_step m ref block leaving st =
     let set = set_of_block m.design.geometry block in
     record {
       after = record {
         clock = st.clock + 1;
         lines = with_block m.policy (st.clock + 1) (length (lines_of_set m.design.geometry set st.lines))
-            (record { block = block; dirty = dirties m.design.write ref.access }) leaving st.lines;
-        drawn = (if is_full m st set && draws (rules m.policy).victim then st.drawn + 1 else st.drawn);
+            (record { block = block; dirty = is_dirtied m.design.write ref.access }) leaving st.lines;
+        drawn = (if is_full m st set && is_random (rules m.policy).victim then st.drawn + 1 else st.drawn);
       };
       effect = on_placing m.design.geometry m.design.write ref block (option_slot leaving);
     }
 
 -- a reference that is passed on
-abbrev pub passing : Ref → MachineState → Step
-passing ref st = record { after = record st { clock = st.clock + 1 }; effect = on_passing ref }
+abbrev pub passing_step : Ref → MachineState → Step
+passing_step ref st = record { after = record st { clock = st.clock + 1 }; effect = on_passing ref }
 
 -- one reference to a block; this line leaves if the block is placed (the last argument is the block's line, if it is held)
 abbrev pub step_at : Machine → Ref → ℕ → Option Line → MachineState → Option Line → Step
 step_at m ref block leaving st (Some line) = record {
   after = record st {
     clock = st.clock + 1;
-    lines = with_touch m.policy (st.clock + 1) (record line { dirty = dirties m.design.write ref.access || line.dirty }) st.lines;
+    lines = with_touch m.policy (st.clock + 1) (record line { dirty = is_dirtied m.design.write ref.access || line.dirty }) st.lines;
   };
   effect = on_hit m.design.write ref;
 }
 step_at m ref block leaving st None =
-    if allocates m.design.allocate ref.access then placing m ref block leaving st else passing ref st
+    if is_allocated m.design.allocate ref.access then placing_step m ref block leaving st else passing_step ref st
 
 -- one reference; this line leaves if its block is placed
 abbrev pub step_with : Machine → Ref → Option Line → MachineState → Step
@@ -151,15 +151,15 @@ step_with m ref leaving st =
     let block = block_of m.design.geometry ref.addr in step_at m ref block leaving st (find (is_block block) st.lines)
 
 -- the line that leaves for a block of this set by the policy, if the set is full
-abbrev pub leaves : Machine → MachineState → ℕ → Option Line
-leaves m st set =
+abbrev pub victim_line : Machine → MachineState → ℕ → Option Line
+victim_line m st set =
     let here = lines_of_set m.design.geometry set st.lines in
     if nat_lt (length here) m.design.geometry.e then None
     else victim (rules m.policy).victim (m.random_numbers st.drawn % m.design.geometry.e) here
 
 -- one reference; the line leaves that the policy names
 abbrev pub step : Machine → MachineState → Ref → Step
-step m st ref = step_with m ref (leaves m st (set_of m.design.geometry ref.addr)) st
+step m st ref = step_with m ref (victim_line m st (set_of m.design.geometry ref.addr)) st
 
 -- how many blocks are dirty
 abbrev pub dirty_count : MachineState → ℕ

@@ -10,9 +10,9 @@ use Rattle.cache_core.specs.declared.outcome.Outcome.{Outcome}
 use Rattle.cache_core.specs.declared.design.Design.{Design}
 use Rattle.cache_core.specs.declared.design.Repl.{Repl}
 use Rattle.cache_core.specs.Geometry.{block_of, set_of}
-use Rattle.cache_core.specs.Outcomes.{outcome_of, on_hit, on_placing, on_passing, dirties, allocates}
-use Rattle.cache_core.specs.Outcomes.{writes_through}
-use Rattle.cache_core.specs.Rules.{Place, InFront, InPlace, Victim, Last, Drawn, rules, draws}
+use Rattle.cache_core.specs.Outcomes.{outcome_of, on_hit, on_placing, on_passing, is_dirtied, is_allocated}
+use Rattle.cache_core.specs.Outcomes.{through_writes}
+use Rattle.cache_core.specs.Rules.{Place, InFront, InPlace, Victim, Last, Drawn, rules, is_random}
 
 -- the slot at an index comes to the front, or stays where it is
 abbrev pub Moves : Place → List Slot → ℕ → List Slot → Type 0
@@ -58,7 +58,7 @@ TakesIn policy number capacity old slot (Some gone) new = (length old ≡ capaci
 
 -- only random draws a random number, and only when a slot leaves
 abbrev pub random_numbers_after : Option Repl → Option Slot → (ℕ → ℕ) → ℕ → ℕ
-random_numbers_after (Some policy) (Some _) numbers n = if draws (rules policy).victim then numbers (n + 1) else numbers n
+random_numbers_after (Some policy) (Some _) numbers n = if is_random (rules policy).victim then numbers (n + 1) else numbers n
 random_numbers_after (Some policy) None numbers n = numbers n
 random_numbers_after None _ numbers n = numbers n
 
@@ -80,7 +80,7 @@ holds_first block (slot ∷ slots) = slot.block == block
 -- a reference whose block is at an index of its set
 pub record Hits (d : Design) (policy : Option Repl) (numbers : ℕ → ℕ) (ref : Ref) (at : ℕ) (old : List Slot) (outcome : Outcome) (new : List Slot)
     (rest : ℕ → ℕ) : Type 0 where
-  pub order : Touches policy (with_dirty_at (dirties d.write ref.access) old at) at new
+  pub order : Touches policy (with_dirty_at (is_dirtied d.write ref.access) old at) at new
   pub undrawn : rest ≡ numbers
   pub effect : outcome ≡ outcome_of (on_hit d.write ref)
 
@@ -88,7 +88,7 @@ pub record Hits (d : Design) (policy : Option Repl) (numbers : ℕ → ℕ) (ref
 pub record Fills (d : Design) (policy : Option Repl) (numbers : ℕ → ℕ) (ref : Ref) (old : List Slot) (outcome : Outcome) (new : List Slot)
     (rest : ℕ → ℕ) : Type 0 where
   pub order : TakesIn policy (numbers 0) d.geometry.e old
-      (record { block = block_of d.geometry ref.addr; dirty = dirties d.write ref.access }) outcome.evicted new
+      (record { block = block_of d.geometry ref.addr; dirty = is_dirtied d.write ref.access }) outcome.evicted new
   pub undrawn : rest ≡ random_numbers_after policy outcome.evicted numbers
   pub effect : outcome ≡ outcome_of (on_placing d.geometry d.write ref (block_of d.geometry ref.addr) outcome.evicted)
 
@@ -102,7 +102,7 @@ pub record PassesOn (numbers : ℕ → ℕ) (ref : Ref) (old : List Slot) (outco
 abbrev pub VisitsAt : Option ℕ → Design → Option Repl → (ℕ → ℕ) → Ref → List Slot → Outcome → List Slot → (ℕ → ℕ) → Type 0
 VisitsAt index d policy numbers ref old outcome new rest =
     MatchOption index
-    (MatchBool (allocates d.allocate ref.access) (Fills d policy numbers ref old outcome new rest) (PassesOn numbers ref old outcome new rest))
+    (MatchBool (is_allocated d.allocate ref.access) (Fills d policy numbers ref old outcome new rest) (PassesOn numbers ref old outcome new rest))
     (λ at. Hits d policy numbers ref at old outcome new rest)
 
 -- One access, as its set sees it: the slots and the random numbers to come, before it and after it.
@@ -124,7 +124,7 @@ slots_of sets set = slice_index_or sets set []
 abbrev pub hits_in_front : Design → List (List Slot) → Ref → Bool
 hits_in_front d sets ref =
     if holds_first (block_of d.geometry ref.addr) (slots_of sets (set_of d.geometry ref.addr))
-    then length (writes_through d.write ref) == 0 else false
+    then length (through_writes d.write ref) == 0 else false
 
 -- one access: its set is visited, and the others stay
 pub record Accesses (old : Contents) (ref : Ref) (outcome : Outcome) (new : Contents) : Type 0 where

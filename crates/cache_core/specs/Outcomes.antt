@@ -14,24 +14,24 @@ use Rattle.cache_core.specs.declared.design.AllocMode.TheVariants.{Always, Never
 use Rattle.cache_core.specs.Geometry.{GeometryValue, address_of}
 
 -- whether a reference marks its line dirty: a write, in a write-back cache
-abbrev pub dirties : WriteMode → Access → Bool
-dirties Back a = is_write a
-dirties Through a = false
+abbrev pub is_dirtied : WriteMode → Access → Bool
+is_dirtied Back a = is_write a
+is_dirtied Through a = false
 
 -- a miss places its block: any but a write without allocation
-abbrev pub allocates : AllocMode → Access → Bool
-allocates Always a = true
-allocates Never a = not (is_write a)
+abbrev pub is_allocated : AllocMode → Access → Bool
+is_allocated Always a = true
+is_allocated Never a = not (is_write a)
 
 -- a write-through cache sends each write on
-abbrev pub writes_through : WriteMode → Ref → List Ref
-writes_through Back ref = []
-writes_through Through ref = if is_write ref.access then ref ∷ [] else []
+abbrev pub through_writes : WriteMode → Ref → List Ref
+through_writes Back ref = []
+through_writes Through ref = if is_write ref.access then ref ∷ [] else []
 
 -- a dirty victim is written back
-abbrev pub writes_back : GeometryValue → Option Slot → List Ref
-writes_back g None = []
-writes_back g (Some victim) =
+abbrev pub copyback_writes : GeometryValue → Option Slot → List Ref
+copyback_writes g None = []
+copyback_writes g (Some victim) =
     if victim.dirty then record { access = Write; addr = address_of g victim.block } ∷ [] else []
 
 -- the block is fetched for a fetch, and read for a read or a write
@@ -49,7 +49,7 @@ pub record Effect : Type 0 where
 
 -- a hit: nothing leaves, and only a write that goes through is sent on
 abbrev pub on_hit : WriteMode → Ref → Effect
-on_hit write ref = record { hit = true; evicted = None; placed = false; down = writes_through write ref }
+on_hit write ref = record { hit = true; evicted = None; placed = false; down = through_writes write ref }
 
 -- a miss that places the block and evicts this slot, if any
 abbrev pub on_placing : GeometryValue → WriteMode → Ref → ℕ → Option Slot → Effect
@@ -57,7 +57,7 @@ on_placing g write ref block victim = record {
   hit = false;
   evicted = victim;
   placed = true;
-  down = writes_back g victim ++ record { access = block_load_access ref.access; addr = address_of g block } ∷ writes_through write ref;
+  down = copyback_writes g victim ++ record { access = block_load_access ref.access; addr = address_of g block } ∷ through_writes write ref;
 }
 
 -- a write that misses without allocation

@@ -97,13 +97,13 @@ planned_caches first second = record {
 }
 
 -- the fault, if there is one, and otherwise the caches
-abbrev pub unless_fault : Option PlanFault → PlannedCaches → Result PlannedCaches PlanFault
-unless_fault None caches = Ok caches
-unless_fault (Some fault) caches = Err fault
+abbrev pub caches_or_fault : Option PlanFault → PlannedCaches → Result PlannedCaches PlanFault
+caches_or_fault None caches = Ok caches
+caches_or_fault (Some fault) caches = Err fault
 
 -- the plan that is asked for, or its first fault
 abbrev pub plan_of : FirstLevel → Option CacheSpec → Result PlannedCaches PlanFault
-plan_of first second = unless_fault (plan_fault first second) (planned_caches first second)
+plan_of first second = caches_or_fault (plan_fault first second) (planned_caches first second)
 
 -- a cache that a plan may have is within the limits
 abbrev pub IsPlannedCache : Option PlannedCache → Type 0

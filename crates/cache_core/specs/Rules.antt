@@ -27,6 +27,6 @@ rules Fifo = record { touched = InPlace; placed = InFront; victim = Last }
 rules Random = record { touched = InPlace; placed = InPlace; victim = Drawn }
 
 -- whether a victim needs a random number
-abbrev pub draws : Victim → Bool
-draws Last = false
-draws Drawn = true
+abbrev pub is_random : Victim → Bool
+is_random Last = false
+is_random Drawn = true

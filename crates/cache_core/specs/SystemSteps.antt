@@ -24,19 +24,19 @@ present_refs (None ∷ xs) = present_refs xs
 present_refs (Some ref ∷ xs) = ref ∷ present_refs xs
 
 -- the memory's counts after a reference arrives at it
-abbrev pub reaches : Memory → Ref → Memory
-reaches memory ref = if is_write ref.access then record memory { writes = memory.writes + 1 } else record memory { reads = memory.reads + 1 }
+abbrev pub memory_after : Memory → Ref → Memory
+memory_after memory ref = if is_write ref.access then record memory { writes = memory.writes + 1 } else record memory { reads = memory.reads + 1 }
 
 -- the same after a list
-abbrev pub all_reach : Memory → List Ref → Memory
-all_reach memory [] = memory
-all_reach memory (ref ∷ refs) = all_reach (reaches memory ref) refs
+abbrev pub memory_after_all : Memory → List Ref → Memory
+memory_after_all memory [] = memory
+memory_after_all memory (ref ∷ refs) = memory_after_all (memory_after memory ref) refs
 
 -- a reference arrives at the second level, or at memory if there is no second level
 abbrev pub Descends : Ref → Option SystemCache → Memory → Option SystemCache → Memory → Type 0
-Descends ref None memory second after = (second ≡ None) × (after ≡ reaches memory ref)
+Descends ref None memory second after = (second ≡ None) × (after ≡ memory_after memory ref)
 Descends ref (Some cache) memory second after =
-    (outcome : Outcome) × (next : SystemCache) × Enters cache ref outcome next × (second ≡ Some next) × (after ≡ all_reach memory (present_refs outcome.down))
+    (outcome : Outcome) × (next : SystemCache) × Enters cache ref outcome next × (second ≡ Some next) × (after ≡ memory_after_all memory (present_refs outcome.down))
 
 -- references arrive one after another
 abbrev pub AllDescend : List Ref → Option SystemCache → Memory → Option SystemCache → Memory → Type 0

@@ -13,51 +13,51 @@ use Rattle.cache_core.specs.declared.plan.CacheName.TheVariants.{L1I, L1D, L1U, 
 use Rattle.cache_core.specs.declared.stats.CacheStats.{CacheStats}
 use Rattle.cache_core.specs.declared.stats.Stats.{Stats}
 use Rattle.cache_core.specs.Machine.{Machine, MachineState, start, step, next, run, dirty_count, with_effects}
-use Rattle.cache_core.specs.CacheStats.{stats_from, count_flush}
+use Rattle.cache_core.specs.CacheStats.{stats_from, stats_after_flush}
 use Rattle.cache_core.specs.Plans.{PlannedCaches}
 use Rattle.cache_core.specs.RandomNumbers.{random_number, generator_of}
-use Rattle.cache_core.specs.Rules.{rules, draws}
+use Rattle.cache_core.specs.Rules.{rules, is_random}
 
 -- the random numbers of a policy: only random has a generator
 abbrev pub random_numbers_for : Repl → ℕ → ℕ → ℕ
-random_numbers_for policy seed = if draws (rules policy).victim then random_number (generator_of seed) else (λ n. 0)
+random_numbers_for policy seed = if is_random (rules policy).victim then random_number (generator_of seed) else (λ n. 0)
 
 -- each cache with random replacement has a generator of its own, of the same seed
 abbrev pub machine_of : ℕ → PlannedCache → Machine
 machine_of seed planned = record { design = planned.design; policy = planned.policy; random_numbers = random_numbers_for planned.policy seed }
 
 -- which references a cache of the first level takes
-abbrev pub takes : CacheName → Ref → Bool
-takes L1I ref = is_fetch ref.access
-takes L1D ref = not (is_fetch ref.access)
-takes L1U ref = true
-takes L2U ref = false
+abbrev pub is_taken_by : CacheName → Ref → Bool
+is_taken_by L1I ref = is_fetch ref.access
+is_taken_by L1D ref = not (is_fetch ref.access)
+is_taken_by L1U ref = true
+is_taken_by L2U ref = false
 
 -- which events it takes: those references, and each flush
-abbrev pub takes_event : CacheName → Event → Bool
-takes_event name (event.Reference ref) = takes name ref
-takes_event name event.Flush = true
+abbrev pub is_event_of : CacheName → Event → Bool
+is_event_of name (event.Reference ref) = is_taken_by name ref
+is_event_of name event.Flush = true
 
 -- the events of a list that come to a cache of the first level
 abbrev pub events_for : CacheName → List Event → List Event
-events_for name events = filter (takes_event name) events
+events_for name events = filter (is_event_of name) events
 
 -- what a cache of the first level sends on for a reference, after earlier events
 abbrev pub sends : ℕ → CacheName → Option PlannedCache → List Event → Ref → List Ref
 sends seed name None earlier ref = []
 sends seed name (Some planned) earlier ref =
-    if takes name ref then (step (machine_of seed planned) (run (machine_of seed planned) (events_for name earlier)) ref).effect.down else []
+    if is_taken_by name ref then (step (machine_of seed planned) (run (machine_of seed planned) (events_for name earlier)) ref).effect.down else []
 
 -- what the first level sends on for a reference
-abbrev pub first_level_sends : PlannedCaches → ℕ → List Event → Ref → List Ref
-first_level_sends plan seed earlier ref =
+abbrev pub first_level_references : PlannedCaches → ℕ → List Event → Ref → List Ref
+first_level_references plan seed earlier ref =
     sends seed L1I plan.i earlier ref ++ sends seed L1D plan.d earlier ref ++ sends seed L1U plan.u earlier ref
 
 -- what the first level sends on for events that come after earlier ones, in order, with each flush where it comes
 abbrev pub below_from : PlannedCaches → ℕ → List Event → List Event → List Event
 below_from plan seed earlier [] = []
 below_from plan seed earlier (event.Reference ref ∷ events) =
-    map event.Reference (first_level_sends plan seed earlier ref) ++ below_from plan seed (earlier ++ event.Reference ref ∷ []) events
+    map event.Reference (first_level_references plan seed earlier ref) ++ below_from plan seed (earlier ++ event.Reference ref ∷ []) events
 below_from plan seed earlier (event.Flush ∷ events) = event.Flush ∷ below_from plan seed (earlier ++ event.Flush ∷ []) events
 
 -- the events of the second level: what the first sends on for a whole list
@@ -76,7 +76,7 @@ flush_counts m events = flush_counts_from m start events
 
 -- what a cache counts over its events: its accesses, and the copybacks of its flushes
 abbrev pub cache_stats : Machine → List Event → CacheStats
-cache_stats m events = count_flush (sum (flush_counts m events)) (stats_from (with_effects m events))
+cache_stats m events = stats_after_flush (sum (flush_counts m events)) (stats_from (with_effects m events))
 
 -- what a cache counts over its events, if the plan has it
 abbrev pub counts_if_planned : ℕ → Option PlannedCache → List Event → Option CacheStats
@@ -99,7 +99,7 @@ to_memory seed (Some planned) events = flat_map (λ p. p.1.down) (with_effects (
 
 -- whether some cache of the first level takes a reference
 abbrev pub is_taken : PlannedCaches → Ref → Bool
-is_taken plan ref = is_some plan.u || (is_some plan.i && takes L1I ref) || (is_some plan.d && takes L1D ref)
+is_taken plan ref = is_some plan.u || (is_some plan.i && is_taken_by L1I ref) || (is_some plan.d && is_taken_by L1D ref)
 
 -- the statistics of a system after a list of events
 abbrev pub system_run : PlannedCaches → ℕ → List Event → Stats

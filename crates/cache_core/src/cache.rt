@@ -4,8 +4,8 @@ ghost use Rattle.std.specs.Prelude.{IfOk, All, Option, IfSome, option_to_list, c
 ghost use Rattle.std.specs.Prelude.{replicate, IsTrue, ◌↔◌, None, is_some};
 ghost use Rattle.cache_core.specs.declared.design.Repl.{Repl};
 ghost use Rattle.cache_core.specs.Geometry.{IsGeometry, address_of};
-ghost use Rattle.cache_core.specs.Outcomes.{outcome_of, on_hit, on_placing, on_passing, dirties, hit_in_front};
-ghost use Rattle.cache_core.specs.Outcomes.{allocates, writes_through, block_load_access};
+ghost use Rattle.cache_core.specs.Outcomes.{outcome_of, on_hit, on_placing, on_passing, is_dirtied, hit_in_front};
+ghost use Rattle.cache_core.specs.Outcomes.{is_allocated, through_writes, block_load_access};
 ghost use Rattle.cache_core.specs.Order.{Touches, Visits, position_of, Accesses, FlushesCache};
 ghost use Rattle.cache_core.specs.Order.{with_dirty_at, dirty_slots, DirtiesByWrites};
 ghost use Rattle.cache_core.specs.Order.{hits_in_front};
@@ -296,7 +296,7 @@ fn use_slot<P: Replacement>(policy: &mut P, slots: &mut [Slot], at: usize, dirty
 /// Whether a reference marks its line dirty: a write, in a write-back cache.
 #[inline(always)]
 fn dirties_line(write: WriteMode, access: Access) -> bool
-    ensures { result ≡ dirties write access }
+    ensures { result ≡ is_dirtied write access }
 {
     write == WriteMode::Back && access == Access::Write
 }
@@ -304,7 +304,7 @@ fn dirties_line(write: WriteMode, access: Access) -> bool
 /// Whether a miss places its block.
 #[inline(always)]
 fn allocates_line(allocate: AllocMode, access: Access) -> bool
-    ensures { result ≡ allocates allocate access }
+    ensures { result ≡ is_allocated allocate access }
 {
     allocate == AllocMode::Always || access != Access::Write
 }
@@ -378,7 +378,7 @@ fn block_load(geometry: Geometry, reference: Ref, block: u64) -> Ref
 /// What is sent to the next level for the reference itself: a write, from a write-through cache.
 #[inline(always)]
 fn written_through(write: WriteMode, reference: Ref) -> Option<Ref>
-    ensures { writes_through write reference ≡ option_to_list result }
+    ensures { through_writes write reference ≡ option_to_list result }
 {
     (write == WriteMode::Through && reference.access == Access::Write).then_some(reference)
 }

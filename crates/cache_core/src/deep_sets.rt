@@ -1,8 +1,8 @@
 //! The blocks behind the first ways of each set of an LRU cache with many ways.
 ghost use Rattle.std.specs.Prelude.{◌≡◌, ◌≤◌, ◌<◌, ◌+◌, ◌*◌, ◌^◌, [], false, length, map, replicate, IfOk};
 ghost use Rattle.std.specs.Prelude.{slice_index_or};
-ghost use Rattle.deep_list.specs.Deep.{is_in};
-ghost use Rattle.cache_core.specs.DeepSets.{blocks_in, emptied, brought, deep_lookup, no_blocks};
+ghost use Rattle.deep_list.specs.Deep.{has_block};
+ghost use Rattle.cache_core.specs.DeepSets.{blocks_in, cleared_sets, sets_after_touch, deep_lookup, no_blocks};
 ghost use Rattle.cache_core.specs.Touched.{Covers, ListsFilled};
 
 use crate::simulation::Lookup;
@@ -54,10 +54,10 @@ impl DeepSets {
     /// list is full, its last block falls out. Tells how the look-up of the first block went.
     pub(crate) fn bring(&mut self, set: usize, block: u64, given: u64) -> Lookup
         requires within { set < length self.old.lists }
-        requires apart { is_in given (slice_index_or self.old.lists set []) ≡ false }
+        requires apart { has_block given (slice_index_or self.old.lists set []) ≡ false }
         ensures found { result
             ≡ deep_lookup self.old.capacity block (slice_index_or self.old.lists set []) }
-        ensures moved { self.new ≡ brought self.old set block given }
+        ensures moved { self.new ≡ sets_after_touch self.old set block given }
     {
         let list = &mut self.lists[set];
         let before = list.len();
@@ -97,7 +97,7 @@ fn empty_lists(alloc: Global, sets: usize, capacity: usize) -> Result<Vec<DeepLi
 /// Empties the lists. If the touched sets are listed, it visits only those.
 fn clear_lists(lists: &mut [DeepList], touched: &TouchedSets)
     requires { Covers touched.now (blocks_in lists.old) }
-    ensures { lists.new ≡ map emptied lists.old }
+    ensures { lists.new ≡ map cleared_sets lists.old }
 {
     match touched.listed() {
         Some(sets) => clear_listed(lists, sets),
@@ -108,7 +108,7 @@ fn clear_lists(lists: &mut [DeepList], touched: &TouchedSets)
 /// Empties the lists of these sets, which are all that have a block.
 fn clear_listed(lists: &mut [DeepList], sets: &[u32])
     requires { ListsFilled sets.now (blocks_in lists.old) }
-    ensures { lists.new ≡ map emptied lists.old }
+    ensures { lists.new ≡ map cleared_sets lists.old }
 {
     for set in sets {
         lists[*set as usize].clear();
@@ -117,7 +117,7 @@ fn clear_listed(lists: &mut [DeepList], sets: &[u32])
 
 /// Empties all lists.
 fn clear_all(lists: &mut [DeepList])
-    ensures { lists.new ≡ map emptied lists.old }
+    ensures { lists.new ≡ map cleared_sets lists.old }
 {
     for list in lists.iter_mut() {
         list.clear();

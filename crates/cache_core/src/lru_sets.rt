@@ -2,7 +2,7 @@
 ghost use Rattle.std.specs.Prelude.{◌≡◌, ◌<◌, false, length, [], None, IfOk, IfSome, slice_index_or};
 ghost use Rattle.std.specs.Prelude.{option_map};
 ghost use Rattle.cache_core.specs.DeepSets.{no_blocks};
-ghost use Rattle.deep_list.specs.Deep.{is_in};
+ghost use Rattle.deep_list.specs.Deep.{has_block};
 ghost use Rattle.cache_core.specs.LruSets.{LruSetsStandFor, far_lookup, pushed_back};
 
 use crate::cache::Cache;
@@ -133,7 +133,7 @@ fn near_sets(alloc: Global, geometry: Geometry) -> Result<Cache<Lru>, AllocError
 fn push_back(far: &mut Option<DeepSets>, set: usize, block: u64, victim: u64) -> Lookup
     requires within { IfSome far.old (λ d. set < length d.lists) }
     requires apart { IfSome far.old
-        (λ d. is_in victim (slice_index_or d.lists set []) ≡ false) }
+        (λ d. has_block victim (slice_index_or d.lists set []) ≡ false) }
     ensures found { result ≡ far_lookup far.old set block }
     ensures moved { far.new ≡ pushed_back far.old set block victim }
 {

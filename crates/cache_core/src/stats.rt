@@ -19,7 +19,7 @@ pub struct CacheStats {
 impl CacheStats {
     ghost use Rattle.std.specs.Prelude.{◌≡◌, ◌≤◌, ◌<◌, ◌+◌, ◌^◌};
     ghost use Rattle.std.specs.Option.{option_map};
-    ghost use Rattle.cache_core.specs.CacheStats.{accesses, count_access, count_flush, IsCounted};
+    ghost use Rattle.cache_core.specs.CacheStats.{accesses, stats_after_access, stats_after_flush, IsCounted};
 
     /// Counts an access of this kind, and what it did.
     #[inline(always)]
@@ -27,7 +27,7 @@ impl CacheStats {
         requires few { accesses self.old < 2 ^ 62 }
         requires counted { IsCounted self.old }
         requires copybacks { self.old.copybacks ≤ self.old.writes }
-        ensures value { self.new ≡ count_access access outcome.now.hit
+        ensures value { self.new ≡ stats_after_access access outcome.now.hit
             (option_map (λ slot. slot.dirty) outcome.now.evicted) self.old }
         ensures counted { IsCounted self.new }
     {
@@ -55,7 +55,7 @@ impl CacheStats {
     /// Counts a flush that found so many dirty blocks.
     pub(crate) fn count_flush(&mut self, dirty: u64)
         requires few { self.old.copybacks + dirty < 2 ^ 64 }
-        ensures { self.new ≡ count_flush dirty self.old }
+        ensures { self.new ≡ stats_after_flush dirty self.old }
     {
         self.copybacks += dirty;
     }

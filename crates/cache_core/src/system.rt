@@ -1,13 +1,13 @@
 //! A system of caches.
 ghost use Rattle.std.specs.Prelude.{◌≡◌, ◌≤◌, ◌<◌, ◌+◌, ◌^◌, ℕ, List, length, ◌∷◌, [], IfOk};
 ghost use Rattle.std.specs.Prelude.{Option, ◌++◌, Some, MatchBool};
-ghost use Rattle.cache_core.specs.SystemSteps.{present_refs, all_reach, Descends, AllDescend};
+ghost use Rattle.cache_core.specs.SystemSteps.{present_refs, memory_after_all, Descends, AllDescend};
 ghost use Rattle.cache_core.specs.SystemSteps.{AccessesFirst, AccessesFirstLevel, EmptiesCache};
 ghost use Rattle.cache_core.specs.SystemSteps.{accesses_of, memory_accesses, stats_held};
 ghost use Rattle.cache_core.specs.SystemSteps.{IsNewCache, nothing_down};
 ghost use Rattle.cache_core.specs.SystemSteps.{first_hits_in_front, level_hits_in_front};
 ghost use Rattle.cache_core.specs.SystemStands.{PlannedCacheStandsFor};
-ghost use Rattle.cache_core.specs.Arrivals.{Saw, arrives, arrivals_below, all_arrivals_below};
+ghost use Rattle.cache_core.specs.Arrivals.{Saw, cache_arrivals, arrivals_below, all_arrivals_below};
 ghost use Rattle.cache_core.specs.Arrivals.{at_memory, first_arrivals, flushes};
 ghost use Rattle.cache_core.specs.Plans.{PlannedCaches, IsPlan, IsPlannedCache};
 ghost use Rattle.cache_core.specs.Systems.{events_for};
@@ -217,7 +217,7 @@ impl Memory {
     fn count<O: Observer>(&mut self, reference: Option<Ref>, observer: &mut O)
         requires counts { memory_accesses self.old < 2 ^ 63 }
         requires room { 1 ≤ O.room observer.old }
-        ensures value { self.new ≡ all_reach self.old (present_refs (reference ∷ [])) }
+        ensures value { self.new ≡ memory_after_all self.old (present_refs (reference ∷ [])) }
         ensures seen { Saw O.has_seen observer.old (at_memory (present_refs (reference ∷ [])))
             observer.new }
         ensures room { O.room observer.old ≤ O.room observer.new + 1 }
@@ -246,7 +246,7 @@ fn access_first<O: Observer>(
     ensures value { AccessesFirst cache.old reference result cache.new }
     ensures seen { (seed : ℕ) (planned : Option PlannedCache) (events : List Event) →
         IsPlannedCache planned → PlannedCacheStandsFor seed planned events cache.old →
-        Saw O.has_seen observer.old (arrives seed name planned events reference) observer.new }
+        Saw O.has_seen observer.old (cache_arrivals seed name planned events reference) observer.new }
     ensures room { O.room observer.old ≤ O.room observer.new + 1 }
 {
     match cache {

@@ -10,7 +10,7 @@ use Rattle.trace_core.specs.declared.events.Ref.{Ref}
 use Rattle.trace_core.specs.declared.events.Event.{Event}
 use Rattle.trace_core.specs.declared.events.Event.TheVariants as event
 use Rattle.trace_core.specs.declared.events.Kind.TheVariants.{DataOnly}
-use Rattle.trace_core.specs.Events.{at, keeps, references_to}
+use Rattle.trace_core.specs.Events.{at, is_kept, references_to}
 use Rattle.cache_core.specs.declared.simulation.Lookup.{Lookup}
 use Rattle.cache_core.specs.declared.simulation.Simulation.{Simulation}
 use Rattle.cache_core.specs.Geometry.{GeometryValue}
@@ -49,15 +49,15 @@ follows_both g events old mid new first second a b one two h =
 -- the events of an item whose first reference is a fetch, and of one with one data reference or two
 module _ (addr : ℕ) where
   abbrev events_to : Op → List Event
-  events_to op = map event.Reference (filter (λ r. keeps DataOnly r.access) ((references_to op addr).0 ∷ option_to_list (references_to op addr).1))
+  events_to op = map event.Reference (filter (λ r. is_kept DataOnly r.access) ((references_to op addr).0 ∷ option_to_list (references_to op addr).1))
 
-  pub no_data : (op : Op) → keeps DataOnly (references_to op addr).0.access ≡ false → events_to op ≡ []
+  pub no_data : (op : Op) → is_kept DataOnly (references_to op addr).0.access ≡ false → events_to op ≡ []
   no_data Fetch is = refl
   no_data Load is = absurd cc
   no_data Store is = absurd cc
   no_data Modify is = absurd cc
 
-  pub one_datum : (op : Op) → keeps DataOnly (references_to op addr).0.access ≡ true → (references_to op addr).1 ≡ None →
+  pub one_datum : (op : Op) → is_kept DataOnly (references_to op addr).0.access ≡ true → (references_to op addr).1 ≡ None →
       events_to op ≡ event.Reference (references_to op addr).0 ∷ []
   one_datum Fetch is none = absurd cc
   one_datum Load is none = refl

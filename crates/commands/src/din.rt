@@ -1,7 +1,7 @@
 //! The command `din`.
 ghost use Rattle.std.specs.Prelude.{◌≡◌, ◌≤◌, ◌+◌, IfOk, MatchResult};
 ghost use Rattle.trace_core.specs.Events.{events_of};
-ghost use Rattle.trace_core.specs.Reader.{begun};
+ghost use Rattle.trace_core.specs.Reader.{new_progress};
 ghost use Rattle.trace_core.specs.Task.{HasRead, Performs};
 ghost use Rattle.cache_core.specs.declared.system.TheConstants.{MAX_STEPS};
 ghost use Rattle.cache_core.specs.SystemSteps.{SystemValue, stats_of};
@@ -57,7 +57,7 @@ fn stats_of_trace<S: Source>(
     lines: &mut Lines,
     source: &mut S,
 ) -> Result<Stats, TraceFault>
-    requires begun { lines.old ≡ begun lines.old.format lines.old.limit }
+    requires begun { lines.old ≡ new_progress lines.old.format lines.old.limit }
     requires new { system.steps ≡ 0 }
     ensures stepped { (end : SystemValue) × HasRead lines.old.format lines.old.limit
         (S.view source.old) (S.view source.new) lines.new (StepsThrough system end)

@@ -6,9 +6,9 @@ use Rattle.std.specs.List.{remove}
 use Rattle.std.proofs.lemmas.Bool.{cases_eq, cases_lt, false≢true}
 use Rattle.std.proofs.lemmas.List.{take_all, length-take-le, get_or_past, nil_from_length, length-replicate}
 use Rattle.std.proofs.lemmas.List.Sums.{sum_by-set, sum_by_more, sum_by-take-le}
-use Rattle.deep_list.specs.Slots.{SlotsValue, AreFlags, kept, filled, vacated, IsAt, NoneHas}
+use Rattle.deep_list.specs.Slots.{SlotsValue, AreFlags, kept, slots_with_block, slots_without, IsAt, NoneHas}
 use Rattle.deep_list.specs.Chains.{ChainsValue, AreChains, AreFiled, AreFiledFrom, IsFiled, chain_of, with_slot}
-use Rattle.deep_list.specs.Deep.{Deep, index_of, is_in, place_of, IsOnce, IsRanked, IsDeep, IsGathering, IsGathered}
+use Rattle.deep_list.specs.Deep.{Deep, index_of_block, has_block, place_of, IsOnce, IsRanked, IsDeep, IsGathering, IsGathered}
 use Rattle.deep_list.proofs.ChainLemmas.{chain_small, chains_more, filed_more, same_all, same_most, zeros}
 use Rattle.deep_list.proofs.SlotLemmas.{sum_take-set_above, flags_set, flags_sum}
 use Rattle.deep_list.proofs.KeptLemmas.{kept-vacate, kept-fill, kept-move, kept-dead, length-kept, sum-dead, is_in-kept, absent-kept, index-kept, sum-some, remove-last, remove-end, once-take, once-remove, index-absent}
@@ -34,16 +34,16 @@ dead_flag : (xs : List ℕ) (s : ℕ) → AreFlags xs → (get_or xs s 0 ≡ 1 �
 dead_flag xs s flags ne = let le : get_or xs s 0 ≤ 1 = flags s in omega arith
 
 -- where a block stands
-pub place_found : (x i : ℕ) (xs : List ℕ) → is_in x xs ≡ true → index_of x xs ≡ i → Some i ≡ place_of x xs
-place_found x i xs inside at = ap (λ j. Some j) (sym at) ∙ sym (ap (λ b. cond b (Some (index_of x xs)) None) inside)
+pub place_found : (x i : ℕ) (xs : List ℕ) → has_block x xs ≡ true → index_of_block x xs ≡ i → Some i ≡ place_of x xs
+place_found x i xs inside at = ap (λ j. Some j) (sym at) ∙ sym (ap (λ b. cond b (Some (index_of_block x xs)) None) inside)
 
-pub place_none : (x : ℕ) (xs : List ℕ) → is_in x xs ≡ false → None ≡ place_of x xs
-place_none x xs absent = sym (ap (λ b. cond b (Some (index_of x xs)) None) absent)
+pub place_none : (x : ℕ) (xs : List ℕ) → has_block x xs ≡ false → None ≡ place_of x xs
+place_none x xs absent = sym (ap (λ b. cond b (Some (index_of_block x xs)) None) absent)
 
 module _ {top end : ℕ} {slots : SlotsValue} {chains : ChainsValue} (r : IsRanked top end slots chains) where
   -- a slot vacated
   pub vacated_ranked : (s end' : ℕ) → top ≤ end' → end' ≤ end → ((k : ℕ) → end' ≤ k → get_or (set slots.live s 0) k 0 ≡ 0)
-      → IsRanked top end' (vacated slots s) chains
+      → IsRanked top end' (slots_without slots s) chains
   vacated_ranked s end' order less behind = record {
     same = r.same ∙ sym (length-set slots.live s 0);
     small = omega (arith, r.small, length-set slots.live s 0);
@@ -56,7 +56,7 @@ module _ {top end : ℕ} {slots : SlotsValue} {chains : ChainsValue} (r : IsRank
     filed = λ k one. r.filed k (one_set slots.live s k one);
   }
 
-  pub vacated_any : (s : ℕ) → IsRanked top end (vacated slots s) chains
+  pub vacated_any : (s : ℕ) → IsRanked top end (slots_without slots s) chains
   vacated_any s = vacated_ranked s end r.order (omega arith) (λ k le. zero_set slots.live s k (r.behind k le))
 
   pub behind_last : (s : ℕ) → ((k : ℕ) → s < k → k < end → get_or slots.live k 0 ≡ 1 → ⊥) → (k : ℕ) → s < k → get_or slots.live k 0 ≡ 0
@@ -64,7 +64,7 @@ module _ {top end : ℕ} {slots : SlotsValue} {chains : ChainsValue} (r : IsRank
       elim (cases_lt k end) [ inl inside ↦ dead_flag slots.live k r.flags (none k past inside) | inr le ↦ r.behind k le ]
 
   pub vacated_last : (s : ℕ) → get_or slots.live s 0 ≡ 1 → s < end → ((k : ℕ) → s < k → k < end → get_or slots.live k 0 ≡ 1 → ⊥)
-      → IsRanked top s (vacated slots s) chains
+      → IsRanked top s (slots_without slots s) chains
   vacated_last s one lt none =
       vacated_ranked s s
       (elim (cases_lt s top) [ inl before ↦ absurd (omega (arith, r.before s before, one)) | inr le ↦ le ])
@@ -91,17 +91,17 @@ module _ {top end : ℕ} {slots : SlotsValue} {chains : ChainsValue} (r : IsRank
     pub filled_sum : sum (set slots.live t 1) ≡ sum slots.live + 1
     filled_sum = omega (arith, sum_by-set (λ x. x) slots.live t 1 0 lt, free t (omega arith))
 
-    filled_filed : AreFiledFrom top chains (filled slots t x)
+    filled_filed : AreFiledFrom top chains (slots_with_block slots t x)
     filled_filed s le one =
         let other : (s ≡ t → ⊥) = λ same. omega (arith, le, same, next) in
         let P : ℕ → Type 0 = λ y. IsFiled chains y s in
         subst P (sym (get_or-set_other slots.blocks t s x 0 other)) (r.filed s (sym (get_or-set_other slots.live t s 1 0 other) ∙ one))
 
-    pub filled_ranked : IsRanked t end (filled slots t x) (with_slot chains t (chain_of (length chains.heads) x))
+    pub filled_ranked : IsRanked t end (slots_with_block slots t x) (with_slot chains t (chain_of (length chains.heads) x))
     filled_ranked =
         let here : get_or (set slots.blocks t x) t 0 ≡ x = get_or-set_same slots.blocks t x 0 (omega (arith, lt, r.same)) in
-        let Q : ℕ → Type 0 = λ y. AreFiledFrom t (with_slot chains t (chain_of (length chains.heads) y)) (filled slots t x) in
-        let from = subst Q here (filed_more r.chains_are t next lt (filled slots t x) filled_filed) in
+        let Q : ℕ → Type 0 = λ y. AreFiledFrom t (with_slot chains t (chain_of (length chains.heads) y)) (slots_with_block slots t x) in
+        let from = subst Q here (filed_more r.chains_are t next lt (slots_with_block slots t x) filled_filed) in
         let P : ℕ → Type 0 = λ n. AreChains t n (with_slot chains t (chain_of (length chains.heads) x)) in
         record {
           same = length-set slots.blocks t x ∙ r.same ∙ sym (length-set slots.live t 1);
@@ -150,7 +150,7 @@ module _ {from to : ℕ} {v w : SlotsValue} (g : IsGathering from to v w) (f : �
         left = omega (arith, g.left, one_more, none);
       }
 
-  pub gathering_moved : (u : ℕ) → u + 1 ≡ to → get_or w.live f 0 ≡ 1 → IsGathering f u v (filled (vacated w f) u (get_or w.blocks f 0))
+  pub gathering_moved : (u : ℕ) → u + 1 ≡ to → get_or w.live f 0 ≡ 1 → IsGathering f u v (slots_with_block (slots_without w f) u (get_or w.blocks f 0))
   gathering_moved u last one =
       let long : length (set (set w.live f 0) u 1) ≡ length w.live = length-set (set w.live f 0) u 1 ∙ length-set w.live f 0 in
       record {
@@ -254,7 +254,7 @@ module _ {cap held top end : ℕ} {slots : SlotsValue} {chains : ChainsValue} (d
     pub vacated_kept : kept slots.blocks (set slots.live s 0) ≡ remove (kept slots.blocks slots.live) (sum (take s slots.live))
     vacated_kept = kept-vacate slots.blocks slots.live s d.ranked.same d.ranked.flags one
 
-    pub vacated_deep : (end' : ℕ) (w : SlotsValue) → w ≡ vacated slots s → IsRanked top end' (vacated slots s) chains
+    pub vacated_deep : (end' : ℕ) (w : SlotsValue) → w ≡ slots_without slots s → IsRanked top end' (slots_without slots s) chains
         → IsDeep cap (held - 1) top end' w chains
     vacated_deep end' w is ranked =
         let sums = vacated_sum d.ranked s one in
@@ -271,13 +271,13 @@ module _ {cap held top end : ℕ} {slots : SlotsValue} {chains : ChainsValue} (d
 
   -- the slot of a block
   module _ (x s : ℕ) (at : IsAt slots x s) where
-    pub found_inside : is_in x (kept slots.blocks slots.live) ≡ true
+    pub found_inside : has_block x (kept slots.blocks slots.live) ≡ true
     found_inside = is_in-kept x slots.blocks slots.live s d.ranked.same at.live at.block
 
-    pub found_index : index_of x (kept slots.blocks slots.live) ≡ sum (take s slots.live)
+    pub found_index : index_of_block x (kept slots.blocks slots.live) ≡ sum (take s slots.live)
     found_index = index-kept x slots.blocks slots.live s d.ranked.same d.ranked.flags d.once at.live at.block
 
-  pub not_found : (x : ℕ) → NoneHas slots x → is_in x (kept slots.blocks slots.live) ≡ false
+  pub not_found : (x : ℕ) → NoneHas slots x → has_block x (kept slots.blocks slots.live) ≡ false
   not_found x none =
       absent-kept x slots.blocks slots.live d.ranked.flags (λ s lt live is. none s lt (record { live = live; block = is }))
 
@@ -296,19 +296,19 @@ module _ {cap held top end : ℕ} {slots : SlotsValue} {chains : ChainsValue} (d
       kept-dead slots.blocks slots.live
       (λ k. elim (cases_lt k end) [ inl inside ↦ dead_flag slots.live k d.ranked.flags (none k inside) | inr le ↦ d.ranked.behind k le ])
 
-pub without_absent : (x : ℕ) (xs : List ℕ) → is_in x xs ≡ false → remove xs (index_of x xs) ≡ xs
-without_absent x xs absent = remove-end xs (index_of x xs) (index-absent x xs absent)
+pub without_absent : (x : ℕ) (xs : List ℕ) → has_block x xs ≡ false → remove xs (index_of_block x xs) ≡ xs
+without_absent x xs absent = remove-end xs (index_of_block x xs) (index-absent x xs absent)
 
 -- a list of which one slot more is live, that before all live ones
 pub filled_deep : {cap held top0 end0 top end : ℕ} {slots0 slots : SlotsValue} {chains0 chains : ChainsValue}
     → IsDeep cap held top0 end0 slots0 chains0 → IsRanked top end slots chains → kept slots.blocks slots.live ≡ kept slots0.blocks slots0.live
-    → length slots.live ≡ length slots0.live → (x t : ℕ) → t + 1 ≡ top → is_in x (kept slots0.blocks slots0.live) ≡ false
-    → length (kept slots0.blocks slots0.live) < cap → (w : SlotsValue) (chains' : ChainsValue) → w ≡ filled slots t x
-    → IsRanked t end (filled slots t x) chains' → IsDeep cap (held + 1) t end w chains'
+    → length slots.live ≡ length slots0.live → (x t : ℕ) → t + 1 ≡ top → has_block x (kept slots0.blocks slots0.live) ≡ false
+    → length (kept slots0.blocks slots0.live) < cap → (w : SlotsValue) (chains' : ChainsValue) → w ≡ slots_with_block slots t x
+    → IsRanked t end (slots_with_block slots t x) chains' → IsDeep cap (held + 1) t end w chains'
 filled_deep {cap} {held} {top0} {end0} {top} {end} {slots0} {slots} d r same long x t next absent short w chains' is ranked =
     let P : SlotsValue → Type 0 = λ v. IsDeep cap (held + 1) t end v chains' in
     let Q : List ℕ → Type 0 = IsOnce in
-    let once : IsOnce (x ∷ kept slots.blocks slots.live) = (ap (is_in x) same ∙ absent, subst Q (sym same) d.once) in
+    let once : IsOnce (x ∷ kept slots.blocks slots.live) = (ap (has_block x) same ∙ absent, subst Q (sym same) d.once) in
     subst P (sym is) (record {
       some = d.some;
       room = omega (arith, d.room, long, length-set slots.live t 1);

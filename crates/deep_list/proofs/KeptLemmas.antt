@@ -6,7 +6,7 @@ use Rattle.std.proofs.lemmas.Bool.{ne_eqb, eqb-true, false≢true, cases_lt}
 use Rattle.std.proofs.lemmas.List.{drop_all, get_or-drop}
 use Rattle.std.proofs.lemmas.List.Sums.{sum_by-take-drop, sum_by_more}
 use Rattle.deep_list.specs.Slots.{SlotsValue, IsAt, AreFlags, kept}
-use Rattle.deep_list.specs.Deep.{index_of, is_in, IsOnce}
+use Rattle.deep_list.specs.Deep.{index_of_block, has_block, IsOnce}
 use Rattle.deep_list.proofs.SlotLemmas.{sum-cons, flags_tail}
 
 pub kept-vacate : (blocks live : List ℕ) (s : ℕ) → length blocks ≡ length live → AreFlags live → get_or live s 0 ≡ 1
@@ -69,11 +69,11 @@ kept-move (b ∷ blocks) (suc n ∷ live) (suc s) (suc t) same at le lt dead =
     ap (λ xs. b ∷ xs)
     (kept-move blocks live s t (omega (arith, same)) at (omega arith) (omega arith) (λ k past le. dead (suc k) (omega arith) (omega arith)))
 
-pub is_in-cons : (x y : ℕ) (xs : List ℕ) → is_in x xs ≡ true → is_in x (y ∷ xs) ≡ true
+pub is_in-cons : (x y : ℕ) (xs : List ℕ) → has_block x xs ≡ true → has_block x (y ∷ xs) ≡ true
 is_in-cons x y xs e = grind arith
 
 pub is_in-kept : (x : ℕ) (blocks live : List ℕ) (s : ℕ) → length blocks ≡ length live → get_or live s 0 ≡ 1 → get_or blocks s 0 ≡ x
-    → is_in x (kept blocks live) ≡ true
+    → has_block x (kept blocks live) ≡ true
 unfolding kept
 is_in-kept x blocks [] s same at is = absurd (omega (arith, at))
 is_in-kept x [] (n ∷ live) s same at is = absurd (omega (arith, same))
@@ -83,11 +83,11 @@ is_in-kept x (b ∷ blocks) (zero ∷ live) (suc s) same at is = is_in-kept x bl
 is_in-kept x (b ∷ blocks) (suc n ∷ live) (suc s) same at is =
     is_in-cons x b (kept blocks live) (is_in-kept x blocks live s (omega (arith, same)) at is)
 
-is_in-none : (x y : ℕ) (xs : List ℕ) → (y ≡ x → ⊥) → is_in x xs ≡ false → is_in x (y ∷ xs) ≡ false
+is_in-none : (x y : ℕ) (xs : List ℕ) → (y ≡ x → ⊥) → has_block x xs ≡ false → has_block x (y ∷ xs) ≡ false
 is_in-none x y xs ne e = let n : eqb y x ≡ false = ne_eqb y x ne in grind arith
 
 pub absent-kept : (x : ℕ) (blocks live : List ℕ) → AreFlags live
-    → ((s : ℕ) → s < length live → get_or live s 0 ≡ 1 → get_or blocks s 0 ≡ x → ⊥) → is_in x (kept blocks live) ≡ false
+    → ((s : ℕ) → s < length live → get_or live s 0 ≡ 1 → get_or blocks s 0 ≡ x → ⊥) → has_block x (kept blocks live) ≡ false
 unfolding kept
 absent-kept x [] live flags none = refl
 absent-kept x (b ∷ blocks) [] flags none = refl
@@ -97,15 +97,15 @@ absent-kept x (b ∷ blocks) (suc n ∷ live) flags none =
     is_in-none x b (kept blocks live) (λ e. none 0 (omega arith) (omega (arith, flags 0)) e)
     (absent-kept x blocks live (flags_tail (suc n) live flags) (λ s lt. none (suc s) (omega arith)))
 
-index-front : (x y : ℕ) (xs : List ℕ) → y ≡ x → index_of x (y ∷ xs) ≡ 0
+index-front : (x y : ℕ) (xs : List ℕ) → y ≡ x → index_of_block x (y ∷ xs) ≡ 0
 index-front x y xs e = let t : eqb y x ≡ true = eq-eqb y x e in grind arith
 
-index-behind : (x y : ℕ) (xs : List ℕ) → (y ≡ x → ⊥) → index_of x (y ∷ xs) ≡ 1 + index_of x xs
+index-behind : (x y : ℕ) (xs : List ℕ) → (y ≡ x → ⊥) → index_of_block x (y ∷ xs) ≡ 1 + index_of_block x xs
 index-behind x y xs ne = let t : eqb y x ≡ false = ne_eqb y x ne in grind arith
 
 -- the live slots before that of a block are as many as the blocks before it
 pub index-kept : (x : ℕ) (blocks live : List ℕ) (s : ℕ) → length blocks ≡ length live → AreFlags live → IsOnce (kept blocks live)
-    → get_or live s 0 ≡ 1 → get_or blocks s 0 ≡ x → index_of x (kept blocks live) ≡ sum (take s live)
+    → get_or live s 0 ≡ 1 → get_or blocks s 0 ≡ x → index_of_block x (kept blocks live) ≡ sum (take s live)
 unfolding kept
 index-kept x blocks [] s same flags once at is = absurd (omega (arith, at))
 index-kept x [] (n ∷ live) s same flags once at is = absurd (omega (arith, same))
@@ -114,8 +114,8 @@ index-kept x (b ∷ blocks) (suc n ∷ live) zero same flags once at is = index-
 index-kept x (b ∷ blocks) (zero ∷ live) (suc s) same flags once at is =
     index-kept x blocks live s (omega (arith, same)) (flags_tail zero live flags) once at is ∙ omega (arith, sum-cons 0 (take s live))
 index-kept x (b ∷ blocks) (suc n ∷ live) (suc s) same flags once at is =
-    let inside : is_in x (kept blocks live) ≡ true = is_in-kept x blocks live s (omega (arith, same)) at is in
-    let P : ℕ → Type 0 = λ y. is_in y (kept blocks live) ≡ false in
+    let inside : has_block x (kept blocks live) ≡ true = is_in-kept x blocks live s (omega (arith, same)) at is in
+    let P : ℕ → Type 0 = λ y. has_block y (kept blocks live) ≡ false in
     index-behind x b (kept blocks live) (λ e. false≢true (sym (subst P e once.0) ∙ inside))
     ∙ omega (
       arith,
@@ -147,18 +147,18 @@ remove-end (x ∷ xs) zero le = absurd (omega arith)
 remove-end (x ∷ xs) (suc i) le = ap (λ ys. x ∷ ys) (remove-end xs i (omega arith))
 
 -- lists of different blocks
-not_in-tail : (x y : ℕ) (xs : List ℕ) → is_in x (y ∷ xs) ≡ false → is_in x xs ≡ false
+not_in-tail : (x y : ℕ) (xs : List ℕ) → has_block x (y ∷ xs) ≡ false → has_block x xs ≡ false
 not_in-tail x y xs e = grind arith
 
-not_in-front : (x y : ℕ) (xs ys : List ℕ) → is_in x (y ∷ xs) ≡ false → is_in x ys ≡ false → is_in x (y ∷ ys) ≡ false
+not_in-front : (x y : ℕ) (xs ys : List ℕ) → has_block x (y ∷ xs) ≡ false → has_block x ys ≡ false → has_block x (y ∷ ys) ≡ false
 not_in-front x y xs ys e f = grind arith
 
-pub not_in-take : (x n : ℕ) (xs : List ℕ) → is_in x xs ≡ false → is_in x (take n xs) ≡ false
+pub not_in-take : (x n : ℕ) (xs : List ℕ) → has_block x xs ≡ false → has_block x (take n xs) ≡ false
 not_in-take x zero xs e = refl
 not_in-take x (suc n) [] e = refl
 not_in-take x (suc n) (y ∷ xs) e = not_in-front x y xs (take n xs) e (not_in-take x n xs (not_in-tail x y xs e))
 
-pub not_in-remove : (x i : ℕ) (xs : List ℕ) → is_in x xs ≡ false → is_in x (remove xs i) ≡ false
+pub not_in-remove : (x i : ℕ) (xs : List ℕ) → has_block x xs ≡ false → has_block x (remove xs i) ≡ false
 not_in-remove x zero [] e = refl
 not_in-remove x (suc i) [] e = refl
 not_in-remove x zero (y ∷ xs) e = not_in-tail x y xs e
@@ -175,9 +175,9 @@ once-remove (suc i) [] once = tt
 once-remove zero (x ∷ xs) once = once.1
 once-remove (suc i) (x ∷ xs) once = (not_in-remove x i xs once.0, once-remove i xs once.1)
 
-is_in-tail : (x y : ℕ) (xs : List ℕ) → is_in x (y ∷ xs) ≡ false → index_of x (y ∷ xs) ≡ 1 + index_of x xs
+is_in-tail : (x y : ℕ) (xs : List ℕ) → has_block x (y ∷ xs) ≡ false → index_of_block x (y ∷ xs) ≡ 1 + index_of_block x xs
 is_in-tail x y xs e = grind arith
 
-pub index-absent : (x : ℕ) (xs : List ℕ) → is_in x xs ≡ false → length xs ≤ index_of x xs
+pub index-absent : (x : ℕ) (xs : List ℕ) → has_block x xs ≡ false → length xs ≤ index_of_block x xs
 index-absent x [] e = omega arith
 index-absent x (y ∷ xs) e = omega (arith, is_in-tail x y xs e, index-absent x xs (not_in-tail x y xs e))

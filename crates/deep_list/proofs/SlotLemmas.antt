@@ -4,7 +4,7 @@ use Rattle.std.proofs.Common.{refl, sym, ◌∙◌, ap, arith, add-one, length-s
 use Rattle.std.proofs.lemmas.Bool.{cases_lt}
 use Rattle.std.proofs.lemmas.List.{take-set-le, take-take, drop-take, get_or-drop}
 use Rattle.std.proofs.lemmas.List.Sums.{sum_by-cons, sum_by-take-le, sum_by_more, sum_by-take-drop}
-use Rattle.deep_list.specs.Slots.{AreFlags, IsCounted}
+use Rattle.deep_list.specs.Slots.{AreFlags, HasCounts}
 
 pub sum-cons : (x : ℕ) (xs : List ℕ) → sum (x ∷ xs) ≡ x + sum xs
 sum-cons x xs = sum_by-cons (λ x. x) x xs
@@ -44,7 +44,7 @@ sum_take_most zero xs h = omega arith
 sum_take_most (suc n) [] h = omega arith
 sum_take_most (suc n) (x ∷ xs) h = omega (arith, sum-cons x (take n xs), h 0, sum_take_most n xs (flags_tail x xs h))
 
-module _ {blocks live counts : List ℕ} (h : IsCounted blocks live counts) where
+module _ {blocks live counts : List ℕ} (h : HasCounts blocks live counts) where
   pub at_chunk : (s : ℕ) → s < length live → s / 256 < length counts
   at_chunk s lt = omega (arith, h.chunks)
 
@@ -85,7 +85,7 @@ module _ {blocks live counts : List ℕ} (h : IsCounted blocks live counts) wher
 
   pub counted_set : (blocks' : List ℕ) (s v n : ℕ) → length blocks' ≡ length blocks → s < length live → v ≤ 1
       → v + get_or counts (s / 256) 0 ≡ n + get_or live s 0
-      → IsCounted blocks' (set live s v) (set counts (s / 256) n)
+      → HasCounts blocks' (set live s v) (set counts (s / 256) n)
   counted_set blocks' s v n long lt flag e = record {
     same = long ∙ h.same ∙ sym (length-set live s v);
     small = omega (arith, h.small, length-set live s v);

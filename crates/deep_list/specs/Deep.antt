@@ -5,21 +5,21 @@ use Rattle.deep_list.specs.Slots.{SlotsValue, AreFlags, kept}
 use Rattle.deep_list.specs.Chains.{ChainsValue, AreChains, AreFiled}
 
 -- the index of x in a list, or the list's length
-abbrev pub index_of : ℕ → List ℕ → ℕ
-index_of x xs = position_or_len (λ y. y == x) xs
+abbrev pub index_of_block : ℕ → List ℕ → ℕ
+index_of_block x xs = position_or_len (λ y. y == x) xs
 
 -- whether x stands in a list
-abbrev pub is_in : ℕ → List ℕ → Bool
-is_in x xs = list_any (λ y. y == x) xs
+abbrev pub has_block : ℕ → List ℕ → Bool
+has_block x xs = list_any (λ y. y == x) xs
 
 -- where x stands in a list
 abbrev pub place_of : ℕ → List ℕ → Option ℕ
-place_of x xs = if is_in x xs then Some (index_of x xs) else None
+place_of x xs = if has_block x xs then Some (index_of_block x xs) else None
 
 -- no two blocks are equal
 abbrev pub IsOnce : List ℕ → Type 0
 IsOnce [] = Unit {0}
-IsOnce (x ∷ xs) = (is_in x xs ≡ false) × IsOnce xs
+IsOnce (x ∷ xs) = (has_block x xs ≡ false) × IsOnce xs
 
 -- a list of at most `cap` blocks
 pub record Deep : Type 0 where
@@ -27,12 +27,12 @@ pub record Deep : Type 0 where
   pub blocks : List ℕ
 
 -- without block x
-abbrev pub without : Deep → ℕ → Deep
-without d x = record d { blocks = remove d.blocks (index_of x d.blocks) }
+abbrev pub without_block : Deep → ℕ → Deep
+without_block d x = record d { blocks = remove d.blocks (index_of_block x d.blocks) }
 
 -- with block y in front and without block x, as far as there is room
-abbrev pub exchanged : Deep → ℕ → ℕ → Deep
-exchanged d x y = record d { blocks = take d.cap (y ∷ remove d.blocks (index_of x d.blocks)) }
+abbrev pub list_after_exchange : Deep → ℕ → ℕ → Deep
+list_after_exchange d x y = record d { blocks = take d.cap (y ∷ remove d.blocks (index_of_block x d.blocks)) }
 
 -- slots whose live ones are from top on and before end, and are on the chains of their blocks
 pub record IsRanked (top end : ℕ) (slots : SlotsValue) (chains : ChainsValue) : Type 0 where

@@ -16,12 +16,12 @@ abbrev pub NoneHas : SlotsValue → ℕ → Type 0
 NoneHas v x = (s : ℕ) → s < length v.live → IsAt v x s → ⊥
 
 -- with block x in slot s
-abbrev pub filled : SlotsValue → ℕ → ℕ → SlotsValue
-filled v s x = record { blocks = slice_set v.blocks s x; live = slice_set v.live s 1 }
+abbrev pub slots_with_block : SlotsValue → ℕ → ℕ → SlotsValue
+slots_with_block v s x = record { blocks = slice_set v.blocks s x; live = slice_set v.live s 1 }
 
 -- with slot s no longer live
-abbrev pub vacated : SlotsValue → ℕ → SlotsValue
-vacated v s = record v { live = slice_set v.live s 0 }
+abbrev pub slots_without : SlotsValue → ℕ → SlotsValue
+slots_without v s = record v { live = slice_set v.live s 0 }
 
 -- each is 0 or 1
 abbrev pub AreFlags : List ℕ → Type 0
@@ -32,7 +32,7 @@ abbrev pub chunk : ℕ
 chunk = 256
 
 -- the counts of the chunks, one after another
-pub record IsCounted (blocks live counts : List ℕ) : Type 0 where
+pub record HasCounts (blocks live counts : List ℕ) : Type 0 where
   pub same : length blocks ≡ length live
   pub small : length live ≤ 2 ^ 24
   pub flags : AreFlags live

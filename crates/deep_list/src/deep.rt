@@ -3,9 +3,9 @@
 //! list.
 ghost use Rattle.std.specs.Prelude.{◌≡◌, ◌+◌, ◌-◌, ◌<◌, ◌≤◌, ◌^◌, ◌≢◌, ℕ, false, [], ◌∷◌, length, sum, take};
 ghost use Rattle.std.specs.Prelude.{IfOk, MatchOption, slice_index};
-ghost use Rattle.deep_list.specs.Slots.{SlotsValue, AreFlags, filled, vacated, kept};
+ghost use Rattle.deep_list.specs.Slots.{SlotsValue, AreFlags, slots_with_block, slots_without, kept};
 ghost use Rattle.deep_list.specs.Chains.{AreChains, AreFiled};
-ghost use Rattle.deep_list.specs.Deep.{is_in, place_of, without, exchanged, IsRanked, IsGathered};
+ghost use Rattle.deep_list.specs.Deep.{has_block, place_of, without_block, list_after_exchange, IsRanked, IsGathered};
 
 use crate::chains::Chains;
 use crate::slots::{Slots, Span};
@@ -66,9 +66,9 @@ impl DeepList {
     /// Takes a block out of the list, wherever it is, and puts another in front. If the list is
     /// full, its last block falls out. Returns where the first block stood.
     pub fn exchange(&mut self, wanted: u64, given: u64) -> Option<usize>
-        requires { is_in given self.old.blocks ≡ false }
+        requires { has_block given self.old.blocks ≡ false }
         ensures found { result ≡ place_of wanted self.old.blocks }
-        ensures moved { self.new ≡ exchanged self.old wanted given }
+        ensures moved { self.new ≡ list_after_exchange self.old wanted given }
     {
         let place = self.take_out(wanted);
         self.drop_if_full();
@@ -79,7 +79,7 @@ impl DeepList {
     /// Takes a block out of the list. Returns where it stood.
     fn take_out(&mut self, block: u64) -> Option<usize>
         ensures found { result ≡ place_of block self.old.blocks }
-        ensures moved { self.new ≡ without self.old block }
+        ensures moved { self.new ≡ without_block self.old block }
     {
         match self.chains.find(&self.slots, self.span, block) {
             Some(slot) => {
@@ -117,7 +117,7 @@ impl DeepList {
 
     /// Puts a block in front of the list.
     fn put_first(&mut self, block: u64)
-        requires other { is_in block self.old.blocks ≡ false }
+        requires other { has_block block self.old.blocks ≡ false }
         requires room { length self.old.blocks < self.old.cap }
         ensures { self.new ≡ record self.old { blocks = block ∷ self.old.blocks } }
     {
@@ -201,7 +201,7 @@ fn shift(slots: &mut Slots, from: usize, to: usize)
     requires same { length slots.old.blocks ≡ length slots.old.live }
     requires live { slice_index slots.old.live from ≡ 1 }
     requires dead { (s : ℕ) → from < s → s ≤ to → slice_index slots.old.live s ≡ 0 }
-    ensures { slots.new ≡ filled (vacated slots.old from) to (slice_index slots.old.blocks from) }
+    ensures { slots.new ≡ slots_with_block (slots_without slots.old from) to (slice_index slots.old.blocks from) }
 {
     let block = slots.block(from);
     slots.vacate(from);

@@ -1,7 +1,7 @@
 //! Slots for blocks, and how many of the slots before one are live.
 ghost use Rattle.std.specs.Prelude.{◌≡◌, ◌+◌, ◌<◌, ◌≤◌, ◌^◌, ◌*◌, ℕ, length, sum, take, drop, replicate, slice_set};
 ghost use Rattle.std.specs.Prelude.{IfOk, MatchOption, slice_index, nat_eq, IsTrue, ◌↔◌};
-ghost use Rattle.deep_list.specs.Slots.{SlotsValue, IsAt, NoneHas, filled, vacated};
+ghost use Rattle.deep_list.specs.Slots.{SlotsValue, IsAt, NoneHas, slots_with_block, slots_without};
 
 use std::alloc::{AllocError, Global};
 use std::marker::Model;
@@ -26,13 +26,13 @@ pub struct Slots {
 }
 
 impl Model for Slots {
-    ghost use Rattle.deep_list.specs.Slots.{SlotsValue, IsCounted};
+    ghost use Rattle.deep_list.specs.Slots.{SlotsValue, HasCounts};
 
     ghost Value = { SlotsValue };
 
     ghost view = { λ s. record { blocks = s.blocks.items; live = s.live.items } };
 
-    ghost invariant = { λ s. IsCounted s.blocks.items s.live.items s.counts.items };
+    ghost invariant = { λ s. HasCounts s.blocks.items s.live.items s.counts.items };
 }
 
 impl Slots {
@@ -98,7 +98,7 @@ impl Slots {
     pub fn fill(&mut self, slot: usize, block: u64)
         requires within { slot < length self.old.live }
         requires vacant { slice_index self.old.live slot ≡ 0 }
-        ensures { self.new ≡ filled self.old slot block }
+        ensures { self.new ≡ slots_with_block self.old slot block }
     {
         self.blocks[slot] = block;
         self.live[slot] = 1;
@@ -109,7 +109,7 @@ impl Slots {
     pub fn vacate(&mut self, slot: usize)
         requires within { slot < length self.old.live }
         requires live { slice_index self.old.live slot ≡ 1 }
-        ensures { self.new ≡ vacated self.old slot }
+        ensures { self.new ≡ slots_without self.old slot }
     {
         self.live[slot] = 0;
         self.counts[slot / CHUNK] -= 1;

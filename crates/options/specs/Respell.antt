@@ -19,13 +19,13 @@ abbrev pub has_dinero_options : Text → Bool
 has_dinero_options command = bytes_eq command (codes "din") || bytes_eq command (codes "log")
 
 -- the second argument is such a command; the first is the program's name
-abbrev pub takes_dinero : List Text → Bool
-takes_dinero arguments = option_map_or has_dinero_options (slice_get arguments 1) false
+abbrev pub is_dinero_command : List Text → Bool
+is_dinero_command arguments = option_map_or has_dinero_options (slice_get arguments 1) false
 
 -- an argument after the command's name, as clap gets it
 abbrev pub spelling_of : Bool → Text → Text
-spelling_of takes_dinero argument = if takes_dinero then with_two_dashes argument else argument
+spelling_of is_dinero_command argument = if is_dinero_command then with_two_dashes argument else argument
 
 -- the arguments as clap gets them
 abbrev pub respelling_of : List Text → List Text
-respelling_of arguments = take 2 arguments ++ map (spelling_of (takes_dinero arguments)) (drop 2 arguments)
+respelling_of arguments = take 2 arguments ++ map (spelling_of (is_dinero_command arguments)) (drop 2 arguments)

@@ -6,7 +6,7 @@ use Rattle.std.proofs.Math.Nat.{suc-mul}
 use Rattle.std.proofs.lemmas.List.{get_or_read}
 use Rattle.cache_core.specs.Geometry.{GeometryValue, set_of_block}
 use Rattle.profile_core.specs.Moves.{is_front, move_to_front}
-use Rattle.profile_core.specs.Slab.{Lists, brought}
+use Rattle.profile_core.specs.Slab.{Lists, lists_after_touch}
 use Rattle.profile_core.specs.State.{ProfileState, IsSound, IsNext, list_of, fed_of, after_reference, compared_behind, distances_of, most_references}
 use Rattle.profile_core.proofs.Feeding.{FoundAt, FoundNowhere, behind_front, first-raised, raised_behind, sum-distances, after_fed}
 use Rattle.profile_core.proofs.Feeding.{found_step, nowhere_step}
@@ -73,7 +73,7 @@ pub record IsMoved (g : GeometryValue) (was now : Lists) (behind missed : List �
   pub sound : IsSound g was behind missed probes
   pub view_is : state_of g was behind missed probes ≡ v
   pub next : IsNext v k x
-  pub moved : now ≡ brought was k x
+  pub moved : now ≡ lists_after_touch was k x
 
 module _ {g : GeometryValue} {was now : Lists} {behind missed : List ℕ} {probes x k : ℕ} {v : ProfileState}
     (m : IsMoved g was now behind missed probes x k v) where

@@ -12,7 +12,7 @@ use Rattle.cache_core.specs.Geometry.{GeometryValue, set_of_block}
 use Rattle.profile_core.specs.declared.recency.Touch.TheVariants.{Behind, New}
 use Rattle.profile_core.specs.Moves.{index_of, is_in, is_front, is_second, move_to_front, touch_of}
 use Rattle.profile_core.specs.Slab.{Lists}
-use Rattle.profile_core.specs.State.{ProfileState, IsSound, list_of, raise, after_reference, fed_of, weighed, compared_behind, distances_of}
+use Rattle.profile_core.specs.State.{ProfileState, IsSound, list_of, one_more_at, after_reference, fed_of, weighed, compared_behind, distances_of}
 use Rattle.profile_core.proofs.Bringing.{absent_at}
 use Rattle.profile_core.proofs.Shifting.{other_front, index_behind, index-le}
 use Rattle.profile_core.proofs.Weighing.{weighed-zeros, sum-zeros}
@@ -88,7 +88,7 @@ first-raised (y ∷ bs) zero n some = absurd (omega (arith, some))
 first-raised (y ∷ bs) (suc distance) n some = refl
 
 pub raised_behind : (behind : List ℕ) (distance n h : ℕ) → 1 ≤ distance → n ≡ get_or behind distance 0
-    → set (set behind distance (n + 1)) 0 h ≡ raise (set behind 0 h) distance
+    → set (set behind distance (n + 1)) 0 h ≡ one_more_at (set behind 0 h) distance
 raised_behind [] distance n h some read = refl
 raised_behind (y ∷ bs) zero n h some read = absurd (omega (arith, some))
 raised_behind (y ∷ bs) (suc distance) n h some read = ap (λ m. h ∷ set bs distance (m + 1)) read
@@ -102,11 +102,11 @@ sum-distances probes (y ∷ bs) missed first =
     omega (arith, sum_by-cons (λ n. n) h bs, sum_by-cons (λ n. n) y bs, none)
 
 -- one reference more, found at a distance or not found in a list of n blocks
-sum-raise : (ns : List ℕ) (i : ℕ) → i < length ns → sum (raise ns i) ≡ sum ns + 1
+sum-raise : (ns : List ℕ) (i : ℕ) → i < length ns → sum (one_more_at ns i) ≡ sum ns + 1
 sum-raise ns i lt = omega (arith, sum_by-set (λ m. m) ns i (get_or ns i 0 + 1) 0 lt)
 
 one_of_both : (b : Bool) (ds ms : List ℕ) (i n : ℕ) → (b ≡ true → i < length ds) → n < length ms
-    → sum (cond b (raise ds i) ds) + sum (cond b ms (raise ms n)) ≡ sum ds + sum ms + 1
+    → sum (cond b (one_more_at ds i) ds) + sum (cond b ms (one_more_at ms n)) ≡ sum ds + sum ms + 1
 one_of_both true ds ms i n here le = omega (arith, sum-raise ds i (here refl))
 one_of_both false ds ms i n here le = omega (arith, sum-raise ms n le)
 
@@ -124,16 +124,16 @@ module _ (v : ProfileState) (x k : ℕ) (of_set : k ≡ set_of_block v.geometry 
   lists_step lists' moved = moved ∙ ap (λ j. set v.lists j (take v.geometry.e (move_to_front x (list_of v j)))) of_set
 
   pub found_step : (distance probes' : ℕ) (lists' : List (List ℕ)) (distances' : List ℕ) → FoundAt x distance (list_of v k)
-      → lists' ≡ set v.lists k (take v.geometry.e (move_to_front x (list_of v k))) → distances' ≡ raise v.distances distance
+      → lists' ≡ set v.lists k (take v.geometry.e (move_to_front x (list_of v k))) → distances' ≡ one_more_at v.distances distance
       → probes' ≡ v.probes + (distance + 1)
       → record v { lists = lists'; distances = distances'; probes = probes' } ≡ after_reference v x
   found_step distance probes' lists' distances' found moved raised more =
       let f : FoundAt x distance xs = subst (λ j. FoundAt x distance (list_of v j)) of_set found in
       let lists = lists_step lists' moved in
-      let distances : distances' ≡ cond (is_in x xs) (raise v.distances (index_of x xs)) v.distances =
-      raised ∙ sym (ap (λ b. cond b (raise v.distances (index_of x xs)) v.distances) f.inside ∙ ap (raise v.distances) f.distance_is) in
-      let missed : v.misses_by_occupancy ≡ cond (is_in x xs) v.misses_by_occupancy (raise v.misses_by_occupancy (length xs)) =
-      sym (ap (λ b. cond b v.misses_by_occupancy (raise v.misses_by_occupancy (length xs))) f.inside) in
+      let distances : distances' ≡ cond (is_in x xs) (one_more_at v.distances (index_of x xs)) v.distances =
+      raised ∙ sym (ap (λ b. cond b (one_more_at v.distances (index_of x xs)) v.distances) f.inside ∙ ap (one_more_at v.distances) f.distance_is) in
+      let missed : v.misses_by_occupancy ≡ cond (is_in x xs) v.misses_by_occupancy (one_more_at v.misses_by_occupancy (length xs)) =
+      sym (ap (λ b. cond b v.misses_by_occupancy (one_more_at v.misses_by_occupancy (length xs))) f.inside) in
       let probes : probes' ≡ v.probes + min (index_of x xs + 1) (length xs) = omega (arith, more, f.distance_is, f.within) in
       cc
 
@@ -145,16 +145,16 @@ module _ (v : ProfileState) (x k : ℕ) (of_set : k ≡ set_of_block v.geometry 
   nowhere_step len n probes' lists' distances' found moved same read more =
       let f : FoundNowhere x len xs = subst (λ j. FoundNowhere x len (list_of v j)) of_set found in
       let lists = lists_step lists' moved in
-      let distances : distances' ≡ cond (is_in x xs) (raise v.distances (index_of x xs)) v.distances =
-      same ∙ sym (ap (λ b. cond b (raise v.distances (index_of x xs)) v.distances) f.outside) in
-      let missed : set v.misses_by_occupancy len (n + 1) ≡ cond (is_in x xs) v.misses_by_occupancy (raise v.misses_by_occupancy (length xs)) =
-      ap (λ m. set v.misses_by_occupancy len (m + 1)) read ∙ ap (raise v.misses_by_occupancy) f.len_is
-      ∙ sym (ap (λ b. cond b v.misses_by_occupancy (raise v.misses_by_occupancy (length xs))) f.outside) in
+      let distances : distances' ≡ cond (is_in x xs) (one_more_at v.distances (index_of x xs)) v.distances =
+      same ∙ sym (ap (λ b. cond b (one_more_at v.distances (index_of x xs)) v.distances) f.outside) in
+      let missed : set v.misses_by_occupancy len (n + 1) ≡ cond (is_in x xs) v.misses_by_occupancy (one_more_at v.misses_by_occupancy (length xs)) =
+      ap (λ m. set v.misses_by_occupancy len (m + 1)) read ∙ ap (one_more_at v.misses_by_occupancy) f.len_is
+      ∙ sym (ap (λ b. cond b v.misses_by_occupancy (one_more_at v.misses_by_occupancy (length xs))) f.outside) in
       let probes : probes' ≡ v.probes + min (index_of x xs + 1) (length xs) = omega (arith, more, f.index_is, f.len_is) in
       cc
 
   -- the front, which stays
-  pub front_step : (distances' : List ℕ) → is_front x (list_of v k) ≡ true → length (list_of v k) ≤ v.geometry.e → distances' ≡ raise v.distances 0
+  pub front_step : (distances' : List ℕ) → is_front x (list_of v k) ≡ true → length (list_of v k) ≤ v.geometry.e → distances' ≡ one_more_at v.distances 0
       → record v { distances = distances'; probes = v.probes + 1 } ≡ after_reference v x
   front_step distances' front short raised = grind (arith, found_step, found_front, front_stays, set-get_or)
 

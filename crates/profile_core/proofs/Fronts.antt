@@ -16,9 +16,9 @@ use Rattle.cache_core.specs.Windows.{Occurrence, distinct_of_set, window, has_la
 use Rattle.cache_core.specs.LruLaws.{occurrence_after}
 use Rattle.cache_core.proofs.Lists.{cases}
 use Rattle.profile_core.specs.Moves.{is_front, is_in, index_of}
-use Rattle.profile_core.specs.State.{ProfileState, IsSound, empty, list_of, raise, fed_of, after_reference, after_flush, after_event, most_references}
+use Rattle.profile_core.specs.State.{ProfileState, IsSound, empty, list_of, one_more_at, fed_of, after_reference, after_flush, after_event, most_references}
 use Rattle.profile_core.specs.State.{compared_behind, distances_of}
-use Rattle.profile_core.specs.Fronts.{finds_front, after_unless_front, after_fronts, caught_up, is_refined, IsFit, Leads}
+use Rattle.profile_core.specs.Fronts.{is_front_of, after_unless_front, after_fronts, profile_with_fronts, is_refined, IsFit, Leads}
 use Rattle.profile_core.specs.ProfileStandsFor.{ProfileStandsFor}
 use Rattle.profile_core.specs.Slab.{Lists}
 use Rattle.profile_core.proofs.Feeding.{found_front, after_fed, front_step, sum-distances}
@@ -58,12 +58,12 @@ lift-lift : (m n : ℕ) (ds : List ℕ) → lift m (lift n ds) ≡ lift (n + m) 
 lift-lift m n [] = refl
 lift-lift m n (d ∷ ds) = ap (λ k. k ∷ ds) (omega arith)
 
-raise-lift : (n : ℕ) (ds : List ℕ) (i : ℕ) → raise (lift n ds) i ≡ lift n (raise ds i)
+raise-lift : (n : ℕ) (ds : List ℕ) (i : ℕ) → one_more_at (lift n ds) i ≡ lift n (one_more_at ds i)
 raise-lift n [] i = refl
 raise-lift n (d ∷ ds) zero = ap (λ k. k ∷ ds) (omega arith)
 raise-lift n (d ∷ ds) (suc i) = refl
 
-raise_if-lift : (b : Bool) (n : ℕ) (ds : List ℕ) (i : ℕ) → cond b (raise (lift n ds) i) (lift n ds) ≡ lift n (cond b (raise ds i) ds)
+raise_if-lift : (b : Bool) (n : ℕ) (ds : List ℕ) (i : ℕ) → cond b (one_more_at (lift n ds) i) (lift n ds) ≡ lift n (cond b (one_more_at ds i) ds)
 raise_if-lift true n ds i = raise-lift n ds i
 raise_if-lift false n ds i = refl
 
@@ -85,9 +85,9 @@ pub reference_fronts : (n : ℕ) (v : ProfileState) (x : ℕ) → after_referenc
 reference_fronts n v x = grind (arith, raise_if-lift)
 
 -- a reference that finds its block in front is one of them
-pub front_reference : (v : ProfileState) (x : ℕ) → IsFit v → finds_front v x ≡ true → after_reference v x ≡ after_fronts 1 v
+pub front_reference : (v : ProfileState) (x : ℕ) → IsFit v → is_front_of v x ≡ true → after_reference v x ≡ after_fronts 1 v
 front_reference v x h front =
-    sym (front_step v x (set_of_block v.geometry x) refl (raise v.distances 0) front (h.short (set_of_block v.geometry x)) refl)
+    sym (front_step v x (set_of_block v.geometry x) refl (one_more_at v.distances 0) front (h.short (set_of_block v.geometry x)) refl)
 
 pub reference_fed : (v : ProfileState) (x : ℕ) → IsFit v → fed_of (after_reference v x) ≡ fed_of v + 1
 reference_fed v x h = grind (arith, after_fed)
@@ -146,7 +146,7 @@ module _ {g : GeometryValue} {lists : Lists} {behind missed : List ℕ} {probes 
 
 -- A profile that lags behind by references that found their block in front, and catches up.
 pub caught_more : (n : ℕ) (v : ProfileState) (x : ℕ) → IsFit v → fed_of v ≤ n
-    → caught_up (n + 1) (after_unless_front v x) ≡ after_reference (caught_up n v) x
+    → profile_with_fronts (n + 1) (after_unless_front v x) ≡ after_reference (profile_with_fronts n v) x
 caught_more n v x h le = grind (arith, fronts_fronts, front_reference, reference_fronts, reference_fed)
 
 pub fed_more : (n : ℕ) (v : ProfileState) (x : ℕ) → IsFit v → fed_of v ≤ n → fed_of (after_unless_front v x) ≤ n + 1
@@ -204,7 +204,7 @@ front_of_take x y zero ys some = absurd (omega (arith, some))
 front_of_take x y (suc e) ys some = refl
 
 fronts_after : (v : ProfileState) (x y : ℕ) → IsFit v
-    → finds_front (after_reference v y) x ≡ cond (eqb (set_of_block v.geometry y) (set_of_block v.geometry x)) (eqb y x) (finds_front v x)
+    → is_front_of (after_reference v y) x ≡ cond (eqb (set_of_block v.geometry y) (set_of_block v.geometry x)) (eqb y x) (is_front_of v x)
 fronts_after v x y h = grind (arith, mod_below, pow_pos, get_or-set_at, front_of_take, eq-eqb, get_or-set_other, ne_eqb, cases_eq)
 
 leads_reference : (v w : ProfileState) → IsFit v → IsFit w → IsFiner v.geometry w.geometry → Leads v w → (y : ℕ)
@@ -216,13 +216,13 @@ leads_reference v w fit fit' finer leads y = λ a front.
     ∙ ⊎_elim
     (λ (same : set_of g y ≡ set_of g a).
     let is : block_of g y ≡ block_of g a =
-    eqb-true _ _ (sym (ap (λ b. cond b (eqb (block_of g y) (block_of g a)) (finds_front v (block_of g a))) (eq-eqb _ _ same)) ∙ was) in
+    eqb-true _ _ (sym (ap (λ b. cond b (eqb (block_of g y) (block_of g a)) (is_front_of v (block_of g a))) (eq-eqb _ _ same)) ∙ was) in
     let block : block_of h y ≡ block_of h a = finer.blocks y a is in
-    ap (λ b. cond b (eqb (block_of h y) (block_of h a)) (finds_front w (block_of h a))) (eq-eqb _ _ (ap (set_of_block h) block)) ∙ eq-eqb _ _ block)
+    ap (λ b. cond b (eqb (block_of h y) (block_of h a)) (is_front_of w (block_of h a))) (eq-eqb _ _ (ap (set_of_block h) block)) ∙ eq-eqb _ _ block)
     (λ (apart : set_of g y ≡ set_of g a → ⊥).
-    let still : finds_front v (block_of g a) ≡ true =
-    sym (ap (λ b. cond b (eqb (block_of g y) (block_of g a)) (finds_front v (block_of g a))) (ne_eqb _ _ apart)) ∙ was in
-    ap (λ b. cond b (eqb (block_of h y) (block_of h a)) (finds_front w (block_of h a))) (ne_eqb _ _ (λ e. apart (finer.sets y a e))) ∙ leads a still)
+    let still : is_front_of v (block_of g a) ≡ true =
+    sym (ap (λ b. cond b (eqb (block_of g y) (block_of g a)) (is_front_of v (block_of g a))) (ne_eqb _ _ apart)) ∙ was in
+    ap (λ b. cond b (eqb (block_of h y) (block_of h a)) (is_front_of w (block_of h a))) (ne_eqb _ _ (λ e. apart (finer.sets y a e))) ∙ leads a still)
     (cases_eq (set_of g y) (set_of g a))
 
 -- where all lists are empty there is no front
@@ -256,7 +256,7 @@ leads_after g h es one other refined =
     leads_with [] es (empty g) (empty h) (new_stands g one) (new_stands h other) (finer_of g h refined) (leads_empty (empty g) (empty h) refl)
 
 pub front_refined : (g h : GeometryValue) (es : List Event) (addr : ℕ) → IsGeometry g → IsGeometry h → is_refined g h ≡ true
-    → finds_front (fold after_event (empty g) es) (block_of g addr) ≡ true → finds_front (fold after_event (empty h) es) (block_of h addr) ≡ true
+    → is_front_of (fold after_event (empty g) es) (block_of g addr) ≡ true → is_front_of (fold after_event (empty h) es) (block_of h addr) ≡ true
 front_refined g h es addr one other refined front = grind (arith, geometry_after, leads_after)
 
 -- The same in the words of the definitions: a distance of 0 is one of 0 in a geometry that refines it.
@@ -285,13 +285,13 @@ module _ (g : GeometryValue) (es : List Event) (r : Ref) (is : IsGeometry g) whe
       (subst (λ h. list_of state k ≡ take h.e (distinct_of_set h k (window h es))) same
       (stands.lists k (subst (λ h. k < 2 ^ h.s) (sym same) (mod_below at.block (2 ^ g.s) (pow_pos g.s)))))
 
-  front_there : finds_front state at.block ≡ is_front at.block (list_of state (set_of_block g at.block))
+  front_there : is_front_of state at.block ≡ is_front at.block (list_of state (set_of_block g at.block))
   front_there = ap (λ h. is_front at.block (list_of state (set_of_block h at.block))) (geometry_after es (empty g))
 
-  front_from : has_last at ≡ true → distance g at ≡ 0 → finds_front state at.block ≡ true
+  front_from : has_last at ≡ true → distance g at ≡ 0 → is_front_of state at.block ≡ true
   front_from last near = grind (arith, finds_there, ltb-true, front_there, front_of_found, lt-ltb)
 
-  near_from : finds_front state at.block ≡ true → (has_last at ≡ true) × (distance g at ≡ 0)
+  near_from : is_front_of state at.block ≡ true → (has_last at ≡ true) × (distance g at ≡ 0)
   near_from front = grind (arith, finds_there, found_front, front_there, ltb-true, lt-ltb)
 
 pub near_refined : (g h : GeometryValue) (es : List Event) (r : Ref) → IsGeometry g → IsGeometry h → is_refined g h ≡ true

@@ -8,35 +8,35 @@ use Rattle.std.proofs.lemmas.Bool.{ltb-true, ltb-false, ne_eqb, eqb-true, false�
 use Rattle.std.proofs.lemmas.List.{take_all, take_at, length-take-le, take_more, nil_from_length, get_or_read, length-replicate, length-map, get_or_past, drop_all, take-append-drop, append_assoc}
 use Rattle.std.proofs.lemmas.List.Edits.{remove-append_left, remove-append_right}
 use Rattle.std.proofs.lemmas.List.Sums.{sum_by-cons, prefix_len-le-length}
-use Rattle.deep_list.specs.Deep.{Deep, IsOnce, exchanged}
+use Rattle.deep_list.specs.Deep.{Deep, IsOnce, list_after_exchange}
 use Rattle.profile_core.specs.Moves.{index_of, is_in, is_front, is_second, move_to_front, touch_of}
 use Rattle.profile_core.specs.declared.recency.Touch.TheVariants.{Behind, New}
 use Rattle.profile_core.specs.declared.recency.Touch.{Touch}
 use Rattle.profile_core.specs.declared.stacks.InRow.TheVariants.{Settled, Full}
-use Rattle.profile_core.specs.Slab.{Lists, brought}
+use Rattle.profile_core.specs.Slab.{Lists, lists_after_touch}
 use Rattle.profile_core.proofs.Shifting.{length-remove}
-use Rattle.profile_core.specs.Stacks.{joined, nothing, rest_of, in_row_of, rest_touch_of, emptied, IsStacked}
+use Rattle.profile_core.specs.Stacks.{whole_lists, nothing, rest_of, in_row_of, rest_touch_of, empty_deep, IsStacked}
 
 -- the list of set k
-pub joined_at : (near : List (List ℕ)) (far : List Deep) (k : ℕ) → k < length near → get_or (joined near far) k [] ≡ get_or near k [] ++ rest_of far k
+pub joined_at : (near : List (List ℕ)) (far : List Deep) (k : ℕ) → k < length near → get_or (whole_lists near far) k [] ≡ get_or near k [] ++ rest_of far k
 joined_at [] far k lt = absurd (omega arith)
 joined_at (xs ∷ near) [] k lt = sym (append-nil (get_or (xs ∷ near) k []))
 joined_at (xs ∷ near) (d ∷ far) zero lt = refl
 joined_at (xs ∷ near) (d ∷ far) (suc k) lt = joined_at near far k (omega arith)
 
-pub length-joined : (near : List (List ℕ)) (far : List Deep) → length (joined near far) ≡ length near
+pub length-joined : (near : List (List ℕ)) (far : List Deep) → length (whole_lists near far) ≡ length near
 length-joined [] far = refl
 length-joined (xs ∷ near) [] = refl
 length-joined (xs ∷ near) (d ∷ far) = ap suc (length-joined near far)
 
-pub joined_none : (near : List (List ℕ)) (far : List Deep) → length far ≡ 0 → joined near far ≡ near
+pub joined_none : (near : List (List ℕ)) (far : List Deep) → length far ≡ 0 → whole_lists near far ≡ near
 joined_none [] far none = refl
 joined_none (xs ∷ near) [] none = refl
 joined_none (xs ∷ near) (d ∷ far) none = absurd (omega (arith, none))
 
 -- the first blocks of a list changed, and those behind them too
 pub joined-set_near : (near : List (List ℕ)) (far : List Deep) (k : ℕ) (xs : List ℕ) → k < length near
-    → joined (set near k xs) far ≡ set (joined near far) k (xs ++ rest_of far k)
+    → whole_lists (set near k xs) far ≡ set (whole_lists near far) k (xs ++ rest_of far k)
 joined-set_near [] far k xs lt = absurd (omega arith)
 joined-set_near (ys ∷ near) [] zero xs lt = ap (λ zs. zs ∷ near) (sym (append-nil xs))
 joined-set_near (ys ∷ near) [] (suc k) xs lt = ap (λ zs. ys ∷ set near k zs) (sym (append-nil xs))
@@ -44,7 +44,7 @@ joined-set_near (ys ∷ near) (d ∷ far) zero xs lt = refl
 joined-set_near (ys ∷ near) (d ∷ far) (suc k) xs lt = ap (λ ls. (ys ++ d.blocks) ∷ ls) (joined-set_near near far k xs (omega arith))
 
 pub joined-set_both : (near : List (List ℕ)) (far : List Deep) (k : ℕ) (xs : List ℕ) (d : Deep) → k < length near → k < length far
-    → joined (set near k xs) (set far k d) ≡ set (joined near far) k (xs ++ d.blocks)
+    → whole_lists (set near k xs) (set far k d) ≡ set (whole_lists near far) k (xs ++ d.blocks)
 joined-set_both [] far k xs d lt within = absurd (omega arith)
 joined-set_both (ys ∷ near) [] k xs d lt within = absurd (omega (arith, within))
 joined-set_both (ys ∷ near) (e ∷ far) zero xs d lt within = refl
@@ -248,13 +248,13 @@ module _ {near : Lists} {beyond : ℕ} {far : List Deep} (s : IsStacked near bey
   rest_two : (k : ℕ) → length (row_of k) < 2 → rest_of far k ≡ []
   rest_two k short = none_of (rest_of far k) (λ some. absurd (omega (arith, s.full k some, two_of k some, short)))
 
-  pub whole_at : (k : ℕ) → k < length near.lists → get_or (joined near.lists far) k [] ≡ row_of k ++ rest_of far k
+  pub whole_at : (k : ℕ) → k < length near.lists → get_or (whole_lists near.lists far) k [] ≡ row_of k ++ rest_of far k
   whole_at k lt = joined_at near.lists far k lt
 
-  pub front_is : (x k : ℕ) → k < length near.lists → is_front x (row_of k) ≡ is_front x (get_or (joined near.lists far) k [])
+  pub front_is : (x k : ℕ) → k < length near.lists → is_front x (row_of k) ≡ is_front x (get_or (whole_lists near.lists far) k [])
   front_is x k lt = front-append x (row_of k) (rest_of far k) (rest_two k) ∙ ap (is_front x) (sym (whole_at k lt))
 
-  pub second_is : (x k : ℕ) → k < length near.lists → is_second x (row_of k) ≡ is_second x (get_or (joined near.lists far) k [])
+  pub second_is : (x k : ℕ) → k < length near.lists → is_second x (row_of k) ≡ is_second x (get_or (whole_lists near.lists far) k [])
   second_is x k lt = second-append x (row_of k) (rest_of far k) (rest_two k) ∙ ap (is_second x) (sym (whole_at k lt))
 
   -- the list of set k written anew
@@ -345,7 +345,7 @@ module _ {near : Lists} {beyond : ℕ} {far : List Deep} (s : IsStacked near bey
           | inr new ↦ absurd (some (rest_nothing new.0))
         ]
 
-    pub stays_stacked : StaysIn → (near' : Lists) → near' ≡ brought near k x → IsStacked near' beyond far
+    pub stays_stacked : StaysIn → (near' : Lists) → near' ≡ lists_after_touch near k x → IsStacked near' beyond far
     stays_stacked h near' is =
         let P : Lists → Type 0 = λ v. IsStacked v beyond far in
         let L : List ℕ → Type 0 = IsOnce in
@@ -354,11 +354,11 @@ module _ {near : Lists} {beyond : ℕ} {far : List Deep} (s : IsStacked near bey
         (s.rest_short k) (after_long h)
         (subst L (stays_moved h) (once_moved x (near.depth + beyond) (row_of k ++ rest_of far k) (s.once k))))
 
-    pub stays_lists : StaysIn → (near' : Lists) → near' ≡ brought near k x → joined near'.lists far
-        ≡ set (joined near.lists far) k (take (near.depth + beyond) (move_to_front x (get_or (joined near.lists far) k [])))
+    pub stays_lists : StaysIn → (near' : Lists) → near' ≡ lists_after_touch near k x → whole_lists near'.lists far
+        ≡ set (whole_lists near.lists far) k (take (near.depth + beyond) (move_to_front x (get_or (whole_lists near.lists far) k [])))
     stays_lists h near' is =
-        ap (λ v. joined v.lists far) is ∙ joined-set_near near.lists far k after lt
-        ∙ ap (set (joined near.lists far) k)
+        ap (λ v. whole_lists v.lists far) is ∙ joined-set_near near.lists far k after lt
+        ∙ ap (set (whole_lists near.lists far) k)
         (sym (stays_moved h) ∙ ap (λ zs. take (near.depth + beyond) (move_to_front x zs)) (sym (whole_at k lt)))
 
 pub second_in : (x : ℕ) (xs : List ℕ) → is_second x xs ≡ true → is_in x xs ≡ true
@@ -384,7 +384,7 @@ full_at false false t' h l held last e = (refl, refl, cc, cc)
 
 -- a row that tells where the block stands
 module _ {near : Lists} {beyond : ℕ} {far : List Deep} (s : IsStacked near beyond far) (x k : ℕ) (lt : k < length near.lists) where
-  pub stays_touch : StaysIn s x k lt → touch_of x (row_of s k) ≡ touch_of x (get_or (joined near.lists far) k [])
+  pub stays_touch : StaysIn s x k lt → touch_of x (row_of s k) ≡ touch_of x (get_or (whole_lists near.lists far) k [])
   stays_touch h =
       elim h [
         | inl inside ↦ near_touch near.depth beyond x (row_of s k) (rest_of far k) inside (s.short k) (s.rest_short k)
@@ -397,7 +397,7 @@ module _ {near : Lists} {beyond : ℕ} {far : List Deep} (s : IsStacked near bey
       let at = settled_at (is_in x (row_of s k)) (ltb (length (row_of s k)) near.depth) t (touch_of x (row_of s k)) (length (row_of s k)) (get_or (row_of s k) (near.depth - 1) 0) e in
       elim at.0 [ inl inside ↦ inl inside | inr new ↦ inr (inl (ltb-true (length (row_of s k)) near.depth new.0), new.1) ]
 
-  pub settled_touch : (t : Touch) → Settled t ≡ in_row_of near.depth x (row_of s k) → t ≡ touch_of x (get_or (joined near.lists far) k [])
+  pub settled_touch : (t : Touch) → Settled t ≡ in_row_of near.depth x (row_of s k) → t ≡ touch_of x (get_or (whole_lists near.lists far) k [])
   settled_touch t e =
       let at = settled_at (is_in x (row_of s k)) (ltb (length (row_of s k)) near.depth) t (touch_of x (row_of s k)) (length (row_of s k)) (get_or (row_of s k) (near.depth - 1) 0) e in
       at.1 ∙ stays_touch (settled_stays t e)
@@ -468,7 +468,7 @@ module _ {near : Lists} {beyond : ℕ} {far : List Deep} {x k held last : ℕ} (
       length-take-le near.depth (move_to_front x row)
       (omega (arith, ap length (remove_past row (index_of x row) (index_absent x row f.absent)), f.full))
 
-  pub full_touch : rest_touch_of held x rest ≡ touch_of x (get_or (joined near.lists far) k [])
+  pub full_touch : rest_touch_of held x rest ≡ touch_of x (get_or (whole_lists near.lists far) k [])
   full_touch =
       ap (λ n. rest_touch_of n x rest) f.held_is
       ∙ elim (is_or (is_in x rest)) [
@@ -479,14 +479,14 @@ module _ {near : Lists} {beyond : ℕ} {far : List Deep} {x k held last : ℕ} (
       ]
       ∙ ap (touch_of x) (sym (whole_at f.stacked k f.is_set))
 
-  module _ (d' : Deep) (put : d' ≡ exchanged (get_or far k nothing) x last) where
+  module _ (d' : Deep) (put : d' ≡ list_after_exchange (get_or far k nothing) x last) where
     cap_is : (get_or far k nothing).cap ≡ beyond
     cap_is = f.stacked.caps k within_far
 
     blocks_are : d'.blocks ≡ left
     blocks_are = ap (λ d. d.blocks) put ∙ ap (λ n. take n (last ∷ remove rest (index_of x rest))) cap_is
 
-    pub full_stacked : (near' : Lists) → near' ≡ brought near k x → IsStacked near' beyond (set far k d')
+    pub full_stacked : (near' : Lists) → near' ≡ lists_after_touch near k x → IsStacked near' beyond (set far k d')
     full_stacked near' is =
         let P : Lists → Type 0 = λ v. IsStacked v beyond (set far k d') in
         let L : List ℕ → Type 0 = IsOnce in
@@ -497,22 +497,22 @@ module _ {near : Lists} {beyond : ℕ} {far : List Deep} {x k held last : ℕ} (
         (λ within. ap (λ d. d.cap) same ∙ ap (λ d. d.cap) put ∙ cap_is) (omega (arith, row_long)) (length-take_le beyond (last ∷ remove rest (index_of x rest)))
         (λ some. row_long) (subst L moved (once_moved x (near.depth + beyond) (row ++ rest) (f.stacked.once k))))
 
-    pub full_lists : (near' : Lists) → near' ≡ brought near k x → joined near'.lists (set far k d')
-        ≡ set (joined near.lists far) k (take (near.depth + beyond) (move_to_front x (get_or (joined near.lists far) k [])))
+    pub full_lists : (near' : Lists) → near' ≡ lists_after_touch near k x → whole_lists near'.lists (set far k d')
+        ≡ set (whole_lists near.lists far) k (take (near.depth + beyond) (move_to_front x (get_or (whole_lists near.lists far) k [])))
     full_lists near' is =
-        ap (λ v. joined v.lists (set far k d')) is ∙ joined-set_both near.lists far k (take near.depth (move_to_front x row)) d' f.is_set within_far
-        ∙ ap (λ zs. set (joined near.lists far) k (take near.depth (move_to_front x row) ++ zs)) blocks_are
-        ∙ ap (set (joined near.lists far) k)
+        ap (λ v. whole_lists v.lists (set far k d')) is ∙ joined-set_both near.lists far k (take near.depth (move_to_front x row)) d' f.is_set within_far
+        ∙ ap (λ zs. set (whole_lists near.lists far) k (take near.depth (move_to_front x row) ++ zs)) blocks_are
+        ∙ ap (set (whole_lists near.lists far) k)
         (sym moved ∙ ap (λ zs. take (near.depth + beyond) (move_to_front x zs)) (sym (whole_at f.stacked k f.is_set)))
 
 -- whether blocks may stand behind rows, by the depth
 pub none_beyond : {near : Lists} {beyond : ℕ} {far : List Deep} (s : IsStacked near beyond far) (v : Lists)
-    → record { depth = near.depth + beyond; lists = joined near.lists far } ≡ v → v.depth < 256 → beyond ≡ 0
+    → record { depth = near.depth + beyond; lists = whole_lists near.lists far } ≡ v → v.depth < 256 → beyond ≡ 0
 none_beyond {near} {beyond} {far} s v is le =
     elim s.sets [ inl none ↦ none.0 | inr all ↦ absurd (omega (arith, s.deep all.0, ap (λ w. w.depth) is, le)) ]
 
 pub some_beyond : {near : Lists} {beyond : ℕ} {far : List Deep} (s : IsStacked near beyond far) (v : Lists)
-    → record { depth = near.depth + beyond; lists = joined near.lists far } ≡ v → 256 ≤ v.depth → (beyond ≡ 0 → ⊥)
+    → record { depth = near.depth + beyond; lists = whole_lists near.lists far } ≡ v → 256 ≤ v.depth → (beyond ≡ 0 → ⊥)
 some_beyond s v is lt none = omega (arith, s.shallow none, ap (λ w. w.depth) is, lt, none)
 
 pub two_near : {near : Lists} {beyond : ℕ} {far : List Deep} (s : IsStacked near beyond far) → (beyond ≡ 0 → ⊥) → 2 ≤ near.depth
@@ -529,11 +529,11 @@ nils zero k = refl
 nils (suc n) zero = refl
 nils (suc n) (suc k) = nils n k
 
-pub joined_empty : (n : ℕ) (far : List Deep) → ((k : ℕ) → rest_of far k ≡ []) → joined (replicate n []) far ≡ replicate n []
+pub joined_empty : (n : ℕ) (far : List Deep) → ((k : ℕ) → rest_of far k ≡ []) → whole_lists (replicate n []) far ≡ replicate n []
 joined_empty zero far none = refl
 joined_empty (suc n) [] none = refl
 joined_empty (suc n) (d ∷ far) none =
-    ap (λ ys. ys ∷ joined (replicate n []) far) (none 0) ∙ ap (λ ls. [] ∷ ls) (joined_empty n far (λ k. none (suc k)))
+    ap (λ ys. ys ∷ whole_lists (replicate n []) far) (none 0) ∙ ap (λ ls. [] ∷ ls) (joined_empty n far (λ k. none (suc k)))
 
 pub stacked_none : (near : Lists) (beyond n : ℕ) (far : List Deep) → near.lists ≡ replicate n [] → ((k : ℕ) → rest_of far k ≡ [])
     → ((k : ℕ) → k < length far → (get_or far k nothing).cap ≡ beyond)
@@ -557,21 +557,21 @@ stacked_none near beyond n far none rest caps sets small all_small shallow deep 
     }
 
 -- emptied
-emptied_at : (far : List Deep) (k : ℕ) → get_or (map emptied far) k nothing ≡ emptied (get_or far k nothing)
+emptied_at : (far : List Deep) (k : ℕ) → get_or (map empty_deep far) k nothing ≡ empty_deep (get_or far k nothing)
 emptied_at [] k = refl
 emptied_at (d ∷ far) zero = refl
 emptied_at (d ∷ far) (suc k) = emptied_at far k
 
-pub emptied_rest : (far : List Deep) (k : ℕ) → rest_of (map emptied far) k ≡ []
+pub emptied_rest : (far : List Deep) (k : ℕ) → rest_of (map empty_deep far) k ≡ []
 emptied_rest far k = ap (λ d. d.blocks) (emptied_at far k)
 
 pub stacked_cleared : {near : Lists} {beyond : ℕ} {far : List Deep} → IsStacked near beyond far → (near' : Lists) (far' : List Deep)
-    → near' ≡ record { depth = near.depth; lists = replicate (length near.lists) [] } → far' ≡ map emptied far → IsStacked near' beyond far'
+    → near' ≡ record { depth = near.depth; lists = replicate (length near.lists) [] } → far' ≡ map empty_deep far → IsStacked near' beyond far'
 stacked_cleared {near} {beyond} {far} s near' far' is far_is =
     let lists : near'.lists ≡ replicate (length near.lists) [] = ap (λ v. v.lists) is in
     let depth : near'.depth ≡ near.depth = ap (λ v. v.depth) is in
     let count : length near'.lists ≡ length near.lists = ap length lists ∙ length-replicate (length near.lists) [] in
-    let long : length far' ≡ length far = ap length far_is ∙ length-map far emptied in
+    let long : length far' ≡ length far = ap length far_is ∙ length-map far empty_deep in
     let M : ℕ → Type 0 = λ n. n * (near'.depth + beyond) ≤ 2 ^ 22 in
     let N : ℕ → Type 0 = λ n. length near.lists * (n + beyond) ≤ 2 ^ 22 in
     stacked_none near' beyond (length near.lists) far' lists (λ k. ap (λ ds. rest_of ds k) far_is ∙ emptied_rest far k)
@@ -584,21 +584,21 @@ stacked_cleared {near} {beyond} {far} s near' far' is far_is =
     (λ some. omega (arith, s.deep some, depth))
 
 pub cleared_lists : (near near' : Lists) (far far' : List Deep) → near' ≡ record { depth = near.depth; lists = replicate (length near.lists) [] }
-    → far' ≡ map emptied far → joined near'.lists far' ≡ replicate (length (joined near.lists far)) []
+    → far' ≡ map empty_deep far → whole_lists near'.lists far' ≡ replicate (length (whole_lists near.lists far)) []
 cleared_lists near near' far far' is far_is =
-    ap (λ v. joined v.lists far') is ∙ ap (joined (replicate (length near.lists) [])) far_is
-    ∙ joined_empty (length near.lists) (map emptied far) (emptied_rest far) ∙ ap (λ n. replicate n []) (sym (length-joined near.lists far))
+    ap (λ v. whole_lists v.lists far') is ∙ ap (whole_lists (replicate (length near.lists) [])) far_is
+    ∙ joined_empty (length near.lists) (map empty_deep far) (emptied_rest far) ∙ ap (λ n. replicate n []) (sym (length-joined near.lists far))
 
 -- how many blocks stand in all lists
 pub sum-joined : (near : List (List ℕ)) (far : List Deep) → length far ≤ length near
-    → sum_by length (joined near far) ≡ sum_by length near + sum_by (λ (d : Deep). length d.blocks) far
+    → sum_by length (whole_lists near far) ≡ sum_by length near + sum_by (λ (d : Deep). length d.blocks) far
 sum-joined [] [] le = refl
 sum-joined [] (d ∷ far) le = absurd (omega (arith, le))
 sum-joined (xs ∷ near) [] le = omega arith
 sum-joined (xs ∷ near) (d ∷ far) le =
     omega (
       arith,
-      sum_by-cons length (xs ++ d.blocks) (joined near far),
+      sum_by-cons length (xs ++ d.blocks) (whole_lists near far),
       sum_by-cons length xs near,
       sum_by-cons (λ (e : Deep). length e.blocks) d far,
       length-append xs d.blocks,
@@ -648,7 +648,7 @@ stacked_new near sets beyond far is far_is filled small deep =
     (λ none. absurd (omega (arith, none, deep))) (λ some. omega (arith, deep, depth))
 
 pub new_lists : (near : Lists) (sets beyond : ℕ) (far : List Deep) → near ≡ record { depth = 64; lists = replicate sets [] }
-    → far ≡ replicate sets (record { cap = beyond; blocks = [] }) → joined near.lists far ≡ replicate sets []
+    → far ≡ replicate sets (record { cap = beyond; blocks = [] }) → whole_lists near.lists far ≡ replicate sets []
 new_lists near sets beyond far is far_is =
-    ap (λ v. joined v.lists far) is ∙ ap (joined (replicate sets [])) far_is
+    ap (λ v. whole_lists v.lists far) is ∙ ap (whole_lists (replicate sets [])) far_is
     ∙ joined_empty sets (replicate sets (record { cap = beyond; blocks = [] })) (empty_rest sets beyond)

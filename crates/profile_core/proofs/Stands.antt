@@ -15,7 +15,7 @@ use Rattle.cache_core.specs.Geometry.{GeometryValue, IsGeometry, block_of, set_o
 use Rattle.cache_core.specs.LruLaws.{occurrence_after}
 use Rattle.cache_core.specs.Windows.{Occurrence, distinct_of_set, has_last, distance, blocks_seen, is_hit, window, occurrences, occurrences_after, probes}
 use Rattle.profile_core.specs.Moves.{index_of, is_in, move_to_front}
-use Rattle.profile_core.specs.State.{ProfileState, empty, list_of, raise, referenced_in, after_reference, after_flush}
+use Rattle.profile_core.specs.State.{ProfileState, empty, list_of, one_more_at, referenced_in, after_reference, after_flush}
 use Rattle.profile_core.specs.ProfileStandsFor.{ProfileStandsFor}
 use Rattle.profile_core.proofs.Steps.{raise_if, raise_unless, Finds, finds, distance_within, probes_within}
 
@@ -45,7 +45,7 @@ lists_step es v r xs h e k lt =
     ∙ h.lists k lt ∙ ap (λ ys. take v.geometry.e ys) (sym (distinct_of_set-other g k x w (ne_eqb (set_of_block g x) k differs))) ∙ grown)
     (cases_eq (set_of_block g x) k)
 
-length-raise : (ns : List ℕ) (i : ℕ) → length (raise ns i) ≡ length ns
+length-raise : (ns : List ℕ) (i : ℕ) → length (one_more_at ns i) ≡ length ns
 length-raise ns i = length-set ns i _
 
 length-either : (b : Bool) (xs ys : List ℕ) {n : ℕ} → length xs ≡ n → length ys ≡ n → length (cond b xs ys) ≡ n
@@ -66,7 +66,7 @@ referenced_in_stands es v r xs h e =
       set_count = length-set v.lists _ _ ∙ h.set_count;
       lists = lists_step es v r xs h e;
       distance_count =
-          length-either (is_in x xs) (raise v.distances (index_of x xs)) v.distances (length-raise v.distances (index_of x xs)) refl ∙ h.distance_count;
+          length-either (is_in x xs) (one_more_at v.distances (index_of x xs)) v.distances (length-raise v.distances (index_of x xs)) refl ∙ h.distance_count;
       distances = λ d lt.
           let step : (is_in x xs && eqb (index_of x xs) d) ≡ (has_last p && eqb (distance g p) d) =
           cc (distance_within (distance g p) (blocks_seen g p) v.geometry.e d lt, f.last, f.found, f.index) in
@@ -78,7 +78,7 @@ referenced_in_stands es v r xs h e =
           ∙ ap (λ b. count_by (λ q. has_last q && eqb (distance g q) d) (occurrences v.geometry es) + cond b 1 0) step
           ∙ sym (sum_by-reference (λ q. cond (has_last q && eqb (distance g q) d) 1 0) g es r);
       occupancy_count =
-          length-either (is_in x xs) v.misses_by_occupancy (raise v.misses_by_occupancy (length xs)) refl (length-raise v.misses_by_occupancy (length xs))
+          length-either (is_in x xs) v.misses_by_occupancy (one_more_at v.misses_by_occupancy (length xs)) refl (length-raise v.misses_by_occupancy (length xs))
           ∙ h.occupancy_count;
       misses_by_occupancy = λ n le.
           let same : min v.geometry.e (blocks_seen g p) ≡ min (blocks_seen g p) v.geometry.e = omega arith in

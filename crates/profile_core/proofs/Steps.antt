@@ -7,7 +7,7 @@ use Rattle.cache_core.proofs.Lists.{is, list_any_is, position_or_len-take}
 use Rattle.cache_core.proofs.Distances.{has_last_is, distance_is}
 use Rattle.cache_core.specs.Geometry.{GeometryValue, set_of_block}
 use Rattle.cache_core.specs.Windows.{Occurrence, distinct_of_set, has_last, distance, blocks_seen}
-use Rattle.profile_core.specs.State.{raise}
+use Rattle.profile_core.specs.State.{one_more_at}
 use Rattle.profile_core.specs.Moves.{index_of, is_in}
 
 -- a block at distance d in a list of n, seen through its first m
@@ -20,15 +20,15 @@ distance_within d n m i h = grind (arith, nat_tests)
 pub probes_within : (d n m : ℕ) → d ≤ n → cond (ltb d n && ltb d m) (d + 1) (min n m) ≡ min (min d m + 1) (min m n)
 probes_within d n m h = grind (arith, nat_tests)
 
-pub raise_at : (ns : List ℕ) (i d : ℕ) → i < length ns → get_or (raise ns i) d 0 ≡ get_or ns d 0 + cond (eqb i d) 1 0
+pub raise_at : (ns : List ℕ) (i d : ℕ) → i < length ns → get_or (one_more_at ns i) d 0 ≡ get_or ns d 0 + cond (eqb i d) 1 0
 raise_at ns i d h = grind (arith, nat_tests, get_or-set_same, get_or-set_other)
 
-pub raise_if : (b : Bool) (ns : List ℕ) (i d : ℕ) → (b ≡ true → i < length ns) → get_or (cond b (raise ns i) ns) d 0 ≡ get_or ns d 0 + cond (b && eqb i d) 1 0
+pub raise_if : (b : Bool) (ns : List ℕ) (i d : ℕ) → (b ≡ true → i < length ns) → get_or (cond b (one_more_at ns i) ns) d 0 ≡ get_or ns d 0 + cond (b && eqb i d) 1 0
 raise_if true ns i d h = raise_at ns i d (h refl)
 raise_if false ns i d h = omega arith
 
 pub raise_unless : (b : Bool) (ns : List ℕ) (i d : ℕ) → (b ≡ false → i < length ns)
-    → get_or (cond b ns (raise ns i)) d 0 ≡ get_or ns d 0 + cond (not b && eqb i d) 1 0
+    → get_or (cond b ns (one_more_at ns i)) d 0 ≡ get_or ns d 0 + cond (not b && eqb i d) 1 0
 raise_unless true ns i d h = omega arith
 raise_unless false ns i d h = raise_at ns i d (h refl)
 

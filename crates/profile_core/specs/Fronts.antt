@@ -6,20 +6,20 @@ use Rattle.profile_core.specs.Moves.{is_front}
 use Rattle.profile_core.specs.State.{ProfileState, list_of, fed_of, after_reference}
 
 -- whether a reference to block x finds it in front
-abbrev pub finds_front : ProfileState → ℕ → Bool
-finds_front v x = is_front x (list_of v (set_of_block v.geometry x))
+abbrev pub is_front_of : ProfileState → ℕ → Bool
+is_front_of v x = is_front x (list_of v (set_of_block v.geometry x))
 
 -- after a reference to a block, unless that is found in front
 abbrev pub after_unless_front : ProfileState → ℕ → ProfileState
-after_unless_front v x = if finds_front v x then v else after_reference v x
+after_unless_front v x = if is_front_of v x then v else after_reference v x
 
 -- after n references that found their block in front
 abbrev pub after_fronts : ℕ → ProfileState → ProfileState
 after_fronts n v = record v { distances = slice_set v.distances 0 (slice_index v.distances 0 + n); probes = v.probes + n }
 
 -- a profile that was fed all of n references but some that found their block in front, once these are counted
-abbrev pub caught_up : ℕ → ProfileState → ProfileState
-caught_up n v = after_fronts (n - fed_of v) v
+abbrev pub profile_with_fronts : ℕ → ProfileState → ProfileState
+profile_with_fronts n v = after_fronts (n - fed_of v) v
 
 -- whether each block that is in front in one profile is so in another that was fed the same
 abbrev pub is_refined : GeometryValue → GeometryValue → Bool
@@ -27,7 +27,7 @@ is_refined g h = g.b == h.b && nat_le g.s h.s || g.s == 0 && nat_le g.b h.b
 
 -- a front in one profile is a front in another
 abbrev pub Leads : ProfileState → ProfileState → Type 0
-Leads v w = (addr : ℕ) → finds_front v (block_of v.geometry addr) ≡ true → finds_front w (block_of w.geometry addr) ≡ true
+Leads v w = (addr : ℕ) → is_front_of v (block_of v.geometry addr) ≡ true → is_front_of w (block_of w.geometry addr) ≡ true
 
 -- the lengths of what a profile holds
 pub record IsFit (v : ProfileState) : Type 0 where

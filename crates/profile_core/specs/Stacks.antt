@@ -9,10 +9,10 @@ use Rattle.profile_core.specs.Moves.{index_of, is_in, touch_of}
 use Rattle.profile_core.specs.Slab.{Lists}
 
 -- each list and what stands behind it
-abbrev pub joined : List (List ℕ) → List Deep → List (List ℕ)
-joined [] far = []
-joined (xs ∷ near) [] = xs ∷ near
-joined (xs ∷ near) (d ∷ far) = (xs ++ d.blocks) ∷ joined near far
+abbrev pub whole_lists : List (List ℕ) → List Deep → List (List ℕ)
+whole_lists [] far = []
+whole_lists (xs ∷ near) [] = xs ∷ near
+whole_lists (xs ∷ near) (d ∷ far) = (xs ++ d.blocks) ∷ whole_lists near far
 
 -- no list
 abbrev pub nothing : Deep
@@ -23,8 +23,8 @@ abbrev pub rest_of : List Deep → ℕ → List ℕ
 rest_of far k = (slice_index_or far k nothing).blocks
 
 -- without its blocks
-abbrev pub emptied : Deep → Deep
-emptied d = record d { blocks = [] }
+abbrev pub empty_deep : Deep → Deep
+empty_deep d = record d { blocks = [] }
 
 -- where a block stands that is not among the first n blocks, and ys are the others
 abbrev pub rest_touch_of : ℕ → ℕ → List ℕ → Touch

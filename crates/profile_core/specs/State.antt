@@ -32,15 +32,15 @@ abbrev pub list_of : ProfileState → ℕ → List ℕ
 list_of v k = slice_index_or v.lists k []
 
 -- one more at an index
-abbrev pub raise : List ℕ → ℕ → List ℕ
-raise ns i = slice_set ns i (slice_index ns i + 1)
+abbrev pub one_more_at : List ℕ → ℕ → List ℕ
+one_more_at ns i = slice_set ns i (slice_index ns i + 1)
 
 -- after a reference to block x, whose set has the list xs
 abbrev pub referenced_in : ProfileState → ℕ → List ℕ → ProfileState
 referenced_in v x xs = record v {
   lists = slice_set v.lists (set_of_block v.geometry x) (take v.geometry.e (move_to_front x xs));
-  distances = if is_in x xs then raise v.distances (index_of x xs) else v.distances;
-  misses_by_occupancy = if is_in x xs then v.misses_by_occupancy else raise v.misses_by_occupancy (length xs);
+  distances = if is_in x xs then one_more_at v.distances (index_of x xs) else v.distances;
+  misses_by_occupancy = if is_in x xs then v.misses_by_occupancy else one_more_at v.misses_by_occupancy (length xs);
   probes = v.probes + min (index_of x xs + 1) (length xs);
 }
 

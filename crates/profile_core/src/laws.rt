@@ -11,7 +11,7 @@ ghost use Rattle.cache_core.specs.Windows.{occurrences, counts, probes, has_last
 ghost use Rattle.cache_core.specs.LruLaws.{occurrence_after};
 ghost use Rattle.profile_core.specs.State.{ProfileState, empty, after_reference, after_flush};
 ghost use Rattle.profile_core.specs.State.{after_event, fed_of, counts_at};
-ghost use Rattle.profile_core.specs.Fronts.{finds_front, is_refined};
+ghost use Rattle.profile_core.specs.Fronts.{is_front_of, is_refined};
 ghost use Rattle.profile_core.specs.ProfileStandsFor.{ProfileStandsFor};
 
 /// A new profile stands for no events; a reference fed is a reference added, and a flush a flush
@@ -40,8 +40,8 @@ pub fn stands_after()
 pub fn fronts_are_refined()
     ensures { (g h : GeometryValue) (es : List Event) (addr : ℕ) → IsGeometry g → IsGeometry h
         → is_refined g h ≡ true
-        → finds_front (fold after_event (empty g) es) (block_of g addr) ≡ true
-        → finds_front (fold after_event (empty h) es) (block_of h addr) ≡ true }
+        → is_front_of (fold after_event (empty g) es) (block_of g addr) ≡ true
+        → is_front_of (fold after_event (empty h) es) (block_of h addr) ≡ true }
 {}
 
 /// The same in the words of the definitions: if a reference's distance is 0, it is so in each

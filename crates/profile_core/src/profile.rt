@@ -6,7 +6,7 @@ ghost use Rattle.cache_core.specs.Geometry.{IsGeometry, geometry_value, block_of
 ghost use Rattle.cache_core.specs.Windows.{occurrences, counts, probes, held};
 ghost use Rattle.profile_core.specs.State.{empty, list_of, after_reference, after_flush, fed_of};
 ghost use Rattle.profile_core.specs.State.{held_of, counts_at, hit_sums_at, weighed, IsNext};
-ghost use Rattle.profile_core.specs.Fronts.{finds_front, after_unless_front, after_fronts};
+ghost use Rattle.profile_core.specs.Fronts.{is_front_of, after_unless_front, after_fronts};
 ghost use Rattle.profile_core.specs.Fronts.{is_refined};
 ghost use Rattle.profile_core.specs.Moves.{is_second};
 ghost use Rattle.profile_core.specs.ProfileStandsFor.{ProfileStandsFor};
@@ -122,7 +122,7 @@ impl Profile {
     pub fn feed_unless_front(&mut self, addr: u64, past_first: bool) -> bool
         requires few { fed_of self.old < MAX_REFERENCES }
         requires known { past_first ≡ true → 2 ^ 20 ≤ addr }
-        ensures front { result ≡ finds_front self.old (block_of self.old.geometry addr) }
+        ensures front { result ≡ is_front_of self.old (block_of self.old.geometry addr) }
         ensures step { self.new ≡ after_unless_front self.old (block_of self.old.geometry addr) }
     {
         let block = self.geometry.block_of(addr);
@@ -135,7 +135,7 @@ impl Profile {
     fn feed_block_unless_front(&mut self, block: u64, past_first: bool) -> bool
         requires few { fed_of self.old < MAX_REFERENCES }
         requires known { past_first ≡ true → 1 ≤ block }
-        ensures front { result ≡ finds_front self.old block }
+        ensures front { result ≡ is_front_of self.old block }
         ensures step { self.new ≡ after_unless_front self.old block }
     {
         let set = self.geometry.set_of_block(block) as usize;

@@ -7,7 +7,7 @@ ghost use Rattle.std.specs.Prelude.{sum_by, replicate, IfOk, slice_index_or};
 ghost use Rattle.std.specs.List.{remove};
 ghost use Rattle.cache_core.specs.Touched.{Covers, ListsFilled};
 ghost use Rattle.profile_core.specs.Moves.{index_of, is_front, is_second, touch_of, shifted_of};
-ghost use Rattle.profile_core.specs.Slab.{brought, IsRow, IsBroughtInRow};
+ghost use Rattle.profile_core.specs.Slab.{lists_after_touch, IsRow, IsBroughtInRow};
 
 use cache_core::touched::TouchedSets;
 use std::alloc::{AllocError, Global};
@@ -105,7 +105,7 @@ impl RecencyLists {
         requires within { set < length self.old.lists }
         requires behind { is_front block (slice_index_or self.old.lists set []) ≡ false }
         requires second { is_second block (slice_index_or self.old.lists set []) ≡ true }
-        ensures { self.new ≡ brought self.old set block }
+        ensures { self.new ≡ lists_after_touch self.old set block }
     {
         let second = mem::replace(&mut self.fronts[set], block);
         self.slab[set * self.stride] = second;
@@ -119,7 +119,7 @@ impl RecencyLists {
         requires behind { is_front block (slice_index_or self.old.lists set []) ≡ false }
         requires further { is_second block (slice_index_or self.old.lists set []) ≡ false }
         ensures found { result ≡ touch_of block (slice_index_or self.old.lists set []) }
-        ensures moved { self.new ≡ brought self.old set block }
+        ensures moved { self.new ≡ lists_after_touch self.old set block }
     {
         if self.lens[set] == 0 {
             self.begin(set, block);
@@ -140,7 +140,7 @@ impl RecencyLists {
     fn begin(&mut self, set: usize, block: u64)
         requires within { set < length self.old.lists }
         requires empty { slice_index_or self.old.lists set [] ≡ [] }
-        ensures { self.new ≡ brought self.old set block }
+        ensures { self.new ≡ lists_after_touch self.old set block }
     {
         self.fronts[set] = block;
         self.lens[set] = 1;

@@ -2,10 +2,10 @@
 //! behind them, if lists may be long, in a list that is not walked.
 ghost use Rattle.std.specs.Prelude.{◌≡◌, ◌*◌, ◌^◌, ◌<◌, ◌≤◌, [], ◌∷◌, true, false, length, replicate, sum_by, map};
 ghost use Rattle.std.specs.Prelude.{IfOk, IsTrue, ◌↔◌, slice_index_or};
-ghost use Rattle.deep_list.specs.Deep.{exchanged};
+ghost use Rattle.deep_list.specs.Deep.{list_after_exchange};
 ghost use Rattle.profile_core.specs.Moves.{is_in, is_front, is_second, touch_of};
-ghost use Rattle.profile_core.specs.Stacks.{rest_touch_of, in_row_of, emptied};
-ghost use Rattle.profile_core.specs.Slab.{brought};
+ghost use Rattle.profile_core.specs.Stacks.{rest_touch_of, in_row_of, empty_deep};
+ghost use Rattle.profile_core.specs.Slab.{lists_after_touch};
 
 use crate::recency::{RecencyLists, Touch};
 use deep_list::DeepList;
@@ -39,11 +39,11 @@ pub struct Stacks {
 impl Model for Stacks {
     ghost use Rattle.std.specs.Prelude.{◌+◌};
     ghost use Rattle.profile_core.specs.Slab.{Lists};
-    ghost use Rattle.profile_core.specs.Stacks.{joined, IsStacked};
+    ghost use Rattle.profile_core.specs.Stacks.{whole_lists, IsStacked};
 
     ghost Value = { Lists };
 
-    ghost view = { λ s. record { depth = s.near.depth + s.beyond; lists = joined s.near.lists s.far.items } };
+    ghost view = { λ s. record { depth = s.near.depth + s.beyond; lists = whole_lists s.near.lists s.far.items } };
 
     ghost invariant = { λ s. IsStacked s.near s.beyond s.far.items };
 }
@@ -104,7 +104,7 @@ impl Stacks {
         requires within { set < length self.old.lists }
         requires behind { is_front block (slice_index_or self.old.lists set []) ≡ false }
         requires second { is_second block (slice_index_or self.old.lists set []) ≡ true }
-        ensures { self.new ≡ brought self.old set block }
+        ensures { self.new ≡ lists_after_touch self.old set block }
     {
         self.near.bring_second(set, block);
     }
@@ -118,7 +118,7 @@ impl Stacks {
         requires behind { is_front block (slice_index_or self.old.lists set []) ≡ false }
         requires further { is_second block (slice_index_or self.old.lists set []) ≡ false }
         ensures found { result ≡ touch_of block (slice_index_or self.old.lists set []) }
-        ensures moved { self.new ≡ brought self.old set block }
+        ensures moved { self.new ≡ lists_after_touch self.old set block }
     {
         self.near.bring(set, block)
     }
@@ -131,7 +131,7 @@ impl Stacks {
         requires behind { is_front block (slice_index_or self.old.lists set []) ≡ false }
         requires further { is_second block (slice_index_or self.old.lists set []) ≡ false }
         ensures found { result ≡ touch_of block (slice_index_or self.old.lists set []) }
-        ensures moved { self.new ≡ brought self.old set block }
+        ensures moved { self.new ≡ lists_after_touch self.old set block }
     {
         match bring_near(&mut self.near, set, block) {
             InRow::Settled(touch) => touch,
@@ -158,7 +158,7 @@ impl Stacks {
 
 /// Empties lists.
 fn clear_all(far: &mut [DeepList])
-    ensures { far.new ≡ map emptied far.old }
+    ensures { far.new ≡ map empty_deep far.old }
 {
     for list in far.iter_mut() {
         list.clear();
@@ -185,7 +185,7 @@ fn bring_near(near: &mut RecencyLists, set: usize, block: u64) -> InRow
     requires behind { is_front block (slice_index_or near.old.lists set []) ≡ false }
     requires further { is_second block (slice_index_or near.old.lists set []) ≡ false }
     ensures found { result ≡ in_row_of near.old.depth block (slice_index_or near.old.lists set []) }
-    ensures moved { near.new ≡ brought near.old set block }
+    ensures moved { near.new ≡ lists_after_touch near.old set block }
 {
     let last = near.last_of_full(set);
     match near.bring(set, block) {
@@ -217,7 +217,7 @@ fn exchange(rest: &mut DeepList, held: usize, block: u64, last: u64) -> Touch
     requires few { held ≤ 2 ^ 22 }
     requires short { length rest.old.blocks ≤ 2 ^ 22 }
     ensures found { result ≡ rest_touch_of held block rest.old.blocks }
-    ensures moved { rest.new ≡ exchanged rest.old block last }
+    ensures moved { rest.new ≡ list_after_exchange rest.old block last }
 {
     let more = rest.len();
     match rest.exchange(block, last) {

@@ -11,17 +11,17 @@ use Rattle.trace_core.specs.declared.events.Ref.{Ref}
 use Rattle.trace_core.specs.declared.events.Event.{Event}
 use Rattle.trace_core.specs.declared.events.Event.TheVariants as event
 use Rattle.trace_core.specs.declared.events.Kind.{Kind}
-use Rattle.trace_core.specs.Events.{keeps}
+use Rattle.trace_core.specs.Events.{is_kept}
 use Rattle.cache_core.specs.Geometry.{GeometryValue, IsGeometry, block_of}
 use Rattle.cache_core.proofs.Lists.{cases}
 use Rattle.profile_core.specs.State.{ProfileState, empty, fed_of, after_event, after_reference}
-use Rattle.profile_core.specs.Fronts.{after_unless_front, after_fronts, caught_up, finds_front, is_refined, IsFit, Leads}
+use Rattle.profile_core.specs.Fronts.{after_unless_front, after_fronts, profile_with_fronts, is_front_of, is_refined, IsFit, Leads}
 use Rattle.profile_core.proofs.Fronts.{fronts_none, fit_of, fit_behind, leads_after, caught_more, fed_more as profile-fed_more}
 use Rattle.profile_core.proofs.Runs.{stands_after}
 use Rattle.sweep_core.specs.declared.profiles.PairProfile.{PairProfile}
 use Rattle.sweep_core.specs.declared.request.Request.{Request}
-use Rattle.sweep_core.specs.Pass.{pair_after_reference, pair_after_flush, all_after, kept_events, SweepStandsFor, WasFed}
-use Rattle.sweep_core.specs.Implied.{implied_by, linked, IsLinked, AreLed, IsFresh, pair_unless_front, pair_caught_up, all_caught_up, FedAtMost, AreBehind}
+use Rattle.sweep_core.specs.Pass.{pair_after_reference, pair_after_flush, profiles_after, kept_events, SweepStandsFor, WasFed}
+use Rattle.sweep_core.specs.Implied.{implied_by, linked, IsLinked, AreLed, IsFresh, pair_unless_front, pair_with_fronts, profiles_with_fronts, FedAtMost, AreBehind}
 use Rattle.sweep_core.specs.Work.{pair_of}
 use Rattle.sweep_core.specs.Runs.{rows_of_profile}
 use Rattle.sweep_core.specs.SweepText.{configs_of}
@@ -34,16 +34,16 @@ pub fresh-few : (xs : List PairProfile) → Each IsFresh xs → FedAtMost 0 xs
 fresh-few [] h = tt
 fresh-few (x ∷ xs) h = (omega (arith, ap fed_of h.0.is, empty-fed x.profile.geometry), fresh-few xs h.1)
 
-pub caught-none : (xs : List PairProfile) → all_caught_up 0 xs ≡ xs
+pub caught-none : (xs : List PairProfile) → profiles_with_fronts 0 xs ≡ xs
 caught-none [] = refl
 caught-none (x ∷ xs) =
-    ap (λ n. record x { profile = after_fronts n x.profile } ∷ all_caught_up 0 xs) {x = 0 - fed_of x.profile} {y = 0} (omega arith)
-    ∙ ap (λ v. record x { profile = v } ∷ all_caught_up 0 xs) (fronts_none x.profile) ∙ ap (λ l. x ∷ l) (caught-none xs)
+    ap (λ n. record x { profile = after_fronts n x.profile } ∷ profiles_with_fronts 0 xs) {x = 0 - fed_of x.profile} {y = 0} (omega arith)
+    ∙ ap (λ v. record x { profile = v } ∷ profiles_with_fronts 0 xs) (fronts_none x.profile) ∙ ap (λ l. x ∷ l) (caught-none xs)
 
 -- after some events what is in front in a profile is so in those that refine it
 led-each : (es : List Event) (x : PairProfile) (m : ℕ) (xs : List PairProfile) → IsFresh x → Each IsFresh xs
     → Each (λ y. is_refined x.profile.geometry y.profile.geometry ≡ true) (take m xs)
-    → Each (λ y. Leads (fold after_event x.profile es) y.profile) (take m (all_after es xs))
+    → Each (λ y. Leads (fold after_event x.profile es) y.profile) (take m (profiles_after es xs))
 led-each es x zero xs one others refined = tt
 led-each es x (suc m) [] one others refined = tt
 led-each es x (suc m) (y ∷ ys) one others refined =
@@ -55,12 +55,12 @@ led-each es x (suc m) (y ∷ ys) one others refined =
     subst (λ w. Leads (fold after_event x.profile es) (fold after_event w es)) {x = empty h} {y = y.profile} (sym others.0.is) this in
     (both, led-each es x m ys one others.1 refined.1)
 
-led-after : (es : List Event) (xs : List PairProfile) → Each IsFresh xs → IsLinked xs → AreLed (all_after es xs)
+led-after : (es : List Event) (xs : List PairProfile) → Each IsFresh xs → IsLinked xs → AreLed (profiles_after es xs)
 led-after es [] fresh links = tt
 led-after es (x ∷ xs) fresh links =
     (subst (λ (n : ℕ). x.implied ≤ n) (sym (length-map xs _)) links.0, led-each es x x.implied xs fresh.0 fresh.1 links.1, led-after es xs fresh.1 links.2)
 
-fit-after : (es : List Event) (xs : List PairProfile) → Each IsFresh xs → Each (λ x. IsFit x.profile) (all_after es xs)
+fit-after : (es : List Event) (xs : List PairProfile) → Each IsFresh xs → Each (λ x. IsFit x.profile) (profiles_after es xs)
 fit-after es [] fresh = tt
 fit-after es (x ∷ xs) fresh = (
   subst (λ v. IsFit (fold after_event v es)) {x = empty x.profile.geometry} {y = x.profile} (sym fresh.0.is)
@@ -69,22 +69,22 @@ fit-after es (x ∷ xs) fresh = (
 )
 
 -- the same of profiles that are still behind
-fit-behind : (n : ℕ) (xs : List PairProfile) → Each (λ x. IsFit x.profile) (all_caught_up n xs) → Each (λ x. IsFit x.profile) xs
+fit-behind : (n : ℕ) (xs : List PairProfile) → Each (λ x. IsFit x.profile) (profiles_with_fronts n xs) → Each (λ x. IsFit x.profile) xs
 fit-behind n [] h = tt
 fit-behind n (x ∷ xs) h = (fit_behind (n - fed_of x.profile) x.profile h.0, fit-behind n xs h.1)
 
-led-some : (n m : ℕ) (x : PairProfile) (xs : List PairProfile) → Each (λ y. Leads (caught_up n x.profile) y.profile) (take m (all_caught_up n xs))
+led-some : (n m : ℕ) (x : PairProfile) (xs : List PairProfile) → Each (λ y. Leads (profile_with_fronts n x.profile) y.profile) (take m (profiles_with_fronts n xs))
     → Each (λ y. Leads x.profile y.profile) (take m xs)
 led-some n zero x xs h = tt
 led-some n (suc m) x [] h = tt
 led-some n (suc m) x (y ∷ ys) h = (h.0, led-some n m x ys h.1)
 
-led-behind : (n : ℕ) (xs : List PairProfile) → AreLed (all_caught_up n xs) → AreLed xs
+led-behind : (n : ℕ) (xs : List PairProfile) → AreLed (profiles_with_fronts n xs) → AreLed xs
 led-behind n [] h = tt
 led-behind n (x ∷ xs) h =
-    (subst (λ (k : ℕ). x.implied ≤ k) (length-map xs (pair_caught_up n)) h.0, led-some n x.implied x xs h.1, led-behind n xs h.2)
+    (subst (λ (k : ℕ). x.implied ≤ k) (length-map xs (pair_with_fronts n)) h.0, led-some n x.implied x xs h.1, led-behind n xs h.2)
 
-pub behind-after : (n : ℕ) (es : List Event) (old xs : List PairProfile) → Each IsFresh old → IsLinked old → all_caught_up n xs ≡ all_after es old
+pub behind-after : (n : ℕ) (es : List Event) (old xs : List PairProfile) → Each IsFresh old → IsLinked old → profiles_with_fronts n xs ≡ profiles_after es old
     → FedAtMost n xs → AreBehind n xs
 behind-after n es old xs fresh links caught fed = record {
   fed = fed;
@@ -94,12 +94,12 @@ behind-after n es old xs fresh links caught fed = record {
 
 -- one reference more
 caught-reference : (n addr : ℕ) (xs : List PairProfile) → FedAtMost n xs → Each (λ x. IsFit x.profile) xs
-    → all_caught_up (n + 1) (map (pair_unless_front addr) xs) ≡ map (pair_after_reference addr) (all_caught_up n xs)
+    → profiles_with_fronts (n + 1) (map (pair_unless_front addr) xs) ≡ map (pair_after_reference addr) (profiles_with_fronts n xs)
 caught-reference n addr [] fed fit = refl
 caught-reference n addr (x ∷ xs) fed fit =
-    ap (λ v. record x { profile = v } ∷ all_caught_up (n + 1) (map (pair_unless_front addr) xs))
+    ap (λ v. record x { profile = v } ∷ profiles_with_fronts (n + 1) (map (pair_unless_front addr) xs))
     (caught_more n x.profile (block_of x.profile.geometry addr) fit.0 fed.0)
-    ∙ ap (λ l. pair_after_reference addr (pair_caught_up n x) ∷ l) (caught-reference n addr xs fed.1 fit.1)
+    ∙ ap (λ l. pair_after_reference addr (pair_with_fronts n x) ∷ l) (caught-reference n addr xs fed.1 fit.1)
 
 few-reference : (n addr : ℕ) (xs : List PairProfile) → FedAtMost n xs → Each (λ x. IsFit x.profile) xs
     → FedAtMost (n + 1) (map (pair_unless_front addr) xs)
@@ -107,24 +107,24 @@ few-reference n addr [] fed fit = tt
 few-reference n addr (x ∷ xs) fed fit =
     (profile-fed_more n x.profile (block_of x.profile.geometry addr) fit.0 fed.0, few-reference n addr xs fed.1 fit.1)
 
-pub kept-caught : (n : ℕ) (kind : Kind) (r : Ref) (xs ys : List PairProfile) → AreBehind n xs → keeps kind r.access ≡ true
+pub kept-caught : (n : ℕ) (kind : Kind) (r : Ref) (xs ys : List PairProfile) → AreBehind n xs → is_kept kind r.access ≡ true
     → ys ≡ map (pair_unless_front r.addr) xs
-    → (all_caught_up (n + 1) ys ≡ all_after (kept_events kind (r ∷ [])) (all_caught_up n xs)) × FedAtMost (n + 1) ys
+    → (profiles_with_fronts (n + 1) ys ≡ profiles_after (kept_events kind (r ∷ [])) (profiles_with_fronts n xs)) × FedAtMost (n + 1) ys
 kept-caught n kind r xs ys behind kept fed = (
-  ap (all_caught_up (n + 1)) fed ∙ caught-reference n r.addr xs behind.fed behind.fit
-      ∙ ap (λ b. all_after (map (λ x. event.Reference x) (cond b (r ∷ []) [])) (all_caught_up n xs)) (sym kept),
+  ap (profiles_with_fronts (n + 1)) fed ∙ caught-reference n r.addr xs behind.fed behind.fit
+      ∙ ap (λ b. profiles_after (map (λ x. event.Reference x) (cond b (r ∷ []) [])) (profiles_with_fronts n xs)) (sym kept),
   subst (FedAtMost (n + 1)) (sym fed) (few-reference n r.addr xs behind.fed behind.fit),
 )
 
-pub left-caught : (n : ℕ) (kind : Kind) (r : Ref) (xs : List PairProfile) → keeps kind r.access ≡ false
-    → all_caught_up n xs ≡ all_after (kept_events kind (r ∷ [])) (all_caught_up n xs)
+pub left-caught : (n : ℕ) (kind : Kind) (r : Ref) (xs : List PairProfile) → is_kept kind r.access ≡ false
+    → profiles_with_fronts n xs ≡ profiles_after (kept_events kind (r ∷ [])) (profiles_with_fronts n xs)
 left-caught n kind r xs left =
-    sym (all_after-nil (all_caught_up n xs)) ∙ ap (λ b. all_after (map (λ x. event.Reference x) (cond b (r ∷ []) [])) (all_caught_up n xs)) (sym left)
+    sym (all_after-nil (profiles_with_fronts n xs)) ∙ ap (λ b. profiles_after (map (λ x. event.Reference x) (cond b (r ∷ []) [])) (profiles_with_fronts n xs)) (sym left)
 
 -- a flush
-pub caught-flush : (n : ℕ) (xs : List PairProfile) → all_caught_up n (map pair_after_flush xs) ≡ map pair_after_flush (all_caught_up n xs)
+pub caught-flush : (n : ℕ) (xs : List PairProfile) → profiles_with_fronts n (map pair_after_flush xs) ≡ map pair_after_flush (profiles_with_fronts n xs)
 caught-flush n [] = refl
-caught-flush n (x ∷ xs) = ap (λ l. pair_caught_up n (pair_after_flush x) ∷ l) (caught-flush n xs)
+caught-flush n (x ∷ xs) = ap (λ l. pair_with_fronts n (pair_after_flush x) ∷ l) (caught-flush n xs)
 
 pub few-flush : (n : ℕ) (xs : List PairProfile) → FedAtMost n xs → FedAtMost n (map pair_after_flush xs)
 few-flush n [] h = tt
@@ -151,7 +151,7 @@ led-at (x ∷ xs) (suc i) d inside led =
     let rest = led-at xs i d (omega (arith, inside)) led.2 in
     (omega (arith, rest.0), rest.1)
 
-stays : (addr : ℕ) (x : PairProfile) → finds_front x.profile (block_of x.profile.geometry addr) ≡ true → pair_unless_front addr x ≡ x
+stays : (addr : ℕ) (x : PairProfile) → is_front_of x.profile (block_of x.profile.geometry addr) ≡ true → pair_unless_front addr x ≡ x
 stays addr x front = ap (λ b. record x { profile = cond b x.profile (after_reference x.profile (block_of x.profile.geometry addr)) }) front
 
 -- the profiles before an index were fed a reference, where they do not find its block in front
@@ -178,11 +178,11 @@ module _ (addr i : ℕ) (old now : List PairProfile) (x : PairProfile) (so_far :
 
     pub skip-next : (p : ProfileState) → x ≡ get_or now i x
         → p ≡ after_unless_front (get_or now i x).profile (block_of (get_or now i x).profile.geometry addr)
-        → finds_front (get_or now i x).profile (block_of (get_or now i x).profile.geometry addr) ≡ true
+        → is_front_of (get_or now i x).profile (block_of (get_or now i x).profile.geometry addr) ≡ true
         → FedSoFar addr (i + 1 + (get_or now i x).implied) old (set now i (record (get_or now i x) { profile = p }))
     skip-next p is fed front =
         let after = pair_unless_front addr in
-        let here = sym (ap (λ y. finds_front y.profile (block_of y.profile.geometry addr)) at-index) ∙ front in
+        let here = sym (ap (λ y. is_front_of y.profile (block_of y.profile.geometry addr)) at-index) ∙ front in
         fed-next p is fed ∙ ap (λ n. map after (take n old) ++ drop n old) {x = i + 1} {y = suc i} (omega arith)
         ∙ skip after (suc i) (get_or old i x).implied (i + 1 + (get_or now i x).implied) old (omega (arith, ap (λ y. y.implied) at-index))
         (Each-weaker (λ y. Leads (get_or old i x).profile y.profile) (λ y. after y ≡ y) (λ y leads. stays addr y (leads addr here))

@@ -4,7 +4,7 @@ use Rattle.std.proofs.Common.{Option, None, Some, true, false, cond, take, drop,
 use Rattle.std.specs.Prelude.{filter}
 use Rattle.std.specs.List.{flat_map}
 use Rattle.std.proofs.lemmas.List.Sums.{fold-append}
-use Rattle.trace_core.specs.Events.{events_of, keeps, references}
+use Rattle.trace_core.specs.Events.{events_of, is_kept, references}
 use Rattle.trace_core.specs.declared.events.Entry.{Entry}
 use Rattle.trace_core.specs.declared.events.Entry.TheVariants as entry
 use Rattle.trace_core.specs.declared.events.Event.{Event}
@@ -15,45 +15,45 @@ use Rattle.trace_core.specs.declared.events.Ref.{Ref}
 use Rattle.trace_core.proofs.EntryEvents.{events_more, one_event, two_events}
 use Rattle.profile_core.specs.State.{after_event}
 use Rattle.sweep_core.specs.declared.profiles.PairProfile.{PairProfile}
-use Rattle.sweep_core.specs.Pass.{all_after, kept_events}
+use Rattle.sweep_core.specs.Pass.{profiles_after, kept_events}
 
-pub all_after-nil : (xs : List PairProfile) → all_after [] xs ≡ xs
+pub all_after-nil : (xs : List PairProfile) → profiles_after [] xs ≡ xs
 all_after-nil [] = refl
 all_after-nil (x ∷ xs) = ap (λ l. x ∷ l) (all_after-nil xs)
 
-pub all_after-append : (es fs : List Event) (xs : List PairProfile) → all_after (es ++ fs) xs ≡ all_after fs (all_after es xs)
+pub all_after-append : (es fs : List Event) (xs : List PairProfile) → profiles_after (es ++ fs) xs ≡ profiles_after fs (profiles_after es xs)
 all_after-append es fs [] = refl
 all_after-append es fs (x ∷ xs) =
-    ap (λ v. record x { profile = v } ∷ all_after (es ++ fs) xs) (fold-append after_event x.profile es fs)
+    ap (λ v. record x { profile = v } ∷ profiles_after (es ++ fs) xs) (fold-append after_event x.profile es fs)
     ∙ ap (λ l. record x { profile = fold after_event (fold after_event x.profile es) fs } ∷ l) (all_after-append es fs xs)
 
 -- the references of an item that are kept, one after the other
 pub fed-both : (kind : Kind) (xs ys zs : List PairProfile) {e : Entry} {item : Item} {both : Ref × Option Ref} {second : Ref}
     → e ≡ entry.Item item → both ≡ references item → both.1 ≡ Some second
-    → ys ≡ all_after (kept_events kind (both.0 ∷ [])) xs → zs ≡ all_after (kept_events kind (second ∷ [])) ys
-    → zs ≡ all_after (events_of kind e) xs
+    → ys ≡ profiles_after (kept_events kind (both.0 ∷ [])) xs → zs ≡ profiles_after (kept_events kind (second ∷ [])) ys
+    → zs ≡ profiles_after (events_of kind e) xs
 fed-both kind xs ys zs {both = both} {second} is refs two first later =
-    later ∙ ap (all_after (kept_events kind (second ∷ []))) first
+    later ∙ ap (profiles_after (kept_events kind (second ∷ []))) first
     ∙ sym (all_after-append (kept_events kind (both.0 ∷ [])) (kept_events kind (second ∷ [])) xs)
-    ∙ ap (λ es. all_after es xs) (joined both.0 ∙ sym (two_events kind is refs two))
+    ∙ ap (λ es. profiles_after es xs) (joined both.0 ∙ sym (two_events kind is refs two))
   where
     joined : (r : Ref) → kept_events kind (r ∷ []) ++ kept_events kind (second ∷ []) ≡ kept_events kind (r ∷ second ∷ [])
-    joined r = elim (keeps kind r.access) as (λ b. map (λ x. event.Reference x) (cond b (r ∷ []) []) ++ kept_events kind (second ∷ [])
-        ≡ map (λ x. event.Reference x) (cond b (r ∷ filter (λ x. keeps kind x.access) (second ∷ [])) (filter (λ x. keeps kind x.access) (second ∷ []))))
+    joined r = elim (is_kept kind r.access) as (λ b. map (λ x. event.Reference x) (cond b (r ∷ []) []) ++ kept_events kind (second ∷ [])
+        ≡ map (λ x. event.Reference x) (cond b (r ∷ filter (λ x. is_kept kind x.access) (second ∷ [])) (filter (λ x. is_kept kind x.access) (second ∷ []))))
         [ true ↦ refl | false ↦ refl ]
 
 pub fed-one : (kind : Kind) (xs ys : List PairProfile) {e : Entry} {item : Item} {both : Ref × Option Ref}
-    → e ≡ entry.Item item → both ≡ references item → both.1 ≡ None → ys ≡ all_after (kept_events kind (both.0 ∷ [])) xs
-    → ys ≡ all_after (events_of kind e) xs
-fed-one kind xs ys is refs none fed = fed ∙ ap (λ es. all_after es xs) (sym (one_event kind is refs none))
+    → e ≡ entry.Item item → both ≡ references item → both.1 ≡ None → ys ≡ profiles_after (kept_events kind (both.0 ∷ [])) xs
+    → ys ≡ profiles_after (events_of kind e) xs
+fed-one kind xs ys is refs none fed = fed ∙ ap (λ es. profiles_after es xs) (sym (one_event kind is refs none))
 
 -- the profiles after some entries, and then one more
 pub fed-more : (kind : Kind) (old xs ys : List PairProfile) (es : List Entry) (e : Entry)
-    → xs ≡ all_after (flat_map (events_of kind) es) old → ys ≡ all_after (events_of kind e) xs
-    → ys ≡ all_after (flat_map (events_of kind) (es ++ e ∷ [])) old
+    → xs ≡ profiles_after (flat_map (events_of kind) es) old → ys ≡ profiles_after (events_of kind e) xs
+    → ys ≡ profiles_after (flat_map (events_of kind) (es ++ e ∷ [])) old
 fed-more kind old xs ys es e so_far fed =
-    fed ∙ ap (all_after (events_of kind e)) so_far ∙ sym (all_after-append (flat_map (events_of kind) es) (events_of kind e) old)
-    ∙ ap (λ l. all_after l old) (sym (events_more kind es e))
+    fed ∙ ap (profiles_after (events_of kind e)) so_far ∙ sym (all_after-append (flat_map (events_of kind) es) (events_of kind e) old)
+    ∙ ap (λ l. profiles_after l old) (sym (events_more kind es e))
 
 -- a loop over profiles has not yet reached the one at its index
 pub unreached : {A : Type 0} (f : A → A) (xs : List A) (i : ℕ) (d : A) → i < length xs → get_or (map f (take i xs) ++ drop i xs) i d ≡ get_or xs i d

@@ -10,7 +10,7 @@ use Rattle.profile_core.proofs.Runs.{stands_after, geometry_after}
 use Rattle.sweep_core.specs.declared.space.Config.{Config}
 use Rattle.sweep_core.specs.declared.profiles.PairProfile.{PairProfile}
 use Rattle.sweep_core.specs.Work.{pair_of, pairs, work, geometry_of_pair}
-use Rattle.sweep_core.specs.Pass.{all_after, WasFed}
+use Rattle.sweep_core.specs.Pass.{profiles_after, WasFed}
 
 module _ (all : List Config) (es : List Event) (x : PairProfile) (fed : WasFed all es x) where
   pub geometry-kept : x.profile.geometry ≡ geometry_of_pair all (pair_of x.first)
@@ -37,6 +37,6 @@ work-is all rows es xs are fed = sum-same 0 xs fed ∙ ap (sum_by (λ p. probes 
         ∙ sum-same (a + probes (geometry_of_pair all (pair_of y.first)) es) ys h.1
 
 -- new profiles, after some events
-pub fed-after : (all : List Config) (es : List Event) (xs : List PairProfile) → Each (WasFed all []) xs → Each (WasFed all es) (all_after es xs)
+pub fed-after : (all : List Config) (es : List Event) (xs : List PairProfile) → Each (WasFed all []) xs → Each (WasFed all es) (profiles_after es xs)
 fed-after all es [] h = tt
 fed-after all es (x ∷ xs) h = (record { some = h.0.some; sound = h.0.sound; is = ap (λ p. fold after_event p es) h.0.is }, fed-after all es xs h.1)

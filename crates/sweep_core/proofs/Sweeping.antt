@@ -15,7 +15,7 @@ use Rattle.trace_core.specs.declared.line.Format.{Format}
 use Rattle.trace_core.specs.declared.state.ReaderState.TheVariants as state
 use Rattle.trace_core.specs.Device.{SourceView, SinkView}
 use Rattle.trace_core.specs.Events.{events_of}
-use Rattle.trace_core.specs.Reader.{Progress, begun}
+use Rattle.trace_core.specs.Reader.{Progress, new_progress}
 use Rattle.trace_core.specs.Task.{Performs, Finished}
 use Rattle.trace_core.proofs.Entries.{entries-reading}
 use Rattle.trace_core.proofs.Runs.{Reached-end}
@@ -30,7 +30,7 @@ use Rattle.sweep_core.specs.SweepText.{table_text, header_of, csv_rows, configs_
 use Rattle.sweep_core.specs.Rows.{CountedSweep, counted_sweep, ReadsTo, ReadsCounts, events_read}
 use Rattle.sweep_core.specs.Work.{pair_of, sweep_work}
 use Rattle.sweep_core.specs.Runs.{rows_of_profile, counted_profiles}
-use Rattle.sweep_core.specs.Pass.{SweepStandsFor, Feeds, WasFed, pair_after_events, all_after}
+use Rattle.sweep_core.specs.Pass.{SweepStandsFor, Feeds, WasFed, pair_after_events, profiles_after}
 use Rattle.sweep_core.proofs.Standing.{work-is, fed-after}
 use Rattle.sweep_core.proofs.Serving.{swept-counted}
 use Rattle.sweep_core.proofs.Writing.{csv-counted}
@@ -43,7 +43,7 @@ pub swept-after : {r : Request} {format : Format} {limit : ℕ} {start now : Sou
     → SweepStandsFor r [] made → xs ≡ made → (run : Feeds r.kind format limit start now p xs ys) → zs ≡ ys → SweepStandsFor r (events_read r.kind run.read) zs
 swept-after {r = r} {made = made} {zs = zs} begin same run end =
     let es = events_read r.kind run.read in
-    let are : zs ≡ all_after es made = end ∙ run.holds ∙ ap (all_after es) same in
+    let are : zs ≡ profiles_after es made = end ∙ run.holds ∙ ap (profiles_after es) same in
     record {
       space = begin.space;
       pairs = ap (map (λ x. pair_of x.first)) are ∙ map-map (λ x. pair_of x.first) (pair_after_events es) made ∙ begin.pairs;
@@ -52,7 +52,7 @@ swept-after {r = r} {made = made} {zs = zs} begin same run end =
     }
   where
     rows-kept : (es : List Event) (xs : List PairProfile)
-        → flat_map (rows_of_profile r.space.powers) (all_after es xs) ≡ flat_map (rows_of_profile r.space.powers) xs
+        → flat_map (rows_of_profile r.space.powers) (profiles_after es xs) ≡ flat_map (rows_of_profile r.space.powers) xs
     rows-kept es [] = refl
     rows-kept es (x ∷ xs) = ap (λ l. rows_of_profile r.space.powers x ++ l) (rows-kept es xs)
 

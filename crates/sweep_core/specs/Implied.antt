@@ -3,7 +3,7 @@ use Rattle.std.specs.Prelude.{◌≡◌, ⊤, ℕ, ◌≤◌, true, not, List, [
 use Rattle.std.specs.List.{AllByRecursion, position_or_len}
 use Rattle.cache_core.specs.Geometry.{GeometryValue, IsGeometry, block_of}
 use Rattle.profile_core.specs.State.{empty, fed_of}
-use Rattle.profile_core.specs.Fronts.{after_unless_front, caught_up, is_refined, IsFit, Leads}
+use Rattle.profile_core.specs.Fronts.{after_unless_front, profile_with_fronts, is_refined, IsFit, Leads}
 use Rattle.sweep_core.specs.declared.profiles.PairProfile.{PairProfile}
 
 -- how many of the first of some profiles refine a geometry
@@ -35,11 +35,11 @@ abbrev pub pair_unless_front : ℕ → PairProfile → PairProfile
 pair_unless_front addr x = record x { profile = after_unless_front x.profile (block_of x.profile.geometry addr) }
 
 -- profiles that were fed all of n references but some that found their block in front, once these are counted
-abbrev pub pair_caught_up : ℕ → PairProfile → PairProfile
-pair_caught_up n x = record x { profile = caught_up n x.profile }
+abbrev pub pair_with_fronts : ℕ → PairProfile → PairProfile
+pair_with_fronts n x = record x { profile = profile_with_fronts n x.profile }
 
-abbrev pub all_caught_up : ℕ → List PairProfile → List PairProfile
-all_caught_up n xs = map (pair_caught_up n) xs
+abbrev pub profiles_with_fronts : ℕ → List PairProfile → List PairProfile
+profiles_with_fronts n xs = map (pair_with_fronts n) xs
 
 -- profiles that were fed at most n references
 abbrev pub FedAtMost : ℕ → List PairProfile → Type 0

@@ -5,7 +5,7 @@ use Rattle.trace_core.specs.declared.events.Ref.{Ref}
 use Rattle.trace_core.specs.declared.events.Event.{Event}
 use Rattle.trace_core.specs.declared.events.Event.TheVariants as event
 use Rattle.trace_core.specs.Device.{SourceView}
-use Rattle.trace_core.specs.Events.{events_of, keeps}
+use Rattle.trace_core.specs.Events.{events_of, is_kept}
 use Rattle.trace_core.specs.Reader.{Progress}
 use Rattle.trace_core.specs.Task.{HasRead}
 use Rattle.trace_core.specs.declared.events.Kind.{Kind}
@@ -37,11 +37,11 @@ pair_after_events es x = record x { profile = fold after_event x.profile es }
 
 -- of some references those that a kind keeps, as events
 abbrev pub kept_events : Kind → List Ref → List Event
-kept_events kind refs = map event.Reference (filter (λ r. keeps kind r.access) refs)
+kept_events kind refs = map event.Reference (filter (λ r. is_kept kind r.access) refs)
 
 -- some profiles after some events
-abbrev pub all_after : List Event → List PairProfile → List PairProfile
-all_after es xs = map (pair_after_events es) xs
+abbrev pub profiles_after : List Event → List PairProfile → List PairProfile
+profiles_after es xs = map (pair_after_events es) xs
 
 -- a profile was made for the rows of its pair, within the limits and as deep as the greatest associativity of the pair in all,
 -- and was fed some events
@@ -65,4 +65,4 @@ state_after (Err fault) = state.Failed fault
 -- entries were read of a source, and what they give a cache was fed to each profile
 abbrev pub Feeds : Kind → Format → ℕ → SourceView → SourceView → Progress → List PairProfile → List PairProfile → Type 0
 Feeds kind format limit start now p old new =
-    HasRead format limit start now p (λ es. new ≡ all_after (flat_map (events_of kind) es) old)
+    HasRead format limit start now p (λ es. new ≡ profiles_after (flat_map (events_of kind) es) old)

@@ -1,12 +1,12 @@
 //! One pass over a trace: what is read is fed to each profile as it comes.
 ghost use Rattle.std.specs.Prelude.{◌≡◌, ◌+◌, ◌<◌, ◌≤◌, ◌^◌, ◌∷◌, [], true, map};
 ghost use Rattle.std.specs.List.{AllByRecursion};
-ghost use Rattle.trace_core.specs.Reader.{begun};
+ghost use Rattle.trace_core.specs.Reader.{new_progress};
 ghost use Rattle.profile_core.specs.State.{fed_of};
 ghost use Rattle.sweep_core.specs.Pass.{pair_after_flush};
-ghost use Rattle.sweep_core.specs.Pass.{kept_events, all_after, state_after, Feeds};
+ghost use Rattle.sweep_core.specs.Pass.{kept_events, profiles_after, state_after, Feeds};
 ghost use Rattle.sweep_core.specs.Implied.{IsLinked, IsFresh, AreLed, AreBehind, FedAtMost};
-ghost use Rattle.sweep_core.specs.Implied.{all_caught_up, pair_unless_front};
+ghost use Rattle.sweep_core.specs.Implied.{profiles_with_fronts, pair_unless_front};
 
 use crate::profiles::PairProfile;
 use cache_core::geometry::MAX_BITS;
@@ -25,7 +25,7 @@ pub(crate) fn read_trace<S: Source>(
     source: &mut S,
     profiles: &mut [PairProfile],
 ) -> Result<(), TraceFault>
-    requires begun { lines.old ≡ begun lines.old.format lines.old.limit }
+    requires begun { lines.old ≡ new_progress lines.old.format lines.old.limit }
     requires fresh { AllByRecursion IsFresh profiles.old }
     requires linked { IsLinked profiles.old }
     ensures fed { Feeds kind lines.old.format lines.old.limit
@@ -47,11 +47,11 @@ fn read_entries<S: Source>(
     fed: &mut u64,
 ) -> Result<(), TraceFault>
     requires none { fed.old ≡ 0 }
-    requires begun { lines.old ≡ begun lines.old.format lines.old.limit }
+    requires begun { lines.old ≡ new_progress lines.old.format lines.old.limit }
     requires fresh { AllByRecursion IsFresh profiles.old }
     requires linked { IsLinked profiles.old }
     ensures fed { Feeds kind lines.old.format lines.old.limit (S.view source.old)
-        (S.view source.new) lines.new profiles.old (all_caught_up fed.new profiles.new) }
+        (S.view source.new) lines.new profiles.old (profiles_with_fronts fed.new profiles.new) }
     ensures reports { lines.new.state ≡ state_after result }
     ensures behind { FedAtMost fed.new profiles.new }
     ensures few { fed.new ≤ MAX_REFERENCES }
@@ -75,7 +75,7 @@ fn read_entries<S: Source>(
 fn catch_up(profiles: &mut [PairProfile], fed: u64)
     requires behind { FedAtMost fed profiles.old }
     requires few { fed ≤ MAX_REFERENCES }
-    ensures { profiles.new ≡ all_caught_up fed profiles.old }
+    ensures { profiles.new ≡ profiles_with_fronts fed profiles.old }
 {
     for pair in profiles.iter_mut() {
         let behind = pair.profile.fed();
@@ -89,8 +89,8 @@ fn catch_up(profiles: &mut [PairProfile], fed: u64)
 fn feed_kept(profiles: &mut [PairProfile], kind: Kind, reference: Ref, fed: &mut u64)
     requires few { fed.old < MAX_REFERENCES }
     requires behind { AreBehind fed.old profiles.old }
-    ensures caught { all_caught_up fed.new profiles.new
-        ≡ all_after (kept_events kind (reference ∷ [])) (all_caught_up fed.old profiles.old) }
+    ensures caught { profiles_with_fronts fed.new profiles.new
+        ≡ profiles_after (kept_events kind (reference ∷ [])) (profiles_with_fronts fed.old profiles.old) }
     ensures behind { FedAtMost fed.new profiles.new }
     ensures more { fed.new ≤ fed.old + 1 }
 {

@@ -4,7 +4,7 @@ use Rattle.std.proofs.Common.{refl, sym, ap, ◌∙◌}
 use Rattle.std.specs.List.{filter_map, cons_option}
 use Rattle.trace_core.specs.Lines.{lines}
 use Rattle.trace_core.specs.Line.{meaning}
-use Rattle.trace_core.specs.Reading.{ends, judge, with_line, then_reads, read_lines, reading, entries, entry_in, longest_line}
+use Rattle.trace_core.specs.Reading.{reading_end, judgement, with_line, reading_with_line, read_lines, reading, entries, entry_in, longest_line}
 use Rattle.trace_core.specs.declared.events.Entry.{Entry}
 use Rattle.trace_core.specs.declared.line.Format.{Format}
 use Rattle.trace_core.specs.declared.line.LineFault.{LineFault}
@@ -19,19 +19,19 @@ judged-ok n false false x y (Ok entry) o h = cc
 judged-ok n false false x y (Err f) o h = cc
 
 module _ (f : Format) (limit : ℕ) where
-  pub read-entries : (n : ℕ) (ls : List (List ℕ)) → (read_lines f limit n ls (ends None)).fault ≡ None
-      → map (λ x. x.1) (read_lines f limit n ls (ends None)).entries ≡ filter_map (λ line. entry_in (meaning f line)) ls
+  pub read-entries : (n : ℕ) (ls : List (List ℕ)) → (read_lines f limit n ls (reading_end None)).fault ≡ None
+      → map (λ x. x.1) (read_lines f limit n ls (reading_end None)).entries ≡ filter_map (λ line. entry_in (meaning f line)) ls
   read-entries n [] none = refl
   read-entries n (line ∷ more) none =
-      by_case (judge f limit (n + 1) line)
+      by_case (judgement f limit (n + 1) line)
       (λ o h. judged-ok (n + 1) (ltb limit (n + 1)) (ltb longest_line (length line)) (fault.TooManyLines limit) (fault.TooLong (n + 1)) (meaning f line) o h)
       none (read-entries (n + 1) more)
     where
       by_case : (r : Result (Option Entry) TraceFault) → ((o : Option Entry) → r ≡ Ok o → entry_in (meaning f line) ≡ o)
-          → (then_reads (n + 1) r (read_lines f limit (n + 1) more (ends None))).fault ≡ None
-          → ((read_lines f limit (n + 1) more (ends None)).fault ≡ None
-          → map (λ x. x.1) (read_lines f limit (n + 1) more (ends None)).entries ≡ filter_map (λ line. entry_in (meaning f line)) more)
-          → map (λ x. x.1) (then_reads (n + 1) r (read_lines f limit (n + 1) more (ends None))).entries
+          → (reading_with_line (n + 1) r (read_lines f limit (n + 1) more (reading_end None))).fault ≡ None
+          → ((read_lines f limit (n + 1) more (reading_end None)).fault ≡ None
+          → map (λ x. x.1) (read_lines f limit (n + 1) more (reading_end None)).entries ≡ filter_map (λ line. entry_in (meaning f line)) more)
+          → map (λ x. x.1) (reading_with_line (n + 1) r (read_lines f limit (n + 1) more (reading_end None))).entries
           ≡ cons_option (entry_in (meaning f line)) (filter_map (λ line. entry_in (meaning f line)) more)
       by_case (Ok None) means none later = rw (means None refl) (later none)
       by_case (Ok (Some entry)) means none later = rw (means (Some entry) refl) (ap (λ es. entry ∷ es) (later none))

@@ -4,7 +4,7 @@ use Rattle.std.proofs.Common.{length, length-append}
 use Rattle.std.proofs.lemmas.List.{flat_map_more, map_push}
 use Rattle.std.specs.List.{filter, flat_map}
 use Rattle.std.specs.Option.{option_to_list}
-use Rattle.trace_core.specs.Events.{events_of, keeps, references}
+use Rattle.trace_core.specs.Events.{events_of, is_kept, references}
 use Rattle.trace_core.specs.declared.events.Entry.{Entry}
 use Rattle.trace_core.specs.declared.events.Entry.TheVariants as entry
 use Rattle.trace_core.specs.declared.events.Event.{Event}
@@ -18,7 +18,7 @@ use Rattle.trace_core.specs.declared.events.Ref.{Ref}
 
 -- of some references those that a kind keeps, as events
 abbrev pub kept : Kind → List Ref → List Event
-kept kind refs = map event.Reference (filter (λ r. keeps kind r.access) refs)
+kept kind refs = map event.Reference (filter (λ r. is_kept kind r.access) refs)
 
 -- the events of an item by its references, two or one
 pub two_events : (kind : Kind) {e : Entry} {item : Item} {p : Ref × Option Ref} {second : Ref}

@@ -6,7 +6,7 @@ use Rattle.std.specs.List.{All, slice_get, filter_map, enumerate_from, prefix_le
 use Rattle.std.proofs.lemmas.List.Elements.{All-nil, All-cons, All-head, All-tail}
 use Rattle.trace_core.specs.Lines.{is_line_feed, lines, line_feeds, without_empty_last}
 use Rattle.trace_core.specs.Line.{meaning}
-use Rattle.trace_core.specs.Reading.{Reading, cut_reading, cut_off, ends, judge, then_reads, read_lines, numbered_entry, entry_in, longest_line}
+use Rattle.trace_core.specs.Reading.{Reading, cut_reading, cut_fault, reading_end, judgement, reading_with_line, read_lines, numbered_entry, entry_in, longest_line}
 use Rattle.trace_core.specs.declared.events.Entry.{Entry}
 use Rattle.trace_core.specs.declared.line.Format.{Format}
 use Rattle.trace_core.specs.declared.fault.TraceFault.{TraceFault}
@@ -45,9 +45,9 @@ Judgement = Result (Option Entry) TraceFault
 -- the reading that some judgements give, where n lines come before and this after them
 abbrev read_judged : ℕ → List Judgement → Reading → Reading
 read_judged n [] last = last
-read_judged n (r ∷ rs) last = then_reads (n + 1) r (read_judged (n + 1) rs last)
+read_judged n (r ∷ rs) last = reading_with_line (n + 1) r (read_judged (n + 1) rs last)
 
-fault-some : (n : ℕ) (rs : List Judgement) (x : TraceFault) → (read_judged n rs (ends None)).fault ≡ Some x
+fault-some : (n : ℕ) (rs : List Judgement) (x : TraceFault) → (read_judged n rs (reading_end None)).fault ≡ Some x
     → (k : ℕ) × (slice_get rs k ≡ Some (Err x)) × All IsOk (take k rs)
 fault-some n [] x h = absurd cc
 fault-some n (Ok None ∷ rs) x h = let later = fault-some (n + 1) rs x h in (suc later.0, later.1, All-cons IsOk (Ok None) (take later.0 rs) refl later.2)
@@ -55,7 +55,7 @@ fault-some n (Ok (Some e) ∷ rs) x h =
     let later = fault-some (n + 1) rs x h in (suc later.0, later.1, All-cons IsOk (Ok (Some e)) (take later.0 rs) refl later.2)
 fault-some n (Err y ∷ rs) x h = (0, cc, All-nil IsOk)
 
-fault-none : (n : ℕ) (rs : List Judgement) → (read_judged n rs (ends None)).fault ≡ None → All IsOk rs
+fault-none : (n : ℕ) (rs : List Judgement) → (read_judged n rs (reading_end None)).fault ≡ None → All IsOk rs
 fault-none n [] h = All-nil IsOk
 fault-none n (Ok None ∷ rs) h = All-cons IsOk (Ok None) rs refl (fault-none (n + 1) rs h)
 fault-none n (Ok (Some e) ∷ rs) h = All-cons IsOk (Ok (Some e)) rs refl (fault-none (n + 1) rs h)
@@ -79,16 +79,16 @@ module _ (last : Reading) where
 
 module _ (f : Format) (limit : ℕ) where
   abbrev pub judged : ℕ → List (List ℕ) → List Judgement
-  judged n ls = map (λ x. judge f limit x.0 x.1) (enumerate_from n ls)
+  judged n ls = map (λ x. judgement f limit x.0 x.1) (enumerate_from n ls)
 
   lines-judged : (n : ℕ) (ls : List (List ℕ)) (last : Reading) → read_lines f limit n ls last ≡ read_judged n (judged (n + 1) ls) last
   lines-judged n [] last = refl
-  lines-judged n (line ∷ more) last = ap (then_reads (n + 1) (judge f limit (n + 1) line)) (lines-judged (n + 1) more last)
+  lines-judged n (line ∷ more) last = ap (reading_with_line (n + 1) (judgement f limit (n + 1) line)) (lines-judged (n + 1) more last)
 
   -- the fault is the first error
-  pub fault-first : (n : ℕ) (ls : List (List ℕ)) (x : TraceFault) → (read_lines f limit n ls (ends None)).fault ≡ Some x
+  pub fault-first : (n : ℕ) (ls : List (List ℕ)) (x : TraceFault) → (read_lines f limit n ls (reading_end None)).fault ≡ Some x
       → (k : ℕ) × (slice_get (judged (n + 1) ls) k ≡ Some (Err x)) × All IsOk (take k (judged (n + 1) ls))
-  fault-first n ls x h = fault-some n (judged (n + 1) ls) x (ap (λ r. r.fault) (sym (lines-judged n ls (ends None))) ∙ h)
+  fault-first n ls x h = fault-some n (judged (n + 1) ls) x (ap (λ r. r.fault) (sym (lines-judged n ls (reading_end None))) ∙ h)
 
   pub first-fault : (n : ℕ) (ls : List (List ℕ)) (last : Reading) (x : TraceFault)
       → (k : ℕ) × (slice_get (judged (n + 1) ls) k ≡ Some (Err x)) × All IsOk (take k (judged (n + 1) ls))
@@ -96,8 +96,8 @@ module _ (f : Format) (limit : ℕ) where
   first-fault n ls last x first = ap (λ r. r.fault) (lines-judged n ls last) ∙ some-fault last n (judged (n + 1) ls) x first.0 first.1 first.2
 
   -- there is none where all are right
-  pub faultless-all : (n : ℕ) (ls : List (List ℕ)) → (read_lines f limit n ls (ends None)).fault ≡ None → All IsOk (judged (n + 1) ls)
-  faultless-all n ls h = fault-none n (judged (n + 1) ls) (ap (λ r. r.fault) (sym (lines-judged n ls (ends None))) ∙ h)
+  pub faultless-all : (n : ℕ) (ls : List (List ℕ)) → (read_lines f limit n ls (reading_end None)).fault ≡ None → All IsOk (judged (n + 1) ls)
+  faultless-all n ls h = fault-none n (judged (n + 1) ls) (ap (λ r. r.fault) (sym (lines-judged n ls (reading_end None))) ∙ h)
 
   pub all-faultless : (n : ℕ) (ls : List (List ℕ)) (last : Reading) → All IsOk (judged (n + 1) ls) → (read_lines f limit n ls last).fault ≡ last.fault
   all-faultless n ls last all = ap (λ r. r.fault) (lines-judged n ls last) ∙ last-fault last n (judged (n + 1) ls) all
@@ -106,7 +106,7 @@ module _ (f : Format) (limit : ℕ) where
   judged-take : (n k : ℕ) (ls : List (List ℕ)) → judged n (take k ls) ≡ take k (judged n ls)
   judged-take n zero ls = refl
   judged-take n (suc k) [] = refl
-  judged-take n (suc k) (line ∷ more) = ap (λ rs. judge f limit n line ∷ rs) (judged-take (n + 1) k more)
+  judged-take n (suc k) (line ∷ more) = ap (λ rs. judgement f limit n line ∷ rs) (judged-take (n + 1) k more)
 
   -- of the lines whose LF came, the first at fault tells the fault of a failed device
   pub cut-first : (text : List ℕ) (x : TraceFault) (k : ℕ) → slice_get (take (line_feeds text) (judged 1 (lines text))) k ≡ Some (Err x)
@@ -117,18 +117,18 @@ module _ (f : Format) (limit : ℕ) where
 
   -- and else the piece after the last LF
   pub cut-last : (text : List ℕ) → All IsOk (take (line_feeds text) (judged 1 (lines text)))
-      → (cut_reading f limit text).fault ≡ Some (cut_off limit (line_feeds text + 1) (drop (line_feeds text) (lines text)))
+      → (cut_reading f limit text).fault ≡ Some (cut_fault limit (line_feeds text + 1) (drop (line_feeds text) (lines text)))
   cut-last text all =
       let same = judged-take 1 (line_feeds text) (lines text) in
       let count : 0 + line_feeds text + 1 ≡ line_feeds text + 1 = omega arith in
-      all-faultless 0 (take (line_feeds text) (lines text)) _ (rw same all) ∙ ap (λ n. Some (cut_off limit n (drop (line_feeds text) (lines text)))) count
+      all-faultless 0 (take (line_feeds text) (lines text)) _ (rw same all) ∙ ap (λ n. Some (cut_fault limit n (drop (line_feeds text) (lines text)))) count
 
   -- the entries are those of the lines before the fault, however the reading ends behind the lines
-  pub entries-before : (n : ℕ) (ls : List (List ℕ)) (last : Option TraceFault) → (read_lines f limit n ls (ends last)).entries
+  pub entries-before : (n : ℕ) (ls : List (List ℕ)) (last : Option TraceFault) → (read_lines f limit n ls (reading_end last)).entries
       ≡ filter_map (numbered_entry f) (take (prefix_len is_ok (judged (n + 1) ls)) (enumerate_from (n + 1) ls))
   entries-before n [] last = refl
   entries-before n (line ∷ more) last =
-      by_case (judge f limit (n + 1) line)
+      by_case (judgement f limit (n + 1) line)
       (λ o h. judged-ok (n + 1) (ltb limit (n + 1)) (ltb longest_line (length line)) (fault.TooManyLines limit) (fault.TooLong (n + 1)) (meaning f line) o h)
       (entries-before (n + 1) more last)
     where
@@ -139,8 +139,8 @@ module _ (f : Format) (limit : ℕ) where
       more_before = omega arith
 
       by_case : (r : Judgement) → ((o : Option Entry) → r ≡ Ok o → entry_in (meaning f line) ≡ o)
-          → (read_lines f limit (n + 1) more (ends last)).entries ≡ filter_map (numbered_entry f) before
-          → (then_reads (n + 1) r (read_lines f limit (n + 1) more (ends last))).entries
+          → (read_lines f limit (n + 1) more (reading_end last)).entries ≡ filter_map (numbered_entry f) before
+          → (reading_with_line (n + 1) r (read_lines f limit (n + 1) more (reading_end last))).entries
           ≡ filter_map (numbered_entry f)
           (take (cond (is_ok r) (1 + prefix_len is_ok (judged (n + 1 + 1) more)) 0) ((n + 1, line) ∷ enumerate_from (n + 1 + 1) more))
       by_case (Ok None) means later = rw (more_before, means None refl) later
@@ -153,5 +153,5 @@ module _ (f : Format) (limit : ℕ) where
       (take (prefix_len is_ok (take (line_feeds text) (judged 1 (lines text)))) (enumerate_from 1 (take (line_feeds text) (lines text))))
   entries-before_cut text =
       let whole = take (line_feeds text) (lines text) in
-      entries-before 0 whole (Some (cut_off limit (0 + line_feeds text + 1) (drop (line_feeds text) (lines text))))
+      entries-before 0 whole (Some (cut_fault limit (0 + line_feeds text + 1) (drop (line_feeds text) (lines text))))
       ∙ ap (λ rs. filter_map (numbered_entry f) (take (prefix_len is_ok rs) (enumerate_from 1 whole))) (judged-take 1 (line_feeds text) (lines text))

@@ -3,7 +3,7 @@ use Rattle.std.proofs.Common.{◌≡◌, ℕ, suc, zero, ◌+◌, ◌<◌, ◌�
 use Rattle.std.proofs.Common.{take, drop, get_or, None, Some, Err, refl, ap, arith, rules, tests, length-append}
 use Rattle.std.specs.List.{onto_first}
 use Rattle.trace_core.specs.Lines.{is_line_feed, HoldsNoFeed, lines, line_feeds}
-use Rattle.trace_core.specs.Reading.{ends, judge, then_reads, read_lines, cut_off, Ending, at_end, at_failure, reading_after, longest_line}
+use Rattle.trace_core.specs.Reading.{reading_end, judgement, reading_with_line, read_lines, cut_fault, Ending, at_end, at_failure, reading_after, longest_line}
 use Rattle.trace_core.specs.declared.line.Format.{Format}
 use Rattle.trace_core.specs.declared.fault.TraceFault.{TraceFault}
 use Rattle.trace_core.specs.declared.fault.TraceFault.TheVariants as fault
@@ -50,7 +50,7 @@ line_feeds-line (c ∷ cs) z none = rw (none.0, line_feeds-line cs z none.1) ref
 module _ (f : Format) (limit : ℕ) where
   -- a whole line is judged, and then the later ones
   pub reading-line : (e : Ending) (n : ℕ) (u z : List ℕ) → HoldsNoFeed u
-      → reading_after e f limit n (u ++ 10 ∷ z) ≡ then_reads (n + 1) (judge f limit (n + 1) u) (reading_after e f limit (n + 1) z)
+      → reading_after e f limit n (u ++ 10 ∷ z) ≡ reading_with_line (n + 1) (judgement f limit (n + 1) u) (reading_after e f limit (n + 1) z)
   reading-line at_end n u z none = rw (lines-line u z none) refl
   reading-line at_failure n u z none =
       let add : n + suc (line_feeds z) + 1 ≡ n + 1 + line_feeds z + 1 = omega arith in
@@ -58,13 +58,13 @@ module _ (f : Format) (limit : ℕ) where
 
   -- a text that ends within a line
   pub reading-last : (n c : ℕ) (u : List ℕ) → HoldsNoFeed (c ∷ u)
-      → reading_after at_end f limit n (c ∷ u) ≡ then_reads (n + 1) (judge f limit (n + 1) (c ∷ u)) (ends None)
+      → reading_after at_end f limit n (c ∷ u) ≡ reading_with_line (n + 1) (judgement f limit (n + 1) (c ∷ u)) (reading_end None)
   reading-last n c u none = rw (lines-last c u none) refl
 
   -- a failure within a line that is short, and within the limit if a byte of it came
   pub reading-failed : (n : ℕ) (u : List ℕ) → HoldsNoFeed u → length u ≤ longest_line → (0 < length u → n < limit)
-      → reading_after at_failure f limit n u ≡ ends (Some (fault.Read (n + 1)))
-  reading-failed n [] none short within = ap (λ k. ends (Some (fault.Read k))) (let e : n + 0 + 1 ≡ n + 1 = omega arith in e)
+      → reading_after at_failure f limit n u ≡ reading_end (Some (fault.Read (n + 1)))
+  reading-failed n [] none short within = ap (λ k. reading_end (Some (fault.Read k))) (let e : n + 0 + 1 ≡ n + 1 = omega arith in e)
   reading-failed n (c ∷ u) none short within =
       let e : n + 0 + 1 ≡ n + 1 = omega arith in
       let in_limit : ltb limit (n + 1) ≡ false = search (rules, tests, within) in
@@ -72,23 +72,23 @@ module _ (f : Format) (limit : ℕ) where
       rw (lines-last c u none, line_feeds-none (c ∷ u) none, e, in_limit, in_length) refl
 
   -- a first line that is at fault, whole or cut off
-  fault_first : (n k : ℕ) (v : List ℕ) (more : List (List ℕ)) (x : TraceFault) → judge f limit (n + 1) v ≡ Err x
-      → cut_off limit (n + 1) (v ∷ []) ≡ x
-      → read_lines f limit n (take k (v ∷ more)) (ends (Some (cut_off limit (n + k + 1) (drop k (v ∷ more))))) ≡ ends (Some x)
+  fault_first : (n k : ℕ) (v : List ℕ) (more : List (List ℕ)) (x : TraceFault) → judgement f limit (n + 1) v ≡ Err x
+      → cut_fault limit (n + 1) (v ∷ []) ≡ x
+      → read_lines f limit n (take k (v ∷ more)) (reading_end (Some (cut_fault limit (n + k + 1) (drop k (v ∷ more))))) ≡ reading_end (Some x)
   fault_first n zero v more x judged cut =
       let e : n + 0 + 1 ≡ n + 1 = omega arith in
       rw (e, cut) refl
   fault_first n (suc k) v more x judged cut = rw judged refl
 
   reading-fault : (e : Ending) (n : ℕ) (text v : List ℕ) (more : List (List ℕ)) (x : TraceFault) → lines text ≡ v ∷ more
-      → judge f limit (n + 1) v ≡ Err x → cut_off limit (n + 1) (v ∷ []) ≡ x
-      → reading_after e f limit n text ≡ ends (Some x)
+      → judgement f limit (n + 1) v ≡ Err x → cut_fault limit (n + 1) (v ∷ []) ≡ x
+      → reading_after e f limit n text ≡ reading_end (Some x)
   reading-fault at_end n text v more x is judged cut = rw (is, judged) refl
   reading-fault at_failure n text v more x is judged cut = rw is (fault_first n (line_feeds text) v more x judged cut)
 
   -- a byte past the limit
   pub reading-past : (e : Ending) (n c : ℕ) (text : List ℕ) → limit ≤ n
-      → reading_after e f limit n (c ∷ text) ≡ ends (Some (fault.TooManyLines limit))
+      → reading_after e f limit n (c ∷ text) ≡ reading_end (Some (fault.TooManyLines limit))
   reading-past e n c text past =
       let first = lines-some c text in
       let over : ltb limit (n + 1) ≡ true = search (rules, tests) in
@@ -96,7 +96,7 @@ module _ (f : Format) (limit : ℕ) where
 
   -- too many bytes
   pub reading-long : (e : Ending) (n : ℕ) (u z : List ℕ) → HoldsNoFeed u → n < limit → longest_line < length u
-      → reading_after e f limit n (u ++ z) ≡ ends (Some (fault.TooLong (n + 1)))
+      → reading_after e f limit n (u ++ z) ≡ reading_end (Some (fault.TooLong (n + 1)))
   reading-long e n [] z none within long = absurd (omega arith)
   reading-long e n (c ∷ u) z none within long =
       let first = lines-front c u z none in

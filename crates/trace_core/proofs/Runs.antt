@@ -4,8 +4,8 @@ use Rattle.std.proofs.Common.{sym, ap, ◌∙◌, subst}
 use Rattle.std.proofs.lemmas.List.{append-nil}
 use Rattle.std.specs.Io.KnownBytes.{IsAtEnd}
 use Rattle.trace_core.specs.Device.{SourceView, failures_after}
-use Rattle.trace_core.specs.Reading.{Reading, at_end, at_failure, reading, cut_reading, ends}
-use Rattle.trace_core.specs.Reader.{Progress, still_gives, MayFollow, Advances, Delivers, Reached, begun, device_failed, entries_then}
+use Rattle.trace_core.specs.Reading.{Reading, at_end, at_failure, reading, cut_reading, reading_end}
+use Rattle.trace_core.specs.Reader.{Progress, still_gives, MayFollow, Advances, Delivers, Reached, new_progress, device_failed, reading_with_entries}
 use Rattle.trace_core.specs.declared.events.Entry.{Entry}
 use Rattle.trace_core.specs.declared.line.Format.{Format}
 use Rattle.trace_core.specs.declared.fault.TraceFault.{TraceFault}
@@ -29,11 +29,11 @@ open_or_not (state.Failed x) = inr (λ e. cc)
 
 module _ (f : Format) (limit : ℕ) where
   -- a reader that began has read nothing
-  pub Reached-start : (v : SourceView) → Reached f limit v v [] (begun f limit)
+  pub Reached-start : (v : SourceView) → Reached f limit v v [] (new_progress f limit)
   Reached-start v = record {
     bytes = [];
     delivers = Delivers-none v.remaining false;
-    reads = Advances-stays v.remaining (begun f limit);
+    reads = Advances-stays v.remaining (new_progress f limit);
     at_end = λ ended. absurd (let e : state.Open ≡ state.Ended = ended in cc);
     counted = refl;
   }
@@ -54,7 +54,7 @@ module _ (f : Format) (limit : ℕ) where
       subst (λ s. Delivers start.remaining mid.remaining (device_failed s) so_far.bytes) opened so_far.delivers in record {
         bytes = so_far.bytes ++ step.0;
         delivers = Delivers-then start.remaining mid.remaining now.remaining (device_failed q.state) so_far.bytes step.0 consumes step.1;
-        reads = Advances-then now.remaining mid.remaining (begun f limit) p q so_far.bytes step.0 xs ys opened so_far.reads step.2;
+        reads = Advances-then now.remaining mid.remaining (new_progress f limit) p q so_far.bytes step.0 xs ys opened so_far.reads step.2;
         at_end = over;
         counted =
             counted ∙ ap (failures_after (device_failed q.state)) (so_far.counted ∙ ap (λ s. failures_after (device_failed s) start.failures) opened);
@@ -79,7 +79,7 @@ module _ (f : Format) (limit : ℕ) where
   Reached-end text start now xs p reported run ended =
       end_of now.remaining (delivered reported (ap device_failed ended) run) (run.at_end ended) run.reads
     where
-      end_of : (t : Option (List ℕ)) → Delivers (Some text) t false run.bytes → IsAtEnd t → Advances t (begun f limit) p run.bytes xs
+      end_of : (t : Option (List ℕ)) → Delivers (Some text) t false run.bytes → IsAtEnd t → Advances t (new_progress f limit) p run.bytes xs
           → reading f limit text ≡ record { entries = xs; fault = None }
       end_of None delivers over reads = absurd delivers
       end_of (Some rest) delivers over reads =
@@ -103,7 +103,7 @@ module _ (f : Format) (limit : ℕ) where
   Reached-fault text start now xs p x reported run failed own =
       end_of now.remaining (delivered reported (ap device_failed failed ∙ own) run) run.reads
     where
-      end_of : (t : Option (List ℕ)) → Delivers (Some text) t false run.bytes → Advances t (begun f limit) p run.bytes xs
+      end_of : (t : Option (List ℕ)) → Delivers (Some text) t false run.bytes → Advances t (new_progress f limit) p run.bytes xs
           → reading f limit text ≡ record { entries = xs; fault = Some x }
       end_of None delivers reads = absurd delivers
       end_of (Some rest) delivers reads =
@@ -117,18 +117,18 @@ module _ (f : Format) (limit : ℕ) where
   Reached-cut text rest start now xs p n reported left run failed =
       let whole : text ≡ run.bytes ++ rest =
       subst (λ t. Delivers (Some text) t true run.bytes) left (delivered reported (ap device_failed failed) run) in
-      let reads : Advances (Some rest) (begun f limit) p run.bytes xs = subst (λ t. Advances t (begun f limit) p run.bytes xs) left run.reads in
+      let reads : Advances (Some rest) (new_progress f limit) p run.bytes xs = subst (λ t. Advances t (new_progress f limit) p run.bytes xs) left run.reads in
       let may : MayFollow (Some rest) p.state at_failure [] = subst (λ s. MayFollow (Some rest) s at_failure []) (sym failed) (refl, refl) in
       (whole, ap (cut_reading f limit) (sym (append-nil run.bytes)) ∙ reads.gives at_failure [] may ∙ (rw (failed, append-nil xs) refl))
 
   -- an open reader has read the first entries of the text
   pub Reached-open : (text : List ℕ) (start now : SourceView) (xs : List (ℕ × Entry)) (p : Progress) → start.remaining ≡ Some text
-      → Reached f limit start now xs p → p.state ≡ state.Open → (r : Reading) × (reading f limit text ≡ entries_then xs r)
+      → Reached f limit start now xs p → p.state ≡ state.Open → (r : Reading) × (reading f limit text ≡ reading_with_entries xs r)
   Reached-open text start now xs p reported run opened =
       first_of now.remaining (delivered reported (ap device_failed opened) run) run.reads
     where
-      first_of : (t : Option (List ℕ)) → Delivers (Some text) t false run.bytes → Advances t (begun f limit) p run.bytes xs
-          → (r : Reading) × (reading f limit text ≡ entries_then xs r)
+      first_of : (t : Option (List ℕ)) → Delivers (Some text) t false run.bytes → Advances t (new_progress f limit) p run.bytes xs
+          → (r : Reading) × (reading f limit text ≡ reading_with_entries xs r)
       first_of None delivers reads = absurd delivers
       first_of (Some rest) delivers reads =
           let may : MayFollow (Some rest) p.state at_end rest = subst (λ s. MayFollow (Some rest) s at_end rest) (sym opened) tt in
@@ -136,21 +136,21 @@ module _ (f : Format) (limit : ℕ) where
 
   -- a reader that met no fault has read the first entries of the text
   pub Reached-prefix : (text : List ℕ) (start now : SourceView) (xs : List (ℕ × Entry)) (p : Progress) → start.remaining ≡ Some text
-      → Reached f limit start now xs p → ((x : TraceFault) → p.state ≢ state.Failed x) → (r : Reading) × (reading f limit text ≡ entries_then xs r)
+      → Reached f limit start now xs p → ((x : TraceFault) → p.state ≢ state.Failed x) → (r : Reading) × (reading f limit text ≡ reading_with_entries xs r)
   Reached-prefix text start now xs p reported run well = by_state p.state refl
     where
-      by_state : (s : ReaderState) → p.state ≡ s → (r : Reading) × (reading f limit text ≡ entries_then xs r)
+      by_state : (s : ReaderState) → p.state ≡ s → (r : Reading) × (reading f limit text ≡ reading_with_entries xs r)
       by_state state.Open is = Reached-open text start now xs p reported run is
       by_state state.Ended is =
-          (ends None, Reached-end text start now xs p reported run is ∙ ap (λ ys. record { entries = ys; fault = None }) (sym (append-nil xs)))
+          (reading_end None, Reached-end text start now xs p reported run is ∙ ap (λ ys. record { entries = ys; fault = None }) (sym (append-nil xs)))
       by_state (state.Failed x) is = absurd (well x is)
 
 -- a reader that was just begun has read nothing
-pub Reached-begun : {p : Progress} (v : SourceView) → p ≡ begun p.format p.limit → Reached p.format p.limit v v [] p
+pub Reached-begun : {p : Progress} (v : SourceView) → p ≡ new_progress p.format p.limit → Reached p.format p.limit v v [] p
 Reached-begun {p} v is = subst (λ (q : Progress). Reached p.format p.limit v v [] q) (sym is) (Reached-start p.format p.limit v)
 
 -- a reader that was begun with this format and limit
-pub Reached-from : {f : Format} {limit : ℕ} {start now : SourceView} {first p : Progress} {xs : List (ℕ × Entry)} → first ≡ begun f limit
+pub Reached-from : {f : Format} {limit : ℕ} {start now : SourceView} {first p : Progress} {xs : List (ℕ × Entry)} → first ≡ new_progress f limit
     → Reached first.format first.limit start now xs p → Reached f limit start now xs p
 Reached-from {start = start} {now = now} {p = p} {xs = xs} is run =
     subst (λ (q : Progress). Reached q.format q.limit start now xs p) is run

@@ -7,7 +7,7 @@ use Rattle.std.proofs.lemmas.List.{drop_more, take-append-drop, get_or-take, len
 use Rattle.memchr.specs.Find.{IsFirstByte, is_byte}
 use Rattle.trace_core.specs.Lines.{is_line_feed, HoldsNoFeed}
 use Rattle.trace_core.specs.Line.{meaning}
-use Rattle.trace_core.specs.Reading.{judge, with_line, ends, reading_after, Ending, longest_line}
+use Rattle.trace_core.specs.Reading.{judgement, with_line, reading_end, reading_after, Ending, longest_line}
 use Rattle.trace_core.specs.Reader.{Progress, Advances}
 use Rattle.trace_core.specs.declared.events.Entry.{Entry}
 use Rattle.trace_core.specs.declared.events.Entry.TheVariants as entry
@@ -28,18 +28,18 @@ with_line-err n (Ok o) x h = absurd cc
 with_line-err n (Err y) x h = (y, cc)
 
 -- a short line within the limit is judged by what it means
-judge-own : (f : Format) (limit n : ℕ) (w : List ℕ) → n ≤ limit → length w ≤ longest_line → judge f limit n w ≡ with_line n (meaning f w)
+judge-own : (f : Format) (limit n : ℕ) (w : List ℕ) → n ≤ limit → length w ≤ longest_line → judgement f limit n w ≡ with_line n (meaning f w)
 judge-own f limit n w within short =
     let in_limit : ltb limit n ≡ false = search (rules, tests) in
     let in_length : ltb longest_line (length w) ≡ false = search (rules, tests) in
     rw (in_limit, in_length) refl
 
-judge-fault : (f : Format) (limit n : ℕ) (w : List ℕ) (x : TraceFault) → n ≤ limit → length w ≤ longest_line → judge f limit n w ≡ Err x
+judge-fault : (f : Format) (limit n : ℕ) (w : List ℕ) (x : TraceFault) → n ≤ limit → length w ≤ longest_line → judgement f limit n w ≡ Err x
     → (y : LineFault) × (x ≡ fault.Line n y)
 judge-fault f limit n w x within short judged = with_line-err n (meaning f w) x (sym (judge-own f limit n w within short) ∙ judged)
 
 judge-ok : (f : Format) (limit n : ℕ) (w : List ℕ) (o : Option Entry) → n ≤ limit → length w ≤ longest_line → meaning f w ≡ Ok o
-    → judge f limit n w ≡ Ok o
+    → judgement f limit n w ≡ Ok o
 judge-ok f limit n w o within short means = judge-own f limit n w within short ∙ ap (with_line n) means
 
 -- the bytes before the first LF
@@ -87,7 +87,7 @@ module _ (reported : Option (List ℕ)) (scan : Scan) (opened : scan.state ≡ s
       → Advances reported (at f limit n u s) q d xs
   from_open q d xs = subst (λ v. Advances reported (at f limit n u v) q d xs) (sym opened)
 
-  pub steps-line : (k : ℕ) (o : Option Entry) (q : Progress) → IsFirstByte (is_byte 10) u (Some k) → judge f limit (n + 1) (take k u) ≡ Ok o
+  pub steps-line : (k : ℕ) (o : Option Entry) (q : Progress) → IsFirstByte (is_byte 10) u (Some k) → judgement f limit (n + 1) (take k u) ≡ Ok o
       → q.lines ≡ n + 1 → q.unread ≡ drop (k + 1) u → (q.format ≡ f) × (q.limit ≡ limit) × (q.state ≡ s)
       → Advances reported (at f limit n u s) q [] (numbered (n + 1) o)
   steps-line k o q found judged line rest same =
@@ -110,7 +110,7 @@ module _ (reported : Option (List ℕ)) (scan : Scan) (opened : scan.state ≡ s
       subst (λ m. Advances reported (at f limit n u s) q [] ((m, entry.Item item) ∷ [])) (sym (numbered_is ∙ line))
       (steps-line k (Some (entry.Item item)) q own (judge-ok f limit (n + 1) (take k u) _ (omega arith) fits meant) line rest same)
 
-  pub steps-bad_line : (q : Progress) (k : ℕ) (x : TraceFault) → IsFirstByte (is_byte 10) u (Some k) → judge f limit (n + 1) (take k u) ≡ Err x
+  pub steps-bad_line : (q : Progress) (k : ℕ) (x : TraceFault) → IsFirstByte (is_byte 10) u (Some k) → judgement f limit (n + 1) (take k u) ≡ Err x
       → q.state ≡ state.Failed x
       → Advances reported (at f limit n u s) q [] []
   steps-bad_line q k x found judged failed =
@@ -124,7 +124,7 @@ module _ (reported : Option (List ℕ)) (scan : Scan) (opened : scan.state ≡ s
       from_open q [] [] (Advances-fault reported f limit n q u (fault.TooManyLines limit) (past_all u some) failed)
     where
       past_all : (v : List ℕ) → 0 < length v → (e : Ending) (later : List ℕ)
-          → reading_after e f limit n (v ++ later) ≡ ends (Some (fault.TooManyLines limit))
+          → reading_after e f limit n (v ++ later) ≡ reading_end (Some (fault.TooManyLines limit))
       past_all [] some e later = absurd (omega arith)
       past_all (c ∷ v) some e later = reading-past f limit e n c (v ++ later) past
 
@@ -137,23 +137,23 @@ module _ (reported : Option (List ℕ)) (scan : Scan) (opened : scan.state ≡ s
       → q.state ≡ state.Failed (fault.Read (n + 1)) → Advances reported (at f limit n u s) q [] []
   steps-failed q none short within failed = from_open q [] [] (Advances-failed reported f limit n q u none short within failed)
 
-  pub steps-last : (q : Progress) (o : Option Entry) → HoldsNoFeed u → 0 < length u → judge f limit (n + 1) u ≡ Ok o → q.state ≡ state.Ended
+  pub steps-last : (q : Progress) (o : Option Entry) → HoldsNoFeed u → 0 < length u → judgement f limit (n + 1) u ≡ Ok o → q.state ≡ state.Ended
       → Advances reported (at f limit n u s) q [] (numbered (n + 1) o)
   steps-last q o none some judged ended = from_open q [] (numbered (n + 1) o) (last_of u none some judged)
     where
-      last_of : (v : List ℕ) → HoldsNoFeed v → 0 < length v → judge f limit (n + 1) v ≡ Ok o
+      last_of : (v : List ℕ) → HoldsNoFeed v → 0 < length v → judgement f limit (n + 1) v ≡ Ok o
           → Advances reported (at f limit n v state.Open) q [] (numbered (n + 1) o)
       last_of [] none some judged = absurd (omega arith)
       last_of (c ∷ v) none some judged = Advances-last reported f limit n q c v o none judged ended
 
   pub steps-bad_last : (q : Progress) (x : TraceFault) → IsAtEnd reported → HoldsNoFeed u → 0 < length u → n < limit → length u ≤ longest_line
-      → judge f limit (n + 1) u ≡ Err x
+      → judgement f limit (n + 1) u ≡ Err x
       → q.state ≡ state.Failed x → Advances reported (at f limit n u s) q [] []
   steps-bad_last q x over none some within short judged failed =
       let own = judge-fault f limit (n + 1) u x (omega arith) short judged in
       from_open q [] [] (last_of own.0 u none some (judged ∙ ap Err own.1) (failed ∙ ap state.Failed own.1))
     where
-      last_of : (y : LineFault) (v : List ℕ) → HoldsNoFeed v → 0 < length v → judge f limit (n + 1) v ≡ Err (fault.Line (n + 1) y)
+      last_of : (y : LineFault) (v : List ℕ) → HoldsNoFeed v → 0 < length v → judgement f limit (n + 1) v ≡ Err (fault.Line (n + 1) y)
           → q.state ≡ state.Failed (fault.Line (n + 1) y)
           → Advances reported (at f limit n v state.Open) q [] []
       last_of y [] none some judged failed = absurd (omega arith)
@@ -161,5 +161,5 @@ module _ (reported : Option (List ℕ)) (scan : Scan) (opened : scan.state ≡ s
 
   -- a line is judged as the code judged the bytes that it read
   pub judged-as : (line bytes : List ℕ) (r x : Result (Option Entry) TraceFault) → bytes ≡ line
-      → ((most : ℕ) → n + 1 ≤ most → r ≡ judge f most (n + 1) bytes) → r ≡ x → n < limit → judge f limit (n + 1) line ≡ x
-  judged-as line bytes r x same judged is within = ap (judge f limit (n + 1)) (sym same) ∙ sym (judged limit (omega arith)) ∙ is
+      → ((most : ℕ) → n + 1 ≤ most → r ≡ judgement f most (n + 1) bytes) → r ≡ x → n < limit → judgement f limit (n + 1) line ≡ x
+  judged-as line bytes r x same judged is within = ap (judgement f limit (n + 1)) (sym same) ∙ sym (judged limit (omega arith)) ∙ is

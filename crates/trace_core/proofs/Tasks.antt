@@ -9,7 +9,7 @@ use Rattle.trace_core.specs.declared.fault.TraceFault.TheVariants as fault
 use Rattle.trace_core.specs.declared.state.ReaderState.TheVariants as state
 use Rattle.trace_core.specs.Device.{SourceView, SinkView, WritesPrefix, Wrote}
 use Rattle.trace_core.specs.Reading.{Reading, reading, entries}
-use Rattle.trace_core.specs.Reader.{Progress, Reached, entries_then, device_failed}
+use Rattle.trace_core.specs.Reader.{Progress, Reached, reading_with_entries, device_failed}
 use Rattle.trace_core.specs.Task.{Task, StopsAt, CutsOff, entries_of, entries_in, output, output_for}
 use Rattle.trace_core.proofs.Entries.{entries-reading}
 use Rattle.trace_core.proofs.Written.{part_of_first}
@@ -77,7 +77,7 @@ pub record WritesAlong (task : Task) : Type 0 where
 
 module _ (task : Task) (along : WritesAlong task) where
   -- the output begins with what is written of the first entries
-  output-begins : (text : List ℕ) (xs : List (ℕ × Entry)) (r : Reading) → reading task.format task.limit text ≡ entries_then xs r
+  output-begins : (text : List ℕ) (xs : List (ℕ × Entry)) (r : Reading) → reading task.format task.limit text ≡ reading_with_entries xs r
       → (more : List ℕ) × (output task text ≡ task.partial (entries_of xs) ++ more)
   output-begins text xs r is = by_fault r.fault refl
     where

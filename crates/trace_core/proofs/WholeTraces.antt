@@ -10,7 +10,7 @@ use Rattle.trace_core.specs.declared.fault.TraceFault.{TraceFault}
 use Rattle.trace_core.specs.declared.state.ReaderState.TheVariants as state
 use Rattle.trace_core.specs.Device.{SourceView, SinkView, Wrote, WrotePart, WroteLast, WroteLastPart}
 use Rattle.trace_core.specs.Reading.{entries}
-use Rattle.trace_core.specs.Reader.{Progress, Reached, Reports, entries_returned, begun}
+use Rattle.trace_core.specs.Reader.{Progress, Reached, Reports, entries_returned, new_progress}
 use Rattle.trace_core.specs.Task.{Task, Finished, Stopped, WriteFailed, HasRead, entries_of}
 use Rattle.trace_core.proofs.Runs.{Reached-start, Reached-from}
 use Rattle.trace_core.proofs.Tasks.{ReadWhole, WritesAlong}
@@ -27,7 +27,7 @@ pub record Reads (format : Format) (limit : ℕ) (start now : SourceView) (p : P
 
 -- before the first call nothing was read
 pub reads-none : {format : Format} {limit : ℕ} {Holds : List Entry → Type 0} {p : Progress} (v : SourceView)
-    → p ≡ begun format limit → Holds [] → Reads format limit v v p Holds
+    → p ≡ new_progress format limit → Holds [] → Reads format limit v v p Holds
 reads-none {format} {limit} v is holds =
     record { read = []; reached = rw is (Reached-start format limit v); few = omega arith; holds = holds }
 
@@ -74,7 +74,7 @@ module _ {format : Format} {limit : ℕ} {start mid now : SourceView} {p q : Pro
 
 -- a reader that began with this format and limit
 abbrev pub read-from : {format : Format} {limit : ℕ} {start now : SourceView} {first p : Progress} {Holds : List Entry → Type 0}
-    → first ≡ begun format limit → HasRead first.format first.limit start now p Holds → HasRead format limit start now p Holds
+    → first ≡ new_progress format limit → HasRead first.format first.limit start now p Holds → HasRead format limit start now p Holds
 read-from is run = record { read = run.read; reached = Reached-from is run.reached; holds = run.holds }
 
 -- less may be said of what was read

@@ -30,19 +30,19 @@ abbrev pub references : Item → Ref × Option Ref
 references item = references_to item.op item.addr
 
 -- whether a kind keeps such references
-abbrev pub keeps : Kind → Access → Bool
-keeps All access = true
-keeps DataOnly Fetch = false
-keeps DataOnly Read = true
-keeps DataOnly Write = true
-keeps FetchOnly Fetch = true
-keeps FetchOnly Read = false
-keeps FetchOnly Write = false
+abbrev pub is_kept : Kind → Access → Bool
+is_kept All access = true
+is_kept DataOnly Fetch = false
+is_kept DataOnly Read = true
+is_kept DataOnly Write = true
+is_kept FetchOnly Fetch = true
+is_kept FetchOnly Read = false
+is_kept FetchOnly Write = false
 
 -- what an entry gives a cache: the references of its item that are kept, or a flush
 abbrev pub events_of : Kind → Entry → List Event
 events_of kind (entry.Item item) =
-    map event.Reference (filter (λ r. keeps kind r.access) ((references item).0 ∷ option_to_list (references item).1))
+    map event.Reference (filter (λ r. is_kept kind r.access) ((references item).0 ∷ option_to_list (references item).1))
 events_of kind entry.Flush = event.Flush ∷ []
 
 -- whether an access is an instruction fetch

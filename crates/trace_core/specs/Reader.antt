@@ -2,7 +2,7 @@
 use Rattle.std.specs.Prelude.{◌≡◌, ◌≢◌, ⊤, IfSome, Bool, true, false, ℕ, List, [], ◌++◌, Option, None, Some, Result, Ok, Err}
 use Rattle.std.specs.Io.KnownBytes.{Consumes, IsAtEnd}
 use Rattle.std.specs.Option.{option_to_list}
-use Rattle.trace_core.specs.Reading.{Reading, ends, Ending, reading_after, at_end, at_failure}
+use Rattle.trace_core.specs.Reading.{Reading, reading_end, Ending, reading_after, at_end, at_failure}
 use Rattle.trace_core.specs.Device.{SourceView, failures_after}
 use Rattle.trace_core.specs.declared.events.Entry.{Entry}
 use Rattle.trace_core.specs.declared.line.Format.{Format}
@@ -23,8 +23,8 @@ pub record Progress : Type 0 where
 -- what a reader in this state still returns, if an open one would return this reading
 abbrev pub left_in : ReaderState → Reading → Reading
 left_in state.Open r = r
-left_in state.Ended r = ends None
-left_in (state.Failed f) r = ends (Some f)
+left_in state.Ended r = reading_end None
+left_in (state.Failed f) r = reading_end (Some f)
 
 -- what a reader will return, if these bytes come and then this ending
 abbrev pub still_gives : Ending → Progress → List ℕ → Reading
@@ -41,18 +41,18 @@ MayFollow reported (state.Failed (fault.TooManyLines n)) e later = (e ≡ at_end
 MayFollow reported (state.Failed (fault.Line n f)) e later = (e ≡ at_end) × (reported ≡ Some later)
 
 -- these entries, and then a reading
-abbrev pub entries_then : List (ℕ × Entry) → Reading → Reading
-entries_then xs r = record { entries = xs ++ r.entries; fault = r.fault }
+abbrev pub reading_with_entries : List (ℕ × Entry) → Reading → Reading
+reading_with_entries xs r = record { entries = xs ++ r.entries; fault = r.fault }
 
 -- A reader went from old to new over these bytes and gave these entries: whatever may follow, what old gives is these entries
 -- and then what new gives.
 pub record Advances (reported : Option (List ℕ)) (old new : Progress) (bytes : List ℕ) (xs : List (ℕ × Entry)) : Type 0 where
   pub gives : (e : Ending) (later : List ℕ) → MayFollow reported new.state e later
-      → still_gives e old (bytes ++ later) ≡ entries_then xs (still_gives e new later)
+      → still_gives e old (bytes ++ later) ≡ reading_with_entries xs (still_gives e new later)
 
 -- the state of a reader that began
-abbrev pub begun : Format → ℕ → Progress
-begun format limit = record { format = format; limit = limit; lines = 0; unread = []; state = state.Open }
+abbrev pub new_progress : Format → ℕ → Progress
+new_progress format limit = record { format = format; limit = limit; lines = 0; unread = []; state = state.Open }
 
 -- the entry that a call returned, if it did
 abbrev pub entries_returned : Result (Option (ℕ × Entry)) TraceFault → List (ℕ × Entry)
@@ -92,7 +92,7 @@ pub record Reached (format : Format) (limit : ℕ) (start now : SourceView) (xs 
   -- they were the first of what it had to give
   pub delivers : Delivers start.remaining now.remaining (device_failed p.state) bytes
   -- whatever may follow them, they read as these entries and then what the reader still gives
-  pub reads : Advances now.remaining (begun format limit) p bytes xs
+  pub reads : Advances now.remaining (new_progress format limit) p bytes xs
   -- a reader at its end has left no byte
   pub at_end : p.state ≡ state.Ended → IsAtEnd now.remaining
   -- a read failed exactly if the state says so

@@ -1,6 +1,6 @@
 //! The entries of a trace, items and flushes, and the references of an item.
 ghost use Rattle.std.specs.Prelude.{◌≡◌};
-ghost use Rattle.trace_core.specs.Events.{references, keeps};
+ghost use Rattle.trace_core.specs.Events.{references, is_kept};
 
 /// The operation of an item on its address.
 #[derive(Clone, Copy, Debug, PartialEq, Eq)]
@@ -66,7 +66,7 @@ impl Kind {
     /// Whether references of this access are kept.
     #[inline(always)]
     pub fn keeps(self, access: Access) -> bool
-        ensures { result ≡ keeps self access }
+        ensures { result ≡ is_kept self access }
     {
         match self {
             Kind::All => true,

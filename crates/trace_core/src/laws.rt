@@ -8,9 +8,9 @@ ghost use Rattle.std.specs.List.{enumerate_from, prefix_len, slice_split};
 ghost use Rattle.trace_core.specs.Device.{SourceView};
 ghost use Rattle.trace_core.specs.Events.{events_of};
 ghost use Rattle.trace_core.specs.Lines.{is_line_feed, lines, line_feeds, without_empty_last};
-ghost use Rattle.trace_core.specs.Reader.{Progress, Reached, begun, device_failed, entries_then};
+ghost use Rattle.trace_core.specs.Reader.{Progress, Reached, new_progress, device_failed, reading_with_entries};
 ghost use Rattle.trace_core.specs.Reading.{Reading, reading, cut_reading, first_fault, judgements};
-ghost use Rattle.trace_core.specs.Reading.{whole_judgements, cut_off, numbered_entry, entries};
+ghost use Rattle.trace_core.specs.Reading.{whole_judgements, cut_fault, numbered_entry, entries};
 ghost use Rattle.trace_core.specs.Reading.{events};
 ghost use Rattle.trace_core.specs.Task.{entries_of};
 ghost use Rattle.trace_core.specs.declared.events.Entry.{Entry};
@@ -52,7 +52,7 @@ pub fn failure_comes_after_what_was_delivered()
     ensures piece { (format : Format) (limit : ℕ) (text : List ℕ) →
         All IsOk (whole_judgements format limit text) →
         (cut_reading format limit text).fault
-        ≡ Some (cut_off limit (line_feeds text + 1) (drop (line_feeds text) (lines text))) }
+        ≡ Some (cut_fault limit (line_feeds text + 1) (drop (line_feeds text) (lines text))) }
 {}
 
 /// The entries of a reading are those of the lines before the first that is at fault, each with its
@@ -90,7 +90,7 @@ pub fn faultless_reading_is_whole()
 /// A reader that began has read nothing.
 pub fn begun_reader_has_read_nothing()
     ensures { (format : Format) (limit : ℕ) (start : SourceView) →
-        Reached format limit start start [] (begun format limit) }
+        Reached format limit start start [] (new_progress format limit) }
 {}
 
 /// A reader at its end has returned the entries of the whole text, which has no fault, and nothing
@@ -167,5 +167,5 @@ pub fn open_reader_has_read_the_first_entries()
         (given : List (ℕ × Entry)) (reader : Progress) →
         start.remaining ≡ Some text → Reached format limit start now given reader →
         reader.state ≡ ReaderState.Open →
-        (later : Reading) × (reading format limit text ≡ entries_then given later) }
+        (later : Reading) × (reading format limit text ≡ reading_with_entries given later) }
 {}

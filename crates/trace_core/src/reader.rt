@@ -31,7 +31,7 @@ impl Model for Lines {
 }
 
 impl Lines {
-    ghost use Rattle.trace_core.specs.Reader.{Progress, Reached, Reports, entries_returned, begun};
+    ghost use Rattle.trace_core.specs.Reader.{Progress, Reached, Reports, entries_returned, new_progress};
     ghost use Rattle.trace_core.specs.Reader.{device_failed, stopped_result};
 
     /// A reader of lines in a format, of which there may be at most `max_lines`. It takes one
@@ -39,7 +39,7 @@ impl Lines {
     pub fn new(alloc: Global, format: Format, max_lines: u64) -> Result<Lines, AllocError>
         requires some { 1 ≤ max_lines }
         requires most { max_lines ≤ MAX_LINES }
-        ensures { IfOk result (λ lines. lines ≡ begun format max_lines) }
+        ensures { IfOk result (λ lines. lines ≡ new_progress format max_lines) }
     {
         Ok(Lines {
             scan: Scan {

@@ -285,12 +285,12 @@ impl Scan {
     }
 }
 
-ghost use Rattle.trace_core.specs.Reading.{judge};
+ghost use Rattle.trace_core.specs.Reading.{judgement};
 
 /// The entry of line number `line`, if it has one, or its fault.
 #[inline(always)]
 fn judge(format: Format, line: u64, bytes: &[u8]) -> Result<Option<Entry>, TraceFault>
-    ensures { (limit : ℕ) → line ≤ limit → result ≡ judge format limit line bytes.now }
+    ensures { (limit : ℕ) → line ≤ limit → result ≡ judgement format limit line bytes.now }
 {
     if bytes.len() > MAX_LINE {
         return Err(TraceFault::TooLong { line });

@@ -1,7 +1,7 @@
 -- One set after another is emptied, until no other has a block.
 use Rattle.std.proofs.Common.{◌<◌, ◌≡◌, length, get_or, ap, arith, ◌∙◌, sym}
 use Rattle.std.proofs.lemmas.List.{get_or_read}
-use Rattle.cache_core.specs.DeepSets.{emptied}
+use Rattle.cache_core.specs.DeepSets.{cleared_sets}
 use Rattle.cache_core.proofs.DeepSetsLaw.{nothing, next_within, still_to_come, still_same, all_cleared}
 use Rattle.cache_core.proofs.deep_sets.clear_listed.Goals as goal
 
@@ -13,7 +13,7 @@ loop-set-preserved c =
     next_within c.args.sets.now lists i (omega (arith, c.loop-set-test.true)) c.loop-set.invariant.to_come in
     let read : c.index-lists-set.result ≡ get_or lists (get_or c.args.sets.now i 0) nothing =
     get_or_read lists (get_or c.args.sets.now i 0) c.index-lists-set.result within c.index-lists-set.is nothing in
-    let cleared : c.clear.new.self ≡ emptied c.index-lists-set.result = c.clear.ensures ∙ ap emptied (sym c.index-lists-set.is) in
+    let cleared : c.clear.new.self ≡ cleared_sets c.index-lists-set.result = c.clear.ensures ∙ ap cleared_sets (sym c.index-lists-set.is) in
     record {
       to_come = still_to_come c.args.sets.now lists c.args.lists.now i c.index-lists-set.result c.clear.new.self (omega (arith, c.loop-set-test.true)) within
           read cleared c.loop-set.invariant.to_come;

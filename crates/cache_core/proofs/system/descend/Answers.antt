@@ -4,7 +4,7 @@ use Rattle.trace_core.specs.declared.events.Ref.{Ref}
 use Rattle.cache_core.specs.declared.arrival.Arrival.{Arrival}
 use Rattle.cache_core.specs.declared.plan.CacheName.TheVariants.{L2U}
 use Rattle.cache_core.specs.Arrivals.{Saw, at_memory}
-use Rattle.cache_core.specs.SystemSteps.{present_refs, all_reach}
+use Rattle.cache_core.specs.SystemSteps.{present_refs, memory_after_all}
 use Rattle.cache_core.specs.SystemStands.{PlannedCacheStandsFor}
 use Rattle.cache_core.proofs.Counters.{sent_reach, sent_two}
 use Rattle.cache_core.proofs.Observed.{entered, saw_below}
@@ -13,7 +13,7 @@ use Rattle.cache_core.proofs.system.descend.Goals as goal
 pub returns-in-Some-clause-value : goal.returns-in-Some-clause-value
 returns-in-Some-clause-value g c =
     let next = present_refs (get_or c.access.result.down 1 None ∷ []) in
-    let after = c.count-in-Some.ensures.value ∙ ap (λ memory. all_reach memory next) c.count.ensures.value
+    let after = c.count-in-Some.ensures.value ∙ ap (λ memory. memory_after_all memory next) c.count.ensures.value
     ∙ sent_reach c.args.memory.now c.in-Some.cache c.args.reference c.access.result c.access.new.self c.access.ensures.value in
     rw c.in-Some.is (c.access.result, c.access.new.self, c.access.ensures.value, refl, after)
 

@@ -2,7 +2,7 @@
 use Rattle.std.proofs.Common.{refl, sym, ap, subst, ◌∙◌, ◌++◌, [], ◌∷◌}
 use Rattle.trace_core.specs.declared.events.Kind.TheVariants.{DataOnly}
 use Rattle.trace_core.specs.declared.events.Event.TheVariants as event
-use Rattle.trace_core.specs.Events.{events_of, keeps}
+use Rattle.trace_core.specs.Events.{events_of, is_kept}
 use Rattle.cache_core.specs.Windows.{occurrences_after}
 use Rattle.commands.proofs.DataSteps.{Follows, follows_none, follows_one, follows_both, no_data, one_datum, two_data}
 use Rattle.commands.proofs.csim.step.Goals as goal
@@ -14,7 +14,7 @@ returns-in_default c = λ g events h. rw c.in_default.is (c.flush.ensures.stands
 pub returns-then-not-keeps : goal.returns-then-not-keeps
 returns-then-not-keeps c = λ g events.
     let item = c.in-Item.item in
-    let left = ap (λ p. keeps DataOnly p.0.access) (sym c.refs_of-second.ensures) ∙ sym c.keeps.ensures ∙ c.if-not-keeps.true in
+    let left = ap (λ p. is_kept DataOnly p.0.access) (sym c.refs_of-second.ensures) ∙ sym c.keeps.ensures ∙ c.if-not-keeps.true in
     follows_none g events c.args.simulation.now (events_of DataOnly c.args.entry) (ap (events_of DataOnly) c.in-Item.is ∙ no_data item.addr item.op left)
 
 pub returns-in-Some : goal.returns-in-Some
@@ -38,7 +38,7 @@ pub returns-in-None : goal.returns-in-None
 returns-in-None c = λ g events.
     let item = c.in-Item.item in
     let refs = c.refs_of-second.result in
-    let kept = ap (λ p. keeps DataOnly p.0.access) (sym c.refs_of-second.ensures) ∙ sym c.keeps.ensures ∙ c.if-not-keeps.false in
+    let kept = ap (λ p. is_kept DataOnly p.0.access) (sym c.refs_of-second.ensures) ∙ sym c.keeps.ensures ∙ c.if-not-keeps.false in
     let none = ap (λ p. p.1) (sym c.refs_of-second.ensures) ∙ c.in-None.is in
     let is = ap (events_of DataOnly) c.in-Item.is ∙ one_datum item.addr item.op kept none
     ∙ ap (λ p. event.Reference p.0 ∷ []) (sym c.refs_of-second.ensures) in

@@ -4,8 +4,8 @@ use Rattle.std.specs.List.{flat_map}
 use Rattle.trace_core.specs.Events.{events_of}
 use Rattle.trace_core.specs.Task.{entries_of}
 use Rattle.trace_core.proofs.WholeTraces.{holds-less, reads-end, reads-fault, reads-more, reads-none}
-use Rattle.sweep_core.specs.Pass.{all_after, kept_events}
-use Rattle.sweep_core.specs.Implied.{all_caught_up, FedAtMost}
+use Rattle.sweep_core.specs.Pass.{profiles_after, kept_events}
+use Rattle.sweep_core.specs.Implied.{profiles_with_fronts, FedAtMost}
 use Rattle.sweep_core.proofs.Passes.{all_after-nil, all_after-append, fed-both, fed-more, fed-one}
 use Rattle.sweep_core.proofs.Catching.{fresh-few, caught-none, behind-after, caught-flush, few-flush}
 use Rattle.sweep_core.proofs.pass.read_entries.Goals as goal
@@ -14,7 +14,7 @@ pub loop-entry-init : goal.loop-entry-init
 loop-entry-init g c =
     let xs = c.args.profiles.now in (
       reads-none (g.S.Source.view c.args.source.now) c.requires.begun (
-        ap (λ n. all_caught_up n xs) c.requires.none ∙ caught-none xs ∙ sym (all_after-nil xs),
+        ap (λ n. profiles_with_fronts n xs) c.requires.none ∙ caught-none xs ∙ sym (all_after-nil xs),
         subst (λ n. FedAtMost n xs) (sym c.requires.none) (fresh-few xs c.requires.fresh),
         omega (arith, c.requires.none),
       ),
@@ -33,7 +33,7 @@ feed_kept-requires-in-Some-second-clause-behind g c =
     let before = flat_map (events_of c.args.kind) (entries_of so_far.read) in
     let first = kept_events c.args.kind (c.refs_of-second.result.0 ∷ []) in
     behind-after c.feed_kept.new.fed (before ++ first) c.args.profiles.now c.feed_kept.new.profiles c.requires.fresh c.requires.linked
-    (c.feed_kept.ensures.caught ∙ ap (all_after first) so_far.holds.0 ∙ sym (all_after-append before first c.args.profiles.now))
+    (c.feed_kept.ensures.caught ∙ ap (profiles_after first) so_far.holds.0 ∙ sym (all_after-append before first c.args.profiles.now))
     c.feed_kept.ensures.behind
 
 pub loop-entry-preserved-in-Some-second : goal.loop-entry-preserved-in-Some-second
@@ -42,9 +42,9 @@ loop-entry-preserved-in-Some-second g c =
     let es = entries_of so_far.read in
     let first = c.feed_kept.ensures in
     let second = c.feed_kept-in-Some-second.ensures in
-    let old = all_caught_up c.loop-entry.fed c.loop-entry.profiles in
-    let mid = all_caught_up c.feed_kept.new.fed c.feed_kept.new.profiles in
-    let new = all_caught_up c.feed_kept-in-Some-second.new.fed c.feed_kept-in-Some-second.new.profiles in
+    let old = profiles_with_fronts c.loop-entry.fed c.loop-entry.profiles in
+    let mid = profiles_with_fronts c.feed_kept.new.fed c.feed_kept.new.profiles in
+    let new = profiles_with_fronts c.feed_kept-in-Some-second.new.fed c.feed_kept-in-Some-second.new.profiles in
     let fed = fed-both c.args.kind old mid new c.in-Item.is c.refs_of-second.ensures c.in-Some-second.is first.caught second.caught in (
       reads-more so_far c.next.ensures.reached c.next.ensures.entry c.in_ok-entry.was c.in-Some.is (
         fed-more c.args.kind c.args.profiles.now old new es c.in-Some.entry so_far.holds.0 fed,
@@ -59,8 +59,8 @@ loop-entry-preserved-in_default-second g c =
     let so_far = c.loop-entry.invariant.0 in
     let es = entries_of so_far.read in
     let one = c.feed_kept.ensures in
-    let old = all_caught_up c.loop-entry.fed c.loop-entry.profiles in
-    let new = all_caught_up c.feed_kept.new.fed c.feed_kept.new.profiles in
+    let old = profiles_with_fronts c.loop-entry.fed c.loop-entry.profiles in
+    let new = profiles_with_fronts c.feed_kept.new.fed c.feed_kept.new.profiles in
     let fed = fed-one c.args.kind old new c.in-Item.is c.refs_of-second.ensures c.in_default-second.is one.caught in (
       reads-more so_far c.next.ensures.reached c.next.ensures.entry c.in_ok-entry.was c.in-Some.is (
         fed-more c.args.kind c.args.profiles.now old new es c.in-Some.entry so_far.holds.0 fed,
@@ -75,10 +75,10 @@ loop-entry-preserved g c =
     let so_far = c.loop-entry.invariant.0 in
     let es = entries_of so_far.read in
     let xs = c.loop-entry.profiles in
-    let fed = ap (all_caught_up c.loop-entry.fed) c.flush.ensures ∙ caught-flush c.loop-entry.fed xs
-    ∙ ap (λ e. all_after (events_of c.args.kind e) (all_caught_up c.loop-entry.fed xs)) (sym c.in-Flush.is) in (
+    let fed = ap (profiles_with_fronts c.loop-entry.fed) c.flush.ensures ∙ caught-flush c.loop-entry.fed xs
+    ∙ ap (λ e. profiles_after (events_of c.args.kind e) (profiles_with_fronts c.loop-entry.fed xs)) (sym c.in-Flush.is) in (
       reads-more so_far c.next.ensures.reached c.next.ensures.entry c.in_ok-entry.was c.in-Some.is (
-        fed-more c.args.kind c.args.profiles.now (all_caught_up c.loop-entry.fed xs) _ es c.in-Some.entry so_far.holds.0 fed,
+        fed-more c.args.kind c.args.profiles.now (profiles_with_fronts c.loop-entry.fed xs) _ es c.in-Some.entry so_far.holds.0 fed,
         subst (FedAtMost c.loop-entry.fed) (sym c.flush.ensures) (few-flush c.loop-entry.fed xs so_far.holds.1),
         omega (arith, so_far.holds.2, length-append es (c.in-Some.entry ∷ [])),
       ),

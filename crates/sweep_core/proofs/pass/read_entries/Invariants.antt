@@ -5,15 +5,15 @@ use Rattle.std.specs.List.{flat_map}
 use Rattle.trace_core.specs.Events.{events_of}
 use Rattle.trace_core.specs.declared.limits.TheConstants.{MAX_LINES}
 use Rattle.trace_core.proofs.WholeTraces.{Reads}
-use Rattle.sweep_core.specs.Pass.{all_after}
-use Rattle.sweep_core.specs.Implied.{FedAtMost, all_caught_up}
+use Rattle.sweep_core.specs.Pass.{profiles_after}
+use Rattle.sweep_core.specs.Implied.{FedAtMost, profiles_with_fronts}
 use Rattle.sweep_core.proofs.pass.read_entries.Given as goal
 
 -- the entries that were read were fed, at most two references each
 abbrev pub invariant-loop-entry : goal.invariant-loop-entry
 invariant-loop-entry g l =
     Reads l.fn.lines.format l.fn.lines.limit (g.S.Source.view l.initial.source) (g.S.Source.view l.source) l.lines
-    (λ es. (all_caught_up l.fed l.profiles ≡ all_after (flat_map (events_of l.kind) es) l.fn.profiles)
+    (λ es. (profiles_with_fronts l.fed l.profiles ≡ profiles_after (flat_map (events_of l.kind) es) l.fn.profiles)
     × FedAtMost l.fed l.profiles × (l.fed ≤ 2 * length es))
     × (l.lines.lines ≤ MAX_LINES)
 

@@ -1,6 +1,6 @@
 use Rattle.std.proofs.Common.{◌≡◌, ◌-◌, ◌∙◌, ◌<◌, ◌≤◌, ◌∷◌, false, take, length, ap, sym, List, ℕ, arith}
 use Rattle.std.specs.List.{remove}
-use Rattle.deep_list.specs.Deep.{Deep, is_in, index_of}
+use Rattle.deep_list.specs.Deep.{Deep, has_block, index_of_block}
 use Rattle.deep_list.proofs.KeptLemmas.{not_in-take, not_in-remove}
 use Rattle.deep_list.proofs.DeepLemmas.{take_cap}
 use Rattle.deep_list.proofs.deep.DeepList.exchange.Goals as goal
@@ -8,15 +8,15 @@ use Rattle.deep_list.proofs.deep.DeepList.exchange.Goals as goal
 pub put_first-requires-clause-other : goal.put_first-requires-clause-other
 put_first-requires-clause-other c =
     let old = c.args.self.now in
-    ap (λ v. is_in c.args.given v.blocks) c.drop_if_full.ensures.dropped
-    ∙ ap (λ v. is_in c.args.given (take (v.cap - 1) v.blocks)) c.take_out-place.ensures.moved
-    ∙ not_in-take c.args.given (old.cap - 1) (remove old.blocks (index_of c.args.wanted old.blocks))
-    (not_in-remove c.args.given (index_of c.args.wanted old.blocks) old.blocks c.requires)
+    ap (λ v. has_block c.args.given v.blocks) c.drop_if_full.ensures.dropped
+    ∙ ap (λ v. has_block c.args.given (take (v.cap - 1) v.blocks)) c.take_out-place.ensures.moved
+    ∙ not_in-take c.args.given (old.cap - 1) (remove old.blocks (index_of_block c.args.wanted old.blocks))
+    (not_in-remove c.args.given (index_of_block c.args.wanted old.blocks) old.blocks c.requires)
 
 pub returns-clause-moved : goal.returns-clause-moved
 returns-clause-moved c =
     let old = c.args.self.now in
-    let left : List ℕ = remove old.blocks (index_of c.args.wanted old.blocks) in
+    let left : List ℕ = remove old.blocks (index_of_block c.args.wanted old.blocks) in
     let front : Deep → Deep = λ v. record { cap = v.cap; blocks = c.args.given ∷ v.blocks } in
     let dropped : Deep → Deep = λ v. record { cap = v.cap; blocks = c.args.given ∷ take (v.cap - 1) v.blocks } in
     let made : List ℕ → Deep = λ xs. record { cap = old.cap; blocks = xs } in

@@ -1,7 +1,7 @@
 use Rattle.std.proofs.Common.{◌≡◌, ◌+◌, ◌-◌, ◌<◌, ◌≤◌, ◌∙◌, [], ◌∷◌, length, get_or, set, sym, ap, List, ℕ, arith, subst}
-use Rattle.deep_list.specs.Slots.{SlotsValue, kept, filled}
+use Rattle.deep_list.specs.Slots.{SlotsValue, kept, slots_with_block}
 use Rattle.deep_list.specs.Chains.{ChainsValue}
-use Rattle.deep_list.specs.Deep.{Deep, IsDeep, is_in, IsRanked}
+use Rattle.deep_list.specs.Deep.{Deep, IsDeep, has_block, IsRanked}
 use Rattle.deep_list.proofs.DeepLemmas.{filled_kept, filled_deep, filled_ranked}
 use Rattle.deep_list.proofs.deep.DeepList.put_first.Goals as goal
 use Rattle.deep_list.proofs.deep.DeepList.put_first.Goals.{After-make_room-self-inside}
@@ -14,11 +14,11 @@ invariant_of-self c =
     let room = c.make_room-self-inside in
     let t : ℕ = room.result.top - 1 in
     let at = next (goal.at.invariant_of-self c).After-make_room-self-inside in
-    let w : SlotsValue = filled room.new.slots t c.args.block in
+    let w : SlotsValue = slots_with_block room.new.slots t c.args.block in
     let is : c.fill.new.self ≡ w = c.fill.ensures in
     let P : ChainsValue → Type 0 = λ v. IsRanked t room.result.end w v in
     filled_deep c.self.invariant room.ensures.ranked room.ensures.kept_same room.ensures.long c.args.block t at
-    (ap (λ v. is_in c.args.block v.blocks) c.self.view_is ∙ c.requires.other)
+    (ap (λ v. has_block c.args.block v.blocks) c.self.view_is ∙ c.requires.other)
     (omega (arith, c.requires.room, ap (λ v. length v.blocks) c.self.view_is, ap (λ v. v.cap) c.self.view_is))
     c.fill.new.self c.add.new.self is (subst P (sym c.add.ensures) (filled_ranked room.ensures.ranked c.args.block t at))
 

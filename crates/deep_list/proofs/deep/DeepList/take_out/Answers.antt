@@ -1,7 +1,7 @@
 use Rattle.std.proofs.Common.{◌≡◌, ◌∙◌, List, ℕ, sum, take, sym, ap, arith}
 use Rattle.std.specs.List.{remove}
 use Rattle.deep_list.specs.Slots.{kept}
-use Rattle.deep_list.specs.Deep.{Deep, index_of, place_of}
+use Rattle.deep_list.specs.Deep.{Deep, index_of_block, place_of}
 use Rattle.deep_list.proofs.DeepLemmas.{vacated_deep, vacated_any, vacated_kept, found_inside, found_index, not_found, place_found, place_none, without_absent}
 use Rattle.deep_list.proofs.deep.DeepList.take_out.Goals as goal
 
@@ -28,7 +28,7 @@ returns-in-Some-clause-moved c =
     ap made
     (ap (λ w. kept w.blocks w.live) c.vacate.ensures ∙ vacated_kept d c.in-Some.slot at.live
     ∙ ap (remove list) (sym (found_index d c.args.block c.in-Some.slot at)))
-    ∙ ap (λ v. record { cap = v.cap; blocks = remove v.blocks (index_of c.args.block v.blocks) }) c.self.view_is
+    ∙ ap (λ v. record { cap = v.cap; blocks = remove v.blocks (index_of_block c.args.block v.blocks) }) c.self.view_is
 
 pub returns-in-None-clause-found : goal.returns-in-None-clause-found
 returns-in-None-clause-found c =
@@ -40,4 +40,4 @@ returns-in-None-clause-moved c =
     let list : List ℕ = kept c.self.inside.slots.blocks c.self.inside.slots.live in
     let made : List ℕ → Deep = λ xs. record { cap = c.self.inside.cap; blocks = xs } in
     sym c.self.view_is ∙ ap made (sym (without_absent c.args.block list (not_found c.self.invariant c.args.block (c.in-None.ensures {u = tt}))))
-    ∙ ap (λ v. record { cap = v.cap; blocks = remove v.blocks (index_of c.args.block v.blocks) }) c.self.view_is
+    ∙ ap (λ v. record { cap = v.cap; blocks = remove v.blocks (index_of_block c.args.block v.blocks) }) c.self.view_is

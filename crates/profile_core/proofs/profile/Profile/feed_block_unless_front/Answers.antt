@@ -2,15 +2,15 @@
 use Rattle.std.proofs.Common.{◌≡◌, ◌∙◌, [], cond, get_or, sym, ap}
 use Rattle.profile_core.specs.Moves.{is_front}
 use Rattle.profile_core.specs.State.{after_reference}
-use Rattle.profile_core.specs.Fronts.{finds_front}
+use Rattle.profile_core.specs.Fronts.{is_front_of}
 use Rattle.profile_core.proofs.profile.Profile.feed_block_unless_front.Goals as goal
 use Rattle.profile_core.proofs.profile.Profile.feed_block_unless_front.Goals.{After-is_front}
 
 -- whether it is found in front, as the state sees it
-front : (c : After-is_front) → c.is_front.result ≡ finds_front c.args.self.now c.args.block
+front : (c : After-is_front) → c.is_front.result ≡ is_front_of c.args.self.now c.args.block
 front c =
     c.is_front.ensures ∙ ap (λ k. is_front c.args.block (get_or c.self.inside.lists.lists k [])) c.set_of_block-set.ensures.value
-    ∙ ap (λ v. finds_front v c.args.block) c.self.view_is
+    ∙ ap (λ v. is_front_of v c.args.block) c.self.view_is
 
 pub returns-then-is_front-clause-front : goal.returns-then-is_front-clause-front
 returns-then-is_front-clause-front c = sym c.if-is_front.true ∙ front (goal.at.returns-then-is_front-clause-front c).After-is_front

@@ -1,9 +1,9 @@
 -- A block that comes to the front of a list, from its row or from behind it, or new.
 use Rattle.std.proofs.Common.{◌≡◌, ◌+◌, ◌<◌, ◌≤◌, ◌^◌, ◌∙◌, ℕ, List, [], length, get_or, set, take, sym, ap, arith, false}
-use Rattle.deep_list.specs.Deep.{Deep, exchanged}
+use Rattle.deep_list.specs.Deep.{Deep, list_after_exchange}
 use Rattle.profile_core.specs.Moves.{is_front, is_second, is_in, move_to_front, touch_of}
-use Rattle.profile_core.specs.Slab.{Lists, brought}
-use Rattle.profile_core.specs.Stacks.{joined, nothing, rest_touch_of}
+use Rattle.profile_core.specs.Slab.{Lists, lists_after_touch}
+use Rattle.profile_core.specs.Stacks.{whole_lists, nothing, rest_touch_of}
 use Rattle.profile_core.proofs.StackLemmas.{length-joined, front_is, second_is, all_stay, none_beyond, stays_stacked, stays_lists, stays_touch, settled_stays, settled_touch}
 use Rattle.profile_core.proofs.stacks.Stacks.bring.Goals as goal
 use Rattle.profile_core.proofs.stacks.Stacks.bring.Goals.{After-self}
@@ -25,20 +25,20 @@ second c =
 none : (c : After-self) → c.self.inside.beyond ≡ 0
 none c = none_beyond c.self.invariant c.args.self.now c.self.view_is c.requires.shallow
 
-touch_is : (c : After-self) → touch_of c.args.block (get_or (joined c.self.inside.near.lists c.self.inside.far.items) c.args.set [])
+touch_is : (c : After-self) → touch_of c.args.block (get_or (whole_lists c.self.inside.near.lists c.self.inside.far.items) c.args.set [])
     ≡ touch_of c.args.block (get_or c.args.self.now.lists c.args.set [])
 touch_is c = ap (λ v. touch_of c.args.block (get_or v.lists c.args.set [])) c.self.view_is
 
 -- lists of which that of one set is written anew
-moved : (c : After-self) (near' : Lists) (far' : List Deep) → near' ≡ brought c.self.inside.near c.args.set c.args.block
-    → joined near'.lists far' ≡ set (joined c.self.inside.near.lists c.self.inside.far.items) c.args.set
+moved : (c : After-self) (near' : Lists) (far' : List Deep) → near' ≡ lists_after_touch c.self.inside.near c.args.set c.args.block
+    → whole_lists near'.lists far' ≡ set (whole_lists c.self.inside.near.lists c.self.inside.far.items) c.args.set
     (take (c.self.inside.near.depth + c.self.inside.beyond)
-    (move_to_front c.args.block (get_or (joined c.self.inside.near.lists c.self.inside.far.items) c.args.set [])))
-    → record { depth = near'.depth + c.self.inside.beyond; lists = joined near'.lists far' } ≡ brought c.args.self.now c.args.set c.args.block
+    (move_to_front c.args.block (get_or (whole_lists c.self.inside.near.lists c.self.inside.far.items) c.args.set [])))
+    → record { depth = near'.depth + c.self.inside.beyond; lists = whole_lists near'.lists far' } ≡ lists_after_touch c.args.self.now c.args.set c.args.block
 moved c near' far' is lists =
     let made : List (List ℕ) → Lists = λ ls. record { depth = c.self.inside.near.depth + c.self.inside.beyond; lists = ls } in
-    ap (λ v. record { depth = v.depth + c.self.inside.beyond; lists = joined near'.lists far' }) is ∙ ap made lists
-    ∙ ap (λ v. brought v c.args.set c.args.block) c.self.view_is
+    ap (λ v. record { depth = v.depth + c.self.inside.beyond; lists = whole_lists near'.lists far' }) is ∙ ap made lists
+    ∙ ap (λ v. lists_after_touch v c.args.set c.args.block) c.self.view_is
 
 pub bring-requires-clause-within : goal.bring-requires-clause-within
 bring-requires-clause-within c = lt (goal.at.bring-requires-clause-within c).After-self

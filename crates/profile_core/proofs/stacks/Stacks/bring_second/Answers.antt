@@ -1,8 +1,8 @@
 -- The second block of a list comes to the front: it stays in its row.
 use Rattle.std.proofs.Common.{◌≡◌, ◌+◌, ◌<◌, ◌∙◌, ℕ, List, inl, [], length, get_or, set, take, sym, ap, arith, true}
 use Rattle.profile_core.specs.Moves.{is_front, is_second, is_in, move_to_front}
-use Rattle.profile_core.specs.Slab.{Lists, brought}
-use Rattle.profile_core.specs.Stacks.{joined}
+use Rattle.profile_core.specs.Slab.{Lists, lists_after_touch}
+use Rattle.profile_core.specs.Stacks.{whole_lists}
 use Rattle.profile_core.proofs.StackLemmas.{length-joined, front_is, second_is, second_in, stays_stacked, stays_lists}
 use Rattle.profile_core.proofs.stacks.Stacks.bring_second.Goals as goal
 use Rattle.profile_core.proofs.stacks.Stacks.bring_second.Goals.{After-self}
@@ -38,6 +38,6 @@ pub returns : goal.returns
 returns c =
     let at = (goal.at.returns c).After-self in
     let made : List (List ℕ) → Lists = λ ls. record { depth = c.self.inside.near.depth + c.self.inside.beyond; lists = ls } in
-    ap (λ v. record { depth = v.depth + c.self.inside.beyond; lists = joined c.bring_second.new.self.lists c.self.inside.far.items }) c.bring_second.ensures
+    ap (λ v. record { depth = v.depth + c.self.inside.beyond; lists = whole_lists c.bring_second.new.self.lists c.self.inside.far.items }) c.bring_second.ensures
     ∙ ap made (stays_lists c.self.invariant c.args.block c.args.set (lt at) (inl (inside at)) c.bring_second.new.self c.bring_second.ensures)
-    ∙ ap (λ v. brought v c.args.set c.args.block) c.self.view_is
+    ∙ ap (λ v. lists_after_touch v c.args.set c.args.block) c.self.view_is

@@ -2,7 +2,7 @@
 use Rattle.std.proofs.Common.{◌≡◌, ◌+◌, ◌-◌, ◌*◌, ◌<◌, ◌≤◌, ◌^◌, ◌∙◌, ℕ, List, [], length, refl, sym, ap, arith, subst}
 use Rattle.std.specs.Prelude.{replicate}
 use Rattle.profile_core.specs.Slab.{Lists}
-use Rattle.profile_core.specs.Stacks.{joined}
+use Rattle.profile_core.specs.Stacks.{whole_lists}
 use Rattle.profile_core.proofs.StackLemmas.{depth_small, stacked_new, new_lists, joined_none}
 use Rattle.profile_core.proofs.stacks.Stacks.new.Goals as goal
 
@@ -16,7 +16,7 @@ pub returns-then-depth-lt-DEEP : goal.returns-then-depth-lt-DEEP
 returns-then-depth-lt-DEEP c =
     let near = c.in_ok-new.field-0 in
     let made : ℕ → List (List ℕ) → Lists = λ n ls. record { depth = n; lists = ls } in
-    ap (λ ds. made (near.depth + 0) (joined near.lists ds)) c.new-then-depth-lt-DEEP.ensures.items
+    ap (λ ds. made (near.depth + 0) (whole_lists near.lists ds)) c.new-then-depth-lt-DEEP.ensures.items
     ∙ ap (made (near.depth + 0)) (joined_none near.lists [] refl) ∙ ap (λ v. made (v.depth + 0) v.lists) (c.in_ok-new.ensures {u = tt})
     ∙ ap (λ n. made n (replicate c.args.sets [])) (omega arith)
 
@@ -30,6 +30,6 @@ pub returns : goal.returns
 returns c =
     let near = c.in_ok-near.ensures {u = tt} in
     let made : ℕ → List (List ℕ) → Lists = λ n ls. record { depth = n; lists = ls } in
-    ap (λ v. made (v.depth + (c.args.depth - 64)) (joined c.in_ok-near.near.lists c.in_ok-far.far.items)) near
+    ap (λ v. made (v.depth + (c.args.depth - 64)) (whole_lists c.in_ok-near.near.lists c.in_ok-far.far.items)) near
     ∙ ap (made (64 + (c.args.depth - 64))) (new_lists c.in_ok-near.near c.args.sets (c.args.depth - 64) c.in_ok-far.far.items near (c.in_ok-far.ensures {u = tt}))
     ∙ ap (λ n. made n (replicate c.args.sets [])) (omega (arith, c.if-depth-lt-DEEP.false))
