@@ -13,9 +13,9 @@ use Rattle.cache_core.specs.declared.system.Memory.{Memory}
 use Rattle.cache_core.specs.Geometry.{block_of}
 use Rattle.cache_core.specs.Order.{Visits, VisitsAt, Fills, PassesOn, position_of}
 use Rattle.cache_core.specs.Outcomes.{is_allocated, on_hit, on_placing, on_passing, two_options}
-use Rattle.cache_core.specs.CacheSteps.{Enters}
-use Rattle.cache_core.specs.SystemSteps.{AccessesFirst, AllDescend, AccessesUnified, AccessesSplit, AccessesFirstLevel, present_refs, memory_after_all}
-use Rattle.cache_core.specs.SystemSteps.{copybacks_of, accesses_of, memory_accesses}
+use Rattle.cache_core.specs.internal.CacheSteps.{Enters}
+use Rattle.cache_core.specs.internal.SystemSteps.{AccessesFirst, AllDescend, AccessesUnified, AccessesSplit, AccessesFirstLevel, present_refs, memory_after_all}
+use Rattle.cache_core.specs.internal.SystemSteps.{copybacks_of, accesses_of, memory_accesses}
 
 -- one reference at a cache, if it is there
 pub record Grows (more : ℕ) (old new : Option SystemCache) : Type 0 where

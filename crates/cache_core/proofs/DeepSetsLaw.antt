@@ -7,8 +7,8 @@ use Rattle.std.proofs.lemmas.List.Elements.{All-set, All-get_or, All-replicate, 
 use Rattle.std.proofs.Math.Seq.{map-set_same}
 use Rattle.deep_list.specs.Deep.{Deep, index_of_block}
 use Rattle.deep_list.specs.Deep.{sets_after_exchange as exchanged_list}
-use Rattle.cache_core.specs.DeepSets.{IsDeepSets, blocks_in, cleared_sets, sets_after_exchange}
-use Rattle.cache_core.specs.Touched.{TouchedValue, Covers, ListsFilled, after_count, no_sets}
+use Rattle.cache_core.specs.internal.DeepSets.{IsDeepSets, blocks_in, cleared_sets, sets_after_exchange}
+use Rattle.cache_core.specs.internal.Touched.{TouchedValue, Covers, ListsFilled, after_count, no_sets}
 use Rattle.cache_core.proofs.TouchedSets.{covers_change, covers_none, no_count, next_listed}
 use Rattle.cache_core.proofs.TouchedSets.{cleared_sets as emptied_count}
 

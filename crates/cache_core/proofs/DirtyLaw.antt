@@ -14,7 +14,7 @@ use Rattle.cache_core.specs.declared.design.Repl.{Repl}
 use Rattle.cache_core.specs.Geometry.{block_of}
 use Rattle.cache_core.specs.Outcomes.{is_allocated}
 use Rattle.cache_core.specs.Order.{Visits, VisitsAt, Hits, Fills, PassesOn, TakesIn, with_dirty_at, position_of, dirty_in, is_dirty, dirty_slots}
-use Rattle.cache_core.specs.Order.{DirtiesByWrites}
+use Rattle.cache_core.specs.internal.Order.{DirtiesByWrites}
 use Rattle.cache_core.specs.Slab.{IsCacheSlab, sets_of}
 use Rattle.cache_core.proofs.Slabs.{segment_slots, with_segment, IsWritten, set_read, sets_written, length-sets_of}
 use Rattle.cache_core.proofs.Lawful.{marked_length, lawful_touch, lawful_insert, lawful_exchange}

@@ -13,7 +13,7 @@ use Rattle.cache_core.specs.Geometry.{block_of, set_of}
 use Rattle.cache_core.specs.Machine.{Machine, MachineState, Line, is_block, lines_of_set, exchange, least_line, lesser_line, victim, with_line_at}
 use Rattle.cache_core.specs.Machine.{victim_line, step, step_at, step_with, next, dirty_count}
 use Rattle.cache_core.specs.Rules.{Place, InFront, InPlace, Victim, rules}
-use Rattle.cache_core.specs.Stands.{DownLaw}
+use Rattle.cache_core.specs.internal.Stands.{DownLaw}
 use Rattle.cache_core.specs.AnyPolicy.{MayLeave, is_evicting}
 use Rattle.cache_core.proofs.Lists.{cases}
 

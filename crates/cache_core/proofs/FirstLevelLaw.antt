@@ -15,11 +15,11 @@ use Rattle.cache_core.specs.declared.system_cache.SystemCache.{SystemCache}
 use Rattle.cache_core.specs.Outcomes.{two_options}
 use Rattle.cache_core.specs.Machine.{Machine, run, step}
 use Rattle.cache_core.specs.Plans.{IsPlannedCache}
-use Rattle.cache_core.specs.Stands.{CacheStandsFor}
-use Rattle.cache_core.specs.CacheSteps.{system_cache_contents, Enters}
+use Rattle.cache_core.specs.internal.Stands.{CacheStandsFor}
+use Rattle.cache_core.specs.internal.CacheSteps.{system_cache_contents, Enters}
 use Rattle.cache_core.specs.Systems.{machine_of, is_taken_by, events_for, sends, cache_stats, counts_if_planned}
-use Rattle.cache_core.specs.SystemSteps.{present_refs, AccessesFirst, AccessesUnified, AccessesSplit, AccessesFirstLevel, stats_held}
-use Rattle.cache_core.specs.SystemStands.{PlannedCacheStandsFor}
+use Rattle.cache_core.specs.internal.SystemSteps.{present_refs, AccessesFirst, AccessesUnified, AccessesSplit, AccessesFirstLevel, stats_held}
+use Rattle.cache_core.specs.internal.SystemStands.{PlannedCacheStandsFor}
 use Rattle.cache_core.proofs.RunLaw.{access_run}
 use Rattle.cache_core.proofs.DownLaw.{down_law}
 use Rattle.cache_core.proofs.SystemPushes.{counts_push, events_taken, events_left}

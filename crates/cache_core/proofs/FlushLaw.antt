@@ -13,7 +13,7 @@ use Rattle.cache_core.specs.Geometry.{GeometryValue, set_of_block}
 use Rattle.cache_core.specs.Machine.{Machine, MachineState, Line, slot_of, lines_of_set, start, dirty_count}
 use Rattle.cache_core.specs.Order.{Contents, FlushesCache, slots_of, dirty_in, dirty_slots}
 use Rattle.cache_core.specs.Rules.{Place, rules}
-use Rattle.cache_core.specs.Stands.{IsState, IsGood, IsSoundState}
+use Rattle.cache_core.specs.internal.Stands.{IsState, IsGood, IsSoundState}
 use Rattle.cache_core.proofs.Lines.{ne-eqb}
 
 -- no set has a slot

@@ -13,7 +13,7 @@ use Rattle.cache_core.specs.declared.system_cache.SystemCache.{SystemCache}
 use Rattle.cache_core.specs.declared.system.Memory.{Memory}
 use Rattle.cache_core.specs.Plans.{IsPlannedCache}
 use Rattle.cache_core.specs.Systems.{machine_of, to_memory}
-use Rattle.cache_core.specs.SystemSteps.{present_refs, memory_after_all, Descends, AllDescend}
+use Rattle.cache_core.specs.internal.SystemSteps.{present_refs, memory_after_all, Descends, AllDescend}
 use Rattle.cache_core.specs.Arrivals.{references_passed}
 use Rattle.cache_core.proofs.SystemPushes.{memory_push, with_refs, with_refs-cons}
 use Rattle.cache_core.proofs.FirstLevelLaw.{enters, KeptIfPlanned, down_list}

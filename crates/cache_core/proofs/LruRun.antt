@@ -14,7 +14,7 @@ use Rattle.cache_core.specs.declared.design.Repl.TheVariants.{Lru}
 use Rattle.cache_core.specs.Geometry.{GeometryValue, block_of, set_of_block}
 use Rattle.cache_core.specs.Outcomes.{Effect}
 use Rattle.cache_core.specs.Machine.{Machine, MachineState, Line, slot_of, is_block, lines_of_set, start, step, next, run, with_effects_from, effects}
-use Rattle.cache_core.specs.Stands.{IsSoundState}
+use Rattle.cache_core.specs.internal.Stands.{IsSoundState}
 use Rattle.cache_core.specs.Windows.{Occurrence, window, window_after, distinct_of_set, is_hit, is_evict, occurrences, counts}
 use Rattle.cache_core.specs.LruLaws.{lru_machine, is_held, HitLaw, VictimLaw, CountLaw, NextLaw, HitInclusion, HeldInclusion}
 use Rattle.cache_core.proofs.Lists.{is}

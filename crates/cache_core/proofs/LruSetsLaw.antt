@@ -18,16 +18,16 @@ use Rattle.cache_core.specs.declared.design.Repl.TheVariants.{Lru}
 use Rattle.cache_core.specs.declared.design.WriteMode.TheVariants.{Back}
 use Rattle.cache_core.specs.declared.replacement.Lru.{Lru as LruPolicy}
 use Rattle.cache_core.specs.declared.simulation.Lookup.TheVariants.{Hit, Miss, MissEviction}
-use Rattle.cache_core.specs.DeepSets.{DeepSetsValue, no_blocks}
+use Rattle.cache_core.specs.internal.DeepSets.{DeepSetsValue, no_blocks}
 use Rattle.cache_core.specs.Geometry.{GeometryValue, block_of, set_of_block}
 use Rattle.cache_core.specs.LruLaws.{lru_machine, lru_contents, occurrence_after}
-use Rattle.cache_core.specs.LruSets.{near_ways, near_geometry, IsBehind, LruSetsStandFor}
+use Rattle.cache_core.specs.internal.LruSets.{near_ways, near_geometry, IsBehind, LruSetsStandFor}
 use Rattle.cache_core.specs.Machine.{run, step}
 use Rattle.cache_core.specs.Outcomes.{outcome_of, hit_in_front}
 use Rattle.cache_core.specs.Order.{Accesses, FlushesCache, Visits, VisitsAt, position_of}
 use Rattle.cache_core.specs.Simulation.{lookup_at}
 use Rattle.cache_core.specs.Slab.{CacheValue}
-use Rattle.cache_core.specs.Stands.{CacheStandsFor}
+use Rattle.cache_core.specs.internal.Stands.{CacheStandsFor}
 use Rattle.cache_core.specs.Windows.{Occurrence, window, distinct_of_set, is_hit, blocks_seen}
 use Rattle.cache_core.proofs.Lists.{is, list_any_is, position_or_len-take}
 use Rattle.cache_core.proofs.Distances.{distinct_of_set-nil, distinct_of_set-other, take-distinct_of_set-same}

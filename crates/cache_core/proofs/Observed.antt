@@ -17,13 +17,13 @@ use Rattle.cache_core.specs.declared.plan.CacheName.TheVariants.{L1I, L1D, L1U, 
 use Rattle.cache_core.specs.declared.system_cache.SystemCache.{SystemCache}
 use Rattle.cache_core.specs.declared.system.Memory.{Memory as SystemMemory}
 use Rattle.cache_core.specs.Arrivals.{arrival_at, cache_arrivals, first_level_arrivals, all_arrivals_below, at_memory, first_arrivals, lower_arrivals, references_passed, flushes, Saw}
-use Rattle.cache_core.specs.CacheSteps.{Enters, Empties, system_cache_contents}
+use Rattle.cache_core.specs.internal.CacheSteps.{Enters, Empties, system_cache_contents}
 use Rattle.cache_core.specs.Machine.{run, step}
 use Rattle.cache_core.specs.Plans.{IsPlan, IsPlannedCache, PlannedCaches}
-use Rattle.cache_core.specs.Stands.{CacheStandsFor}
+use Rattle.cache_core.specs.internal.Stands.{CacheStandsFor}
 use Rattle.cache_core.specs.Systems.{machine_of, events_for, is_taken, below, first_level_references}
-use Rattle.cache_core.specs.SystemStands.{PlannedCacheStandsFor}
-use Rattle.cache_core.specs.SystemSteps.{present_refs, Descends}
+use Rattle.cache_core.specs.internal.SystemStands.{PlannedCacheStandsFor}
+use Rattle.cache_core.specs.internal.SystemSteps.{present_refs, Descends}
 use Rattle.cache_core.proofs.DownLaw.{down_law}
 use Rattle.cache_core.proofs.FirstLevelLaw.{present_refs_two}
 use Rattle.cache_core.proofs.RunLaw.{access_run, flush_run}

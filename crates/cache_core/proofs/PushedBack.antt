@@ -16,11 +16,11 @@ use Rattle.cache_core.specs.declared.design.Design.{Design}
 use Rattle.cache_core.specs.declared.design.WriteMode.TheVariants.{Back}
 use Rattle.cache_core.specs.declared.replacement.Lru.{Lru as LruPolicy}
 use Rattle.cache_core.specs.declared.simulation.Lookup.TheVariants.{MissEviction}
-use Rattle.cache_core.specs.DeepSets.{DeepSetsValue, sets_after_touch, deep_lookup}
+use Rattle.cache_core.specs.internal.DeepSets.{DeepSetsValue, sets_after_touch, deep_lookup}
 use Rattle.deep_list.specs.Deep.{has_block}
 use Rattle.cache_core.specs.Geometry.{GeometryValue, block_of, set_of, set_of_block}
 use Rattle.cache_core.specs.LruLaws.{lru_machine, lru_contents, occurrence_after}
-use Rattle.cache_core.specs.LruSets.{near_geometry, IsBehind, LruSetsStandFor, far_lookup, pushed_back}
+use Rattle.cache_core.specs.internal.LruSets.{near_geometry, IsBehind, LruSetsStandFor, far_lookup, pushed_back}
 use Rattle.cache_core.specs.Machine.{run, lines_of_set}
 use Rattle.cache_core.specs.Order.{Accesses, slots_of}
 use Rattle.cache_core.specs.Simulation.{lookup_at}

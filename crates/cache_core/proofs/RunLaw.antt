@@ -5,7 +5,7 @@ use Rattle.trace_core.specs.declared.events.Event.{Event}
 use Rattle.trace_core.specs.declared.events.Event.TheVariants as event
 use Rattle.cache_core.specs.Machine.{Machine, start, next, run}
 use Rattle.cache_core.proofs.SoundLaw.{run_sound}
-use Rattle.cache_core.specs.Stands.{OrderLaw, IsState, CacheStandsFor, StartLaw, AccessLaw, FlushLaw, RunLaw}
+use Rattle.cache_core.specs.internal.Stands.{OrderLaw, IsState, CacheStandsFor, StartLaw, AccessLaw, FlushLaw, RunLaw}
 use Rattle.cache_core.proofs.StateLaw.{access_law}
 use Rattle.cache_core.proofs.FlushLaw.{start_state, flush_law}
 

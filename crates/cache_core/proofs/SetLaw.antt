@@ -10,7 +10,8 @@ use Rattle.cache_core.specs.declared.design.Repl.{Repl}
 use Rattle.cache_core.specs.Machine.{Line, slot_of, is_block, least_line, victim, with_line_at, with_touch, with_block, key_at}
 use Rattle.cache_core.specs.Order.{Moves, Touches, Inserts, Exchanges, with_slot_at, victim_at, with_dirty_at, position_of}
 use Rattle.cache_core.specs.Rules.{Place, InFront, InPlace, Last, rules}
-use Rattle.cache_core.specs.Stands.{Falls, InOrder, Absent, IsGood}
+use Rattle.cache_core.specs.Stands.{Falls, InOrder, Absent}
+use Rattle.cache_core.specs.internal.Stands.{IsGood}
 use Rattle.cache_core.proofs.Lawful.{remove_split}
 use Rattle.cache_core.proofs.Lines.{ne-eqb, Found, found, absent_round, distinct_back, distinct_front, distinct_without, least_last, find_way}
 use Rattle.cache_core.proofs.Lines.{around, distinct_around, with_line_at-none, with_line_at-some, order_placed, order_pushed, order_touched}

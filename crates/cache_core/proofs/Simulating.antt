@@ -10,8 +10,9 @@ use Rattle.cache_core.specs.declared.simulation.Lookup.{Lookup}
 use Rattle.cache_core.specs.declared.simulation.Simulation.{Simulation}
 use Rattle.cache_core.specs.Geometry.{GeometryValue}
 use Rattle.cache_core.specs.LruLaws.{occurrence_after}
-use Rattle.cache_core.specs.LruSets.{LruSetsValue, LruSetsStandFor}
-use Rattle.cache_core.specs.Simulation.{lookup_at, counts_with, SimulationCountsWithin, SimulationStandsFor}
+use Rattle.cache_core.specs.internal.LruSets.{LruSetsValue, LruSetsStandFor}
+use Rattle.cache_core.specs.Simulation.{lookup_at}
+use Rattle.cache_core.specs.internal.Simulation.{counts_with, SimulationCountsWithin, SimulationStandsFor}
 use Rattle.cache_core.specs.Windows.{Occurrence, counts, occurrences_after}
 use Rattle.cache_core.proofs.Occurrences.{sum_by-reference, occurrences-flush}
 

@@ -19,7 +19,7 @@ use Rattle.cache_core.specs.Outcomes.{outcome_of, on_hit, on_placing, on_passing
 use Rattle.cache_core.specs.Machine.{Machine, MachineState, slot_of, is_block, lines_of_set, start, step, next, run}
 use Rattle.cache_core.specs.Order.{Visits, VisitsAt, Fills, PassesOn, Moves, TakesIn, with_slot_at, victim_at, with_dirty_at, position_of, random_numbers_after}
 use Rattle.cache_core.specs.Rules.{Place, InFront, InPlace, rules}
-use Rattle.cache_core.specs.Stands.{IsSoundState}
+use Rattle.cache_core.specs.internal.Stands.{IsSoundState}
 use Rattle.cache_core.proofs.StateLaw.{step_agrees, sound_step}
 use Rattle.cache_core.proofs.Visits.{at_each}
 use Rattle.cache_core.proofs.FlushLaw.{start_sound, empty_good}

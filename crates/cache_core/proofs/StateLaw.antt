@@ -15,7 +15,8 @@ use Rattle.cache_core.specs.Machine.{Machine, MachineState, Line, slot_of, is_bl
 use Rattle.cache_core.specs.Machine.{Step, placing_step, passing_step, step_at, step}
 use Rattle.cache_core.specs.Order.{Contents, Accesses, Visits, VisitsAt, Fills, PassesOn, TakesIn, random_numbers_after, slots_of}
 use Rattle.cache_core.specs.Rules.{Place, InFront, InPlace, rules}
-use Rattle.cache_core.specs.Stands.{IsState, Absent, IsGood, IsSoundState}
+use Rattle.cache_core.specs.Stands.{Absent}
+use Rattle.cache_core.specs.internal.Stands.{IsState, IsGood, IsSoundState}
 use Rattle.cache_core.proofs.Lines.{ne-eqb, not_found, find_in_set, absent_other, set_without, set_exchange, without_absent, exchange_absent, Found, found}
 use Rattle.cache_core.proofs.Lines.{absent_right, order_later}
 use Rattle.cache_core.proofs.SetLaw.{touched, with_mark, position_absent, insert_law, insert_good, exchange_law}

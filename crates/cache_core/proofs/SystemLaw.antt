@@ -13,11 +13,11 @@ use Rattle.cache_core.specs.declared.plan.CacheName.TheVariants.{L1I, L1D, L1U}
 use Rattle.cache_core.specs.declared.system_cache.SystemCache.{SystemCache}
 use Rattle.cache_core.specs.Machine.{Machine, run, dirty_count}
 use Rattle.cache_core.specs.Plans.{PlannedCaches, IsPlan}
-use Rattle.cache_core.specs.CacheSteps.{system_cache_contents, Empties}
+use Rattle.cache_core.specs.internal.CacheSteps.{system_cache_contents, Empties}
 use Rattle.cache_core.specs.Systems.{machine_of, events_for, first_level_references, below, flush_counts, flush_copybacks, is_taken}
-use Rattle.cache_core.specs.SystemSteps.{SystemValue, present_refs, AccessesFirstLevel, AllDescend, StepsSystem, FlushesSystem, EmptiesCache}
-use Rattle.cache_core.specs.SystemSteps.{IsNewSystemCache, IsNewCache, IsNewSystem}
-use Rattle.cache_core.specs.SystemStands.{SystemStandsFor, NewSystemLaw, StepLaw, SystemFlushLaw}
+use Rattle.cache_core.specs.internal.SystemSteps.{SystemValue, present_refs, AccessesFirstLevel, AllDescend, StepsSystem, FlushesSystem, EmptiesCache}
+use Rattle.cache_core.specs.internal.SystemSteps.{IsNewSystemCache, IsNewCache, IsNewSystem}
+use Rattle.cache_core.specs.internal.SystemStands.{SystemStandsFor, NewSystemLaw, StepLaw, SystemFlushLaw}
 use Rattle.cache_core.proofs.RunLaw.{start_law, flush_run}
 use Rattle.cache_core.proofs.Pushes.{count_by_push}
 use Rattle.cache_core.proofs.SystemPushes.{counts_flush, flush_counts_flush, flush_counts_taken, flush_counts_refs, events_flush}

@@ -1,3 +1,4 @@
+pub mod internal
 pub mod Powers
 pub mod Geometry
 pub mod Windows
@@ -7,21 +8,14 @@ pub mod Rules
 pub mod Machine
 pub mod Order
 pub mod Slab
-pub mod Touched
 pub mod Stands
 pub mod LruLaws
-pub mod DeepSets
-pub mod LruSets
 pub mod Simulation
 pub mod Plans
 pub mod CacheStats
 pub mod Systems
 pub mod Arrivals
-pub mod SystemCaches
-pub mod CacheSteps
 pub mod SystemSteps
-pub mod SystemFields
-pub mod SystemStands
 pub mod ArrivalStats
 pub mod LogLaws
 pub mod AnyPolicy

@@ -72,11 +72,6 @@ with_dirty_at true slots at =
 abbrev pub position_of : ℕ → List Slot → Option ℕ
 position_of block slots = position (λ x. x.block == block) slots
 
--- whether the first of these slots holds a block
-abbrev pub holds_first : ℕ → List Slot → Bool
-holds_first block [] = false
-holds_first block (slot ∷ slots) = slot.block == block
-
 -- a reference whose block is at an index of its set
 pub record Hits (d : Design) (policy : Option Repl) (numbers : ℕ → ℕ) (ref : Ref) (at : ℕ) (old : List Slot) (outcome : Outcome) (new : List Slot)
     (rest : ℕ → ℕ) : Type 0 where
@@ -120,12 +115,6 @@ pub record Contents : Type 0 where
 abbrev pub slots_of : List (List Slot) → ℕ → List Slot
 slots_of sets set = slice_index_or sets set []
 
--- whether a reference finds its block in the first filled slot of its set, and sends nothing on
-abbrev pub hits_in_front : Design → List (List Slot) → Ref → Bool
-hits_in_front d sets ref =
-    if holds_first (block_of d.geometry ref.addr) (slots_of sets (set_of d.geometry ref.addr))
-    then length (through_writes d.write ref) == 0 else false
-
 -- one access: its set is visited, and the others stay
 pub record Accesses (old : Contents) (ref : Ref) (outcome : Outcome) (new : Contents) : Type 0 where
   pub visit : Visits old.design old.policy old.random_numbers ref (slots_of old.sets (set_of old.design.geometry ref.addr)) outcome
@@ -154,8 +143,3 @@ pub record FlushesCache (old : Contents) (dirty : ℕ) (new : Contents) : Type 0
 -- whether there is a slot, and it is dirty
 abbrev pub is_dirty : Option Slot → Bool
 is_dirty slot = unwrap_or (option_map (λ s. s.dirty) slot) false
-
--- after an access at most one more slot is dirty, the one that left counted too, and that only after a write
-abbrev pub DirtiesByWrites : List (List Slot) → Ref → Outcome → List (List Slot) → Type 0
-DirtiesByWrites old ref outcome new =
-    dirty_slots new + one_if (is_dirty outcome.evicted) ≤ dirty_slots old + one_if (is_write ref.access)

@@ -24,10 +24,6 @@ pub record IsCacheSlab (d : Design) (slots : List Slot) (filled : List ℕ) : Ty
   pub within : All (λ n. n ≤ d.geometry.e) filled
   pub addresses : All (Addressable d.geometry.b) (sets_of d.geometry.e slots filled)
 
--- what a slab holds
-abbrev pub slab_contents : Design → Option Repl → (ℕ → ℕ) → List Slot → List ℕ → Contents
-slab_contents d policy numbers slots filled = record { design = d; policy = policy; random_numbers = numbers; sets = sets_of d.geometry.e slots filled }
-
 -- a cache: its design, its policy and its sets
 pub record CacheValue (P : Type 0) : Type 0 where
   pub design : Design
@@ -37,7 +33,3 @@ pub record CacheValue (P : Type 0) : Type 0 where
 -- what it holds, with the policy and the numbers of its policy's type
 abbrev pub contents_of : {P : Type 0} → (P → Option Repl) → (P → ℕ → ℕ) → CacheValue P → Contents
 contents_of policy numbers c = record { design = c.design; policy = policy c.policy; random_numbers = numbers c.policy; sets = c.sets }
-
--- the sets of an empty cache
-abbrev pub empty_sets : GeometryValue → List (List Slot)
-empty_sets g = replicate (2 ^ g.s) []

@@ -7,10 +7,12 @@ ghost use Rattle.cache_core.specs.Geometry.{IsGeometry, address_of};
 ghost use Rattle.cache_core.specs.Outcomes.{outcome_of, on_hit, on_placing, on_passing, is_dirtied, hit_in_front};
 ghost use Rattle.cache_core.specs.Outcomes.{is_allocated, through_writes, block_load_access};
 ghost use Rattle.cache_core.specs.Order.{Touches, Visits, position_of, Accesses, FlushesCache};
-ghost use Rattle.cache_core.specs.Order.{with_dirty_at, dirty_slots, DirtiesByWrites};
-ghost use Rattle.cache_core.specs.Order.{hits_in_front};
-ghost use Rattle.cache_core.specs.Slab.{Addressable, IsCacheSlab, slab_contents, sets_of};
-ghost use Rattle.cache_core.specs.Touched.{Covers, ListsFilled, no_sets};
+ghost use Rattle.cache_core.specs.Order.{with_dirty_at, dirty_slots};
+ghost use Rattle.cache_core.specs.internal.Order.{DirtiesByWrites};
+ghost use Rattle.cache_core.specs.internal.Order.{hits_in_front};
+ghost use Rattle.cache_core.specs.Slab.{Addressable, IsCacheSlab, sets_of};
+ghost use Rattle.cache_core.specs.internal.Slab.{slab_contents};
+ghost use Rattle.cache_core.specs.internal.Touched.{Covers, ListsFilled, no_sets};
 
 use crate::design::{AllocMode, Design, WriteMode};
 use crate::geometry::Geometry;
@@ -40,7 +42,7 @@ impl<P> Model for Cache<P> {
     ghost Value = { CacheValue P };
 
     ghost use Rattle.cache_core.specs.Slab.{sets_of, IsCacheSlab};
-    ghost use Rattle.cache_core.specs.Touched.{Covers};
+    ghost use Rattle.cache_core.specs.internal.Touched.{Covers};
 
     ghost view = { λ c. record {
       design = c.design;
@@ -53,7 +55,8 @@ impl<P> Model for Cache<P> {
 }
 
 impl<P: Replacement> Cache<P> {
-    ghost use Rattle.cache_core.specs.Slab.{contents_of, empty_sets};
+    ghost use Rattle.cache_core.specs.Slab.{contents_of};
+    ghost use Rattle.cache_core.specs.internal.Slab.{empty_sets};
 
     /// An empty cache. It takes all its memory here, 16 bytes for each line and 4 and a quarter for
     /// each set, and that alone can fail.

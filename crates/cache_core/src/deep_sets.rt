@@ -2,8 +2,8 @@
 ghost use Rattle.std.specs.Prelude.{◌≡◌, ◌≤◌, ◌<◌, ◌+◌, ◌*◌, ◌^◌, [], false, length, map, replicate, IfOk};
 ghost use Rattle.std.specs.Prelude.{slice_index_or};
 ghost use Rattle.deep_list.specs.Deep.{has_block};
-ghost use Rattle.cache_core.specs.DeepSets.{blocks_in, cleared_sets, sets_after_touch, deep_lookup, no_blocks};
-ghost use Rattle.cache_core.specs.Touched.{Covers, ListsFilled};
+ghost use Rattle.cache_core.specs.internal.DeepSets.{blocks_in, cleared_sets, sets_after_touch, deep_lookup, no_blocks};
+ghost use Rattle.cache_core.specs.internal.Touched.{Covers, ListsFilled};
 
 use crate::simulation::Lookup;
 use crate::touched::TouchedSets;
@@ -22,7 +22,7 @@ pub(crate) struct DeepSets {
 
 impl Model for DeepSets {
     ghost use Rattle.std.specs.Prelude.{map};
-    ghost use Rattle.cache_core.specs.DeepSets.{DeepSetsValue, IsDeepSets};
+    ghost use Rattle.cache_core.specs.internal.DeepSets.{DeepSetsValue, IsDeepSets};
 
     ghost Value = { DeepSetsValue };
 

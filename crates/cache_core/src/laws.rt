@@ -8,7 +8,7 @@ ghost use Rattle.trace_core.specs.declared.events.Event.TheVariants as event;
 ghost use Rattle.cache_core.specs.Geometry.{GeometryValue, IsGeometry, is_geometry};
 ghost use Rattle.cache_core.specs.Geometry.{geometry_value};
 ghost use Rattle.cache_core.specs.Windows.{window, window_after, occurrences, counts};
-ghost use Rattle.cache_core.specs.Stands.{StartLaw, AccessLaw, FlushLaw, RunLaw, OrderLaw, DownLaw};
+ghost use Rattle.cache_core.specs.internal.Stands.{StartLaw, AccessLaw, FlushLaw, RunLaw, OrderLaw, DownLaw};
 ghost use Rattle.cache_core.specs.AnyPolicy.{TouchKeeps, PlaceKeeps};
 ghost use Rattle.cache_core.specs.AnyPolicy.{AnyStartLaw, AnyAccessLaw, AnyFlushLaw};
 ghost use Rattle.cache_core.specs.LruLaws.{occurrence_after, HitLaw, VictimLaw, CountLaw, NextLaw};

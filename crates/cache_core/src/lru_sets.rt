@@ -1,9 +1,9 @@
 //! The sets of an LRU cache of any number of ways, as far as hits and evictions go.
 ghost use Rattle.std.specs.Prelude.{◌≡◌, ◌<◌, false, length, [], None, IfOk, IfSome, slice_index_or};
 ghost use Rattle.std.specs.Prelude.{option_map};
-ghost use Rattle.cache_core.specs.DeepSets.{no_blocks};
+ghost use Rattle.cache_core.specs.internal.DeepSets.{no_blocks};
 ghost use Rattle.deep_list.specs.Deep.{has_block};
-ghost use Rattle.cache_core.specs.LruSets.{LruSetsStandFor, far_lookup, pushed_back};
+ghost use Rattle.cache_core.specs.internal.LruSets.{LruSetsStandFor, far_lookup, pushed_back};
 
 use crate::cache::Cache;
 use crate::deep_sets::DeepSets;
@@ -31,7 +31,7 @@ pub(crate) struct LruSets {
 }
 
 impl Model for LruSets {
-    ghost use Rattle.cache_core.specs.LruSets.{LruSetsValue, HasRun};
+    ghost use Rattle.cache_core.specs.internal.LruSets.{LruSetsValue, HasRun};
 
     ghost Value = { LruSetsValue };
 

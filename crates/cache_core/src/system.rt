@@ -1,12 +1,12 @@
 //! A system of caches.
 ghost use Rattle.std.specs.Prelude.{◌≡◌, ◌≤◌, ◌<◌, ◌+◌, ◌^◌, ℕ, List, length, ◌∷◌, [], IfOk};
 ghost use Rattle.std.specs.Prelude.{Option, ◌++◌, Some, MatchBool};
-ghost use Rattle.cache_core.specs.SystemSteps.{present_refs, memory_after_all, Descends, AllDescend};
-ghost use Rattle.cache_core.specs.SystemSteps.{AccessesFirst, AccessesFirstLevel, EmptiesCache};
-ghost use Rattle.cache_core.specs.SystemSteps.{accesses_of, memory_accesses, stats_held};
-ghost use Rattle.cache_core.specs.SystemSteps.{IsNewCache, nothing_down};
-ghost use Rattle.cache_core.specs.SystemSteps.{first_hits_in_front, level_hits_in_front};
-ghost use Rattle.cache_core.specs.SystemStands.{PlannedCacheStandsFor};
+ghost use Rattle.cache_core.specs.internal.SystemSteps.{present_refs, memory_after_all, Descends, AllDescend};
+ghost use Rattle.cache_core.specs.internal.SystemSteps.{AccessesFirst, AccessesFirstLevel, EmptiesCache};
+ghost use Rattle.cache_core.specs.internal.SystemSteps.{accesses_of, memory_accesses, stats_held};
+ghost use Rattle.cache_core.specs.internal.SystemSteps.{IsNewCache, nothing_down};
+ghost use Rattle.cache_core.specs.internal.SystemSteps.{first_hits_in_front, level_hits_in_front};
+ghost use Rattle.cache_core.specs.internal.SystemStands.{PlannedCacheStandsFor};
 ghost use Rattle.cache_core.specs.Arrivals.{Saw, cache_arrivals, arrivals_below, all_arrivals_below};
 ghost use Rattle.cache_core.specs.Arrivals.{at_memory, first_arrivals, flushes};
 ghost use Rattle.cache_core.specs.Plans.{PlannedCaches, IsPlan, IsPlannedCache};
@@ -41,12 +41,12 @@ pub struct System {
 }
 
 impl Model for System {
-    ghost use Rattle.cache_core.specs.SystemSteps.{SystemValue};
+    ghost use Rattle.cache_core.specs.internal.SystemSteps.{SystemValue};
 
     ghost Value = { SystemValue };
 
-    ghost use Rattle.cache_core.specs.SystemSteps.{IsSystem};
-    ghost use Rattle.cache_core.specs.SystemFields.{system_value};
+    ghost use Rattle.cache_core.specs.internal.SystemSteps.{IsSystem};
+    ghost use Rattle.cache_core.specs.internal.SystemFields.{system_value};
 
     ghost view = { system_value };
 
@@ -54,11 +54,12 @@ impl Model for System {
 }
 
 impl System {
-    ghost use Rattle.cache_core.specs.SystemSteps.{stats_of, HasWritten};
+    ghost use Rattle.cache_core.specs.SystemSteps.{HasWritten};
+    ghost use Rattle.cache_core.specs.internal.SystemSteps.{stats_of};
     ghost use Rattle.trace_core.specs.declared.events.Event.TheVariants as event;
     ghost use Rattle.cache_core.specs.Systems.{system_run};
     ghost use Rattle.cache_core.specs.Arrivals.{arrivals_of};
-    ghost use Rattle.cache_core.specs.SystemStands.{SystemStandsFor};
+    ghost use Rattle.cache_core.specs.internal.SystemStands.{SystemStandsFor};
 
     /// A system of the caches of a plan, all empty; each with random replacement has a generator of
     /// its own, of this seed. Takes the memory of all its caches; it fails only if there is too

@@ -1,10 +1,11 @@
 //! A cache of a system, with what it counted. Its policy is chosen at run time.
 ghost use Rattle.std.specs.Prelude.{◌≡◌, ◌≤◌, ◌<◌, ◌+◌, ◌^◌, ◌∷◌, [], Some, IfOk, MatchBool};
 ghost use Rattle.cache_core.specs.Arrivals.{Saw, arrival_at};
-ghost use Rattle.cache_core.specs.Order.{dirty_slots, hits_in_front};
+ghost use Rattle.cache_core.specs.Order.{dirty_slots};
+ghost use Rattle.cache_core.specs.internal.Order.{hits_in_front};
 ghost use Rattle.cache_core.specs.Outcomes.{hit_in_front};
 ghost use Rattle.cache_core.specs.CacheStats.{accesses, IsCounted};
-ghost use Rattle.cache_core.specs.SystemCaches.{policy_of, random_numbers_of};
+ghost use Rattle.cache_core.specs.internal.SystemCaches.{policy_of, random_numbers_of};
 ghost use Rattle.cache_core.specs.Systems.{random_numbers_for};
 
 use crate::arrival::{Observer, arrival_at};
@@ -26,7 +27,7 @@ pub(crate) enum ChosenPolicy {
 }
 
 impl Replacement for ChosenPolicy {
-    ghost use Rattle.cache_core.specs.SystemCaches.{policy_of, random_numbers_of};
+    ghost use Rattle.cache_core.specs.internal.SystemCaches.{policy_of, random_numbers_of};
 
     ghost policy = { policy_of };
 
@@ -72,8 +73,8 @@ fn chosen_policy(policy: Repl, seed: u64) -> ChosenPolicy
 }
 
 impl SystemCache {
-    ghost use Rattle.cache_core.specs.CacheSteps.{Enters, Empties};
-    ghost use Rattle.cache_core.specs.SystemSteps.{IsNewSystemCache};
+    ghost use Rattle.cache_core.specs.internal.CacheSteps.{Enters, Empties};
+    ghost use Rattle.cache_core.specs.internal.SystemSteps.{IsNewSystemCache};
 
     /// A new cache of a system.
     pub(crate) fn new(alloc: Global, planned: PlannedCache, seed: u64) -> Result<Self, AllocError>

@@ -5,9 +5,9 @@ use Rattle.trace_core.specs.declared.events.Event.{Event}
 use Rattle.trace_core.specs.declared.events.Kind.TheVariants.{All}
 use Rattle.trace_core.specs.Events.{events_of}
 use Rattle.trace_core.proofs.EntryEvents.{events_more}
-use Rattle.cache_core.specs.SystemSteps.{SystemValue}
-use Rattle.cache_core.specs.SystemStands.{SystemStandsFor}
-use Rattle.commands.specs.DinPass.{AddsEvents, StepsThrough}
+use Rattle.cache_core.specs.internal.SystemSteps.{SystemValue}
+use Rattle.cache_core.specs.internal.SystemStands.{SystemStandsFor}
+use Rattle.commands.specs.internal.DinPass.{AddsEvents, StepsThrough}
 
 -- one event after another
 pub adds_both : {old mid new : SystemValue} {a b : Event} → AddsEvents old (a ∷ []) mid → AddsEvents mid (b ∷ []) new

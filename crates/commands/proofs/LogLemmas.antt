@@ -17,10 +17,10 @@ use Rattle.trace_core.proofs.Written.{Wrote-more}
 use Rattle.cache_core.specs.declared.arrival.Arrival.{Arrival}
 use Rattle.cache_core.specs.Arrivals.{Saw, arrivals_of, arrivals_from}
 use Rattle.cache_core.specs.Plans.{PlannedCaches, IsPlan}
-use Rattle.cache_core.specs.SystemSteps.{SystemValue}
-use Rattle.cache_core.specs.SystemStands.{SystemStandsFor}
+use Rattle.cache_core.specs.internal.SystemSteps.{SystemValue}
+use Rattle.cache_core.specs.internal.SystemStands.{SystemStandsFor}
 use Rattle.commands.specs.declared.log_text.LogText.{LogText}
-use Rattle.commands.specs.DinPass.{AddsEvents}
+use Rattle.commands.specs.internal.DinPass.{AddsEvents}
 use Rattle.commands.specs.LogText.{arrival_line, arrival_lines, log_lines, log_task}
 use Rattle.commands.proofs.DinLemmas.{adds_both}
 

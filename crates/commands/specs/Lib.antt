@@ -1,5 +1,5 @@
+pub mod internal
 pub mod CsimText
-pub mod DinPass
 pub mod DinText
 pub mod Execute
 pub mod LogText

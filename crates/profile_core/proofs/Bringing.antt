@@ -10,8 +10,8 @@ use Rattle.std.proofs.lemmas.List.{take_all, take_at, length-take-le}
 use Rattle.cache_core.proofs.Lists.{list_any_is}
 use Rattle.profile_core.specs.declared.recency.Touch.TheVariants.{Behind, New}
 use Rattle.profile_core.specs.declared.recency.Shifted.TheVariants.{Found, Out}
-use Rattle.profile_core.specs.Moves.{index_of, is_front, is_second, move_to_front, touch_of, shifted_of}
-use Rattle.profile_core.specs.Slab.{IsBroughtInRow}
+use Rattle.profile_core.specs.internal.Moves.{index_of, is_front, is_second, move_to_front, touch_of, shifted_of}
+use Rattle.profile_core.specs.internal.Slab.{IsBroughtInRow}
 use Rattle.profile_core.proofs.Shifting.{other_front, index_behind, index-le, length-remove, remove_end}
 
 -- what a pass tells of x: its distance, or that it is not there and which block is the last

@@ -12,8 +12,8 @@ use Rattle.cache_core.specs.Geometry.{GeometryValue, block_of}
 use Rattle.cache_core.specs.Windows.{Occurrence, distinct_of_set, has_last, distance, blocks_seen, is_hit, window, occurrences, probes, held, counts}
 use Rattle.cache_core.proofs.Occurrences.{occurrences_from, occurrences-from}
 use Rattle.cache_core.specs.declared.outcome.Counts.{Counts}
-use Rattle.profile_core.specs.State.{ProfileState, fed_of, held_of, counts_at}
-use Rattle.profile_core.specs.ProfileStandsFor.{ProfileStandsFor}
+use Rattle.profile_core.specs.internal.State.{ProfileState, fed_of, held_of, counts_at}
+use Rattle.profile_core.specs.internal.ProfileStandsFor.{ProfileStandsFor}
 use Rattle.profile_core.proofs.Sums.{sum-counts}
 use Rattle.profile_core.proofs.Steps.{Finds, finds}
 

@@ -3,9 +3,9 @@ use Rattle.std.proofs.Common.{◌≡◌, ℕ, zero, suc, ◌+◌, ◌*◌, ◌<�
 use Rattle.std.proofs.Common.{Some, None, length, get_or, refl, sym, subst, ap, ◌∙◌, arith}
 use Rattle.std.specs.Prelude.{All, IfSome, replicate}
 use Rattle.std.proofs.lemmas.List.{length-replicate}
-use Rattle.cache_core.specs.Touched.{TouchedValue, Covers, ListsFilled, no_sets}
+use Rattle.cache_core.specs.internal.Touched.{TouchedValue, Covers, ListsFilled, no_sets}
 use Rattle.cache_core.proofs.TouchedSets.{covers_none}
-use Rattle.profile_core.specs.Slab.{IsListed}
+use Rattle.profile_core.specs.internal.Slab.{IsListed}
 
 -- the sets that have a block are those whose fronts may not be 0
 filled_fronts : (listed : Option (List ℕ)) (fronts lens : List ℕ) → length fronts ≡ length lens

@@ -5,9 +5,9 @@ use Rattle.std.proofs.Common.{arith, length-set, length-take}
 use Rattle.std.proofs.Math.Nat.{suc-mul}
 use Rattle.std.proofs.lemmas.List.{get_or_read}
 use Rattle.cache_core.specs.Geometry.{GeometryValue, set_of_block}
-use Rattle.profile_core.specs.Moves.{is_front, move_to_front}
-use Rattle.profile_core.specs.Slab.{Lists, lists_after_touch}
-use Rattle.profile_core.specs.State.{ProfileState, IsSound, IsNext, list_of, fed_of, after_reference, compared_behind, distances_of, most_references}
+use Rattle.profile_core.specs.internal.Moves.{is_front, move_to_front}
+use Rattle.profile_core.specs.internal.Slab.{Lists, lists_after_touch}
+use Rattle.profile_core.specs.internal.State.{ProfileState, IsSound, IsNext, list_of, fed_of, after_reference, compared_behind, distances_of, most_references}
 use Rattle.profile_core.proofs.Feeding.{FoundAt, FoundNowhere, behind_front, first-raised, raised_behind, sum-distances, after_fed}
 use Rattle.profile_core.proofs.Feeding.{found_step, nowhere_step}
 use Rattle.profile_core.proofs.Weighing.{raised_fits, weighed-raised}

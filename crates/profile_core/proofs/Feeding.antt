@@ -10,9 +10,9 @@ use Rattle.std.proofs.lemmas.List.{length-replicate}
 use Rattle.cache_core.proofs.Lists.{list_any_is}
 use Rattle.cache_core.specs.Geometry.{GeometryValue, set_of_block}
 use Rattle.profile_core.specs.declared.recency.Touch.TheVariants.{Behind, New}
-use Rattle.profile_core.specs.Moves.{index_of, is_in, is_front, is_second, move_to_front, touch_of}
-use Rattle.profile_core.specs.Slab.{Lists}
-use Rattle.profile_core.specs.State.{ProfileState, IsSound, list_of, one_more_at, after_reference, fed_of, weighed, compared_behind, distances_of}
+use Rattle.profile_core.specs.internal.Moves.{index_of, is_in, is_front, is_second, move_to_front, touch_of}
+use Rattle.profile_core.specs.internal.Slab.{Lists}
+use Rattle.profile_core.specs.internal.State.{ProfileState, IsSound, list_of, one_more_at, after_reference, fed_of, weighed, compared_behind, distances_of}
 use Rattle.profile_core.proofs.Bringing.{absent_at}
 use Rattle.profile_core.proofs.Shifting.{other_front, index_behind, index-le}
 use Rattle.profile_core.proofs.Weighing.{weighed-zeros, sum-zeros}

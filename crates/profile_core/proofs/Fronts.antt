@@ -15,12 +15,12 @@ use Rattle.cache_core.specs.Geometry.{GeometryValue, IsGeometry, block_of, set_o
 use Rattle.cache_core.specs.Windows.{Occurrence, distinct_of_set, window, has_last, distance}
 use Rattle.cache_core.specs.LruLaws.{occurrence_after}
 use Rattle.cache_core.proofs.Lists.{cases}
-use Rattle.profile_core.specs.Moves.{is_front, is_in, index_of}
-use Rattle.profile_core.specs.State.{ProfileState, IsSound, empty, list_of, one_more_at, fed_of, after_reference, after_flush, after_event, most_references}
-use Rattle.profile_core.specs.State.{compared_behind, distances_of}
-use Rattle.profile_core.specs.Fronts.{is_front_of, after_unless_front, after_fronts, profile_with_fronts, is_refined, IsFit, Leads}
-use Rattle.profile_core.specs.ProfileStandsFor.{ProfileStandsFor}
-use Rattle.profile_core.specs.Slab.{Lists}
+use Rattle.profile_core.specs.internal.Moves.{is_front, is_in, index_of}
+use Rattle.profile_core.specs.internal.State.{ProfileState, IsSound, empty, list_of, one_more_at, fed_of, after_reference, after_flush, after_event, most_references}
+use Rattle.profile_core.specs.internal.State.{compared_behind, distances_of}
+use Rattle.profile_core.specs.internal.Fronts.{is_front_of, after_unless_front, after_fronts, profile_with_fronts, is_refined, IsFit, Leads}
+use Rattle.profile_core.specs.internal.ProfileStandsFor.{ProfileStandsFor}
+use Rattle.profile_core.specs.internal.Slab.{Lists}
 use Rattle.profile_core.proofs.Feeding.{found_front, after_fed, front_step, sum-distances}
 use Rattle.profile_core.proofs.Fed.{state_of}
 use Rattle.profile_core.proofs.Runs.{event_stands, geometry_after, stands_after}

@@ -4,8 +4,8 @@ use Rattle.std.specs.Prelude.{fold}
 use Rattle.trace_core.specs.declared.events.Event.{Event}
 use Rattle.trace_core.specs.declared.events.Event.TheVariants as event
 use Rattle.cache_core.specs.Geometry.{GeometryValue, IsGeometry}
-use Rattle.profile_core.specs.State.{ProfileState, empty, after_event}
-use Rattle.profile_core.specs.ProfileStandsFor.{ProfileStandsFor}
+use Rattle.profile_core.specs.internal.State.{ProfileState, empty, after_event}
+use Rattle.profile_core.specs.internal.ProfileStandsFor.{ProfileStandsFor}
 use Rattle.profile_core.proofs.Stands.{new_stands, reference_stands, flush_stands}
 
 pub event_stands : (es : List Event) (v : ProfileState) (e : Event) → ProfileStandsFor es v → ProfileStandsFor (es ++ e ∷ []) (after_event v e)

@@ -9,13 +9,13 @@ use Rattle.std.proofs.lemmas.List.{take_all, take_at, length-take-le, take_more,
 use Rattle.std.proofs.lemmas.List.Edits.{remove-append_left, remove-append_right}
 use Rattle.std.proofs.lemmas.List.Sums.{sum_by-cons, prefix_len-le-length}
 use Rattle.deep_list.specs.Deep.{Deep, IsOnce, list_after_exchange}
-use Rattle.profile_core.specs.Moves.{index_of, is_in, is_front, is_second, move_to_front, touch_of}
+use Rattle.profile_core.specs.internal.Moves.{index_of, is_in, is_front, is_second, move_to_front, touch_of}
 use Rattle.profile_core.specs.declared.recency.Touch.TheVariants.{Behind, New}
 use Rattle.profile_core.specs.declared.recency.Touch.{Touch}
 use Rattle.profile_core.specs.declared.stacks.InRow.TheVariants.{Settled, Full}
-use Rattle.profile_core.specs.Slab.{Lists, lists_after_touch}
+use Rattle.profile_core.specs.internal.Slab.{Lists, lists_after_touch}
 use Rattle.profile_core.proofs.Shifting.{length-remove}
-use Rattle.profile_core.specs.Stacks.{whole_lists, nothing, rest_of, in_row_of, rest_touch_of, empty_deep, IsStacked}
+use Rattle.profile_core.specs.internal.Stacks.{whole_lists, nothing, rest_of, in_row_of, rest_touch_of, empty_deep, IsStacked}
 
 -- the list of set k
 pub joined_at : (near : List (List ℕ)) (far : List Deep) (k : ℕ) → k < length near → get_or (whole_lists near far) k [] ≡ get_or near k [] ++ rest_of far k

@@ -14,9 +14,9 @@ use Rattle.trace_core.specs.declared.events.Event.TheVariants as event
 use Rattle.cache_core.specs.Geometry.{GeometryValue, IsGeometry, block_of, set_of_block}
 use Rattle.cache_core.specs.LruLaws.{occurrence_after}
 use Rattle.cache_core.specs.Windows.{Occurrence, distinct_of_set, has_last, distance, blocks_seen, is_hit, window, occurrences, occurrences_after, probes}
-use Rattle.profile_core.specs.Moves.{index_of, is_in, move_to_front}
-use Rattle.profile_core.specs.State.{ProfileState, empty, list_of, one_more_at, referenced_in, after_reference, after_flush}
-use Rattle.profile_core.specs.ProfileStandsFor.{ProfileStandsFor}
+use Rattle.profile_core.specs.internal.Moves.{index_of, is_in, move_to_front}
+use Rattle.profile_core.specs.internal.State.{ProfileState, empty, list_of, one_more_at, referenced_in, after_reference, after_flush}
+use Rattle.profile_core.specs.internal.ProfileStandsFor.{ProfileStandsFor}
 use Rattle.profile_core.proofs.Steps.{raise_if, raise_unless, Finds, finds, distance_within, probes_within}
 
 -- the list of each set after a reference

@@ -6,10 +6,10 @@ use Rattle.std.proofs.Math.Seq.{take-nil}
 use Rattle.std.proofs.lemmas.Bool.{cases_eq, ne_eqb}
 use Rattle.std.proofs.lemmas.List.{take-append-drop, length-take-le, set-get_or, set-append_left, set-append_right}
 use borrow.Rule.Slice.PartMut.{put_mid}
-use Rattle.cache_core.specs.Touched.{TouchedValue, Covers, after_count, with_set}
+use Rattle.cache_core.specs.internal.Touched.{TouchedValue, Covers, after_count, with_set}
 use Rattle.cache_core.proofs.TouchedSets.{covers_change}
-use Rattle.profile_core.specs.Moves.{is_front, is_second, move_to_front}
-use Rattle.profile_core.specs.Slab.{lists_in, IsSlab, IsListed, IsBroughtInRow}
+use Rattle.profile_core.specs.internal.Moves.{is_front, is_second, move_to_front}
+use Rattle.profile_core.specs.internal.Slab.{lists_in, IsSlab, IsListed, IsBroughtInRow}
 use Rattle.profile_core.proofs.Bringing.{row_exchanged, second_long}
 use Rattle.profile_core.specs.declared.recency.RecencyLists.TheInside.{Inside}
 use Rattle.profile_core.proofs.SlabLemmas.{Short, HasRow, list_set, within, ends, list_of_row, list_size}

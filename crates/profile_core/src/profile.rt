@@ -4,12 +4,12 @@ ghost use Rattle.std.specs.Prelude.{length, take, drop, sum};
 ghost use Rattle.trace_core.specs.declared.events.Event.{Event};
 ghost use Rattle.cache_core.specs.Geometry.{IsGeometry, geometry_value, block_of, set_of_block};
 ghost use Rattle.cache_core.specs.Windows.{occurrences, counts, probes, held};
-ghost use Rattle.profile_core.specs.State.{empty, list_of, after_reference, after_flush, fed_of};
-ghost use Rattle.profile_core.specs.State.{held_of, counts_at, hit_sums_at, weighed, IsNext};
-ghost use Rattle.profile_core.specs.Fronts.{is_front_of, after_unless_front, after_fronts};
-ghost use Rattle.profile_core.specs.Fronts.{is_refined};
-ghost use Rattle.profile_core.specs.Moves.{is_second};
-ghost use Rattle.profile_core.specs.ProfileStandsFor.{ProfileStandsFor};
+ghost use Rattle.profile_core.specs.internal.State.{empty, list_of, after_reference, after_flush, fed_of};
+ghost use Rattle.profile_core.specs.internal.State.{held_of, counts_at, hit_sums_at, weighed, IsNext};
+ghost use Rattle.profile_core.specs.internal.Fronts.{is_front_of, after_unless_front, after_fronts};
+ghost use Rattle.profile_core.specs.internal.Fronts.{is_refined};
+ghost use Rattle.profile_core.specs.internal.Moves.{is_second};
+ghost use Rattle.profile_core.specs.internal.ProfileStandsFor.{ProfileStandsFor};
 
 use crate::recency::Touch;
 use crate::stacks::{DEEP, Stacks};
@@ -38,7 +38,7 @@ pub struct Profile {
 }
 
 impl Model for Profile {
-    ghost use Rattle.profile_core.specs.State.{ProfileState, IsSound, distances_of};
+    ghost use Rattle.profile_core.specs.internal.State.{ProfileState, IsSound, distances_of};
 
     ghost Value = { ProfileState };
 
@@ -66,7 +66,7 @@ pub struct HitSums {
 }
 
 impl Model for HitSums {
-    ghost use Rattle.profile_core.specs.State.{HitSumsState};
+    ghost use Rattle.profile_core.specs.internal.State.{HitSumsState};
 
     ghost Value = { HitSumsState };
 

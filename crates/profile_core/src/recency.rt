@@ -5,9 +5,9 @@ ghost use Rattle.std.specs.Prelude.{◌≡◌, ◌*◌, ◌^◌, ◌<◌, ◌≤
 ghost use Rattle.std.specs.Prelude.{take, slice_index, MatchOption, ◌-◌};
 ghost use Rattle.std.specs.Prelude.{sum_by, replicate, IfOk, slice_index_or};
 ghost use Rattle.std.specs.List.{remove};
-ghost use Rattle.cache_core.specs.Touched.{Covers, ListsFilled};
-ghost use Rattle.profile_core.specs.Moves.{index_of, is_front, is_second, touch_of, shifted_of};
-ghost use Rattle.profile_core.specs.Slab.{lists_after_touch, IsRow, IsBroughtInRow};
+ghost use Rattle.cache_core.specs.internal.Touched.{Covers, ListsFilled};
+ghost use Rattle.profile_core.specs.internal.Moves.{index_of, is_front, is_second, touch_of, shifted_of};
+ghost use Rattle.profile_core.specs.internal.Slab.{lists_after_touch, IsRow, IsBroughtInRow};
 
 use cache_core::touched::TouchedSets;
 use std::alloc::{AllocError, Global};
@@ -45,7 +45,7 @@ pub struct RecencyLists {
 
 impl Model for RecencyLists {
     ghost use Rattle.std.specs.Prelude.{◌+◌};
-    ghost use Rattle.profile_core.specs.Slab.{Lists, lists_in, IsListed};
+    ghost use Rattle.profile_core.specs.internal.Slab.{Lists, lists_in, IsListed};
 
     ghost Value = { Lists };
 

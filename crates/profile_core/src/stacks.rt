@@ -3,9 +3,9 @@
 ghost use Rattle.std.specs.Prelude.{◌≡◌, ◌*◌, ◌^◌, ◌<◌, ◌≤◌, [], ◌∷◌, true, false, length, replicate, sum_by, map};
 ghost use Rattle.std.specs.Prelude.{IfOk, IsTrue, ◌↔◌, slice_index_or};
 ghost use Rattle.deep_list.specs.Deep.{list_after_exchange};
-ghost use Rattle.profile_core.specs.Moves.{is_in, is_front, is_second, touch_of};
-ghost use Rattle.profile_core.specs.Stacks.{rest_touch_of, in_row_of, empty_deep};
-ghost use Rattle.profile_core.specs.Slab.{lists_after_touch};
+ghost use Rattle.profile_core.specs.internal.Moves.{is_in, is_front, is_second, touch_of};
+ghost use Rattle.profile_core.specs.internal.Stacks.{rest_touch_of, in_row_of, empty_deep};
+ghost use Rattle.profile_core.specs.internal.Slab.{lists_after_touch};
 
 use crate::recency::{RecencyLists, Touch};
 use deep_list::DeepList;
@@ -38,8 +38,8 @@ pub struct Stacks {
 
 impl Model for Stacks {
     ghost use Rattle.std.specs.Prelude.{◌+◌};
-    ghost use Rattle.profile_core.specs.Slab.{Lists};
-    ghost use Rattle.profile_core.specs.Stacks.{whole_lists, IsStacked};
+    ghost use Rattle.profile_core.specs.internal.Slab.{Lists};
+    ghost use Rattle.profile_core.specs.internal.Stacks.{whole_lists, IsStacked};
 
     ghost Value = { Lists };
 

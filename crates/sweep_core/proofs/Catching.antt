@@ -14,16 +14,16 @@ use Rattle.trace_core.specs.declared.events.Kind.{Kind}
 use Rattle.trace_core.specs.Events.{is_kept}
 use Rattle.cache_core.specs.Geometry.{GeometryValue, IsGeometry, block_of}
 use Rattle.cache_core.proofs.Lists.{cases}
-use Rattle.profile_core.specs.State.{ProfileState, empty, fed_of, after_event, after_reference}
-use Rattle.profile_core.specs.Fronts.{after_unless_front, after_fronts, profile_with_fronts, is_front_of, is_refined, IsFit, Leads}
+use Rattle.profile_core.specs.internal.State.{ProfileState, empty, fed_of, after_event, after_reference}
+use Rattle.profile_core.specs.internal.Fronts.{after_unless_front, after_fronts, profile_with_fronts, is_front_of, is_refined, IsFit, Leads}
 use Rattle.profile_core.proofs.Fronts.{fronts_none, fit_of, fit_behind, leads_after, caught_more, fed_more as profile-fed_more}
 use Rattle.profile_core.proofs.Runs.{stands_after}
 use Rattle.sweep_core.specs.declared.profiles.PairProfile.{PairProfile}
 use Rattle.sweep_core.specs.declared.request.Request.{Request}
-use Rattle.sweep_core.specs.Pass.{pair_after_reference, pair_after_flush, profiles_after, kept_events, SweepStandsFor, WasFed}
-use Rattle.sweep_core.specs.Implied.{implied_by, linked, IsLinked, AreLed, IsFresh, pair_unless_front, pair_with_fronts, profiles_with_fronts, FedAtMost, AreBehind}
+use Rattle.sweep_core.specs.internal.Pass.{pair_after_reference, pair_after_flush, profiles_after, kept_events, SweepStandsFor, WasFed}
+use Rattle.sweep_core.specs.internal.Implied.{implied_by, linked, IsLinked, AreLed, IsFresh, pair_unless_front, pair_with_fronts, profiles_with_fronts, FedAtMost, AreBehind}
 use Rattle.sweep_core.specs.Work.{pair_of}
-use Rattle.sweep_core.specs.Runs.{rows_of_profile}
+use Rattle.sweep_core.specs.internal.Runs.{rows_of_profile}
 use Rattle.sweep_core.specs.SweepText.{configs_of}
 use Rattle.sweep_core.proofs.Lists.{Each-weaker}
 use Rattle.sweep_core.proofs.Passes.{all_after-nil, unreached}

@@ -14,12 +14,12 @@ use Rattle.sweep_core.specs.Table.{is_after, first_rows}
 use Rattle.sweep_core.specs.SweepText.{configs_of, rows_of}
 use Rattle.cache_core.specs.Powers.{log2}
 use Rattle.sweep_core.specs.Work.{pair_of, has_pair, pairs}
-use Rattle.sweep_core.specs.Runs.{run_of, rows_of_profile, BeginsWith}
-use Rattle.sweep_core.specs.Pass.{SweepStandsFor, WasFed}
+use Rattle.sweep_core.specs.internal.Runs.{run_of, rows_of_profile, BeginsWith}
+use Rattle.sweep_core.specs.internal.Pass.{SweepStandsFor, WasFed}
 use Rattle.sweep_core.proofs.Lists.{Each-append, Each-take, Each-weaker, filter-all}
-use Rattle.sweep_core.specs.Walk.{HasDepth}
+use Rattle.sweep_core.specs.internal.Walk.{HasDepth}
 use Rattle.cache_core.specs.Geometry.{IsGeometry, geometry_value}
-use Rattle.profile_core.specs.State.{empty}
+use Rattle.profile_core.specs.internal.State.{empty}
 use Rattle.sweep_core.proofs.Validity.{IsLimited}
 use Rattle.sweep_core.proofs.Depths.{geometry-of, depth-is, same-geometry}
 use Rattle.sweep_core.proofs.Members.{table-each}

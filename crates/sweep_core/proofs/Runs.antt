@@ -8,7 +8,7 @@ use Rattle.std.proofs.Math.Seq.{take-append-add}
 use Rattle.std.proofs.lemmas.List.{take-append-le}
 use Rattle.sweep_core.specs.declared.space.Config.{Config}
 use Rattle.sweep_core.specs.Work.{pair_of}
-use Rattle.sweep_core.specs.Runs.{next_ways, run_of, BeginsWith}
+use Rattle.sweep_core.specs.internal.Runs.{next_ways, run_of, BeginsWith}
 use Rattle.sweep_core.proofs.Lists.{Each-take}
 
 -- the configuration of the pair with the next associativity

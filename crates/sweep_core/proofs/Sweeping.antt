@@ -23,14 +23,14 @@ use Rattle.trace_core.proofs.Tasks.{ReadWhole, if_known}
 use Rattle.trace_core.proofs.Performing.{Stopped-at, Performs-trace}
 use Rattle.trace_core.proofs.Written.{Wrote-none}
 use Rattle.cache_core.specs.Geometry.{GeometryValue}
-use Rattle.profile_core.specs.State.{empty, fed_of}
+use Rattle.profile_core.specs.internal.State.{empty, fed_of}
 use Rattle.sweep_core.specs.declared.request.Request.{Request}
 use Rattle.sweep_core.specs.declared.profiles.PairProfile.{PairProfile}
 use Rattle.sweep_core.specs.SweepText.{table_text, header_of, csv_rows, configs_of, rows_of, sweep_text, sweep_task}
 use Rattle.sweep_core.specs.Rows.{CountedSweep, counted_sweep, ReadsTo, ReadsCounts, events_read}
 use Rattle.sweep_core.specs.Work.{pair_of, sweep_work}
-use Rattle.sweep_core.specs.Runs.{rows_of_profile, counted_profiles}
-use Rattle.sweep_core.specs.Pass.{SweepStandsFor, Feeds, WasFed, pair_after_events, profiles_after}
+use Rattle.sweep_core.specs.internal.Runs.{rows_of_profile, counted_profiles}
+use Rattle.sweep_core.specs.internal.Pass.{SweepStandsFor, Feeds, WasFed, pair_after_events, profiles_after}
 use Rattle.sweep_core.proofs.Standing.{work-is, fed-after}
 use Rattle.sweep_core.proofs.Serving.{swept-counted}
 use Rattle.sweep_core.proofs.Writing.{csv-counted}

@@ -16,8 +16,8 @@ use Rattle.sweep_core.specs.Space.{Ranges, config, is_valid}
 use Rattle.cache_core.specs.Powers.{is_power}
 use Rattle.sweep_core.specs.Table.{is_after, table, all_configs, numbers, powers_of_two}
 use Rattle.sweep_core.specs.Work.{pair_of, has_pair}
-use Rattle.sweep_core.specs.Runs.{next_ways, ways_after, run_of, BeginsWith}
-use Rattle.sweep_core.specs.Walk.{pair_at, rows_of_pair, rows_from, HasRows}
+use Rattle.sweep_core.specs.internal.Runs.{next_ways, ways_after, run_of, BeginsWith}
+use Rattle.sweep_core.specs.internal.Walk.{pair_at, rows_of_pair, rows_from, HasRows}
 use Rattle.sweep_core.proofs.Lists.{Each-flat_map, Each-filter, Each-weaker}
 use Rattle.sweep_core.proofs.Pairs.{has_pair-is}
 use Rattle.cache_core.proofs.PowersOfTwo.{is_power-pow}

@@ -12,10 +12,10 @@ use Rattle.std.proofs.Math.Nat.{mul-le-mul, mul-le-mul_left, mul-le-mul_right, a
 use Rattle.sweep_core.specs.declared.space.Config.{Config}
 use Rattle.sweep_core.specs.Space.{Ranges, is_in_range, is_valid, space_fault, config}
 use Rattle.cache_core.specs.Powers.{is_power, log2}
-use Rattle.sweep_core.specs.Runs.{next_ways, ways_after, run_of}
+use Rattle.sweep_core.specs.internal.Runs.{next_ways, ways_after, run_of}
 use Rattle.sweep_core.specs.declared.space.configs.Ways.{Ways}
 use Rattle.sweep_core.specs.Table.{is_after, numbers}
-use Rattle.sweep_core.specs.Walk.{IsAllowed, NoWays, AreWays, HasRows, rows_of_pair}
+use Rattle.sweep_core.specs.internal.Walk.{IsAllowed, NoWays, AreWays, HasRows, rows_of_pair}
 use Rattle.sweep_core.proofs.Lists.{filter-none}
 use Rattle.cache_core.proofs.PowersOfTwo.{power-of, power-floor, is_power-pow, is_power-of, below-64, next_power-least, log2-pow}
 use Rattle.sweep_core.proofs.Validity.{Within, IsLimited, space-limited, in_range-within, is_in_range-from, valid_of, is_valid-from, implied, implies}

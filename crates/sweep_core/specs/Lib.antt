@@ -1,10 +1,7 @@
+pub mod internal
 pub mod Space
 pub mod Table
-pub mod Walk
 pub mod SweepText
 pub mod Pages
 pub mod Work
-pub mod Runs
 pub mod Rows
-pub mod Pass
-pub mod Implied

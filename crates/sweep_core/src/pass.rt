@@ -2,11 +2,11 @@
 ghost use Rattle.std.specs.Prelude.{◌≡◌, ◌+◌, ◌<◌, ◌≤◌, ◌^◌, ◌∷◌, [], true, map};
 ghost use Rattle.std.specs.List.{AllByRecursion};
 ghost use Rattle.trace_core.specs.Reader.{new_progress};
-ghost use Rattle.profile_core.specs.State.{fed_of};
-ghost use Rattle.sweep_core.specs.Pass.{pair_after_flush};
-ghost use Rattle.sweep_core.specs.Pass.{kept_events, profiles_after, state_after, Feeds};
-ghost use Rattle.sweep_core.specs.Implied.{IsLinked, IsFresh, AreLed, AreBehind, FedAtMost};
-ghost use Rattle.sweep_core.specs.Implied.{profiles_with_fronts, pair_unless_front};
+ghost use Rattle.profile_core.specs.internal.State.{fed_of};
+ghost use Rattle.sweep_core.specs.internal.Pass.{pair_after_flush};
+ghost use Rattle.sweep_core.specs.internal.Pass.{kept_events, profiles_after, state_after, Feeds};
+ghost use Rattle.sweep_core.specs.internal.Implied.{IsLinked, IsFresh, AreLed, AreBehind, FedAtMost};
+ghost use Rattle.sweep_core.specs.internal.Implied.{profiles_with_fronts, pair_unless_front};
 
 use crate::profiles::PairProfile;
 use cache_core::geometry::MAX_BITS;

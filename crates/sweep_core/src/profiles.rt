@@ -1,10 +1,10 @@
 //! The profiles of a sweep: one for each pair of block size and set count that has a row.
 ghost use Rattle.std.specs.Prelude.{◌≡◌, [], None, IfOk, IfSome, MatchOption, length, sum_by};
 ghost use Rattle.sweep_core.specs.Space.{space_fault};
-ghost use Rattle.sweep_core.specs.Runs.{BeginsWith};
-ghost use Rattle.sweep_core.specs.Walk.{HasDepth, rows_left};
-ghost use Rattle.sweep_core.specs.Pass.{SweepStandsFor};
-ghost use Rattle.sweep_core.specs.Implied.{IsLinked, linked, implied_by};
+ghost use Rattle.sweep_core.specs.internal.Runs.{BeginsWith};
+ghost use Rattle.sweep_core.specs.internal.Walk.{HasDepth, rows_left};
+ghost use Rattle.sweep_core.specs.internal.Pass.{SweepStandsFor};
+ghost use Rattle.sweep_core.specs.internal.Implied.{IsLinked, linked, implied_by};
 
 use crate::request::Request;
 use crate::space::Config;

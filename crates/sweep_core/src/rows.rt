@@ -4,10 +4,10 @@ ghost use Rattle.trace_core.specs.Reading.{events, first_fault};
 ghost use Rattle.trace_core.specs.declared.fault.RunFault.TheVariants as fault;
 ghost use Rattle.std.specs.Prelude.{None};
 ghost use Rattle.std.specs.List.{AllByRecursion};
-ghost use Rattle.profile_core.specs.State.{counts_at, hit_sums_at};
+ghost use Rattle.profile_core.specs.internal.State.{counts_at, hit_sums_at};
 ghost use Rattle.sweep_core.specs.Space.{HasSize};
 ghost use Rattle.sweep_core.specs.Rows.{counted_sweep, ReadsCounts};
-ghost use Rattle.sweep_core.specs.Runs.{IsWalk, next_ways};
+ghost use Rattle.sweep_core.specs.internal.Runs.{IsWalk, next_ways};
 
 use crate::pass::read_trace;
 use crate::profiles::{PairProfile, make_profiles, total_probes};
@@ -32,7 +32,7 @@ impl Model for SweepCounts {
     ghost use Rattle.std.specs.Prelude.{sum_by};
     ghost use Rattle.std.specs.List.{AllByRecursion};
     ghost use Rattle.sweep_core.specs.Rows.{CountedSweep};
-    ghost use Rattle.sweep_core.specs.Runs.{counted_profiles, ServesRows};
+    ghost use Rattle.sweep_core.specs.internal.Runs.{counted_profiles, ServesRows};
 
     ghost Value = { CountedSweep };
 
@@ -121,7 +121,7 @@ impl<'a> Model for Rows<'a> {
     ghost use Rattle.std.specs.Prelude.{List};
     ghost use Rattle.cache_core.specs.declared.outcome.Counts.{Counts};
     ghost use Rattle.sweep_core.specs.declared.space.Config.{Config};
-    ghost use Rattle.sweep_core.specs.Runs.{rows_to_come, MayCome};
+    ghost use Rattle.sweep_core.specs.internal.Runs.{rows_to_come, MayCome};
 
     ghost Value = { List (Config × Counts) };
 
@@ -167,7 +167,7 @@ impl<'a> Model for Pairs<'a> {
     ghost use Rattle.std.specs.List.{AllByRecursion};
     ghost use Rattle.cache_core.specs.declared.outcome.Counts.{Counts};
     ghost use Rattle.sweep_core.specs.declared.space.Config.{Config};
-    ghost use Rattle.sweep_core.specs.Runs.{rows_by_pair, ServesRows};
+    ghost use Rattle.sweep_core.specs.internal.Runs.{rows_by_pair, ServesRows};
 
     ghost Value = { List (List (Config × Counts)) };
 

@@ -12,7 +12,7 @@ use Rattle.trace_core.specs.Fields.{is_blank, is_trailing, without_trailing, fie
 use Rattle.trace_core.specs.Line.{meaning, din_op, entry_of_label, lackey_op, is_comma, is_message}
 use Rattle.memchr.specs.Find.{IsFirstByte, is_byte}
 use Rattle.trace_core.specs.Lines.{is_line_feed, HoldsNoFeed}
-use Rattle.trace_core.specs.FastLine.{BeginsLine, BeginsLabel, EndsLine}
+use Rattle.trace_core.specs.internal.FastLine.{BeginsLine, BeginsLabel, EndsLine}
 use Rattle.trace_core.specs.declared.events.Entry.TheVariants as entry
 use Rattle.trace_core.specs.declared.events.Item.{Item}
 use Rattle.trace_core.specs.declared.events.Op.{Op}

@@ -9,7 +9,7 @@ use Rattle.std.proofs.lemmas.List.Folds.{prefix_len-append}
 use Rattle.std.proofs.lemmas.List.Sums.{suffix_len-le-length}
 use Rattle.std.proofs.Math.Seq.{take-append_seam, drop-append_seam}
 use Rattle.trace_core.specs.Lines.{is_line_feed, HoldsNoFeed}
-use Rattle.trace_core.specs.FastLine.{BeginsLabel}
+use Rattle.trace_core.specs.internal.FastLine.{BeginsLabel}
 use Rattle.trace_core.specs.Fields.{is_blank, is_trailing, without_trailing, fields, ends_field}
 use Rattle.trace_core.proofs.Splits.{fields-blank, fields-first}
 

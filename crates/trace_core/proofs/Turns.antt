@@ -9,7 +9,7 @@ use Rattle.trace_core.specs.Device.{SourceView, failures_after}
 use Rattle.trace_core.specs.declared.scan.Scan.{Scan}
 use Rattle.trace_core.specs.declared.state.ReaderState.{ReaderState}
 use Rattle.trace_core.specs.declared.state.ReaderState.TheVariants as state
-use Rattle.trace_core.specs.Scan.{progress, left_to_limit, Reads, StepsScan}
+use Rattle.trace_core.specs.internal.Scan.{progress, left_to_limit, Reads, StepsScan}
 use Rattle.trace_core.specs.Reader.{Advances, Delivers, device_failed}
 
 -- an open scan has a turn more than is left to its limit, and another none

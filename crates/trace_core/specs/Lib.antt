@@ -1,12 +1,10 @@
+pub mod internal
 pub mod Events
 pub mod Fields
 pub mod Line
-pub mod FastLine
 pub mod Device
-pub mod Devices
 pub mod Lines
 pub mod Reading
 pub mod Reader
-pub mod Scan
 pub mod Task
 pub mod Text

@@ -64,7 +64,7 @@ pub struct TapeSource<'a> {
 
 impl<'a> Model for TapeSource<'a> {
     ghost use Rattle.std.specs.Prelude.{◌<◌};
-    ghost use Rattle.trace_core.specs.Devices.{TapeState};
+    ghost use Rattle.trace_core.specs.internal.Devices.{TapeState};
 
     ghost Value = { TapeState };
 
@@ -202,7 +202,7 @@ pub struct ArraySink {
 
 impl Model for ArraySink {
     ghost use Rattle.std.specs.Prelude.{◌<◌, ◌≤◌, take};
-    ghost use Rattle.trace_core.specs.Devices.{ArrayState};
+    ghost use Rattle.trace_core.specs.internal.Devices.{ArrayState};
     ghost use Rattle.trace_core.specs.declared.devices.TheConstants.{SINK_CAPACITY};
 
     ghost Value = { ArrayState };

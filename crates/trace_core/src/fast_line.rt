@@ -9,7 +9,7 @@ ghost use Rattle.std.specs.List.{list_all};
 ghost use Rattle.memchr.specs.Find.{IsFirstByte, is_byte};
 ghost use Rattle.trace_core.specs.Fields.{is_blank, number_written};
 ghost use Rattle.trace_core.specs.Line.{meaning};
-ghost use Rattle.trace_core.specs.FastLine.{BeginsLine, BeginsLabel, EndsLine};
+ghost use Rattle.trace_core.specs.internal.FastLine.{BeginsLine, BeginsLabel, EndsLine};
 ghost use Rattle.trace_core.specs.declared.events.Entry.TheVariants as entry;
 
 use crate::digits::{split_hexadecimal, split_number};

@@ -25,7 +25,7 @@ impl Model for Lines {
 
     ghost Value = { Progress };
 
-    ghost use Rattle.trace_core.specs.Scan.{progress};
+    ghost use Rattle.trace_core.specs.internal.Scan.{progress};
 
     ghost view = { λ l. progress l.scan };
 }

@@ -5,7 +5,7 @@ ghost use Rattle.std.specs.Iterator.{YieldsFirst, item_count};
 ghost use Rattle.sweep_core.specs.Table.{is_after};
 ghost use Rattle.sweep_core.specs.Space.{config};
 ghost use Rattle.cache_core.specs.Powers.{log2};
-ghost use Rattle.sweep_core.specs.Walk.{pair_at, NoWays, AreWays};
+ghost use Rattle.sweep_core.specs.internal.Walk.{pair_at, NoWays, AreWays};
 
 use super::{Config, Space, is_in_range};
 use cache_core::geometry::{MAX_BITS, MAX_CACHE_LINES};
@@ -29,8 +29,8 @@ pub struct Configs {
 impl Model for Configs {
     ghost use Rattle.std.specs.Prelude.{◌++◌, ◌≤◌, ◌^◌, List};
     ghost use Rattle.sweep_core.specs.declared.space.Config.{Config};
-    ghost use Rattle.sweep_core.specs.Runs.{run_of, ways_after};
-    ghost use Rattle.sweep_core.specs.Walk.{rows_from};
+    ghost use Rattle.sweep_core.specs.internal.Runs.{run_of, ways_after};
+    ghost use Rattle.sweep_core.specs.internal.Walk.{rows_from};
 
     ghost Value = { List Config };
 
@@ -76,8 +76,8 @@ impl Space {
     ghost use Rattle.sweep_core.specs.Space.{is_valid, is_in_range, config, space_fault};
     ghost use Rattle.cache_core.specs.Powers.{is_power};
     ghost use Rattle.sweep_core.specs.Table.{table};
-    ghost use Rattle.sweep_core.specs.Runs.{next_ways, ways_after, BeginsWith};
-    ghost use Rattle.sweep_core.specs.Walk.{rows_from, rows_of_pair, HasDepth, HasRows};
+    ghost use Rattle.sweep_core.specs.internal.Runs.{next_ways, ways_after, BeginsWith};
+    ghost use Rattle.sweep_core.specs.internal.Walk.{rows_from, rows_of_pair, HasDepth, HasRows};
 
     /// Its configurations that are greater than `after`, which may be any triple, rising; without
     /// it, all.

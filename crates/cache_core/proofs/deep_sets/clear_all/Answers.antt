@@ -1,7 +1,7 @@
 -- One list more is emptied.
 use Rattle.std.proofs.Common.{◌∙◌, set, ap, sym, arith}
 use Rattle.std.proofs.lemmas.List.Edits.{map_over_more}
-use Rattle.cache_core.specs.DeepSets.{cleared_sets}
+use Rattle.cache_core.specs.internal.DeepSets.{cleared_sets}
 use Rattle.cache_core.proofs.deep_sets.clear_all.Goals as goal
 
 pub loop-list-preserved : goal.loop-list-preserved

@@ -1,5 +1,5 @@
 use Rattle.std.proofs.Common.{◌≡◌, ◌++◌, take, drop, map}
-use Rattle.cache_core.specs.DeepSets.{cleared_sets}
+use Rattle.cache_core.specs.internal.DeepSets.{cleared_sets}
 use Rattle.cache_core.proofs.deep_sets.clear_all.Given as goal
 
 abbrev pub invariant-loop-list : goal.invariant-loop-list

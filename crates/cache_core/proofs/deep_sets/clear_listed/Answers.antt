@@ -1,7 +1,7 @@
 -- One set after another is emptied, until no other has a block.
 use Rattle.std.proofs.Common.{◌<◌, ◌≡◌, length, get_or, ap, arith, ◌∙◌, sym}
 use Rattle.std.proofs.lemmas.List.{get_or_read}
-use Rattle.cache_core.specs.DeepSets.{cleared_sets}
+use Rattle.cache_core.specs.internal.DeepSets.{cleared_sets}
 use Rattle.cache_core.proofs.DeepSetsLaw.{nothing, next_within, still_to_come, still_same, all_cleared}
 use Rattle.cache_core.proofs.deep_sets.clear_listed.Goals as goal
 

@@ -1,7 +1,7 @@
 -- The sets that are still to come are all that have a block; a list that was emptied has no other change.
 use Rattle.std.proofs.Common.{◌≡◌, drop, map}
-use Rattle.cache_core.specs.DeepSets.{blocks_in, cleared_sets}
-use Rattle.cache_core.specs.Touched.{ListsFilled}
+use Rattle.cache_core.specs.internal.DeepSets.{blocks_in, cleared_sets}
+use Rattle.cache_core.specs.internal.Touched.{ListsFilled}
 use Rattle.cache_core.proofs.deep_sets.clear_listed.Given as goal
 
 abbrev pub invariant-loop-set : goal.invariant-loop-set

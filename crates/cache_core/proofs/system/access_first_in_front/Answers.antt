@@ -3,9 +3,9 @@ use Rattle.std.proofs.Common.{◌≡◌, Bool, true, false, Option, Some, refl, 
 use Rattle.std.specs.Prelude.{MatchBool}
 use Rattle.trace_core.specs.declared.events.Ref.{Ref}
 use Rattle.cache_core.specs.declared.system_cache.SystemCache.{SystemCache}
-use Rattle.cache_core.specs.CacheSteps.{Enters}
+use Rattle.cache_core.specs.internal.CacheSteps.{Enters}
 use Rattle.cache_core.specs.Outcomes.{hit_in_front}
-use Rattle.cache_core.specs.SystemSteps.{AccessesFirst, nothing_down}
+use Rattle.cache_core.specs.internal.SystemSteps.{AccessesFirst, nothing_down}
 use Rattle.cache_core.proofs.system.access_first_in_front.Goals as goal
 
 held : (b : Bool) (cache : Option SystemCache) (old new : SystemCache) (ref : Ref) → cache ≡ Some old →

@@ -4,8 +4,8 @@ use Rattle.trace_core.specs.declared.events.Ref.{Ref}
 use Rattle.cache_core.specs.declared.arrival.Arrival.{Arrival}
 use Rattle.cache_core.specs.declared.plan.CacheName.TheVariants.{L2U}
 use Rattle.cache_core.specs.Arrivals.{Saw, at_memory}
-use Rattle.cache_core.specs.SystemSteps.{present_refs, memory_after_all}
-use Rattle.cache_core.specs.SystemStands.{PlannedCacheStandsFor}
+use Rattle.cache_core.specs.internal.SystemSteps.{present_refs, memory_after_all}
+use Rattle.cache_core.specs.internal.SystemStands.{PlannedCacheStandsFor}
 use Rattle.cache_core.proofs.Counters.{sent_reach, sent_two}
 use Rattle.cache_core.proofs.Observed.{entered, saw_below}
 use Rattle.cache_core.proofs.system.descend.Goals as goal

@@ -2,7 +2,7 @@
 use Rattle.std.proofs.Common.{arith, sym, subst, List, append-nil, ◌∙◌, ap, ◌++◌, ◌∷◌, []}
 use Rattle.trace_core.specs.declared.events.Event.TheVariants as event
 use Rattle.cache_core.specs.declared.arrival.Arrival.{Arrival}
-use Rattle.cache_core.specs.SystemStands.{PlannedCacheStandsFor}
+use Rattle.cache_core.specs.internal.SystemStands.{PlannedCacheStandsFor}
 use Rattle.cache_core.specs.Arrivals.{Saw, arrivals_below, all_arrivals_below}
 use Rattle.cache_core.proofs.Observed.{descended, first_sent, second_sent, saw_both}
 use Rattle.cache_core.proofs.system.descend_all.Goals as goal

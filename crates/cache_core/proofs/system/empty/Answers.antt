@@ -2,7 +2,7 @@
 use Rattle.std.proofs.Common.{List, refl, subst}
 use Rattle.cache_core.specs.declared.arrival.Arrival.{Arrival}
 use Rattle.cache_core.specs.Arrivals.{Saw}
-use Rattle.cache_core.specs.SystemStands.{PlannedCacheStandsFor}
+use Rattle.cache_core.specs.internal.SystemStands.{PlannedCacheStandsFor}
 use Rattle.cache_core.proofs.Observed.{emptied}
 use Rattle.cache_core.proofs.system.empty.Goals as goal
 

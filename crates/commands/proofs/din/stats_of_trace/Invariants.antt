@@ -1,7 +1,7 @@
 -- The loop of `din` goes on while the reader has lines left.
 use Rattle.std.proofs.Common.{◌-◌, ◌*◌, ◌≤◌, length}
 use Rattle.trace_core.proofs.WholeTraces.{Reads}
-use Rattle.commands.specs.DinPass.{StepsThrough}
+use Rattle.commands.specs.internal.DinPass.{StepsThrough}
 use Rattle.commands.proofs.din.stats_of_trace.Given as goal
 
 -- the system was stepped through the entries that were read, at most two references each

@@ -1,6 +1,6 @@
 -- What is left of the listed sets has all fronts that are not 0.
 use Rattle.std.proofs.Common.{drop}
-use Rattle.cache_core.specs.Touched.{ListsFilled}
+use Rattle.cache_core.specs.internal.Touched.{ListsFilled}
 use Rattle.profile_core.proofs.recency.blank_listed.Given as goal
 
 abbrev pub invariant-loop-set : goal.invariant-loop-set

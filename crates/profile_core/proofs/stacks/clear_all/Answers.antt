@@ -1,7 +1,7 @@
 -- One list more is emptied.
 use Rattle.std.proofs.Common.{◌≡◌, ◌++◌, ◌<◌, ◌∙◌, length, take, drop, map, set, get_or, ap, sym, arith}
 use Rattle.std.proofs.lemmas.List.Edits.{map_over_more}
-use Rattle.profile_core.specs.Stacks.{empty_deep}
+use Rattle.profile_core.specs.internal.Stacks.{empty_deep}
 use Rattle.profile_core.proofs.stacks.clear_all.Goals as goal
 
 pub loop-list-preserved : goal.loop-list-preserved

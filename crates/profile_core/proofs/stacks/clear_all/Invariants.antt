@@ -1,5 +1,5 @@
 use Rattle.std.proofs.Common.{◌≡◌, ◌++◌, take, drop, map}
-use Rattle.profile_core.specs.Stacks.{empty_deep}
+use Rattle.profile_core.specs.internal.Stacks.{empty_deep}
 use Rattle.profile_core.proofs.stacks.clear_all.Given as goal
 
 abbrev pub invariant-loop-list : goal.invariant-loop-list

@@ -1,6 +1,6 @@
 -- The profiles so far were caught up.
 use Rattle.std.proofs.Common.{◌≡◌, ◌++◌, map, take, drop}
-use Rattle.sweep_core.specs.Implied.{pair_with_fronts}
+use Rattle.sweep_core.specs.internal.Implied.{pair_with_fronts}
 use Rattle.sweep_core.proofs.pass.catch_up.Given as goal
 
 abbrev pub invariant-loop-pair : goal.invariant-loop-pair

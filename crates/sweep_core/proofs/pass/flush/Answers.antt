@@ -2,7 +2,7 @@
 use Rattle.std.proofs.Common.{◌≡◌, sym, ap, ◌∙◌, get_or}
 use Rattle.std.proofs.Math.ListN.{set}
 use Rattle.std.proofs.lemmas.List.Edits.{map_over_more}
-use Rattle.sweep_core.specs.Pass.{pair_after_flush}
+use Rattle.sweep_core.specs.internal.Pass.{pair_after_flush}
 use Rattle.sweep_core.proofs.pass.flush.Goals as goal
 
 pub loop-pair-preserved : goal.loop-pair-preserved

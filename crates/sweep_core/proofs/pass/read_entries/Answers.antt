@@ -4,8 +4,8 @@ use Rattle.std.specs.List.{flat_map}
 use Rattle.trace_core.specs.Events.{events_of}
 use Rattle.trace_core.specs.Task.{entries_of}
 use Rattle.trace_core.proofs.WholeTraces.{holds-less, reads-end, reads-fault, reads-more, reads-none}
-use Rattle.sweep_core.specs.Pass.{profiles_after, kept_events}
-use Rattle.sweep_core.specs.Implied.{profiles_with_fronts, FedAtMost}
+use Rattle.sweep_core.specs.internal.Pass.{profiles_after, kept_events}
+use Rattle.sweep_core.specs.internal.Implied.{profiles_with_fronts, FedAtMost}
 use Rattle.sweep_core.proofs.Passes.{all_after-nil, all_after-append, fed-both, fed-more, fed-one}
 use Rattle.sweep_core.proofs.Catching.{fresh-few, caught-none, behind-after, caught-flush, few-flush}
 use Rattle.sweep_core.proofs.pass.read_entries.Goals as goal

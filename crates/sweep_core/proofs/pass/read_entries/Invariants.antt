@@ -5,8 +5,8 @@ use Rattle.std.specs.List.{flat_map}
 use Rattle.trace_core.specs.Events.{events_of}
 use Rattle.trace_core.specs.declared.limits.TheConstants.{MAX_LINES}
 use Rattle.trace_core.proofs.WholeTraces.{Reads}
-use Rattle.sweep_core.specs.Pass.{profiles_after}
-use Rattle.sweep_core.specs.Implied.{FedAtMost, profiles_with_fronts}
+use Rattle.sweep_core.specs.internal.Pass.{profiles_after}
+use Rattle.sweep_core.specs.internal.Implied.{FedAtMost, profiles_with_fronts}
 use Rattle.sweep_core.proofs.pass.read_entries.Given as goal
 
 -- the entries that were read were fed, at most two references each

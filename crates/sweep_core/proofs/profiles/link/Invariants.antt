@@ -1,6 +1,6 @@
 -- The profiles so far say how many their fronts imply.
 use Rattle.std.proofs.Common.{◌≡◌, ◌++◌, take, drop}
-use Rattle.sweep_core.specs.Implied.{linked}
+use Rattle.sweep_core.specs.internal.Implied.{linked}
 use Rattle.sweep_core.proofs.profiles.link.Given as goal
 
 abbrev pub invariant-loop-at : goal.invariant-loop-at

@@ -5,7 +5,7 @@ use Rattle.sweep_core.proofs.Depths.{geometry-of}
 use Rattle.sweep_core.proofs.Runs.{begins-shorter}
 use Rattle.sweep_core.proofs.Making.{Making, new-fed, making-start, making-first, making-more, making-end}
 use Rattle.sweep_core.specs.Table.{first_rows}
-use Rattle.sweep_core.specs.Implied.{linked, IsLinked}
+use Rattle.sweep_core.specs.internal.Implied.{linked, IsLinked}
 use Rattle.sweep_core.proofs.Catching.{linked-items, linked-sweep, linked-is}
 use Rattle.sweep_core.proofs.profiles.make_profiles.Goals as goal
 use Rattle.sweep_core.proofs.profiles.make_profiles.Goals.{After-link}

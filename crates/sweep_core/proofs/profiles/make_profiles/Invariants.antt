@@ -1,6 +1,6 @@
 -- The profiles made so far are those of the rows before those that are left, which become fewer.
 use Rattle.std.proofs.Common.{length}
-use Rattle.sweep_core.specs.Walk.{rows_left}
+use Rattle.sweep_core.specs.internal.Walk.{rows_left}
 use Rattle.sweep_core.proofs.Making.{Making}
 use Rattle.sweep_core.proofs.profiles.make_profiles.Given as goal
 

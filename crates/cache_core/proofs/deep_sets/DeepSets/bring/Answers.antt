@@ -2,7 +2,7 @@
 use Rattle.std.proofs.Common.{◌≡◌, ◌<◌, ℕ, List, ap, arith, length, get_or}
 use Rattle.std.proofs.lemmas.List.{get_or_read, length-map}
 use Rattle.deep_list.specs.Deep.{Deep}
-use Rattle.cache_core.specs.DeepSets.{DeepSetsValue}
+use Rattle.cache_core.specs.internal.DeepSets.{DeepSetsValue}
 use Rattle.cache_core.proofs.DeepSetsLaw.{nothing, exchange_kept, exchange_view}
 use Rattle.cache_core.proofs.deep_sets.DeepSets.bring.Goals as goal
 use Rattle.cache_core.proofs.deep_sets.DeepSets.bring.Goals.{Joined-place}

@@ -2,7 +2,7 @@
 use Rattle.std.proofs.Common.{◌≡◌, ◌∙◌, ◌++◌, List, ℕ, ap, map, arith, take, drop, length}
 use Rattle.std.proofs.lemmas.List.{length-map}
 use Rattle.deep_list.specs.Deep.{Deep}
-use Rattle.cache_core.specs.DeepSets.{cleared_sets}
+use Rattle.cache_core.specs.internal.DeepSets.{cleared_sets}
 use Rattle.cache_core.proofs.DeepSetsLaw.{emptied_kept, emptied_view, all_written}
 use Rattle.cache_core.proofs.deep_sets.DeepSets.clear.Goals as goal
 use Rattle.cache_core.proofs.deep_sets.DeepSets.clear.Goals.{After-clear}

@@ -2,10 +2,10 @@
 use Rattle.std.proofs.Common.{◌≡◌, ◌∙◌, ◌++◌, ◌∷◌, [], ap, sym, subst, List, Option}
 use Rattle.trace_core.specs.declared.events.Event.{Event}
 use Rattle.trace_core.specs.declared.events.Event.TheVariants as event
-use Rattle.cache_core.specs.DeepSets.{DeepSetsValue}
+use Rattle.cache_core.specs.internal.DeepSets.{DeepSetsValue}
 use Rattle.cache_core.specs.Geometry.{GeometryValue, set_of, block_of}
 use Rattle.cache_core.specs.LruLaws.{occurrence_after}
-use Rattle.cache_core.specs.LruSets.{LruSetsStandFor}
+use Rattle.cache_core.specs.internal.LruSets.{LruSetsStandFor}
 use Rattle.cache_core.specs.Simulation.{lookup_at}
 use Rattle.cache_core.proofs.LruSetsLaw.{follows_hit, follows_miss}
 use Rattle.cache_core.proofs.PushedBack.{IsPlaced, push_within, push_apart, follows_push}

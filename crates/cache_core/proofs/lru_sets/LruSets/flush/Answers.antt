@@ -1,7 +1,7 @@
 -- A flush empties both parts.
 use Rattle.std.proofs.Common.{◌++◌, ◌∷◌, [], sym, subst}
 use Rattle.trace_core.specs.declared.events.Event.TheVariants as event
-use Rattle.cache_core.specs.LruSets.{LruSetsStandFor}
+use Rattle.cache_core.specs.internal.LruSets.{LruSetsStandFor}
 use Rattle.cache_core.proofs.LruSetsLaw.{flush_stands}
 use Rattle.cache_core.proofs.lru_sets.LruSets.flush.Goals as goal
 

@@ -1,7 +1,7 @@
 -- New sets stand for no event.
 use Rattle.std.proofs.Common.{[], subst, ◌∙◌, arith, refl, Some, None}
 use Rattle.cache_core.specs.Geometry.{GeometryValue}
-use Rattle.cache_core.specs.LruSets.{LruSetsStandFor}
+use Rattle.cache_core.specs.internal.LruSets.{LruSetsStandFor}
 use Rattle.cache_core.proofs.LruSetsLaw.{new_stands}
 use Rattle.cache_core.proofs.lru_sets.LruSets.new.Goals as goal
 use Rattle.cache_core.proofs.lru_sets.LruSets.new.Goals.{In_ok-far}

@@ -1,6 +1,6 @@
 -- A flush of a system is one of each of its caches, and is seen so.
 use Rattle.std.proofs.Common.{refl, subst, sym}
-use Rattle.cache_core.specs.SystemStands.{SystemStandsFor}
+use Rattle.cache_core.specs.internal.SystemStands.{SystemStandsFor}
 use Rattle.cache_core.proofs.Observed.{saw_both}
 use Rattle.cache_core.proofs.SystemLaw.{system_flush_law}
 use Rattle.cache_core.proofs.system.System.flush_observed.Goals as goal

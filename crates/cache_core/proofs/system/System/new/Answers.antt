@@ -1,6 +1,6 @@
 -- A new system stands for no event.
 use Rattle.std.proofs.Common.{refl, subst}
-use Rattle.cache_core.specs.SystemSteps.{IsNewCache}
+use Rattle.cache_core.specs.internal.SystemSteps.{IsNewCache}
 use Rattle.cache_core.proofs.SystemLaw.{new_law}
 use Rattle.cache_core.proofs.system.System.new.Goals as goal
 

@@ -3,8 +3,8 @@ use Rattle.std.proofs.Common.{List, Some, None, arith, refl, sym, subst}
 use Rattle.cache_core.specs.declared.arrival.Arrival.{Arrival}
 use Rattle.cache_core.specs.Arrivals.{Saw}
 use Rattle.cache_core.specs.Systems.{below}
-use Rattle.cache_core.specs.SystemStands.{SystemStandsFor}
-use Rattle.cache_core.specs.SystemSteps.{present_refs}
+use Rattle.cache_core.specs.internal.SystemStands.{SystemStandsFor}
+use Rattle.cache_core.specs.internal.SystemSteps.{present_refs}
 use Rattle.cache_core.proofs.Counters.{first_level_grows, all_grow}
 use Rattle.cache_core.proofs.Observed.{saw_both, seen_below, seen_bypassed}
 use Rattle.cache_core.proofs.SystemLaw.{step_law, step_sends}

@@ -1,7 +1,7 @@
 -- A reference that is not found in front, but perhaps next: the fields of the profile after it.
 use Rattle.std.proofs.Common.{◌∙◌, [], get_or, sym, ap, refl, arith}
-use Rattle.profile_core.specs.Moves.{is_front}
-use Rattle.profile_core.specs.State.{list_of}
+use Rattle.profile_core.specs.internal.Moves.{is_front}
+use Rattle.profile_core.specs.internal.State.{list_of}
 use Rattle.profile_core.proofs.Feeding.{FoundAt, found_second}
 use Rattle.profile_core.proofs.Fed.{IsMoved, distance_fits, distance_few, found_sound, found_after}
 use Rattle.profile_core.proofs.profile.Profile.feed_behind.Goals as goal

@@ -1,8 +1,8 @@
 -- A reference, which mostly finds its block in front of its set's list.
 use Rattle.std.proofs.Common.{◌≡◌, ◌∙◌, [], cond, get_or, sym, ap}
-use Rattle.profile_core.specs.Moves.{is_front}
-use Rattle.profile_core.specs.State.{after_reference}
-use Rattle.profile_core.specs.Fronts.{is_front_of}
+use Rattle.profile_core.specs.internal.Moves.{is_front}
+use Rattle.profile_core.specs.internal.State.{after_reference}
+use Rattle.profile_core.specs.internal.Fronts.{is_front_of}
 use Rattle.profile_core.proofs.profile.Profile.feed_block_unless_front.Goals as goal
 use Rattle.profile_core.proofs.profile.Profile.feed_block_unless_front.Goals.{After-is_front}
 

@@ -1,6 +1,6 @@
 -- A reference that is found neither in front nor next: the fields of the profile after it.
 use Rattle.std.proofs.Common.{◌≡◌, ◌<◌, ◌^◌, [], ℕ, get_or, refl, arith, rules}
-use Rattle.profile_core.specs.Moves.{touch_of}
+use Rattle.profile_core.specs.internal.Moves.{touch_of}
 use Rattle.profile_core.specs.declared.recency.Touch.TheVariants.{Behind, New}
 use Rattle.profile_core.proofs.Feeding.{FoundAt, FoundNowhere, found_behind, found_nowhere}
 use Rattle.profile_core.proofs.Fed.{IsMoved, distance_fits, distance_few, found_sound, found_after, len_fits, len_few, nowhere_sound, nowhere_after}

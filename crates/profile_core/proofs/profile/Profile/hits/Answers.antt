@@ -1,6 +1,6 @@
 -- The references that were found, told by the comparisons and the other numbers.
 use Rattle.std.proofs.Common.{◌+◌, ◌≤◌, ◌∙◌, sum, ap, arith}
-use Rattle.profile_core.specs.State.{weighed}
+use Rattle.profile_core.specs.internal.State.{weighed}
 use Rattle.profile_core.proofs.Feeding.{sum-distances}
 use Rattle.profile_core.proofs.Weighing.{weighed-more}
 use Rattle.profile_core.proofs.profile.Profile.hits.Goals as goal

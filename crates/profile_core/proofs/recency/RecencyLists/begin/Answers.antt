@@ -1,7 +1,7 @@
 -- The first block of a set's list.
 use Rattle.std.proofs.Common.{◌≡◌, ◌+◌, ◌∙◌, take, set, sym, ap, subst, refl, arith}
-use Rattle.profile_core.specs.Moves.{move_to_front}
-use Rattle.cache_core.specs.Touched.{Covers}
+use Rattle.profile_core.specs.internal.Moves.{move_to_front}
+use Rattle.cache_core.specs.internal.Touched.{Covers}
 use Rattle.cache_core.proofs.TouchedSets.{covers_change}
 use Rattle.profile_core.proofs.SlabLemmas.{RowOf, within, among_fronts}
 use Rattle.profile_core.proofs.Writing.{IsBrought, touched_empty, written_first, brought}

@@ -1,6 +1,6 @@
 -- The front of a set's list, read from its row.
 use Rattle.std.proofs.Common.{◌≡◌, ◌<◌, ◌⊎◌, inl, inr, Bool, true, false, ℕ, not, eqb, ◌∙◌, [], get_or, sym, ap, arith}
-use Rattle.profile_core.specs.Moves.{is_front}
+use Rattle.profile_core.specs.internal.Moves.{is_front}
 use Rattle.profile_core.proofs.Bringing.{front_of_some, front_of_none}
 use Rattle.profile_core.proofs.SlabLemmas.{RowOf, within, among_fronts, list_of_row, len_read, front_read}
 use Rattle.profile_core.proofs.recency.RecencyLists.is_front.Goals as goal

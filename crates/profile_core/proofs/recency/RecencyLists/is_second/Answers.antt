@@ -1,7 +1,7 @@
 -- The second block of a set's list, read from its row.
 use Rattle.std.proofs.Common.{◌≡◌, ◌<◌, ◌∙◌, ℕ, eqb, get_or, sym, ap, arith}
 use Rattle.std.proofs.lemmas.Bool.{le-ltb}
-use Rattle.profile_core.specs.Moves.{is_second}
+use Rattle.profile_core.specs.internal.Moves.{is_second}
 use Rattle.profile_core.proofs.Bringing.{second_of_some, second_of_few}
 use Rattle.profile_core.proofs.SlabLemmas.{RowOf, within, ends, row_long, list_of_row, len_read, second_read}
 use Rattle.profile_core.proofs.recency.RecencyLists.is_second.Goals as goal

@@ -1,9 +1,9 @@
 -- A block that comes to the front of a list, from its row or from behind it, or new.
 use Rattle.std.proofs.Common.{◌≡◌, ◌+◌, ◌<◌, ◌≤◌, ◌^◌, ◌∙◌, ℕ, List, [], length, get_or, set, take, sym, ap, arith, false}
 use Rattle.deep_list.specs.Deep.{Deep, list_after_exchange}
-use Rattle.profile_core.specs.Moves.{is_front, is_second, is_in, move_to_front, touch_of}
-use Rattle.profile_core.specs.Slab.{Lists, lists_after_touch}
-use Rattle.profile_core.specs.Stacks.{whole_lists, nothing, rest_touch_of}
+use Rattle.profile_core.specs.internal.Moves.{is_front, is_second, is_in, move_to_front, touch_of}
+use Rattle.profile_core.specs.internal.Slab.{Lists, lists_after_touch}
+use Rattle.profile_core.specs.internal.Stacks.{whole_lists, nothing, rest_touch_of}
 use Rattle.profile_core.proofs.StackLemmas.{length-joined, front_is, second_is, some_beyond, two_near, stays_stacked, stays_lists, settled_stays, settled_touch}
 use Rattle.profile_core.proofs.StackLemmas.{IsFull, full_is, far_read, last_apart, held_small, rest_small, full_touch, full_stacked, full_lists}
 use Rattle.profile_core.proofs.stacks.Stacks.bring_far.Goals as goal

@@ -1,8 +1,8 @@
 -- The second block of a list comes to the front: it stays in its row.
 use Rattle.std.proofs.Common.{◌≡◌, ◌+◌, ◌<◌, ◌∙◌, ℕ, List, inl, [], length, get_or, set, take, sym, ap, arith, true}
-use Rattle.profile_core.specs.Moves.{is_front, is_second, is_in, move_to_front}
-use Rattle.profile_core.specs.Slab.{Lists, lists_after_touch}
-use Rattle.profile_core.specs.Stacks.{whole_lists}
+use Rattle.profile_core.specs.internal.Moves.{is_front, is_second, is_in, move_to_front}
+use Rattle.profile_core.specs.internal.Slab.{Lists, lists_after_touch}
+use Rattle.profile_core.specs.internal.Stacks.{whole_lists}
 use Rattle.profile_core.proofs.StackLemmas.{length-joined, front_is, second_is, second_in, stays_stacked, stays_lists}
 use Rattle.profile_core.proofs.stacks.Stacks.bring_second.Goals as goal
 use Rattle.profile_core.proofs.stacks.Stacks.bring_second.Goals.{After-self}

@@ -3,8 +3,8 @@ use Rattle.std.proofs.Common.{◌≡◌, ◌+◌, ◌∙◌, ℕ, List, [], leng
 use Rattle.std.specs.Prelude.{replicate}
 use Rattle.std.specs.Vec.{with_items}
 use Rattle.std.proofs.lemmas.List.{with_items_is, length-map}
-use Rattle.profile_core.specs.Slab.{Lists}
-use Rattle.profile_core.specs.Stacks.{whole_lists, empty_deep}
+use Rattle.profile_core.specs.internal.Slab.{Lists}
+use Rattle.profile_core.specs.internal.Stacks.{whole_lists, empty_deep}
 use Rattle.profile_core.proofs.StackLemmas.{stacked_cleared, cleared_lists}
 use Rattle.profile_core.proofs.stacks.Stacks.clear.Goals as goal
 use Rattle.profile_core.proofs.stacks.Stacks.clear.Goals.{After-clear_all}

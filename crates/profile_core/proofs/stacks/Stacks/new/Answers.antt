@@ -1,8 +1,8 @@
 -- Empty lists, in rows alone or with more behind them.
 use Rattle.std.proofs.Common.{◌≡◌, ◌+◌, ◌-◌, ◌*◌, ◌<◌, ◌≤◌, ◌^◌, ◌∙◌, ℕ, List, [], length, refl, sym, ap, arith, subst}
 use Rattle.std.specs.Prelude.{replicate}
-use Rattle.profile_core.specs.Slab.{Lists}
-use Rattle.profile_core.specs.Stacks.{whole_lists}
+use Rattle.profile_core.specs.internal.Slab.{Lists}
+use Rattle.profile_core.specs.internal.Stacks.{whole_lists}
 use Rattle.profile_core.proofs.StackLemmas.{depth_small, stacked_new, new_lists, joined_none}
 use Rattle.profile_core.proofs.stacks.Stacks.new.Goals as goal
 

@@ -1,6 +1,6 @@
 -- The next row of the pair comes first.
 use Rattle.std.proofs.Common.{◌≡◌, ◌≤◌, ◌++◌, ◌∷◌, Some, sym, ap, ◌∙◌, rules}
-use Rattle.sweep_core.specs.Runs.{counted_run, counted_profiles, rows_to_come, IsWalk}
+use Rattle.sweep_core.specs.internal.Runs.{counted_run, counted_profiles, rows_to_come, IsWalk}
 use Rattle.sweep_core.proofs.Serving.{walk-start, walk-rows, walk-more, comes-first}
 use Rattle.sweep_core.proofs.rows.RowsIterator.next.Goals as goal
 use Rattle.sweep_core.proofs.rows.RowsIterator.next.Goals.{After-self-1, in-Some, in-None+in_ok-first-in-None}

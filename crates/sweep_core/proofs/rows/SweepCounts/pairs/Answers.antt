@@ -1,7 +1,7 @@
 -- The rows by pairs are the rows, and their sizes fit.
 use Rattle.std.proofs.Common.{subst, sym, ap, ◌∙◌}
 use Rattle.std.specs.List.{AllByRecursion}
-use Rattle.sweep_core.specs.Runs.{counted_profiles}
+use Rattle.sweep_core.specs.internal.Runs.{counted_profiles}
 use Rattle.sweep_core.proofs.Serving.{pairs-sizes, pairs-rows}
 use Rattle.sweep_core.proofs.rows.SweepCounts.pairs.Goals as goal
 

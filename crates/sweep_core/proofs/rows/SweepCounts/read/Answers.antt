@@ -5,9 +5,9 @@ use Rattle.std.specs.List.{AllByRecursion as Each}
 use Rattle.std.specs.Vec.{with_items}
 use Rattle.trace_core.specs.declared.state.ReaderState.{ReaderState}
 use Rattle.trace_core.proofs.Runs.{Reached-from}
-use Rattle.sweep_core.specs.Pass.{SweepStandsFor}
+use Rattle.sweep_core.specs.internal.Pass.{SweepStandsFor}
 use Rattle.sweep_core.specs.Rows.{ReadsTo, events_read}
-use Rattle.sweep_core.specs.Implied.{IsFresh, IsLinked}
+use Rattle.sweep_core.specs.internal.Implied.{IsFresh, IsLinked}
 use Rattle.sweep_core.proofs.Catching.{fresh-sweep}
 use Rattle.sweep_core.proofs.Serving.{swept-serve}
 use Rattle.sweep_core.proofs.Sweeping.{swept-after, counted-is, counts-known, faultless-known}

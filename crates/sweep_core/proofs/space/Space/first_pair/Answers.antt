@@ -3,7 +3,7 @@ use Rattle.std.proofs.Common.{◌≡◌, ◌≤◌, ◌∙◌, true, sym, ap, ar
 use Rattle.sweep_core.specs.declared.space.Config.{Config}
 use Rattle.sweep_core.specs.Space.{Ranges}
 use Rattle.sweep_core.specs.Table.{table, is_after}
-use Rattle.sweep_core.specs.Walk.{rows_from}
+use Rattle.sweep_core.specs.internal.Walk.{rows_from}
 use Rattle.sweep_core.proofs.Orders.{less-block}
 use Rattle.sweep_core.proofs.Walk.{rows-first}
 use Rattle.sweep_core.proofs.space.Space.first_pair.Goals as goal

@@ -1,7 +1,7 @@
 -- A later pair is outside the ranges.
 use Rattle.std.proofs.Common.{◌≡◌, [], arith, subst}
 use Rattle.sweep_core.specs.Space.{Ranges, ranges}
-use Rattle.sweep_core.specs.Walk.{rows_from}
+use Rattle.sweep_core.specs.internal.Walk.{rows_from}
 use Rattle.sweep_core.proofs.Validity.{space-limited}
 use Rattle.sweep_core.proofs.Walk.{rows-last}
 use Rattle.sweep_core.proofs.space.Space.last_pair.Goals as goal

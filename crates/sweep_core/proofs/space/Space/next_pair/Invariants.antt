@@ -1,6 +1,6 @@
 -- No pair so far has a row, and there are 441.
 use Rattle.std.proofs.Common.{◌≡◌, ◌-◌}
-use Rattle.sweep_core.specs.Walk.{rows_from}
+use Rattle.sweep_core.specs.internal.Walk.{rows_from}
 use Rattle.sweep_core.proofs.space.Space.next_pair.Given as goal
 
 abbrev pub invariant-loop-pair : goal.invariant-loop-pair

@@ -2,7 +2,7 @@
 use Rattle.std.proofs.Common.{◌≡◌, None, false, sym, ◌∙◌, arith, subst}
 use Rattle.std.proofs.lemmas.Bool.{false≢true}
 use Rattle.sweep_core.specs.Space.{Ranges, is_in_range, config, space_fault}
-use Rattle.sweep_core.specs.Walk.{NoWays, AreWays}
+use Rattle.sweep_core.specs.internal.Walk.{NoWays, AreWays}
 use Rattle.sweep_core.proofs.Validity.{valid_of, is_in_range-from, space-limited}
 use Rattle.sweep_core.proofs.Ways.{pair-none, rows-none, rows-some}
 use Rattle.sweep_core.proofs.space.Space.rows_of_pair.Goals as goal

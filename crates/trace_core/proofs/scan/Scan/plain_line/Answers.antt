@@ -1,6 +1,6 @@
 -- What a scan does with a line of the plain form.
 use Rattle.std.proofs.Common.{arith, ap, ◌<◌, [], length, refl}
-use Rattle.trace_core.specs.Scan.{progress}
+use Rattle.trace_core.specs.internal.Scan.{progress}
 use Rattle.trace_core.proofs.Deliveries.{Delivers-none}
 use Rattle.trace_core.proofs.Steps.{steps-item, stays-open}
 use Rattle.trace_core.proofs.scan.Scan.plain_line.Goals as goal

@@ -1,6 +1,6 @@
 -- What a scan does with a byte past the limit, and with a line of the spaced form.
 use Rattle.std.proofs.Common.{arith, rules, tests, ap, ◌<◌, [], length}
-use Rattle.trace_core.specs.Scan.{progress}
+use Rattle.trace_core.specs.internal.Scan.{progress}
 use Rattle.trace_core.proofs.Deliveries.{Delivers-none}
 use Rattle.trace_core.proofs.Steps.{steps-item, steps-past}
 use Rattle.trace_core.proofs.scan.Scan.step.Goals as goal

@@ -1,7 +1,7 @@
 -- What a scan does with a line that was delivered with its LF.
 use Rattle.std.proofs.Common.{rules, ap, ◌≡◌, ◌+◌, take}
 use Rattle.std.specs.Option.{option_to_list}
-use Rattle.trace_core.specs.Scan.{progress}
+use Rattle.trace_core.specs.internal.Scan.{progress}
 use Rattle.trace_core.proofs.Advancing.{numbered}
 use Rattle.trace_core.proofs.Steps.{judged-as, steps-line, steps-bad_line}
 use Rattle.trace_core.proofs.scan.Scan.take_line.Goals as goal

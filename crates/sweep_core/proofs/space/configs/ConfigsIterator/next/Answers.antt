@@ -1,7 +1,7 @@
 -- What is left of a pair comes first, or else the next pair.
 use Rattle.std.proofs.Common.{◌++◌, sym, ap, ◌∙◌, arith, rules}
-use Rattle.sweep_core.specs.Runs.{run_of}
-use Rattle.sweep_core.specs.Walk.{rows_from}
+use Rattle.sweep_core.specs.internal.Runs.{run_of}
+use Rattle.sweep_core.specs.internal.Walk.{rows_from}
 use Rattle.sweep_core.proofs.Walk.{Stands, powers-fit, step-fits, step-view}
 use Rattle.sweep_core.proofs.space.configs.ConfigsIterator.next.Goals as goal
 use Rattle.sweep_core.proofs.space.configs.ConfigsIterator.next.Goals.{Joined-self-eq0, then-self-eq0+in_ok-rows, else-self-eq0}

@@ -6,11 +6,11 @@ use Rattle.cache_core.specs.declared.design.WriteMode.TheVariants.{Back}
 use Rattle.cache_core.specs.declared.replacement.Lru.{Lru as LruPolicy}
 use Rattle.cache_core.specs.declared.simulation.Lookup.{Lookup}
 use Rattle.cache_core.specs.declared.simulation.Lookup.TheVariants.{MissEviction}
-use Rattle.cache_core.specs.DeepSets.{DeepSetsValue, sets_after_touch, deep_lookup}
+use Rattle.cache_core.specs.internal.DeepSets.{DeepSetsValue, sets_after_touch, deep_lookup}
 use Rattle.cache_core.specs.Geometry.{GeometryValue}
 use Rattle.cache_core.specs.LruLaws.{lru_machine, lru_contents}
 use Rattle.cache_core.specs.Slab.{CacheValue}
-use Rattle.cache_core.specs.Stands.{CacheStandsFor}
+use Rattle.cache_core.specs.internal.Stands.{CacheStandsFor}
 use Rattle.cache_core.specs.Windows.{window, distinct_of_set}
 
 -- how many of so many ways are in front: all, or those that the deep lists leave

@@ -5,8 +5,8 @@ use Rattle.profile_core.specs.declared.recency.Touch.{Touch}
 use Rattle.profile_core.specs.declared.recency.Touch.TheVariants.{Behind, New}
 use Rattle.profile_core.specs.declared.stacks.InRow.{InRow}
 use Rattle.profile_core.specs.declared.stacks.InRow.TheVariants.{Settled, Full}
-use Rattle.profile_core.specs.Moves.{index_of, is_in, touch_of}
-use Rattle.profile_core.specs.Slab.{Lists}
+use Rattle.profile_core.specs.internal.Moves.{index_of, is_in, touch_of}
+use Rattle.profile_core.specs.internal.Slab.{Lists}
 
 -- each list and what stands behind it
 abbrev pub whole_lists : List (List ℕ) → List Deep → List (List ℕ)

@@ -2,8 +2,8 @@
 use Rattle.std.specs.Prelude.{◌≡◌, ⊤, ℕ, ◌≤◌, true, not, List, [], ◌∷◌, length, take, map}
 use Rattle.std.specs.List.{AllByRecursion, position_or_len}
 use Rattle.cache_core.specs.Geometry.{GeometryValue, IsGeometry, block_of}
-use Rattle.profile_core.specs.State.{empty, fed_of}
-use Rattle.profile_core.specs.Fronts.{after_unless_front, profile_with_fronts, is_refined, IsFit, Leads}
+use Rattle.profile_core.specs.internal.State.{empty, fed_of}
+use Rattle.profile_core.specs.internal.Fronts.{after_unless_front, profile_with_fronts, is_refined, IsFit, Leads}
 use Rattle.sweep_core.specs.declared.profiles.PairProfile.{PairProfile}
 
 -- how many of the first of some profiles refine a geometry

@@ -7,7 +7,7 @@ use Rattle.cache_core.specs.declared.system_cache.SystemCache.{SystemCache}
 use Rattle.cache_core.specs.Order.{Contents, Accesses, FlushesCache}
 use Rattle.cache_core.specs.Slab.{contents_of}
 use Rattle.cache_core.specs.CacheStats.{stats_after_access, stats_after_flush}
-use Rattle.cache_core.specs.SystemCaches.{policy_of, random_numbers_of}
+use Rattle.cache_core.specs.internal.SystemCaches.{policy_of, random_numbers_of}
 
 -- what the cache holds
 abbrev pub system_cache_contents : SystemCache → Contents

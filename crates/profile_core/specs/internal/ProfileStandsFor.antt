@@ -3,7 +3,7 @@ use Rattle.std.specs.Prelude.{ℕ, ◌≡◌, ◌≤◌, ◌<◌, ◌^◌, ◌+�
 use Rattle.trace_core.specs.declared.events.Event.{Event}
 use Rattle.cache_core.specs.Geometry.{GeometryValue, IsGeometry}
 use Rattle.cache_core.specs.Windows.{window, occurrences, distinct_of_set, has_last, distance, blocks_seen, is_hit, probes}
-use Rattle.profile_core.specs.State.{ProfileState, list_of}
+use Rattle.profile_core.specs.internal.State.{ProfileState, list_of}
 
 -- how many references found their block at stack distance d
 abbrev pub found_at : GeometryValue → List Event → ℕ → ℕ

@@ -8,7 +8,7 @@ use Rattle.sweep_core.specs.declared.space.configs.Ways.{Ways}
 use Rattle.sweep_core.specs.Space.{Ranges, config, is_valid}
 use Rattle.cache_core.specs.Powers.{is_power}
 use Rattle.sweep_core.specs.Table.{is_after, numbers, first_rows}
-use Rattle.sweep_core.specs.Runs.{run_of, ways_after}
+use Rattle.sweep_core.specs.internal.Runs.{run_of, ways_after}
 
 -- the pair with an index, of all 441 in order
 abbrev pub pair_at : ℕ → ℕ × ℕ

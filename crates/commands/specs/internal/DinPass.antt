@@ -4,9 +4,9 @@ use Rattle.trace_core.specs.declared.events.Entry.{Entry}
 use Rattle.trace_core.specs.declared.events.Event.{Event}
 use Rattle.trace_core.specs.declared.events.Kind.TheVariants.{All}
 use Rattle.trace_core.specs.Events.{events_of}
-use Rattle.cache_core.specs.SystemSteps.{SystemValue}
+use Rattle.cache_core.specs.internal.SystemSteps.{SystemValue}
 use Rattle.cache_core.specs.Plans.{PlannedCaches, IsPlan}
-use Rattle.cache_core.specs.SystemStands.{SystemStandsFor}
+use Rattle.cache_core.specs.internal.SystemStands.{SystemStandsFor}
 
 -- a system that stood for some events stands for these events too
 abbrev pub AddsEvents : SystemValue → List Event → SystemValue → Type 0

@@ -2,8 +2,8 @@
 -- each that refines it (Hill and Smith 1989: set refinement), so they can be counted together, later.
 use Rattle.std.specs.Prelude.{ℕ, ◌≡◌, ◌≤◌, ◌+◌, ◌-◌, ◌^◌, ◌==◌, true, length, ◌&&◌, ◌||◌, nat_le, Bool, if◌then◌else◌, slice_set, slice_index}
 use Rattle.cache_core.specs.Geometry.{GeometryValue, block_of, set_of_block}
-use Rattle.profile_core.specs.Moves.{is_front}
-use Rattle.profile_core.specs.State.{ProfileState, list_of, fed_of, after_reference}
+use Rattle.profile_core.specs.internal.Moves.{is_front}
+use Rattle.profile_core.specs.internal.State.{ProfileState, list_of, fed_of, after_reference}
 
 -- whether a reference to block x finds it in front
 abbrev pub is_front_of : ProfileState → ℕ → Bool

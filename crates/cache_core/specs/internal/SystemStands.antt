@@ -7,10 +7,10 @@ use Rattle.cache_core.specs.declared.plan.PlannedCache.{PlannedCache}
 use Rattle.cache_core.specs.declared.plan.CacheName.TheVariants.{L1I, L1D, L1U}
 use Rattle.cache_core.specs.declared.system_cache.SystemCache.{SystemCache}
 use Rattle.cache_core.specs.Plans.{PlannedCaches, IsPlan}
-use Rattle.cache_core.specs.Stands.{CacheStandsFor}
-use Rattle.cache_core.specs.CacheSteps.{system_cache_contents}
+use Rattle.cache_core.specs.internal.Stands.{CacheStandsFor}
+use Rattle.cache_core.specs.internal.CacheSteps.{system_cache_contents}
 use Rattle.cache_core.specs.Systems.{machine_of, events_for, below, system_run}
-use Rattle.cache_core.specs.SystemSteps.{SystemValue, IsNewSystem, StepsSystem, FlushesSystem, stats_of}
+use Rattle.cache_core.specs.internal.SystemSteps.{SystemValue, IsNewSystem, StepsSystem, FlushesSystem, stats_of}
 
 -- a cache of a system stands for the events that come to it
 abbrev pub PlannedCacheStandsFor : ℕ → Option PlannedCache → List Event → Option SystemCache → Type 0

@@ -1,6 +1,6 @@
 -- What contracts see of a system's fields.
 use Rattle.cache_core.specs.declared.system.System.TheInside.{Inside}
-use Rattle.cache_core.specs.SystemSteps.{SystemValue}
+use Rattle.cache_core.specs.internal.SystemSteps.{SystemValue}
 
 abbrev pub system_value : Inside → SystemValue
 system_value s =

@@ -2,7 +2,7 @@
 use Rattle.std.specs.Prelude.{ℕ, ◌≡◌, ◌≤◌, ◌^◌, ◌==◌, List, [], ◌∷◌, length, map, take, All, if◌then◌else◌, slice_index_or, slice_set}
 use Rattle.std.specs.List.{remove}
 use Rattle.deep_list.specs.Deep.{Deep, has_block, index_of_block}
-use Rattle.cache_core.specs.Touched.{TouchedValue, Covers}
+use Rattle.cache_core.specs.internal.Touched.{TouchedValue, Covers}
 use Rattle.cache_core.specs.declared.simulation.Lookup.{Lookup}
 use Rattle.cache_core.specs.declared.simulation.Lookup.TheVariants.{Hit, Miss, MissEviction}
 

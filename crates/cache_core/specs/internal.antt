@@ -1,0 +1,12 @@
+pub mod Order
+pub mod Slab
+pub mod Touched
+pub mod Stands
+pub mod DeepSets
+pub mod LruSets
+pub mod Simulation
+pub mod SystemCaches
+pub mod CacheSteps
+pub mod SystemSteps
+pub mod SystemFields
+pub mod SystemStands

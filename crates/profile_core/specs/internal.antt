@@ -1,0 +1,6 @@
+pub mod Fronts
+pub mod Moves
+pub mod ProfileStandsFor
+pub mod Slab
+pub mod State
+pub mod Stacks

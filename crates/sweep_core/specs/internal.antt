@@ -1,0 +1,4 @@
+pub mod Walk
+pub mod Runs
+pub mod Pass
+pub mod Implied

@@ -1,0 +1,3 @@
+pub mod FastLine
+pub mod Devices
+pub mod Scan
