@@ -8,10 +8,10 @@ ghost use Rattle.arguments.specs.Readings.{rows_given};
 use crate::faults::WordsFault;
 use crate::job::Job;
 use crate::readings::{is_flagged, number_at};
-use cache_core::geometry::Geometry;
+use cache_core::Geometry;
 use clap::ArgMatches;
 use options::table::{BLOCK_BITS, LINES, SET_BITS, VERBOSE};
-use trace_core::reader::MAX_LINES;
+use trace_core::MAX_LINES;
 
 /// The job of `csim`.
 pub fn csim_job(matches: &ArgMatches<'_>) -> Result<Job, WordsFault>

@@ -12,14 +12,12 @@ use crate::faults::WordsFault;
 use crate::job::Job;
 use crate::numbers::read_scaled;
 use crate::readings::{format_at, optional_number_at, text_at};
-use cache_core::design::{AllocMode, Repl, WriteMode};
-use cache_core::plan::{CacheName, CacheSpec, FirstLevel, Plan};
 use cache_core::powers::is_power;
+use cache_core::{AllocMode, CacheName, CacheSpec, FirstLevel, Plan, Repl, WriteMode};
 use clap::ArgMatches;
 use options::caches::cache_options;
 use options::table::{INFORMAT, SEED};
-use trace_core::line::Format;
-use trace_core::reader::MAX_LINES;
+use trace_core::{Format, MAX_LINES};
 
 /// What was given of the options of one cache.
 #[derive(Clone, Copy)]

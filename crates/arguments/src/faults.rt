@@ -3,9 +3,9 @@ ghost use Rattle.std.specs.Prelude.{◌≡◌};
 ghost use Rattle.arguments.specs.Faults.{status_of};
 ghost use Rattle.arguments.specs.declared.faults.WordsFault.TheVariants.{Memory, Plan, Space};
 
-use cache_core::plan::{CacheName, PlanFault};
+use cache_core::{CacheName, PlanFault};
 use std::alloc::AllocError;
-use sweep_core::space::SpaceFault;
+use sweep_core::SpaceFault;
 use thiserror::Error;
 
 /// Why the arguments give no job. A fault's text is its `Display`.

@@ -1,9 +1,8 @@
 //! Jobs.
 
-use cache_core::geometry::Geometry;
-use cache_core::plan::Plan;
-use sweep_core::request::Request;
-use trace_core::line::Format;
+use cache_core::{Geometry, Plan};
+use sweep_core::Request;
+use trace_core::Format;
 
 /// What a command line asks for. `max_lines` is the most lines that the trace may have, 1 to
 /// `MAX_LINES`.

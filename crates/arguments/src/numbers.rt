@@ -5,7 +5,7 @@ ghost use Rattle.std.specs.Char.{is_ascii_digit};
 ghost use Rattle.arguments.specs.Numbers.{config_of, number_of, range_of, scale_of, scaled_of};
 ghost use Rattle.arguments.specs.Numbers.{split_at, triple_of};
 
-use sweep_core::space::Config;
+use sweep_core::Config;
 
 /// The number of one or more decimal digits, zeros in front allowed. `None` for any other text, and
 /// from 2^64 on.

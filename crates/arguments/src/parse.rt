@@ -23,7 +23,7 @@ use options::app::cachesim_command;
 use options::respell::respell;
 use options::table::FILE;
 use std::alloc::{AllocError, Global};
-use trace_core::reader::MAX_LINES;
+use trace_core::MAX_LINES;
 
 /// A job, and the file of the trace; without it, standard input.
 #[derive(Debug, Drop)]

@@ -9,9 +9,8 @@ ghost use Rattle.arguments.specs.Readings.{required_value, rows_given, value_or}
 use crate::faults::WordsFault;
 use crate::numbers::{read_number, read_range, read_triple};
 use clap::ArgMatches;
-use sweep_core::space::Config;
-use trace_core::events::Kind;
-use trace_core::line::Format;
+use sweep_core::Config;
+use trace_core::{Format, Kind};
 
 /// The text of an option, if it was given.
 pub fn text_at<'a>(matches: &ArgMatches<'a>, option: &str) -> Option<&'a str>

@@ -10,11 +10,8 @@ use crate::job::Job;
 use crate::readings::{config_at, format_at, is_flagged, kind_at, optional_number_at, range_at};
 use clap::ArgMatches;
 use options::table::{AFTER, ASSOC, BSIZE, FORMAT, KIND, POW2, ROWS, SETS, SIZE};
-use sweep_core::request::Request;
-use sweep_core::space::{Config, Space};
-use trace_core::events::Kind;
-use trace_core::line::Format;
-use trace_core::reader::MAX_LINES;
+use sweep_core::{Config, Request, Space};
+use trace_core::{Format, Kind, MAX_LINES};
 
 /// A lowest and a greatest value.
 type Range = (u64, u64);

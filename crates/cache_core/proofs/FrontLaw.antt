@@ -190,6 +190,10 @@ module _ (d : Design) (filled : List ℕ) (k ways : ℕ) (slots : List Slot) (re
   told_in_front first outcome is sent tells =
       let down : is_some (get_or (two_options (through_writes d.write ref)) 0 None) ≡ false =
       rw is at sent in
-      rw (first_in_set, first_told first (block_of d.geometry ref.addr)
-      (segment_slots ways filled k slots) tells,
-      nothing_sent (through_writes d.write ref), down) (itself first)
+      rw (
+        first_in_set,
+        first_told first (block_of d.geometry ref.addr)
+            (segment_slots ways filled k slots) tells,
+        nothing_sent (through_writes d.write ref),
+        down,
+      ) (itself first)

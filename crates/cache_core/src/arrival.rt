@@ -5,7 +5,7 @@ ghost use Rattle.cache_core.specs.Arrivals.{arrival_at};
 use crate::geometry::Geometry;
 use crate::outcome::Outcome;
 use crate::plan::CacheName;
-use trace_core::events::Ref;
+use trace_core::Ref;
 
 /// The address of a block that is evicted, and whether it was dirty.
 #[derive(Clone, Copy, Debug, PartialEq, Eq)]

@@ -22,7 +22,7 @@ use crate::touched::TouchedSets;
 use std::alloc::{AllocError, Global};
 use std::marker::Model;
 use std::mem;
-use trace_core::events::{Access, Ref};
+use trace_core::{Access, Ref};
 
 /// A cache under a policy. A set's slots are in the policy's order in one array, each set in a
 /// segment of its own. `touched` lists the sets with filled slots, while they are few, so that a

@@ -13,7 +13,7 @@ use crate::replacement::Lru;
 use crate::simulation::Lookup;
 use std::alloc::{AllocError, Global};
 use std::marker::Model;
-use trace_core::events::Ref;
+use trace_core::Ref;
 
 /// The most ways that are searched one by one: with more, the blocks behind the first `NEAR_WAYS`
 /// of each set are in deep lists.

@@ -1,5 +1,5 @@
 //! What one access of a cache does.
-use trace_core::events::Ref;
+use trace_core::Ref;
 
 /// What a line of a cache holds: the number (not the address) of its block, and whether it is
 /// dirty: in a write-back cache, written since its block was placed or by the write that placed it.

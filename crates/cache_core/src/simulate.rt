@@ -10,7 +10,7 @@ use crate::geometry::Geometry;
 use crate::outcome::Counts;
 use crate::simulation::Simulation;
 use std::alloc::{AllocError, Global};
-use trace_core::events::Ref;
+use trace_core::Ref;
 
 /// The counts of an LRU write-back cache that allocates on writes, empty at first, after these
 /// references. It takes the cache's memory, and that alone can fail.

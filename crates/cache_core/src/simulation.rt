@@ -3,7 +3,7 @@ use crate::geometry::Geometry;
 use crate::lru_sets::LruSets;
 use crate::outcome::Counts;
 use std::alloc::{AllocError, Global};
-use trace_core::events::Ref;
+use trace_core::Ref;
 
 /// How a reference went. A miss with an eviction evicted a block from its set.
 #[derive(Clone, Copy, Debug, PartialEq, Eq)]

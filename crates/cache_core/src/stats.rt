@@ -1,6 +1,6 @@
 //! The statistics of a system of caches.
 use crate::outcome::Outcome;
-use trace_core::events::Access;
+use trace_core::Access;
 
 /// What one cache counted: its accesses and misses by kind, its evictions, and its copybacks, the
 /// dirty blocks that were evicted or flushed.

@@ -21,8 +21,7 @@ use crate::stats::{CacheStats, Stats};
 use crate::system_cache::SystemCache;
 use std::alloc::{AllocError, Global};
 use std::marker::Model;
-use trace_core::events::{Access, Ref};
-use trace_core::reader::MAX_LINES;
+use trace_core::{Access, MAX_LINES, Ref};
 
 /// The most steps of a system, flushes among them: two for each line of a trace. So no count
 /// overflows.

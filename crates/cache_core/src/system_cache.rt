@@ -16,7 +16,7 @@ use crate::plan::{CacheName, PlannedCache};
 use crate::replacement::{Fifo, Lru, Random, Replacement};
 use crate::stats::CacheStats;
 use std::alloc::{AllocError, Global};
-use trace_core::events::Ref;
+use trace_core::Ref;
 
 /// A policy that is chosen when the system is made.
 #[derive(Drop)]

@@ -3,10 +3,10 @@ ghost use Rattle.std.specs.Prelude.{◌≡◌};
 ghost use Rattle.cachesim.specs.Status.{program_status};
 ghost use Rattle.cachesim.specs.declared.faults.ProgramFault.TheVariants.{Arguments, Memory};
 
-use arguments::faults::WordsFault;
+use arguments::WordsFault;
 use std::alloc::AllocError;
 use thiserror::Error;
-use trace_core::fault::RunFault;
+use trace_core::RunFault;
 
 /// Why the program ends before its job is done. A fault's text is its `Display`.
 #[derive(Debug, Drop, Error)]

@@ -7,18 +7,15 @@ ghost use Rattle.std.specs.Prelude.{◌≤◌};
 ghost use Rattle.arguments.specs.Job.{max_lines_of};
 
 use crate::faults::ProgramFault;
-use arguments::faults::WordsFault;
-use arguments::job::Job;
-use arguments::parse::{Command, parse};
+use arguments::parse::parse;
+use arguments::{Command, Job, WordsFault};
 use commands::execute::execute;
 use std::alloc::{AllocError, Global};
 use std::env::{self, Args};
 use std::fs::File;
 use std::io::{BufWriter, ErrorKind, Write};
 use std::process::ExitCode;
-use trace_core::fault::RunFault;
-use trace_core::io::{FromRead, Source, ToWrite};
-use trace_core::reader::MAX_LINES;
+use trace_core::{FromRead, MAX_LINES, RunFault, Source, ToWrite};
 
 /// How many bytes of the output are gathered before they are written.
 const OUTPUT_BUFFER: usize = 65_536;

@@ -9,15 +9,10 @@ ghost use Rattle.commands.specs.CsimText.{csim_task, lookups_of, lookups_of_pair
 
 use crate::csim_text::{set_summary, write_line};
 use crate::text::write_last;
-use cache_core::geometry::Geometry;
-use cache_core::simulation::{Lookup, Simulation};
+use cache_core::{Geometry, Lookup, Simulation};
 use std::alloc::Global;
-use trace_core::events::{Entry, Kind, refs_of};
-use trace_core::fault::RunFault;
-use trace_core::io::{Sink, Source};
-use trace_core::line::Format;
-use trace_core::reader::{Lines, MAX_LINES};
 use trace_core::text::Text;
+use trace_core::{Entry, Format, Kind, Lines, MAX_LINES, RunFault, Sink, Source, refs_of};
 
 /// Runs a lackey trace through an LRU cache of this geometry, which allocates on write misses. With
 /// `verbose` the line of each data item is written as soon as its references were made, and the

@@ -5,11 +5,9 @@ ghost use Rattle.trace_core.specs.Device.{Writes};
 ghost use Rattle.commands.specs.CsimText.{letter_of, lookup_text, item_line, line_of};
 ghost use Rattle.commands.specs.CsimText.{lookups_of_pair, summary};
 
-use cache_core::outcome::Counts;
-use cache_core::simulation::Lookup;
-use trace_core::events::{Entry, Item, Op};
-use trace_core::io::{DeviceFault, Sink, write_all};
+use cache_core::{Counts, Lookup};
 use trace_core::text::{DECIMAL, HEXADECIMAL, Text};
+use trace_core::{DeviceFault, Entry, Item, Op, Sink, write_all};
 
 /// The most bytes that a line says of a lookup.
 const LOOKUP: usize = 14;

@@ -10,16 +10,12 @@ ghost use Rattle.commands.specs.DinText.{din_task};
 
 use crate::din_text::set_report;
 use crate::text::write_last;
-use cache_core::plan::Plan;
-use cache_core::stats::Stats;
-use cache_core::system::System;
+use cache_core::{Plan, Stats, System};
 use std::alloc::Global;
-use trace_core::events::{Entry, Kind, refs_of};
-use trace_core::fault::{RunFault, TraceFault};
-use trace_core::io::{Sink, Source};
-use trace_core::line::Format;
-use trace_core::reader::{Lines, MAX_LINES, ReaderState};
 use trace_core::text::Text;
+use trace_core::{
+    Entry, Format, Kind, Lines, MAX_LINES, ReaderState, RunFault, Sink, Source, TraceFault, refs_of,
+};
 
 /// Runs a trace through the caches of a plan, and writes the report after its end; then the sink is
 /// flushed, once. Each cache with random replacement draws from a generator of its own, of this

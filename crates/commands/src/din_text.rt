@@ -2,8 +2,7 @@
 ghost use Rattle.std.specs.Prelude.{◌≡◌, ◌+◌, ◌≤◌, ◌++◌, length};
 ghost use Rattle.commands.specs.DinText.{field, cache_line, report_of};
 
-use cache_core::plan::CacheName;
-use cache_core::stats::{CacheStats, Stats};
+use cache_core::{CacheName, CacheStats, Stats};
 use trace_core::text::{DECIMAL, Text};
 
 /// The most bytes of a cache's line: its name, the names of eight numbers, these numbers, and an

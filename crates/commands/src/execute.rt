@@ -7,12 +7,10 @@ ghost use Rattle.commands.specs.Execute.{task_of};
 use crate::csim::csim;
 use crate::din::din;
 use crate::log::log;
-use arguments::job::Job;
+use arguments::Job;
 use std::alloc::Global;
 use sweep_core::sweep::sweep;
-use trace_core::fault::RunFault;
-use trace_core::io::{Sink, Source};
-use trace_core::reader::MAX_LINES;
+use trace_core::{MAX_LINES, RunFault, Sink, Source};
 
 /// Does a job: it returns, reads and writes what the command of that name does.
 ///

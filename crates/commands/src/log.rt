@@ -11,14 +11,11 @@ ghost use Rattle.commands.specs.LogText.{arrival_lines, log_task};
 
 use crate::log_text::LogText;
 use crate::text::write_last;
-use cache_core::plan::Plan;
-use cache_core::system::System;
+use cache_core::{Plan, System};
 use std::alloc::Global;
-use trace_core::events::{Entry, Kind, refs_of};
-use trace_core::fault::RunFault;
-use trace_core::io::{Sink, Source, write_all};
-use trace_core::line::Format;
-use trace_core::reader::{Lines, MAX_LINES};
+use trace_core::{
+    Entry, Format, Kind, Lines, MAX_LINES, RunFault, Sink, Source, refs_of, write_all,
+};
 
 /// Runs a trace through the caches of a plan, and writes the lines of the arrivals of each entry as
 /// soon as its references were made; after the last one the sink is flushed, once. Each cache with

@@ -3,8 +3,8 @@ ghost use Rattle.std.specs.Prelude.{◌≡◌, ◌+◌, ◌≤◌, [], ◌++◌,
 ghost use Rattle.commands.specs.LogText.{reference_text, victim_text, result_text};
 ghost use Rattle.commands.specs.LogText.{arrival_line};
 
-use cache_core::arrival::{Arrival, MAX_ARRIVALS, Observer, Victim};
-use trace_core::events::Ref;
+use cache_core::{Arrival, MAX_ARRIVALS, Observer, Victim};
+use trace_core::Ref;
 use trace_core::line::din_label;
 use trace_core::text::{DECIMAL, HEXADECIMAL, Text};
 

@@ -15,7 +15,7 @@ use crate::table::{
     AFTER, ASSOC, BLOCK_BITS, BSIZE, CommandOption, FILE, FORMAT, INFORMAT, KIND, LACKEY_FILE,
     LINES, POW2, ROWS, SEED, SET_BITS, SETS, SIZE, VERBOSE,
 };
-use cache_core::plan::CacheName;
+use cache_core::CacheName;
 use clap::{Arg, ArgAction, Command};
 use std::alloc::{AllocError, Global};
 

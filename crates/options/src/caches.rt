@@ -4,7 +4,7 @@ ghost use Rattle.options.specs.Options.{IsOptionsOf};
 use crate::table::CommandOption;
 use crate::table::Presence::Optional;
 use crate::table::Spelling::Long;
-use cache_core::plan::CacheName;
+use cache_core::CacheName;
 
 /// The seven options of one cache. The number of sets may stand in place of the size.
 pub struct CacheOptions {

@@ -13,11 +13,10 @@ ghost use Rattle.profile_core.specs.internal.ProfileStandsFor.{ProfileStandsFor}
 
 use crate::recency::Touch;
 use crate::stacks::{DEEP, Stacks};
-use cache_core::geometry::Geometry;
-use cache_core::outcome::Counts;
+use cache_core::{Counts, Geometry};
 use std::alloc::{AllocError, Global};
 use std::marker::Model;
-use trace_core::reader::MAX_LINES;
+use trace_core::MAX_LINES;
 
 /// The most references that a profile may be fed, two for each line of a trace. So no count
 /// overflows.

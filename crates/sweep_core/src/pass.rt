@@ -9,12 +9,9 @@ ghost use Rattle.sweep_core.specs.internal.Implied.{IsLinked, IsFresh, AreLed, A
 ghost use Rattle.sweep_core.specs.internal.Implied.{profiles_with_fronts, pair_unless_front};
 
 use crate::profiles::PairProfile;
-use cache_core::geometry::MAX_BITS;
-use profile_core::profile::MAX_REFERENCES;
-use trace_core::events::{Entry, Kind, Ref, refs_of};
-use trace_core::fault::TraceFault;
-use trace_core::io::Source;
-use trace_core::reader::Lines;
+use cache_core::MAX_BITS;
+use profile_core::MAX_REFERENCES;
+use trace_core::{Entry, Kind, Lines, Ref, Source, TraceFault, refs_of};
 
 /// Reads a trace up to its end or its first fault, and feeds what each entry gives: its references
 /// of a kind, or a flush. No reference is kept. Those that a profile need not be fed, since they

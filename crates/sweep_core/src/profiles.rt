@@ -9,7 +9,7 @@ ghost use Rattle.sweep_core.specs.internal.Implied.{IsLinked, linked, implied_by
 use crate::request::Request;
 use crate::space::Config;
 use crate::space::configs::{PairRows, bits_of};
-use profile_core::profile::Profile;
+use profile_core::Profile;
 use std::alloc::{AllocError, Global};
 
 /// The profile of a pair of block size and set count, with the rows of the pair.

@@ -1,7 +1,6 @@
 //! What is swept.
 use crate::space::{Config, Space};
-use trace_core::events::Kind;
-use trace_core::line::Format;
+use trace_core::{Format, Kind};
 
 /// What is swept, and what is written of it.
 #[derive(Clone, Copy, Debug)]

@@ -4,7 +4,7 @@ ghost use Rattle.sweep_core.specs.Space.{bytes_of};
 ghost use Rattle.sweep_core.specs.SweepText.{row_of};
 
 use crate::space::Config;
-use cache_core::outcome::Counts;
+use cache_core::Counts;
 use trace_core::text::{DECIMAL, Text};
 
 /// The most bytes that a row has: seven numbers, and what stands after each.

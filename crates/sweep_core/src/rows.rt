@@ -14,12 +14,12 @@ use crate::profiles::{PairProfile, make_profiles, total_probes};
 use crate::request::Request;
 use crate::space::{Config, Space};
 use crate::sweep::SweepFault;
-use cache_core::outcome::Counts;
-use profile_core::profile::{HitSums, Profile};
+use cache_core::Counts;
+use profile_core::Profile;
+use profile_core::profile::HitSums;
 use std::alloc::Global;
 use std::marker::Model;
-use trace_core::io::Source;
-use trace_core::reader::{Lines, MAX_LINES};
+use trace_core::{Lines, MAX_LINES, Source};
 
 /// What a sweep has counted of a trace that it read.
 #[derive(Drop)]

@@ -7,8 +7,8 @@ ghost use Rattle.cache_core.specs.Powers.{is_power};
 ghost use Rattle.sweep_core.specs.Space.{order_cause, limit_cause, power_cause};
 
 use crate::space::configs::bits_of;
-use cache_core::geometry::{Geometry, MAX_BITS, MAX_CACHE_LINES, MAX_WAYS};
 use cache_core::powers::is_power;
+use cache_core::{Geometry, MAX_BITS, MAX_CACHE_LINES, MAX_WAYS};
 use std::fmt;
 use std::marker::Model;
 use thiserror::Error;

@@ -8,9 +8,7 @@ use crate::request::Request;
 use crate::rows::SweepCounts;
 use crate::table::write_table;
 use std::alloc::Global;
-use trace_core::fault::RunFault;
-use trace_core::io::{Sink, Source};
-use trace_core::reader::MAX_LINES;
+use trace_core::{MAX_LINES, RunFault, Sink, Source};
 
 /// Why a sweep stopped before its end. It takes all its memory before it reads, and reads the whole
 /// trace before it writes.

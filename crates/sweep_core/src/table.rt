@@ -8,8 +8,8 @@ ghost use Rattle.sweep_core.specs.SweepText.{header_of, csv_rows};
 use crate::row_text::set_row;
 use crate::rows::{Pairs, Rows, SweepCounts};
 use crate::space::Config;
-use trace_core::io::{DeviceFault, Sink, write_all};
 use trace_core::text::Text;
+use trace_core::{DeviceFault, Sink, write_all};
 
 /// The first line of a sweep that begins at the first configuration.
 const HEADER: &[u8] = b"bsize,sets,assoc,size,hits,misses,evictions\n";

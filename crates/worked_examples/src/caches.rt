@@ -1,16 +1,12 @@
 //! One cache: what each kind of reference does under each mode, and the separate simulation of a
 //! configuration.
 use crate::samples::{fetch, nine_references, read, write};
-use cache_core::cache::Cache;
-use cache_core::design::{AllocMode, WriteMode};
-use cache_core::geometry::Geometry;
-use cache_core::outcome::{Counts, Outcome, Slot};
-use cache_core::replacement::Lru;
 use cache_core::simulate::simulate;
+use cache_core::{AllocMode, Cache, Counts, Geometry, Lru, Outcome, Slot, WriteMode};
 use std::alloc::Global;
 use std::process::Abort;
 use std::test::Fail;
-use trace_core::events::Ref;
+use trace_core::Ref;
 
 /// A cache of one line of 16 bytes.
 fn one_line(alloc: Global, mode: WriteMode, allocate: AllocMode) -> Result<Cache<Lru>, Fail> {

@@ -4,7 +4,7 @@ ghost use Rattle.std.specs.Prelude.{◌≤◌, IfOk};
 use std::io::{Error, ErrorKind, Read, Write};
 use std::test::Fail;
 use trace_core::devices::{ArraySink, TapeSource};
-use trace_core::io::{DeviceFault, FromRead, Sink, Source, ToWrite, write_all};
+use trace_core::{DeviceFault, FromRead, Sink, Source, ToWrite, write_all};
 
 #[test]
 fn a_tape_gives_parts_and_fails_once(rt: HostRuntime) -> Result<(), Fail> {

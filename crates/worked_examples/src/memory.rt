@@ -7,11 +7,10 @@ use crate::sweeps::{TABLE, TABLE_OF_ONE_SET, request};
 use std::alloc::Global;
 use std::process::Abort;
 use std::test::Fail;
-use sweep_core::request::Request;
-use sweep_core::sweep::{SweepFault, sweep};
+use sweep_core::sweep::sweep;
+use sweep_core::{Request, SweepFault};
 use trace_core::devices::{ArraySink, LoopSource};
-use trace_core::io::{DeviceFault, Source};
-use trace_core::reader::MAX_LINES;
+use trace_core::{DeviceFault, MAX_LINES, Source};
 
 /// A text so many times, which counts its calls.
 #[derive(Drop)]

@@ -1,17 +1,13 @@
 //! Replacement: which blocks each policy evicts, and a policy of another crate.
 ghost use Rattle.std.specs.Prelude.{◌≤◌};
 
-use cache_core::cache::Cache;
-use cache_core::design::{AllocMode, WriteMode};
-use cache_core::geometry::Geometry;
-use cache_core::outcome::Slot;
-use cache_core::replacement::{Fifo, Lru, Random, Replacement};
+use cache_core::{AllocMode, Cache, Fifo, Geometry, Lru, Random, Replacement, Slot, WriteMode};
 use rand_core::utils::NextWord;
 use rand_pcg::Pcg32;
 use std::alloc::Global;
 use std::process::Abort;
 use std::test::Fail;
-use trace_core::events::{Access, Ref};
+use trace_core::{Access, Ref};
 
 /// One set of so many ways, with blocks of 16 bytes.
 fn one_set<P: Replacement>(alloc: Global, ways: u64, policy: P) -> Result<Cache<P>, Fail> {

@@ -2,14 +2,13 @@
 ghost use Rattle.std.specs.Prelude.{◌≡◌, ◌≤◌, ◌+◌, ◌^◌, IfOk, length};
 ghost use Rattle.profile_core.specs.internal.State.{fed_of};
 
-use cache_core::geometry::Geometry;
-use cache_core::outcome::Counts;
 use cache_core::simulate::simulate;
-use profile_core::profile::{MAX_REFERENCES, Profile};
+use cache_core::{Counts, Geometry};
+use profile_core::{MAX_REFERENCES, Profile};
 use std::alloc::{AllocError, Global};
 use std::process::Abort;
 use std::test::Fail;
-use trace_core::events::{Access, Ref};
+use trace_core::{Access, Ref};
 
 const SHORT: [u64; 9] = [0x10, 0x20, 0x20, 0x22, 0x18, 0x110, 0x210, 0x12, 0x12];
 

@@ -7,10 +7,7 @@ use std::alloc::Global;
 use std::process::Abort;
 use std::test::Fail;
 use trace_core::devices::{LoopSource, TapeSource};
-use trace_core::events::{Entry, Item, Op};
-use trace_core::fault::TraceFault;
-use trace_core::line::{Format, LineFault};
-use trace_core::reader::{Lines, MAX_LINES};
+use trace_core::{Entry, Format, Item, LineFault, Lines, MAX_LINES, Op, TraceFault};
 
 type Answer = Result<Option<(u64, Entry)>, TraceFault>;
 

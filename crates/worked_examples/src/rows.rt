@@ -1,15 +1,12 @@
 //! The rows of a sweep as values.
 use crate::samples::NINE;
 use crate::sweeps::request;
-use cache_core::outcome::Counts;
+use cache_core::Counts;
 use std::process::Abort;
 use std::test::Fail;
-use sweep_core::rows::SweepCounts;
-use sweep_core::space::Config;
-use sweep_core::sweep::SweepFault;
+use sweep_core::{Config, SweepCounts, SweepFault};
 use trace_core::devices::TapeSource;
-use trace_core::fault::TraceFault;
-use trace_core::line::LineFault;
+use trace_core::{LineFault, TraceFault};
 
 /// A row: block size, sets, associativity, hits, misses and evictions.
 fn row(numbers: [u64; 6]) -> (Config, Counts) {

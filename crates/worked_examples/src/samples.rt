@@ -1,5 +1,5 @@
 //! References and texts of several tests.
-use trace_core::events::{Access, Ref};
+use trace_core::{Access, Ref};
 
 pub fn fetch(addr: u64) -> Ref {
     let access = Access::Fetch;

@@ -3,21 +3,16 @@
 ghost use Rattle.std.specs.Prelude.{◌≡◌, ◌≤◌, IfOk};
 
 use crate::samples::{LACKEY, NINE, fetch, nine_references, read, write};
-use cache_core::geometry::Geometry;
-use cache_core::outcome::Counts;
 use cache_core::simulate::simulate;
+use cache_core::{Counts, Geometry};
 use std::alloc::Global;
 use std::fmt::Write;
 use std::process::Abort;
 use std::test::Fail;
-use sweep_core::request::Request;
-use sweep_core::space::{Config, Space};
-use sweep_core::sweep::{SweepFault, sweep};
+use sweep_core::sweep::sweep;
+use sweep_core::{Config, Request, Space, SweepFault};
 use trace_core::devices::{ArraySink, TapeSource};
-use trace_core::events::{Kind, Ref};
-use trace_core::fault::TraceFault;
-use trace_core::line::{Format, LineFault};
-use trace_core::reader::MAX_LINES;
+use trace_core::{Format, Kind, LineFault, MAX_LINES, Ref, TraceFault};
 
 /// What a sweep of the nine lines over up to two sets of up to two lines writes: 108 bytes.
 pub const TABLE: &[u8] = b"bsize,sets,assoc,size,hits,misses,evictions\n\

@@ -1,12 +1,12 @@
 //! Systems of caches: what each level counts, and what goes past the last one.
-use cache_core::design::{AllocMode, Repl, WriteMode};
-use cache_core::plan::{CacheName, CacheSpec, FirstLevel, Plan, PlanFault};
-use cache_core::stats::{CacheStats, Stats};
-use cache_core::system::{MAX_STEPS, System};
+use cache_core::{
+    AllocMode, CacheName, CacheSpec, CacheStats, FirstLevel, MAX_STEPS, Plan, PlanFault, Repl,
+    Stats, System, WriteMode,
+};
 use std::alloc::Global;
 use std::process::Abort;
 use std::test::Fail;
-use trace_core::events::{Access, Event, Ref};
+use trace_core::{Access, Event, Ref};
 
 fn fetch(addr: u64) -> Event {
     let access = Access::Fetch;

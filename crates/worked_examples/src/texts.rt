@@ -1,14 +1,11 @@
 //! The texts of faults, which no clause states, and the order of configurations.
-use cache_core::plan::{CacheName, PlanFault};
+use cache_core::{CacheName, PlanFault};
 use std::alloc::Global;
 use std::fmt::Display;
 use std::process::Abort;
 use std::test::Fail;
-use sweep_core::space::{Cause, Config, SpaceFault, Which};
-use sweep_core::sweep::SweepFault;
-use trace_core::fault::TraceFault;
-use trace_core::line::LineFault;
-use trace_core::reader::MAX_LINES;
+use sweep_core::{Cause, Config, SpaceFault, SweepFault, Which};
+use trace_core::{LineFault, MAX_LINES, TraceFault};
 
 /// What a value is displayed as.
 fn expect_text<T: Display>(

@@ -1,12 +1,9 @@
 //! A worked log of two levels, whose victims lie at other addresses than their numbers.
-use cache_core::design::{AllocMode, Repl, WriteMode};
-use cache_core::plan::{CacheSpec, FirstLevel, Plan};
+use cache_core::{AllocMode, CacheSpec, FirstLevel, Plan, Repl, WriteMode};
 use commands::log::log;
 use std::test::Fail;
 use trace_core::devices::{ArraySink, TapeSource};
-use trace_core::fault::RunFault;
-use trace_core::line::Format;
-use trace_core::reader::MAX_LINES;
+use trace_core::{Format, MAX_LINES, RunFault};
 
 /// An LRU cache that writes back and allocates.
 fn spec(size: u64, bsize: u64, assoc: u64) -> CacheSpec {

@@ -1,14 +1,13 @@
 //! Arguments by calls: their spelling, their numbers, the file of the trace, and what `clap`
 //! refuses. Other faults are in `tests/cases`.
-use arguments::faults::WordsFault;
-use arguments::numbers::{read_number, read_range, read_scaled, read_triple};
-use arguments::parse::{Command, parse};
-use cache_core::plan::PlanFault;
+use arguments::parse::parse;
+use arguments::{Command, WordsFault, read_number, read_range, read_scaled, read_triple};
+use cache_core::PlanFault;
 use options::respell::respell;
 use std::alloc::{AllocError, Global};
 use std::process::Abort;
 use std::test::Fail;
-use sweep_core::space::Config;
+use sweep_core::Config;
 
 /// The arguments of a line, which stand apart by single spaces.
 fn arguments_of(alloc: Global, line: &str) -> Result<Vec<String>, AllocError> {

@@ -4,10 +4,8 @@ ghost use Rattle.std.specs.Prelude.{◌<◌, ◌≤◌, length};
 ghost use Rattle.arguments.specs.Job.{max_lines_of};
 
 use crate::samples::{HANDOUT, HANDOUT_TEXT, NINE, TABLE};
-use arguments::job::Job;
-use cache_core::design::{AllocMode, Repl, WriteMode};
-use cache_core::geometry::Geometry;
-use cache_core::plan::{CacheSpec, FirstLevel, Plan};
+use arguments::Job;
+use cache_core::{AllocMode, CacheSpec, FirstLevel, Geometry, Plan, Repl, WriteMode};
 use commands::csim::csim;
 use commands::din::din;
 use commands::execute::execute;
@@ -15,13 +13,9 @@ use commands::log::log;
 use std::alloc::Global;
 use std::process::Abort;
 use std::test::Fail;
-use sweep_core::request::Request;
-use sweep_core::space::Space;
+use sweep_core::{Request, Space};
 use trace_core::devices::{ArraySink, LoopSource, TapeSource};
-use trace_core::events::Kind;
-use trace_core::fault::{RunFault, TraceFault};
-use trace_core::line::{Format, LineFault};
-use trace_core::reader::MAX_LINES;
+use trace_core::{Format, Kind, LineFault, MAX_LINES, RunFault, TraceFault};
 
 /// A unified cache of one block of 16 bytes.
 fn one_block() -> Result<Plan, Fail> {

@@ -8,7 +8,7 @@ ghost use Rattle.cache_core.specs.Powers.{log2};
 ghost use Rattle.sweep_core.specs.internal.Walk.{pair_at, NoWays, AreWays};
 
 use super::{Config, Space, is_in_range};
-use cache_core::geometry::{MAX_BITS, MAX_CACHE_LINES};
+use cache_core::{MAX_BITS, MAX_CACHE_LINES};
 use std::marker::Model;
 
 /// How many powers of two there are up to the greatest block size and set count.

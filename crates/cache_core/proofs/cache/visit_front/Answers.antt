@@ -32,19 +32,27 @@ returns-clause-dirty c =
 pub returns-then-is_some-clause-answers : goal.returns-then-is_some-clause-answers
 returns-then-is_some-clause-answers c = elim c.then-is_some.branch [
   | then-is_some-via-then-is_some w ↦
-    sym (passed_on c.args.design
-    (sets_of c.args.design.geometry.e c.args.slots.now c.args.filled.now) c.args.reference _
-    c.hit_outcome-outcome.ensures (sym c.is_some.ensures ∙ w.if-is_some.true))
+      sym (passed_on c.args.design
+      (sets_of c.args.design.geometry.e c.args.slots.now c.args.filled.now) c.args.reference _
+      c.hit_outcome-outcome.ensures (sym c.is_some.ensures ∙ w.if-is_some.true))
   | then-is_some-via-else-is_some+then-not-is_in_front w ↦
-    grind (arith, take-take, told_in_front c.args.design c.args.filled.now c.set_of-set.result
-    c.e-ways.result c.args.slots.now c.args.reference c.requires.slab c.e-ways.ensures.value
-    c.set_of-set.ensures.value c.set_of-set.ensures.within w.is_in_front.result _
-    c.hit_outcome-outcome.ensures (sym c.is_some.ensures ∙ w.if-is_some.false))
+      grind (
+        arith,
+        take-take,
+        told_in_front c.args.design c.args.filled.now c.set_of-set.result
+            c.e-ways.result c.args.slots.now c.args.reference c.requires.slab c.e-ways.ensures.value
+            c.set_of-set.ensures.value c.set_of-set.ensures.within w.is_in_front.result _
+            c.hit_outcome-outcome.ensures (sym c.is_some.ensures ∙ w.if-is_some.false),
+      )
 ]
 
 pub returns-clause-answers : goal.returns-clause-answers
 returns-clause-answers c =
-    grind (arith, take-take, told_in_front c.args.design c.args.filled.now c.set_of-set.result
-    c.e-ways.result c.args.slots.now c.args.reference c.requires.slab c.e-ways.ensures.value
-    c.set_of-set.ensures.value c.set_of-set.ensures.within c.is_in_front.result _
-    c.hit_outcome-outcome.ensures (sym c.is_some.ensures ∙ c.if-is_some.false))
+    grind (
+      arith,
+      take-take,
+      told_in_front c.args.design c.args.filled.now c.set_of-set.result
+          c.e-ways.result c.args.slots.now c.args.reference c.requires.slab c.e-ways.ensures.value
+          c.set_of-set.ensures.value c.set_of-set.ensures.within c.is_in_front.result _
+          c.hit_outcome-outcome.ensures (sym c.is_some.ensures ∙ c.if-is_some.false),
+    )
