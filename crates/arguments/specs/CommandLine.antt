@@ -35,7 +35,8 @@ job_named name rows = if bytes_eq name (codes "csim") then Some (csim_of rows)
 
 -- what was read, with the file of `-t`
 abbrev pub with_trace : List Row → Result Job JobFault → Result CommandValue JobFault
-with_trace rows read = and_then read (λ j. Ok (record { job = j; trace = first_of file_option.id rows }))
+with_trace rows read = and_then read
+    (λ j. Ok (record { job = j; trace = first_of file_option.id rows }))
 
 -- a subcommand of this name with these entries, read; none of another name
 abbrev pub chosen_command : Text × List Row → Option (Result CommandValue JobFault)
@@ -43,7 +44,8 @@ chosen_command s = option_map (with_trace s.1) (job_named s.0 s.1)
 
 -- the subcommand and the entries that clap gives for the respelled arguments, read
 abbrev pub command_of : List Text → Option (Result CommandValue JobFault)
-command_of arguments = option_and_then chosen_command (subcommand_of cachesim_app (respelling_of arguments))
+command_of arguments = option_and_then chosen_command
+    (subcommand_of cachesim_app (respelling_of arguments))
 
 -- what `parse` returned, but for lack of memory and what clap refuses
 abbrev pub command_result : Result Command WordsFault → Option (Result CommandValue JobFault)

@@ -10,7 +10,8 @@ use Rattle.arguments.specs.Readings.{and_then, is_flagged, required_value}
 use Rattle.arguments.specs.declared.job.Job.{Job}
 use Rattle.arguments.specs.declared.job.Job.TheVariants.{Csim}
 
--- The job of these entries, or the first fault: bad values in the table's order, then numbers that no cache has. The options are those
+-- The job of these entries, or the first fault: bad values in the table's order, then numbers that
+-- no cache has. The options are those
 -- of the CS:APP cache lab's csim.
 abbrev pub csim_of : List Row → Result Job JobFault
 csim_of rows =

@@ -1,6 +1,7 @@
 -- What the arguments after `din` and `log` say.
-use Rattle.std.specs.Prelude.{◌≡◌, ◌↔◌, ◌^◌, ℕ, Bool, List, Option, Some, None, Result, Ok, codes, ◌||◌}
-use Rattle.std.specs.Prelude.{if◌then◌else◌, is_some, ok_or, option_and_then, option_map, unwrap_or, ◌*◌, ◌==◌, IfSome}
+use Rattle.std.specs.Prelude.{◌≡◌, ◌↔◌, ◌^◌, ℕ, Bool, List, Option, Some, None, Result, Ok, codes}
+use Rattle.std.specs.Prelude.{◌||◌, if◌then◌else◌, is_some, ok_or, option_and_then, option_map}
+use Rattle.std.specs.Prelude.{unwrap_or, ◌*◌, ◌==◌, IfSome}
 use Rattle.cache_core.specs.Powers.{is_power}
 use Rattle.std.specs.Result.{result_map_both}
 use Rattle.std.specs.Str.{bytes_eq}
@@ -21,8 +22,9 @@ use Rattle.cache_core.specs.declared.design.WriteMode.TheVariants.{Back, Through
 use Rattle.arguments.specs.Faults.{JobFault, incomplete, plan}
 use Rattle.arguments.specs.Job.{longest_trace}
 use Rattle.arguments.specs.Numbers.{number_of, scaled_of, within_u64}
-use Rattle.options.specs.Options.{assoc_option_of, bsize_option_of, informat_option, repl_option_of, seed_option, sets_option_of, size_option_of}
-use Rattle.options.specs.Options.{walloc_option_of, wback_option_of}
+use Rattle.options.specs.Options.{assoc_option_of, bsize_option_of, informat_option, repl_option_of}
+use Rattle.options.specs.Options.{seed_option, sets_option_of, size_option_of, walloc_option_of}
+use Rattle.options.specs.Options.{wback_option_of}
 use Rattle.arguments.specs.Readings.{and_then, format_named, optional_value, value_or}
 use Rattle.arguments.specs.declared.din_job.CacheReading.{CacheReading}
 use Rattle.arguments.specs.declared.din_job.CacheReadings.{CacheReadings}
@@ -71,7 +73,8 @@ reading_of cache rows =
 
 -- one of the seven was given
 abbrev pub is_given : CacheReading → Bool
-is_given r = is_some r.size || (is_some r.sets || (is_some r.bsize || (is_some r.assoc || (is_some r.repl
+is_given r = is_some r.size ||
+    (is_some r.sets || (is_some r.bsize || (is_some r.assoc || (is_some r.repl
     || (is_some r.walloc || is_some r.wback)))))
 
 -- a size that no cache has: it stands for numbers that give no size
@@ -82,11 +85,13 @@ no_size = 0
 abbrev pub size_of_sets : ℕ → ℕ → ℕ → ℕ
 size_of_sets sets bsize assoc = unwrap_or (within_u64 (sets * bsize * assoc)) no_size
 
--- The size that was given, or that of the sets. Where both are given and differ, it is one that no cache has. Sets are this project's.
+-- The size that was given, or that of the sets. Where both are given and differ, it is one that no
+-- cache has. Sets are this project's.
 abbrev pub size_asked : Option ℕ → Option ℕ → ℕ → ℕ → Option ℕ
 size_asked size None bsize assoc = size
 size_asked None (Some sets) bsize assoc = Some (size_of_sets sets bsize assoc)
-size_asked (Some size) (Some sets) bsize assoc = Some (if size == size_of_sets sets bsize assoc then size else no_size)
+size_asked (Some size) (Some sets) bsize assoc =
+    Some (if size == size_of_sets sets bsize assoc then size else no_size)
 
 -- the cache with its defaults; none without a block size, and none without both a size and sets
 abbrev pub spec_asked : CacheReading → Option CacheSpec
@@ -99,13 +104,15 @@ spec_asked r = option_and_then (λ bsize. option_map (λ size. record {
   walloc = unwrap_or r.walloc Always;
 }) (size_asked r.size r.sets bsize (unwrap_or r.assoc 1))) r.bsize
 
--- A cache is there exactly if one of its options was given. It then needs a block size, and a size or sets.
+-- A cache is there exactly if one of its options was given. It then needs a block size, and a size
+-- or sets.
 abbrev pub cache_of : CacheName → CacheReading → Result (Option CacheSpec) JobFault
 cache_of cache r = if is_given r
     then and_then (ok_or (spec_asked r) (incomplete cache)) (λ spec. Ok (Some spec))
     else Ok None
 
--- The plan of what was given of the four caches, or the first fault: caches that lack size or bsize, then the plan's.
+-- The plan of what was given of the four caches, or the first fault: caches that lack size or
+-- bsize, then the plan's.
 abbrev pub plan_given : CacheReadings → Result PlannedCaches JobFault
 plan_given caches =
     and_then (cache_of L1I caches.i) (λ i.
@@ -123,7 +130,8 @@ caches_given rows =
     and_then (reading_of L2U rows) (λ second.
     Ok (record { i = i; d = d; u = u; second = second })))))
 
--- What these entries say of the caches, the seed and the format, or the first fault: bad values in the table's order, then the caches' and
+-- What these entries say of the caches, the seed and the format, or the first fault: bad values in
+-- the table's order, then the caches' and
 -- the plan's. The default format and the default seed are this project's.
 abbrev pub options_given : List Row → Result (PlannedCaches × ℕ × Format) JobFault
 options_given rows =
@@ -140,15 +148,18 @@ din_of rows = and_then (options_given rows) (λ o. Ok (Din o.0 o.1 o.2 longest_t
 abbrev pub log_of : List Row → Result Job JobFault
 log_of rows = and_then (options_given rows) (λ o. Ok (Log o.0 o.1 o.2 longest_trace))
 
--- the geometry with this number of sets, bytes in a block and ways, and with the size that was given beside them, if one was
-pub record IsGeometryWith (given : Option ℕ) (number bytes ways : ℕ) (g : GeometryValue) : Type 0 where
+-- the geometry with this number of sets, bytes in a block and ways, and with the size that was
+-- given beside them, if one was
+pub record IsGeometryWith (given : Option ℕ) (number bytes ways : ℕ)
+    (g : GeometryValue) : Type 0 where
   pub sets : number ≡ 2 ^ g.s
   pub bsize : bytes ≡ 2 ^ g.b
   pub assoc : ways ≡ g.e
   pub size : IfSome given (λ size. size ≡ number * bytes * ways)
   pub limits : IsGeometry g
 
--- a cache that is asked for by its sets has the geometry of exactly these, if one is within the limits and fits the size beside them
+-- a cache that is asked for by its sets has the geometry of exactly these, if one is within the
+-- limits and fits the size beside them
 abbrev pub SetsLaw : Type 0
 SetsLaw = (spec : CacheSpec) (size : Option ℕ) (sets : ℕ) (g : GeometryValue)
     → size_asked size (Some sets) spec.bsize spec.assoc ≡ Some spec.size

@@ -1,6 +1,7 @@
 -- How numbers are written in arguments.
-use Rattle.std.specs.Prelude.{ℕ, Bool, List, [], ◌∷◌, ◌+◌, ◌-◌, ◌*◌, ◌^◌, ◌==◌, ◌&&◌, ◌||◌, Option, Some, None}
-use Rattle.std.specs.Prelude.{length, take, slice_get, if◌then◌else◌, nat_lt, option_map, option_and_then}
+use Rattle.std.specs.Prelude.{ℕ, Bool, List, [], ◌∷◌, ◌+◌, ◌-◌, ◌*◌, ◌^◌, ◌==◌, ◌&&◌, ◌||◌, Option}
+use Rattle.std.specs.Prelude.{Some, None, length, take, slice_get, if◌then◌else◌, nat_lt}
+use Rattle.std.specs.Prelude.{option_map, option_and_then}
 use Rattle.std.specs.List.{list_all, list_any, before_first, after_first}
 use Rattle.std.specs.Option.{option_map_or}
 use Rattle.std.specs.Char.{is_ascii_digit}
@@ -51,7 +52,8 @@ split_at c text = if list_any (λ b. b == c) text
 
 -- a scaled number, or two with a dash (45) between: least and greatest, not compared here
 abbrev pub range_of : Text → Option (ℕ × ℕ)
-range_of text = option_map_or (λ parts. both_of (scaled_of parts.0) (scaled_of parts.1)) (split_at 45 text)
+range_of text = option_map_or (λ parts. both_of (scaled_of parts.0) (scaled_of parts.1))
+    (split_at 45 text)
     (option_map (λ x. (x, x)) (scaled_of text))
 
 -- the triple of three numbers, if there are all three

@@ -16,22 +16,27 @@ abbrev pub rows_given : ArgMatches → List Row
 rows_given m = rows_of (found_of m)
 
 -- one reading after another: the first fault counts
-abbrev pub and_then : {A B : Type 0} → Result A JobFault → (A → Result B JobFault) → Result B JobFault
+abbrev pub and_then : {A B : Type 0} → Result A JobFault → (A → Result B JobFault) →
+    Result B JobFault
 and_then (Ok x) next = next x
 and_then (Err e) next = Err e
 
--- what a reader makes of an option's text, or the fault that names the option; none if it was not given
-abbrev pub read_text : {A : Type 0} → Text → (Text → Option A) → Option Text → Result (Option A) JobFault
+-- what a reader makes of an option's text, or the fault that names the option; none if it was not
+-- given
+abbrev pub read_text : {A : Type 0} → Text → (Text → Option A) → Option Text →
+    Result (Option A) JobFault
 read_text name reader None = Ok None
 read_text name reader (Some text) = ok_or (option_map Some (reader text)) (value name)
 
 -- the value of an option that may be left out
-abbrev pub optional_value : {A : Type 0} → Text → (Text → Option A) → List Row → Result (Option A) JobFault
+abbrev pub optional_value : {A : Type 0} → Text → (Text → Option A) → List Row →
+    Result (Option A) JobFault
 optional_value name reader rows = read_text name reader (first_of name rows)
 
 -- the same, with the value if it is left out
 abbrev pub value_or : {A : Type 0} → A → Text → (Text → Option A) → List Row → Result A JobFault
-value_or default name reader rows = and_then (optional_value name reader rows) (λ v. Ok (unwrap_or v default))
+value_or default name reader rows = and_then (optional_value name reader rows)
+    (λ v. Ok (unwrap_or v default))
 
 -- the value of an option that has to be there
 abbrev pub required_value : {A : Type 0} → Text → (Text → Option A) → List Row → Result A JobFault
@@ -39,7 +44,8 @@ required_value name reader rows = ok_or (option_and_then reader (first_of name r
 
 -- the flag was given: clap then keeps the text "true"
 abbrev pub is_flagged : Text → List Row → Bool
-is_flagged name rows = option_map_or (λ text. bytes_eq text (codes "true")) (first_of name rows) false
+is_flagged name rows = option_map_or (λ text. bytes_eq text (codes "true"))
+    (first_of name rows) false
 
 -- this project's letters: u all references, d data, i instruction fetches
 abbrev pub kind_named : Text → Option Kind

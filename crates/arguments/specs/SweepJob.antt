@@ -11,8 +11,10 @@ use Rattle.trace_core.specs.declared.line.Format.TheVariants.{Din}
 use Rattle.arguments.specs.Faults.{JobFault, space}
 use Rattle.arguments.specs.Job.{longest_trace}
 use Rattle.arguments.specs.Numbers.{number_of, range_of, triple_of}
-use Rattle.options.specs.Options.{after_option, assoc_option, bsize_option, format_option, kind_option, pow2_option, rows_option, sets_option, size_option}
-use Rattle.arguments.specs.Readings.{and_then, format_named, is_flagged, kind_named, optional_value, required_value, value_or}
+use Rattle.options.specs.Options.{after_option, assoc_option, bsize_option, format_option}
+use Rattle.options.specs.Options.{kind_option, pow2_option, rows_option, sets_option, size_option}
+use Rattle.arguments.specs.Readings.{and_then, format_named, is_flagged, kind_named, optional_value}
+use Rattle.arguments.specs.Readings.{required_value, value_or}
 use Rattle.arguments.specs.declared.job.Job.{Job}
 use Rattle.arguments.specs.declared.job.Job.TheVariants.{Sweep}
 
@@ -39,13 +41,15 @@ page_of rows =
     and_then (optional_value rows_option.id number_of rows) (λ count.
     Ok (after, count)))
 
--- The job of these entries, or the first fault: bad values in the table's order, then the space's. The options are this project's.
+-- The job of these entries, or the first fault: bad values in the table's order, then the space's.
+-- The options are this project's.
 abbrev pub sweep_of : List Row → Result Job JobFault
 sweep_of rows =
     and_then (ranges_of rows) (λ ranges.
     and_then (trace_of rows) (λ trace.
     and_then (page_of rows) (λ page.
-    and_then (result_map_both (λ s. s) space (space_of ranges.0 ranges.1 ranges.2 ranges.3 (is_flagged pow2_option.id rows)))
+    and_then (result_map_both (λ s. s) space (space_of ranges.0 ranges.1 ranges.2 ranges.3
+    (is_flagged pow2_option.id rows)))
     (λ s. Ok (Sweep (record {
       space = s;
       kind = trace.0;

@@ -1,8 +1,7 @@
 -- One access under any policy, as the cache sees it and as the machine sees it.
-use Rattle.std.proofs.Common.{◌≡◌, ◌≢◌, ℕ, ◌+◌, ◌<◌, ◌≤◌, ◌^◌, ◌==◌, ◌&&◌, Bool, true, false, not, cond, eqb, ltb}
-use Rattle.std.proofs.Common.{replicate}
-use Rattle.std.proofs.Common.{List, [], ◌∷◌, ◌++◌, length, get_or, Option, Some, None, sym, ◌∙◌, ap, refl, subst, arith, map}
-use Rattle.std.proofs.Common.{find}
+use Rattle.std.proofs.Common.{◌≡◌, ◌≢◌, ℕ, ◌+◌, ◌<◌, ◌≤◌, ◌^◌, ◌==◌, ◌&&◌, Bool, true, false, not}
+use Rattle.std.proofs.Common.{cond, eqb, ltb, replicate, List, [], ◌∷◌, ◌++◌, length, get_or}
+use Rattle.std.proofs.Common.{Option, Some, None, sym, ◌∙◌, ap, refl, subst, arith, map, find}
 use Rattle.std.specs.Prelude.{MatchBool, IfSome, sum_by, is_none, IsPermutation, Contains}
 use Rattle.std.specs.List.{list_any}
 use Rattle.std.proofs.lemmas.Bool.{or_parts, le-ltb, lt-ltb}
@@ -17,15 +16,18 @@ use Rattle.cache_core.specs.declared.outcome.Outcome.{Outcome}
 use Rattle.cache_core.specs.declared.design.Repl.{Repl}
 use Rattle.cache_core.specs.Geometry.{GeometryValue, block_of, set_of_block}
 use Rattle.cache_core.specs.Outcomes.{outcome_of, on_placing, is_dirtied, is_allocated}
-use Rattle.cache_core.specs.Machine.{Machine, MachineState, Line, slot_of, is_block, lines_of_set, is_full, with_line_at, key_at, placing_step}
-use Rattle.cache_core.specs.Machine.{Step, passing_step, start, step_at}
-use Rattle.cache_core.specs.Order.{Contents, VisitsAt, Fills, PassesOn, Hits, TakesIn, slots_of, position_of, with_dirty_at}
+use Rattle.cache_core.specs.Machine.{Machine, MachineState, Line, slot_of, is_block, lines_of_set}
+use Rattle.cache_core.specs.Machine.{is_full, with_line_at, key_at, placing_step, Step}
+use Rattle.cache_core.specs.Machine.{passing_step, start, step_at}
+use Rattle.cache_core.specs.Order.{Contents, VisitsAt, Fills, PassesOn, Hits, TakesIn, slots_of}
+use Rattle.cache_core.specs.Order.{position_of, with_dirty_at}
 use Rattle.cache_core.specs.Rules.{Place, rules}
 use Rattle.cache_core.specs.Stands.{Absent, Distinct}
 use Rattle.cache_core.specs.AnyPolicy.{HoldsSame, MayLeave, AnyStartLaw, AnyAccessLaw, AnyFlushLaw}
 use Rattle.cache_core.proofs.Lawful.{marked_length, lawful_touch, lawful_place}
-use Rattle.cache_core.proofs.Lines.{Found, found, not_found, find_in_set, absent_round, find_split, distinct_front, distinct_back, distinct_without}
-use Rattle.cache_core.proofs.Lines.{around, distinct_around, with_line_at-none, with_line_at-some}
+use Rattle.cache_core.proofs.Lines.{Found, found, not_found, find_in_set, absent_round, find_split}
+use Rattle.cache_core.proofs.Lines.{distinct_front, distinct_back, distinct_without, around}
+use Rattle.cache_core.proofs.Lines.{distinct_around, with_line_at-none, with_line_at-some}
 use Rattle.cache_core.proofs.SetLaw.{with_mark}
 use Rattle.cache_core.proofs.StateLaw.{line_here, line_other, member_set}
 use Rattle.cache_core.proofs.Visits.{set_for, visit_for}
@@ -33,20 +35,24 @@ use Rattle.cache_core.proofs.FlushLaw.{none_anywhere, dirty_all}
 use Rattle.cache_core.proofs.LruSet.{blocks_of, position_none}
 use Rattle.cache_core.proofs.DownLaw.{any_clean, any_few}
 use Rattle.cache_core.proofs.Lists.{is}
-use Rattle.cache_core.proofs.SlotSums.{LineAt, one_for, one_self, by_sums, line_sum, sum_split, line_for, around_sum}
+use Rattle.cache_core.proofs.SlotSums.{LineAt, one_for, one_self, by_sums, line_sum, sum_split}
+use Rattle.cache_core.proofs.SlotSums.{line_for, around_sum}
 
 -- what a step has to do: the set of the block agrees again, the others stay
-record AgreesUpToOrder (m : Machine) (st : MachineState) (k : ℕ) (needed : Bool) (now : Option Line → Step) (slots : List Slot)
+record AgreesUpToOrder (m : Machine) (st : MachineState) (k : ℕ) (needed : Bool)
+    (now : Option Line → Step) (slots : List Slot)
     (outcome : Outcome) : Type 0 where
   gone : Option Line
   may : MayLeave needed (lines_of_set m.design.geometry k st.lines) gone
   effect : outcome ≡ outcome_of (now gone).effect
   held : IsPermutation slots (map slot_of (lines_of_set m.design.geometry k (now gone).after.lines))
   distinct : Distinct (lines_of_set m.design.geometry k (now gone).after.lines)
-  others : (j : ℕ) → j ≢ k → lines_of_set m.design.geometry j (now gone).after.lines ≡ lines_of_set m.design.geometry j st.lines
+  others : (j : ℕ) → j ≢ k → lines_of_set m.design.geometry j (now gone).after.lines ≡ lines_of_set
+      m.design.geometry j st.lines
 
 -- no slot of this block
-none_of : (x : Slot) (slots : List Slot) → list_any (is x.block) (blocks_of slots) ≡ false → sum_by (one_for x) slots ≡ 0
+none_of : (x : Slot) (slots : List Slot) → list_any (is x.block) (blocks_of slots) ≡ false →
+    sum_by (one_for x) slots ≡ 0
 none_of x [] h = refl
 none_of x (s ∷ slots) h =
     let parts = or_parts (eqb s.block x.block) (list_any (is x.block) (blocks_of slots)) h in
@@ -57,24 +63,36 @@ abbrev empty_slot : Slot
 empty_slot = record { block = 0; dirty = false }
 
 -- the slot at an index that is marked
-marked_sum : (d : Bool) (slots : List Slot) (at : ℕ) (line : Line) (f : Slot → ℕ) → at < length slots →
-    slot_of line ≡ get_or slots at empty_slot → sum_by f (with_dirty_at d slots at) + f (slot_of line) ≡ sum_by f slots + f (slot_of (with_mark d line))
+marked_sum : (d : Bool) (slots : List Slot) (at : ℕ) (line : Line) (f : Slot → ℕ) →
+    at < length slots →
+    slot_of line ≡ get_or slots at empty_slot → sum_by f (with_dirty_at d slots at) + f
+    (slot_of line) ≡ sum_by f slots + f (slot_of (with_mark d line))
 marked_sum d slots at line f h e = grind (arith, sum_by-set)
 
 -- the sums over a set's slots, where one of its lines is seen apart
-sums_around : (slots : List Slot) (here front : List Line) (line : Line) (back : List Line) → IsPermutation slots (map slot_of here) →
-    here ≡ front ++ line ∷ back → (f : Slot → ℕ) → line_sum f (front ++ back) + f (slot_of line) ≡ sum_by f slots
+sums_around : (slots : List Slot) (here front : List Line) (line : Line) (back : List Line) →
+    IsPermutation slots (map slot_of here) →
+    here ≡ front ++ line ∷ back → (f : Slot → ℕ) →
+    line_sum f (front ++ back) + f (slot_of line) ≡ sum_by f slots
 sums_around slots here front line back perm split f =
     grind (arith, sum_by-IsPermutation f slots (map slot_of here) perm, sum_split f front line back)
 
 -- a block that has a line has an index among the slots
-held_placed : (b : ℕ) (here : List Line) (line : Line) (slots : List Slot) → IsPermutation slots (map slot_of here) →
+held_placed : (b : ℕ) (here : List Line) (line : Line) (slots : List Slot) →
+    IsPermutation slots (map slot_of here) →
     find (is_block b) here ≡ Some line → position_of b slots ≡ None → ⊥
 held_placed b here line slots perm e q =
     let r = found b here line e in
     let none : sum_by (one_for (slot_of line)) slots ≡ 0 =
-    none_of (slot_of line) slots (position_none line.block slots (ap (λ n. position_of n slots) r.here ∙ q)) in
-    omega (arith, none, sums_around slots here r.front line r.back perm r.split (one_for (slot_of line)), one_self (slot_of line))
+    none_of (slot_of line) slots (position_none line.block slots
+    (ap (λ n. position_of n slots) r.here ∙ q)) in
+    omega (
+      arith,
+      none,
+      sums_around slots here r.front line r.back perm r.split
+          (one_for (slot_of line)),
+      one_self (slot_of line),
+    )
 
 -- and a block that has an index has a line, whose slot stands there
 record Placed (b : ℕ) (here : List Line) (slots : List Slot) (at : ℕ) : Type 0 where
@@ -82,21 +100,30 @@ record Placed (b : ℕ) (here : List Line) (slots : List Slot) (at : ℕ) : Type
   held : find (is_block b) here ≡ Some line
   slot : slot_of line ≡ get_or slots at empty_slot
 
-placed_held : (b : ℕ) (here : List Line) (slots : List Slot) (at : ℕ) → Distinct here → IsPermutation slots (map slot_of here) →
+placed_held : (b : ℕ) (here : List Line) (slots : List Slot) (at : ℕ) → Distinct here →
+    IsPermutation slots (map slot_of here) →
     position_of b slots ≡ Some at → Placed b here slots at
 placed_held b here slots at d perm q =
     let x : Slot = get_or slots at empty_slot in
     let p = position-Some (λ (s : Slot). s.block == b) slots at empty_slot q in
     let counted = get_or-le-sum_by (one_for x) slots at empty_slot p.0 in
-    let r = line_for x here (omega (arith, counted, one_self x, sum_by-IsPermutation (one_for x) slots (map slot_of here) perm)) in
+    let r = line_for x here (omega (
+      arith,
+      counted,
+      one_self x,
+      sum_by-IsPermutation (one_for x) slots (map slot_of here) perm,
+    )) in
     let front = distinct_front r.front r.line r.back (subst Distinct r.split d) in
     grind (arith, find_split)
 
 -- a reference at a machine, whose set holds the slots of the machine's lines in some order
-module _ (m : Machine) (st : MachineState) (ref : Ref) (policy : Option Repl) (numbers : ℕ → ℕ) (outcome : Outcome) (slots new : List Slot)
+module _ (m : Machine) (st : MachineState) (ref : Ref) (policy : Option Repl) (numbers : ℕ → ℕ)
+    (outcome : Outcome) (slots new : List Slot)
     (rest : ℕ → ℕ)
-    (some : 1 ≤ m.design.geometry.e) (d : Distinct (lines_of_set m.design.geometry (set_for m ref) st.lines))
-    (perm : IsPermutation slots (map slot_of (lines_of_set m.design.geometry (set_for m ref) st.lines))) where
+    (some : 1 ≤ m.design.geometry.e)
+    (d : Distinct (lines_of_set m.design.geometry (set_for m ref) st.lines))
+    (perm : IsPermutation slots (map slot_of (lines_of_set m.design.geometry (set_for m ref)
+    st.lines))) where
   abbrev g : GeometryValue
   g = m.design.geometry
 
@@ -121,22 +148,30 @@ module _ (m : Machine) (st : MachineState) (ref : Ref) (policy : Option Repl) (n
   record Goes (p : Place) (y : Line) (gone : Option Line) : Type 0 where
     held : IsPermutation new (map slot_of (lines_of_set g k (with_line_at p y gone st.lines)))
     distinct : Distinct (lines_of_set g k (with_line_at p y gone st.lines))
-    others : (j : ℕ) → j ≢ k → lines_of_set g j (with_line_at p y gone st.lines) ≡ lines_of_set g j st.lines
+    others : (j : ℕ) → j ≢ k → lines_of_set g j (with_line_at p y gone st.lines) ≡ lines_of_set g j
+        st.lines
 
-  goes : (p : Place) (y : Line) (gone : Option Line) (xs ys : List Line) → set_of_block g y.block ≡ k →
-      IfSome gone (λ x. set_of_block g x.block ≡ set_of_block g y.block) → with_line_at p y gone here ≡ around p y xs ys → Absent y.block xs →
-      Absent y.block ys → Distinct (xs ++ ys) → ((f : Slot → ℕ) → sum_by f new ≡ line_sum f (xs ++ ys) + f (slot_of y)) → Goes p y gone
+  goes : (p : Place) (y : Line) (gone : Option Line) (xs ys : List Line) →
+      set_of_block g y.block ≡ k →
+      IfSome gone (λ x. set_of_block g x.block ≡ set_of_block g y.block) →
+      with_line_at p y gone here ≡ around p y xs ys → Absent y.block xs →
+      Absent y.block ys → Distinct (xs ++ ys) →
+      ((f : Slot → ℕ) → sum_by f new ≡ line_sum f (xs ++ ys) + f (slot_of y)) → Goes p y gone
   goes p y gone xs ys e s after front back apart sums =
-      let lines : lines_of_set g k (with_line_at p y gone st.lines) ≡ around p y xs ys = line_here p g k y gone st.lines e s ∙ after in
+      let lines : lines_of_set g k (with_line_at p y gone st.lines) ≡ around p y xs ys =
+      line_here p g k y gone st.lines e s ∙ after in
       record {
-        held = rw lines (by_sums new (map slot_of (around p y xs ys)) (λ f. sums f ∙ sym (around_sum f p y xs ys)));
+        held = rw lines (by_sums new (map slot_of (around p y xs ys)) (λ f. sums f ∙
+            sym (around_sum f p y xs ys)));
         distinct = rw lines (distinct_around p y xs ys front back apart);
         others = λ j ne. line_other p g j y gone st.lines (λ q. ne (q ∙ e)) s;
       }
 
   -- a hit
-  hit_agrees : (line : Line) (at : ℕ) → find (is_block b) here ≡ Some line → position_of b slots ≡ Some at →
-      slot_of line ≡ get_or slots at empty_slot → Hits m.design policy numbers ref at slots outcome new rest →
+  hit_agrees : (line : Line) (at : ℕ) → find (is_block b) here ≡ Some line →
+      position_of b slots ≡ Some at →
+      slot_of line ≡ get_or slots at empty_slot →
+      Hits m.design policy numbers ref at slots outcome new rest →
       AgreesUpToOrder m st k false (λ gone. step_at m ref b gone st (Some line)) new outcome
   hit_agrees line at e q there hits =
       let r : Found b here line = found b here line e in
@@ -147,10 +182,13 @@ module _ (m : Machine) (st : MachineState) (ref : Ref) (policy : Option Repl) (n
       let dr : Distinct (r.front ++ line ∷ r.back) = subst Distinct r.split d in
       let front : Absent line.block r.front = distinct_front r.front line r.back dr in
       let back : Absent line.block r.back = distinct_back r.front line r.back dr in
-      let within : at < length slots = (position-Some (λ (s : Slot). s.block == b) slots at empty_slot q).0 in
+      let within : at < length slots =
+      (position-Some (λ (s : Slot). s.block == b) slots at empty_slot q).0 in
       let moved : IsPermutation (with_dirty_at mark slots at) new =
-      lawful_touch policy (with_dirty_at mark slots at) at new (omega (arith, within, marked_length mark slots at)) hits.order in
-      let sums : (f : Slot → ℕ) → sum_by f new ≡ line_sum f (r.front ++ r.back) + f (slot_of z) = λ f.
+      lawful_touch policy (with_dirty_at mark slots at) at new
+      (omega (arith, within, marked_length mark slots at)) hits.order in
+      let sums : (f : Slot → ℕ) → sum_by f new ≡ line_sum f (r.front ++ r.back) + f (slot_of z) =
+      λ f.
       omega (
         arith,
         sum_by-IsPermutation f (with_dirty_at mark slots at) new moved,
@@ -159,24 +197,40 @@ module _ (m : Machine) (st : MachineState) (ref : Ref) (policy : Option Repl) (n
       ) in
       let w : Goes to z (Some y) =
       goes to z (Some y) r.front r.back (ap (set_of_block g) r.here) refl
-      (ap (with_line_at to z (Some y)) r.split ∙ with_line_at-some to z y r.front line r.back refl front back) front back
+      (ap (with_line_at to z (Some y)) r.split ∙ with_line_at-some to z y r.front line r.back refl
+      front back) front back
       (distinct_without r.front line r.back dr) sums in
-      record { gone = None; may = refl; effect = hits.effect; held = w.held; distinct = w.distinct; others = w.others }
+      record {
+        gone = None;
+        may = refl;
+        effect = hits.effect;
+        held = w.held;
+        distinct =
+            w.distinct;
+        others = w.others;
+      }
 
   -- where a placed block goes, and its line there
   abbrev to : Place
   to = (rules m.policy).placed
 
   abbrev line_new : ℕ → Line
-  line_new there = record { block = b; key = key_at to clock there; dirty = is_dirtied m.design.write ref.access }
+  line_new there = record {
+    block = b;
+    key = key_at to clock there;
+    dirty =
+        is_dirtied m.design.write ref.access;
+  }
 
   -- a miss that places its block in a set that is not full
   insert_agrees : Absent b here → length slots < g.e → IsPermutation (slot ∷ slots) new →
       outcome ≡ outcome_of (on_placing g m.design.write ref b None) →
       AgreesUpToOrder m st k (is_full m st k) (λ gone. placing_step m ref b gone st) new outcome
   insert_agrees a free t o =
-      let long : length here ≡ length slots = sym (length-map here slot_of) ∙ length_permutation slots (map slot_of here) perm in
-      let not_full : ltb (length here) g.e ≡ true = lt-ltb (length here) g.e (omega (arith, free, long)) in
+      let long : length here ≡ length slots = sym (length-map here slot_of) ∙
+      length_permutation slots (map slot_of here) perm in
+      let not_full : ltb (length here) g.e ≡ true =
+      lt-ltb (length here) g.e (omega (arith, free, long)) in
       let y : Line = line_new (length here) in
       let sums : (f : Slot → ℕ) → sum_by f new ≡ line_sum f (here ++ []) + f slot = λ f.
       omega (
@@ -186,20 +240,42 @@ module _ (m : Machine) (st : MachineState) (ref : Ref) (policy : Option Repl) (n
         sum_by-IsPermutation f slots (map slot_of here) perm,
         ap (line_sum f) (append-nil here),
       ) in
-      let w : Goes to y None = goes to y None here [] refl tt (with_line_at-none to y here) a tt (rw append-nil d) sums in
-      record { gone = None; may = ap not not_full; effect = o; held = w.held; distinct = w.distinct; others = w.others }
+      let w : Goes to y None = goes to y None here [] refl tt (with_line_at-none to y here) a tt
+      (rw append-nil d) sums in
+      record {
+        gone = None;
+        may = ap not not_full;
+        effect = o;
+        held = w.held;
+        distinct =
+            w.distinct;
+        others = w.others;
+      }
 
   -- in a full set, where this line leaves
-  leaving_agrees : (x : Slot) (rest : List Slot) (r : LineAt x here) → Absent b here → length slots ≡ g.e → IsPermutation slots (x ∷ rest) →
-      IsPermutation (slot ∷ rest) new → outcome ≡ outcome_of (on_placing g m.design.write ref b (Some x)) →
+  leaving_agrees : (x : Slot) (rest : List Slot) (r : LineAt x here) → Absent b here →
+      length slots ≡ g.e → IsPermutation slots (x ∷ rest) →
+      IsPermutation (slot ∷ rest) new →
+      outcome ≡ outcome_of (on_placing g m.design.write ref b (Some x)) →
       AgreesUpToOrder m st k (is_full m st k) (λ gone. placing_step m ref b gone st) new outcome
   leaving_agrees x rest r a whole left t o =
       let full : ltb (length here) g.e ≡ false =
-      le-ltb (length here) g.e (omega (arith, whole, sym (length-map here slot_of) ∙ length_permutation slots (map slot_of here) perm)) in
+      le-ltb (length here) g.e (omega (
+        arith,
+        whole,
+        sym (length-map here slot_of) ∙
+            length_permutation slots (map slot_of here) perm,
+      )) in
       let y : Line = line_new r.line.key in
       let dr : Distinct (r.front ++ r.line ∷ r.back) = subst Distinct r.split d in
       let in_set : set_of_block g r.line.block ≡ k =
-      member_set g k r.line st.lines (record { front = r.front; back = r.back; split = r.split; here = refl }) in
+      member_set g k r.line st.lines (record {
+        front = r.front;
+        back = r.back;
+        split =
+            r.split;
+        here = refl;
+      }) in
       let apart = absent_round b r.front r.line r.back (subst (Absent b) r.split a) in
       let sums : (f : Slot → ℕ) → sum_by f new ≡ line_sum f (r.front ++ r.back) + f slot = λ f.
       omega (
@@ -214,18 +290,24 @@ module _ (m : Machine) (st : MachineState) (ref : Ref) (policy : Option Repl) (n
       let w : Goes to y (Some r.line) =
       goes to y (Some r.line) r.front r.back refl in_set
       (ap (with_line_at to y (Some r.line)) r.split
-      ∙ with_line_at-some to y r.line r.front r.line r.back refl (distinct_front r.front r.line r.back dr) (distinct_back r.front r.line r.back dr))
+      ∙ with_line_at-some to y r.line r.front r.line r.back refl
+      (distinct_front r.front r.line r.back dr) (distinct_back r.front r.line r.back dr))
       apart.0 apart.1 (distinct_without r.front r.line r.back dr) sums in
       record {
         gone = Some r.line;
-        may = (ap not full, subst (λ ls. Contains ls r.line) (sym r.split) (Contains-append_right r.front (r.line ∷ r.back) r.line (0, (omega arith), refl)));
+        may = (
+          ap not full,
+          subst (λ ls. Contains ls r.line) (sym r.split)
+              (Contains-append_right r.front (r.line ∷ r.back) r.line (0, (omega arith), refl)),
+        );
         effect = o ∙ ap (λ v. outcome_of (on_placing g m.design.write ref b (Some v))) (sym r.slot);
         held = w.held;
         distinct = w.distinct;
         others = w.others;
       }
 
-  fill_agrees : (number : ℕ) (evicted : Option Slot) → Absent b here → TakesIn None number g.e slots slot evicted new →
+  fill_agrees : (number : ℕ) (evicted : Option Slot) → Absent b here →
+      TakesIn None number g.e slots slot evicted new →
       outcome ≡ outcome_of (on_placing g m.design.write ref b evicted) →
       AgreesUpToOrder m st k (is_full m st k) (λ gone. placing_step m ref b gone st) new outcome
   fill_agrees number None a t o = insert_agrees a t.0 t.1 o
@@ -241,16 +323,29 @@ module _ (m : Machine) (st : MachineState) (ref : Ref) (policy : Option Repl) (n
       leaving_agrees x t.1.0 (line_for x here counted) a t.0 t.1.1 t.1.2 o
 
   miss_agrees : (fills : Bool) → Absent b here →
-      MatchBool fills (Fills m.design policy numbers ref slots outcome new rest) (PassesOn numbers ref slots outcome new rest) →
-      AgreesUpToOrder m st k (fills && is_full m st k) (λ gone. cond fills (placing_step m ref b gone st) (passing_step ref st)) new outcome
+      MatchBool fills (Fills m.design policy numbers ref slots outcome new rest)
+      (PassesOn numbers ref slots outcome new rest) →
+      AgreesUpToOrder m st k (fills && is_full m st k)
+      (λ gone. cond fills (placing_step m ref b gone st) (passing_step ref st)) new outcome
   miss_agrees true a v =
-      fill_agrees 0 outcome.evicted a (lawful_place policy (numbers 0) 0 g.e slots slot outcome.evicted new some v.order) v.effect
-  miss_agrees false a v = record { gone = None; may = refl; effect = v.effect; held = rw v.order perm; distinct = d; others = λ j ne. refl }
+      fill_agrees 0 outcome.evicted a (lawful_place policy (numbers 0) 0 g.e slots slot
+      outcome.evicted new some v.order) v.effect
+  miss_agrees false a v = record {
+    gone = None;
+    may = refl;
+    effect = v.effect;
+    held =
+        rw v.order perm;
+    distinct = d;
+    others = λ j ne. refl;
+  }
 
   -- a hit or a miss, by the block's line and by its index
-  step_agrees : (o : Option Line) (index : Option ℕ) → find (is_block b) here ≡ o → position_of b slots ≡ index →
+  step_agrees : (o : Option Line) (index : Option ℕ) → find (is_block b) here ≡ o →
+      position_of b slots ≡ index →
       VisitsAt index m.design policy numbers ref slots outcome new rest →
-      AgreesUpToOrder m st k (is_none o && is_allocated m.design.allocate ref.access && is_full m st k) (λ gone. step_at m ref b gone st o)
+      AgreesUpToOrder m st k (is_none o && is_allocated m.design.allocate ref.access && is_full m st
+      k) (λ gone. step_at m ref b gone st o)
       new outcome
   step_agrees (Some line) (Some at) e q v =
       let p = placed_held b here slots at d perm q in
@@ -258,7 +353,8 @@ module _ (m : Machine) (st : MachineState) (ref : Ref) (policy : Option Repl) (n
       hit_agrees line at e q (ap slot_of (sym same) ∙ p.slot) v
   step_agrees (Some line) None e q v = absurd (held_placed b here line slots perm e q)
   step_agrees None (Some at) e q v = let p = placed_held b here slots at d perm q in absurd cc
-  step_agrees None None e q v = miss_agrees (is_allocated m.design.allocate ref.access) (not_found b here e) v
+  step_agrees None None e q v = miss_agrees (is_allocated m.design.allocate ref.access)
+      (not_found b here e) v
 
 pub any_access : AnyAccessLaw
 any_access m st old ref outcome new some i a =
@@ -267,12 +363,15 @@ any_access m st old ref outcome new some i a =
     let k = set_for m ref in
     let o = find (is_block b) st.lines in
     let r =
-    step_agrees m st ref old.policy old.random_numbers outcome (slots_of old.sets k) (slots_of new.sets k) new.random_numbers some (i.distinct k) (i.sets k) o
-    (position_of b (slots_of old.sets k)) (find_in_set g b st.lines) refl (visit_for m old ref outcome new i.design a) in
+    step_agrees m st ref old.policy old.random_numbers outcome (slots_of old.sets k)
+    (slots_of new.sets k) new.random_numbers some (i.distinct k) (i.sets k) o
+    (position_of b (slots_of old.sets k)) (find_in_set g b st.lines) refl
+    (visit_for m old ref outcome new i.design a) in
     grind (arith, any_few, any_clean)
 
 -- a cache with no slots holds what the machine holds where it has no line
-holds_nothing : (m : Machine) (st : MachineState) (c : Contents) (n : ℕ) → c.design ≡ m.design → c.sets ≡ replicate n [] →
+holds_nothing : (m : Machine) (st : MachineState) (c : Contents) (n : ℕ) → c.design ≡ m.design →
+    c.sets ≡ replicate n [] →
     n ≡ 2 ^ m.design.geometry.s →
     HoldsSame m (record st { lines = [] }) c
 holds_nothing m st c n d e all = grind (arith, length-replicate, none_anywhere)
@@ -282,5 +381,9 @@ any_start m c d e = holds_nothing m start c (2 ^ m.design.geometry.s) d e refl
 
 pub any_flush : AnyFlushLaw
 any_flush m st old dirty new i f =
-    let same = λ (k : ℕ). sym (sum_by-IsPermutation (λ (slot : Slot). cond slot.dirty 1 0) (slots_of old.sets k) _ (i.sets k)) in
-    (holds_nothing m st new (length old.sets) (f.design ∙ i.design) f.empty i.count, f.counted ∙ dirty_all m.design.geometry st.lines old.sets i.count same)
+    let same = λ (k : ℕ). sym (sum_by-IsPermutation (λ (slot : Slot). cond slot.dirty 1 0)
+    (slots_of old.sets k) _ (i.sets k)) in (
+      holds_nothing m st new (length old.sets) (f.design ∙ i.design) f.empty i.count,
+      f.counted ∙
+          dirty_all m.design.geometry st.lines old.sets i.count same,
+    )

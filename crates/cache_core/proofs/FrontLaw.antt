@@ -1,7 +1,8 @@
 -- An access that finds its block in the first slot of its set.
-use Rattle.std.proofs.Common.{◌≡◌, ℕ, zero, suc, ◌+◌, ◌-◌, ◌*◌, ◌^◌, ◌<◌, ◌≤◌, Bool, true, false, List, [], ◌∷◌, length, get_or}
-use Rattle.std.proofs.Common.{set, take, drop, Option, Some, None, refl, sym, ◌∙◌, subst, arith, length-take, length-drop}
-use Rattle.std.proofs.Common.{ap, not, is_some, ◌==◌}
+use Rattle.std.proofs.Common.{◌≡◌, ℕ, zero, suc, ◌+◌, ◌-◌, ◌*◌, ◌^◌, ◌<◌, ◌≤◌, Bool, true, false}
+use Rattle.std.proofs.Common.{List, [], ◌∷◌, length, get_or, set, take, drop, Option, Some, None}
+use Rattle.std.proofs.Common.{refl, sym, ◌∙◌, subst, arith, length-take, length-drop, ap, not}
+use Rattle.std.proofs.Common.{is_some, ◌==◌}
 use Rattle.std.specs.Prelude.{IsTrue, ◌↔◌, if◌then◌else◌}
 use Rattle.std.proofs.lemmas.List.{set-get_or}
 use Rattle.std.proofs.lemmas.List.Elements.{All-get_or}
@@ -15,7 +16,8 @@ use Rattle.cache_core.specs.declared.design.Repl.{Repl}
 use Rattle.cache_core.specs.Geometry.{block_of, set_of}
 use Rattle.cache_core.specs.Outcomes.{outcome_of, on_hit, is_dirtied}
 use Rattle.cache_core.specs.Outcomes.{two_options, through_writes}
-use Rattle.cache_core.specs.Order.{Moves, Touches, Hits, Visits, VisitsAt, Accesses, with_dirty_at, position_of}
+use Rattle.cache_core.specs.Order.{Moves, Touches, Hits, Visits, VisitsAt, Accesses, with_dirty_at}
+use Rattle.cache_core.specs.Order.{position_of}
 use Rattle.cache_core.specs.internal.Order.{DirtiesByWrites}
 use Rattle.cache_core.specs.internal.Order.{holds_first, hits_in_front}
 use Rattle.cache_core.specs.Rules.{Place, InFront, InPlace, rules}
@@ -24,8 +26,8 @@ use Rattle.cache_core.specs.internal.Slab.{slab_contents}
 use Rattle.cache_core.proofs.Addresses.{marked_fits}
 use Rattle.cache_core.proofs.DirtyLaw.{slab_dirty}
 use Rattle.cache_core.proofs.Lawful.{marked_length}
-use Rattle.cache_core.proofs.Slabs.{start_le, IsWritten, segment_slots, with_segment, set_read, slab_kept, slab_access, length-sets_of}
-use Rattle.cache_core.proofs.Slabs.{slab_read}
+use Rattle.cache_core.proofs.Slabs.{start_le, IsWritten, segment_slots, with_segment, set_read}
+use Rattle.cache_core.proofs.Slabs.{slab_kept, slab_access, length-sets_of, slab_read}
 
 -- a slot that is moved to the front from there, or stays, leaves the order
 moved_in_front : (p : Place) (x : Slot) (xs : List Slot) → Moves p (x ∷ xs) 0 (x ∷ xs)
@@ -33,21 +35,25 @@ moved_in_front InFront x xs = (x, refl, refl)
 moved_in_front InPlace x xs = refl
 
 -- The rule of every policy for the first slot: it stays first when it is touched.
-pub touched_in_front : (policy : Option Repl) (slots : List Slot) → 0 < length slots → Touches policy slots 0 slots
+pub touched_in_front : (policy : Option Repl) (slots : List Slot) → 0 < length slots →
+    Touches policy slots 0 slots
 touched_in_front policy [] some = absurd (omega arith)
 touched_in_front None (x ∷ xs) some = IsPermutation-refl (x ∷ xs)
 touched_in_front (Some policy) (x ∷ xs) some = moved_in_front (rules policy).touched x xs
 
 -- the first n slots, the first of all marked
-take_marked : (dirty : Bool) (n : ℕ) (slots : List Slot) → 0 < n → take n (with_dirty_at dirty slots 0) ≡ with_dirty_at dirty (take n slots) 0
+take_marked : (dirty : Bool) (n : ℕ) (slots : List Slot) → 0 < n →
+    take n (with_dirty_at dirty slots 0) ≡ with_dirty_at dirty (take n slots) 0
 take_marked false n slots some = refl
 take_marked true zero slots some = absurd (omega arith)
 take_marked true (suc n) [] some = refl
 take_marked true (suc n) (x ∷ xs) some = refl
 
-module _ (d : Design) (filled : List ℕ) (k ways : ℕ) (slots : List Slot) (ref : Ref) (i : IsCacheSlab d slots filled)
+module _ (d : Design) (filled : List ℕ) (k ways : ℕ) (slots : List Slot) (ref : Ref)
+    (i : IsCacheSlab d slots filled)
     (ways_are : ways ≡ d.geometry.e) (within : k < 2 ^ d.geometry.s)
-    (first : position_of (block_of d.geometry ref.addr) (segment_slots ways filled k slots) ≡ Some 0) where
+    (first : position_of (block_of d.geometry ref.addr)
+    (segment_slots ways filled k slots) ≡ Some 0) where
   abbrev count : ℕ
   count = get_or filled k 0
 
@@ -69,60 +75,86 @@ module _ (d : Design) (filled : List ℕ) (k ways : ℕ) (slots : List Slot) (re
 
   long : length segment ≡ d.geometry.e
   long =
-      let wide : k * d.geometry.e + d.geometry.e ≤ length slots = omega (arith, i.segments, start_le k d.geometry.e (2 ^ d.geometry.s) within) in
+      let wide : k * d.geometry.e + d.geometry.e ≤ length slots =
+      omega (arith, i.segments, start_le k d.geometry.e (2 ^ d.geometry.s) within) in
       rw ways_are (omega (
         arith,
         wide,
-        length-take (k * d.geometry.e + d.geometry.e - k * d.geometry.e) (drop (k * d.geometry.e) slots),
+        length-take (k * d.geometry.e + d.geometry.e - k * d.geometry.e)
+            (drop (k * d.geometry.e) slots),
         length-drop (k * d.geometry.e) slots,
       ))
 
-  marked_in : take count marked ≡ with_dirty_at (is_dirtied d.write ref.access) (take count segment) 0
+  marked_in : take count marked ≡ with_dirty_at (is_dirtied d.write ref.access)
+      (take count segment) 0
   marked_in = take_marked (is_dirtied d.write ref.access) count segment filled_some
 
   written : IsWritten d k count ways marked
-  written = record { ways_are = ways_are; within = within; long = marked_length (is_dirtied d.write ref.access) segment 0 ∙ long; few = few }
+  written = record {
+    ways_are = ways_are;
+    within = within;
+    long =
+        marked_length (is_dirtied d.write ref.access) segment 0 ∙ long;
+    few = few;
+  }
 
   kept : set filled k count ≡ filled
   kept = set-get_or filled k 0
 
-  visited : (policy : Option Repl) (numbers : ℕ → ℕ) (outcome : Outcome) → outcome ≡ outcome_of (on_hit d.write ref) →
-      Visits d policy numbers ref (segment_slots ways filled k slots) outcome (take count marked) numbers
+  visited : (policy : Option Repl) (numbers : ℕ → ℕ) (outcome : Outcome) →
+      outcome ≡ outcome_of (on_hit d.write ref) →
+      Visits d policy numbers ref (segment_slots ways filled k slots) outcome
+      (take count marked) numbers
   visited policy numbers outcome e =
       let dirty = is_dirtied d.write ref.access in
-      let hits : Hits d policy numbers ref 0 (take count segment) outcome (take count marked) numbers = record {
-        order = subst (λ new. Touches policy (with_dirty_at dirty (take count segment) 0) 0 new) (sym marked_in)
-            (touched_in_front policy (with_dirty_at dirty (take count segment) 0) (omega (arith, some, marked_length dirty (take count segment) 0)));
+      let hits : Hits d policy numbers ref 0 (take count segment) outcome (take count marked)
+      numbers = record {
+        order = subst (λ new. Touches policy (with_dirty_at dirty (take count segment) 0) 0 new)
+            (sym marked_in)
+            (touched_in_front policy (with_dirty_at dirty (take count segment) 0)
+            (omega (arith, some, marked_length dirty (take count segment) 0)));
         undrawn = refl;
         effect = e;
       } in
-      subst (λ at. VisitsAt at d policy numbers ref (take count segment) outcome (take count marked) numbers) (sym first) hits
+      subst (λ at. VisitsAt at d policy numbers ref (take count segment) outcome (take count marked)
+      numbers) (sym first) hits
 
   -- what a cache keeps of its arrays
   pub front_kept : IsCacheSlab d (with_segment ways k slots marked) filled
   front_kept =
-      let in_sets : k < length (sets_of d.geometry.e slots filled) = omega (arith, length-sets_of d.geometry.e filled slots, i.sets, within) in
+      let in_sets : k < length (sets_of d.geometry.e slots filled) =
+      omega (arith, length-sets_of d.geometry.e filled slots, i.sets, within) in
       let here : Addressable d.geometry.b (take count segment) =
       subst (Addressable d.geometry.b) (sym (set_read d filled k count ways slots marked i written))
-      (All-get_or (Addressable d.geometry.b) (sets_of d.geometry.e slots filled) k [] in_sets i.addresses) in
+      (All-get_or (Addressable d.geometry.b) (sets_of d.geometry.e slots filled) k [] in_sets
+      i.addresses) in
       subst (IsCacheSlab d (with_segment ways k slots marked)) kept
       (slab_kept d filled k count ways slots marked i written
-      (subst (Addressable d.geometry.b) (sym marked_in) (marked_fits d.geometry.b (is_dirtied d.write ref.access) (take count segment) 0 some here)))
+      (subst (Addressable d.geometry.b) (sym marked_in)
+      (marked_fits d.geometry.b (is_dirtied d.write ref.access) (take count segment)
+      0 some here)))
 
   -- the access, under every policy
-  pub front_access : (policy : Option Repl) (numbers : ℕ → ℕ) (outcome : Outcome) → k ≡ set_of d.geometry ref.addr →
+  pub front_access : (policy : Option Repl) (numbers : ℕ → ℕ) (outcome : Outcome) →
+      k ≡ set_of d.geometry ref.addr →
       outcome ≡ outcome_of (on_hit d.write ref) →
-      Accesses (slab_contents d policy numbers slots filled) ref outcome (slab_contents d policy numbers (with_segment ways k slots marked) filled)
+      Accesses (slab_contents d policy numbers slots filled) ref outcome
+      (slab_contents d policy numbers (with_segment ways k slots marked) filled)
   front_access policy numbers outcome s e =
-      subst (λ ns. Accesses (slab_contents d policy numbers slots filled) ref outcome (slab_contents d policy numbers (with_segment ways k slots marked) ns))
+      subst (λ ns. Accesses (slab_contents d policy numbers slots filled) ref outcome
+      (slab_contents d policy numbers (with_segment ways k slots marked) ns))
       kept
-      (slab_access d filled k count ways slots marked i written policy policy numbers numbers ref outcome s refl (visited policy numbers outcome e))
+      (slab_access d filled k count ways slots marked i written policy policy numbers numbers ref
+      outcome s refl (visited policy numbers outcome e))
 
   pub front_dirty : (outcome : Outcome) → outcome ≡ outcome_of (on_hit d.write ref) →
-      DirtiesByWrites (sets_of d.geometry.e slots filled) ref outcome (sets_of d.geometry.e (with_segment ways k slots marked) filled)
+      DirtiesByWrites (sets_of d.geometry.e slots filled) ref outcome
+      (sets_of d.geometry.e (with_segment ways k slots marked) filled)
   front_dirty outcome e =
-      subst (λ ns. DirtiesByWrites (sets_of d.geometry.e slots filled) ref outcome (sets_of d.geometry.e (with_segment ways k slots marked) ns)) kept
-      (slab_dirty d filled k count ways slots marked i written None (λ n. n) (λ n. n) ref outcome (visited None (λ n. n) outcome e))
+      subst (λ ns. DirtiesByWrites (sets_of d.geometry.e slots filled) ref outcome
+      (sets_of d.geometry.e (with_segment ways k slots marked) ns)) kept
+      (slab_dirty d filled k count ways slots marked i written None (λ n. n) (λ n. n) ref outcome
+      (visited None (λ n. n) outcome e))
 
 -- a block that is found at the first index is that of the first slot
 first_there : (block : ℕ) (slots : List Slot) → position_of block slots ≡ Some 0 →

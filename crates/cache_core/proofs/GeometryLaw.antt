@@ -10,12 +10,14 @@ use Rattle.cache_core.specs.Geometry.{GeometryValue, IsGeometry, is_geometry, ge
 use Rattle.cache_core.specs.Plans.{exponent_of, geometry_for, IsGeometryFor, GeometryLaw}
 use Rattle.cache_core.proofs.Exponents.{exponent_some}
 
-exponent_sound : (unit number k : ℕ) → exponent_of unit number ≡ Some k → (unit * 2 ^ k ≡ number) × (k < 21)
+exponent_sound : (unit number k : ℕ) → exponent_of unit number ≡ Some k →
+    (unit * 2 ^ k ≡ number) × (k < 21)
 unfolding exponent_of
 exponent_sound unit number k e = grind (arith, eqb-true)
 
 exponent_is : (unit k : ℕ) → 1 ≤ unit → k ≤ 20 → exponent_of unit (unit * 2 ^ k) ≡ Some k
-exponent_is unit k some small = exponent_some unit (unit * 2 ^ k) k (omega arith) (λ j l e. less j l e) refl
+exponent_is unit k some small = exponent_some unit (unit * 2 ^ k) k (omega arith)
+    (λ j l e. less j l e) refl
   where
     less : (j : ℕ) → j < k → unit * 2 ^ j ≢ unit * 2 ^ k
     less j l e =
@@ -30,27 +32,33 @@ limits_of g t = grind arith
 pub within_of : (g : GeometryValue) → IsGeometry g → is_geometry g ≡ true
 within_of g l = grind arith
 
-by_sets : (spec : CacheSpec) (g : GeometryValue) (b : ℕ) (o : Option ℕ) → exponent_of (spec.assoc * spec.bsize) spec.size ≡ o →
+by_sets : (spec : CacheSpec) (g : GeometryValue) (b : ℕ) (o : Option ℕ) →
+    exponent_of (spec.assoc * spec.bsize) spec.size ≡ o →
     1 * 2 ^ b ≡ spec.bsize →
     option_and_then (λ s. geometry_of s spec.assoc b) o ≡ Some g → IsGeometryFor spec g
 by_sets spec g b o e h q = grind (arith, exponent_sound)
 
 by_blocks : (spec : CacheSpec) (g : GeometryValue) (o : Option ℕ) → exponent_of 1 spec.bsize ≡ o →
-    option_and_then (λ b. option_and_then (λ s. geometry_of s spec.assoc b) (exponent_of (spec.assoc * spec.bsize) spec.size)) o ≡ Some g →
+    option_and_then (λ b. option_and_then (λ s. geometry_of s spec.assoc b)
+    (exponent_of (spec.assoc * spec.bsize) spec.size)) o ≡ Some g →
     IsGeometryFor spec g
 by_blocks spec g None e q = absurd cc
-by_blocks spec g (Some b) e q = by_sets spec g b (exponent_of (spec.assoc * spec.bsize) spec.size) refl (exponent_sound 1 spec.bsize b e).0 q
+by_blocks spec g (Some b) e q = by_sets spec g b (exponent_of (spec.assoc * spec.bsize) spec.size)
+    refl (exponent_sound 1 spec.bsize b e).0 q
 
-geometry_from : (spec : CacheSpec) (g : GeometryValue) → IsGeometryFor spec g → geometry_for spec ≡ Some g
+geometry_from : (spec : CacheSpec) (g : GeometryValue) → IsGeometryFor spec g →
+    geometry_for spec ≡ Some g
 geometry_from spec g h =
-    let blocks : exponent_of 1 spec.bsize ≡ Some g.b = ap (exponent_of 1) (omega (arith, h.bsize)) ∙ exponent_is 1 g.b (omega arith) h.limits.blocks in
+    let blocks : exponent_of 1 spec.bsize ≡ Some g.b = ap (exponent_of 1) (omega (arith, h.bsize)) ∙
+    exponent_is 1 g.b (omega arith) h.limits.blocks in
     let one : 1 ≤ 2 ^ g.b = one-le-pow g.b 2 (omega arith) in
     let ways : 1 ≤ spec.assoc = omega (arith, h.assoc, h.limits.some) in
     let bytes : 1 ≤ spec.bsize = omega (arith, h.bsize) in
     let unit : 1 * 1 ≤ spec.assoc * spec.bsize = mul-le-mul ways bytes in
     let some : 1 ≤ spec.assoc * spec.bsize = omega arith in
     let sets : exponent_of (spec.assoc * spec.bsize) spec.size ≡ Some g.s =
-    ap (exponent_of (spec.assoc * spec.bsize)) h.size ∙ exponent_is (spec.assoc * spec.bsize) g.s some h.limits.sets in
+    ap (exponent_of (spec.assoc * spec.bsize)) h.size ∙ exponent_is (spec.assoc * spec.bsize) g.s
+    some h.limits.sets in
     grind arith
 
 pub geometry_law : GeometryLaw

@@ -1,4 +1,5 @@
--- What the proofs on caches cite: lists and machines first, then one access, one set, runs, systems, and worked examples.
+-- What the proofs on caches cite: lists and machines first, then one access, one set, runs,
+-- systems, and worked examples.
 pub mod Bounds
 pub mod PowersOfTwo
 pub mod Lists

@@ -1,5 +1,6 @@
 -- Worked runs of the stamp machine under each policy and mode, computed.
-use Rattle.std.proofs.Common.{◌≡◌, ℕ, Bool, true, false, not, List, [], ◌∷◌, ◌++◌, map, Option, Some, None, refl}
+use Rattle.std.proofs.Common.{◌≡◌, ℕ, Bool, true, false, not, List, [], ◌∷◌, ◌++◌, map, Option}
+use Rattle.std.proofs.Common.{Some, None, refl}
 use Rattle.std.specs.Prelude.{is_some, count_by as count}
 use Rattle.trace_core.specs.declared.events.Ref.{Ref}
 use Rattle.trace_core.specs.declared.events.Access.TheVariants.{Fetch, Read, Write}
@@ -66,12 +67,14 @@ unfolding state_after
 six_by_random = refl
 
 -- the first random numbers of the generator (the PCG32 demonstration of O'Neill 2014)
-first_numbers : map (random_number (generator_of 42)) (0 ∷ 1 ∷ 2 ∷ 3 ∷ []) ≡ 0xa15c02b7 ∷ 0x7b47f409 ∷ 0xba1d3330 ∷ 0x83d2f293 ∷ []
+first_numbers : map (random_number (generator_of 42))
+    (0 ∷ 1 ∷ 2 ∷ 3 ∷ []) ≡ 0xa15c02b7 ∷ 0x7b47f409 ∷ 0xba1d3330 ∷ 0x83d2f293 ∷ []
 unfolding state_after
 first_numbers = refl
 
 -- a flush empties the ways, and the generator goes on where it was
-numbers_go_on_after_a_flush : counts_of (machine Random 2 Back Always) (six ++ event.Flush ∷ read 0x10 ∷ read 0x20 ∷ read 0x30 ∷ []) ≡ (2, 7, 3)
+numbers_go_on_after_a_flush : counts_of (machine Random 2 Back Always)
+    (six ++ event.Flush ∷ read 0x10 ∷ read 0x20 ∷ read 0x30 ∷ []) ≡ (2, 7, 3)
 unfolding state_after
 numbers_go_on_after_a_flush = refl
 
@@ -84,7 +87,8 @@ abbrev effect_after : Machine → List Event → Ref → Effect
 effect_after m events ref = (step m (run m events) ref).effect
 
 third_number_takes_way_zero :
-    (effect_after (machine Random 2 Back Always) (six ++ event.Flush ∷ read 0x10 ∷ read 0x20 ∷ []) (at Read 0x30)).evicted ≡ Some (slot 1 false)
+    (effect_after (machine Random 2 Back Always) (six ++ event.Flush ∷ read 0x10 ∷ read 0x20 ∷ [])
+    (at Read 0x30)).evicted ≡ Some (slot 1 false)
 unfolding state_after
 third_number_takes_way_zero = refl
 
@@ -101,16 +105,20 @@ places evicted down = record { hit = false; evicted = evicted; placed = true; do
 abbrev passes : List Ref → Effect
 passes down = record { hit = false; evicted = None; placed = false; down = down }
 
-dirty_victim_goes_down_first : after Back Always (write 0 ∷ []) (at Read 0x1f) ≡ places (Some (slot 0 true)) (at Write 0 ∷ at Read 0x10 ∷ [])
+dirty_victim_goes_down_first : after Back Always (write 0 ∷ []) (at Read 0x1f) ≡ places
+    (Some (slot 0 true)) (at Write 0 ∷ at Read 0x10 ∷ [])
 dirty_victim_goes_down_first = refl
 
-write_miss_fills : after Back Always (read 0 ∷ []) (at Write 0x1f) ≡ places (Some (slot 0 false)) (at Read 0x10 ∷ [])
+write_miss_fills : after Back Always (read 0 ∷ []) (at Write 0x1f) ≡ places (Some (slot 0 false))
+    (at Read 0x10 ∷ [])
 write_miss_fills = refl
 
-write_goes_through_after_the_fill : after Through Always [] (at Write 0x1f) ≡ places None (at Read 0x10 ∷ at Write 0x1f ∷ [])
+write_goes_through_after_the_fill : after Through Always [] (at Write 0x1f) ≡ places None
+    (at Read 0x10 ∷ at Write 0x1f ∷ [])
 write_goes_through_after_the_fill = refl
 
-write_hit_goes_through : after Through Always (read 0x10 ∷ []) (at Write 0x1f) ≡ hits (at Write 0x1f ∷ [])
+write_hit_goes_through : after Through Always (read 0x10 ∷ []) (at Write 0x1f) ≡ hits
+    (at Write 0x1f ∷ [])
 write_hit_goes_through = refl
 
 write_miss_passes : after Back Never (read 0 ∷ []) (at Write 0x1f) ≡ passes (at Write 0x1f ∷ [])

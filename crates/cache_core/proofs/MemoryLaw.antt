@@ -1,6 +1,6 @@
 -- What arrives at memory is what the last level sends; what is bypassed is what no cache takes.
-use Rattle.std.proofs.Common.{◌≡◌, ℕ, not, ◌||◌, ◌&&◌, Bool, true, false, cond, List, [], ◌∷◌, ◌++◌, Option, Some, None, refl, sym, ap, ◌∙◌}
-use Rattle.std.proofs.Common.{append_assoc, append-nil}
+use Rattle.std.proofs.Common.{◌≡◌, ℕ, not, ◌||◌, ◌&&◌, Bool, true, false, cond, List, [], ◌∷◌, ◌++◌}
+use Rattle.std.proofs.Common.{Option, Some, None, refl, sym, ap, ◌∙◌, append_assoc, append-nil}
 use Rattle.std.specs.Prelude.{flat_map, filter, is_some, is_none}
 use Rattle.std.proofs.Math.Path.{fun_ext}
 use Rattle.std.proofs.lemmas.Grind.{flat_map-append}
@@ -15,11 +15,14 @@ use Rattle.cache_core.specs.declared.plan.PlannedCache.{PlannedCache}
 use Rattle.cache_core.specs.declared.plan.CacheName.TheVariants.{L2U}
 use Rattle.cache_core.specs.Plans.{PlannedCaches}
 use Rattle.cache_core.specs.Systems.{first_level_references, below, is_taken, to_memory}
-use Rattle.cache_core.specs.Arrivals.{cache_arrivals, arrivals_below, all_arrivals_below, at_memory, references_passed, lower_arrivals, arrivals_of}
+use Rattle.cache_core.specs.Arrivals.{cache_arrivals, arrivals_below, all_arrivals_below, at_memory}
+use Rattle.cache_core.specs.Arrivals.{references_passed, lower_arrivals, arrivals_of}
 use Rattle.cache_core.specs.LogLaws.{refs_at_memory, refs_past, is_left_out, MemoryLaw, BypassedLaw}
-use Rattle.cache_core.proofs.SystemPushes.{references_push, references_flush, below_push, below_flush, memory_push, memory_flush, memory_nil}
+use Rattle.cache_core.proofs.SystemPushes.{references_push, references_flush, below_push}
+use Rattle.cache_core.proofs.SystemPushes.{below_flush, memory_push, memory_flush, memory_nil}
 use Rattle.cache_core.proofs.SystemPushes.{with_refs, with_refs-cons, untaken_sent}
-use Rattle.cache_core.proofs.LogParts.{none_then, quiet_arrives, quiet_below, quiet_flushes, at_lower, whole_log}
+use Rattle.cache_core.proofs.LogParts.{none_then, quiet_arrives, quiet_below, quiet_flushes}
+use Rattle.cache_core.proofs.LogParts.{at_lower, whole_log}
 
 abbrev at : List Arrival → List Ref
 at xs = flat_map refs_at_memory xs
@@ -31,28 +34,36 @@ all_at (ref ∷ refs) = ap (λ xs. ref ∷ xs) (all_at refs)
 one_at : (seed : ℕ) (second : Option PlannedCache) (before : List Event) (ref : Ref) →
     at (arrivals_below seed second before ref) ≡ references_passed seed second before ref
 one_at seed second before ref =
-    none_then refs_at_memory (cache_arrivals seed L2U second before ref) (at_memory (references_passed seed second before ref))
+    none_then refs_at_memory (cache_arrivals seed L2U second before ref)
+    (at_memory (references_passed seed second before ref))
     (quiet_arrives refs_at_memory seed L2U second before ref (λ r h v. refl))
     ∙ all_at (references_passed seed second before ref)
 
 memory_below : (seed : ℕ) (second : Option PlannedCache) (before : List Event) (refs : List Ref) →
-    to_memory seed second (with_refs before refs) ≡ to_memory seed second before ++ at (all_arrivals_below seed second before refs)
-memory_below seed second before [] = ap (to_memory seed second) (append-nil before) ∙ sym (append-nil (to_memory seed second before))
+    to_memory seed second (with_refs before refs) ≡ to_memory seed second before ++
+    at (all_arrivals_below seed second before refs)
+memory_below seed second before [] = ap (to_memory seed second) (append-nil before) ∙
+    sym (append-nil (to_memory seed second before))
 memory_below seed second before (ref ∷ refs) =
     let more = before ++ event.Reference ref ∷ [] in
     let later = all_arrivals_below seed second more refs in
-    ap (to_memory seed second) (sym (with_refs-cons before ref refs)) ∙ memory_below seed second more refs
+    ap (to_memory seed second) (sym (with_refs-cons before ref refs)) ∙
+    memory_below seed second more refs
     ∙ ap (λ xs. xs ++ at later) (memory_push seed second before ref)
-    ∙ append_assoc (to_memory seed second before) (references_passed seed second before ref) (at later)
+    ∙ append_assoc (to_memory seed second before) (references_passed seed second before ref)
+    (at later)
     ∙ ap (λ xs. to_memory seed second before ++ xs)
-    (sym (flat_map-append refs_at_memory (arrivals_below seed second before ref) later ∙ ap (λ xs. xs ++ at later) (one_at seed second before ref)))
+    (sym (flat_map-append refs_at_memory (arrivals_below seed second before ref) later ∙
+    ap (λ xs. xs ++ at later) (one_at seed second before ref)))
 
 module _ (plan : PlannedCaches) (seed : ℕ) where
   abbrev whole : List Event → List Ref
   whole events = to_memory seed plan.second (below plan seed events)
 
-  lower : (earlier : List Event) (ref : Ref) → whole (earlier ++ event.Reference ref ∷ []) ≡ whole earlier ++ at (lower_arrivals plan seed earlier ref)
-  lower earlier ref = ap (to_memory seed plan.second) (below_push plan seed earlier ref) ∙ by_test (is_taken plan ref) refl
+  lower : (earlier : List Event) (ref : Ref) → whole (earlier ++ event.Reference ref ∷ []) ≡ whole
+      earlier ++ at (lower_arrivals plan seed earlier ref)
+  lower earlier ref = ap (to_memory seed plan.second) (below_push plan seed earlier ref) ∙
+      by_test (is_taken plan ref) refl
     where
       down : List Ref
       down = first_level_references plan seed earlier ref
@@ -62,23 +73,39 @@ module _ (plan : PlannedCaches) (seed : ℕ) where
 
       by_test : (b : Bool) → is_taken plan ref ≡ b →
           to_memory seed plan.second (with_refs before down)
-          ≡ whole earlier ++ at (cond b (all_arrivals_below seed plan.second before down) (Bypassed ref ∷ []))
+          ≡ whole earlier ++ at (cond b (all_arrivals_below seed plan.second before down)
+          (Bypassed ref ∷ []))
       by_test true t = memory_below seed plan.second before down
-      by_test false t = cc (untaken_sent plan seed earlier ref t, append-nil before, append-nil (whole earlier))
+      by_test false t = cc (
+        untaken_sent plan seed earlier ref t,
+        append-nil before,
+        append-nil (whole earlier),
+      )
 
-  more : (earlier : List Event) (e : Event) → whole (earlier ++ e ∷ []) ≡ whole earlier ++ at (arrivals_of plan seed earlier e)
-  more earlier (event.Reference ref) = cc (lower earlier ref, at_lower refs_at_memory plan seed earlier ref (λ r h v. refl) (λ r h v. refl) (λ r h v. refl))
+  more : (earlier : List Event) (e : Event) → whole (earlier ++ e ∷ []) ≡ whole earlier ++
+      at (arrivals_of plan seed earlier e)
+  more earlier (event.Reference ref) =
+      cc (
+        lower earlier ref,
+        at_lower refs_at_memory plan seed earlier ref (λ r h v. refl)
+            (λ r h v. refl) (λ r h v. refl),
+      )
   more earlier event.Flush =
-      ap (to_memory seed plan.second) (below_flush plan seed earlier) ∙ memory_flush seed plan.second (below plan seed earlier)
+      ap (to_memory seed plan.second) (below_flush plan seed earlier) ∙
+      memory_flush seed plan.second (below plan seed earlier)
       ∙ sym (append-nil (whole earlier))
-      ∙ ap (λ xs. whole earlier ++ xs) (sym (quiet_flushes refs_at_memory plan seed earlier (λ n. refl) (λ n. refl) (λ n. refl) (λ n. refl)))
+      ∙ ap (λ xs. whole earlier ++ xs)
+      (sym (quiet_flushes refs_at_memory plan seed earlier (λ n. refl) (λ n. refl) (λ n. refl)
+      (λ n. refl)))
 
 pub memory_law : MemoryLaw
-memory_law plan seed events = whole_log refs_at_memory plan seed (whole plan seed) (memory_nil seed plan.second) (more plan seed) events
+memory_law plan seed events = whole_log refs_at_memory plan seed (whole plan seed)
+    (memory_nil seed plan.second) (more plan seed) events
 
 -- the bypassed references
 left_out : (fetch : Bool) (i d u : Option PlannedCache) →
-    cond (is_some u) false (cond fetch (is_none i) (is_none d)) ≡ not (is_some u || (is_some i && fetch) || (is_some d && not fetch))
+    cond (is_some u) false (cond fetch (is_none i) (is_none d)) ≡ not
+    (is_some u || (is_some i && fetch) || (is_some d && not fetch))
 left_out true None None None = refl
 left_out true None (Some d) None = refl
 left_out true (Some i) None None = refl
@@ -96,24 +123,36 @@ module _ (plan : PlannedCaches) (seed : ℕ) where
   abbrev past : List Event → List Ref
   past events = filter (is_left_out plan) (references_in events)
 
-  past_lower : (earlier : List Event) (ref : Ref) → filter (is_left_out plan) (ref ∷ []) ≡ flat_map refs_past (lower_arrivals plan seed earlier ref)
-  past_lower earlier ref = ap (λ b. cond b (ref ∷ []) []) (left_out (is_fetch ref.access) plan.i plan.d plan.u) ∙ by_test (is_taken plan ref)
+  past_lower : (earlier : List Event) (ref : Ref) → filter (is_left_out plan) (ref ∷ []) ≡ flat_map
+      refs_past (lower_arrivals plan seed earlier ref)
+  past_lower earlier ref = ap (λ b. cond b (ref ∷ []) [])
+      (left_out (is_fetch ref.access) plan.i plan.d plan.u) ∙ by_test (is_taken plan ref)
     where
       by_test : (b : Bool) →
           cond (not b) (ref ∷ []) []
           ≡ flat_map refs_past
-          (cond b (all_arrivals_below seed plan.second (below plan seed earlier) (first_level_references plan seed earlier ref)) (Bypassed ref ∷ []))
+          (cond b (all_arrivals_below seed plan.second (below plan seed earlier)
+          (first_level_references plan seed earlier ref)) (Bypassed ref ∷ []))
       by_test true =
-          sym (quiet_below refs_past seed plan.second (λ r h v. refl) (λ r. refl) (below plan seed earlier) (first_level_references plan seed earlier ref))
+          sym (quiet_below refs_past seed plan.second (λ r h v. refl) (λ r. refl)
+          (below plan seed earlier) (first_level_references plan seed earlier ref))
       by_test false = refl
 
-  past_more : (earlier : List Event) (e : Event) → past (earlier ++ e ∷ []) ≡ past earlier ++ flat_map refs_past (arrivals_of plan seed earlier e)
+  past_more : (earlier : List Event) (e : Event) → past (earlier ++ e ∷ []) ≡ past earlier ++
+      flat_map refs_past (arrivals_of plan seed earlier e)
   past_more earlier (event.Reference ref) =
-      ap (filter (is_left_out plan)) (references_push earlier ref) ∙ filter-append (is_left_out plan) (references_in earlier) (ref ∷ [])
+      ap (filter (is_left_out plan)) (references_push earlier ref) ∙
+      filter-append (is_left_out plan) (references_in earlier) (ref ∷ [])
       ∙ ap (λ xs. past earlier ++ xs)
-      (past_lower earlier ref ∙ sym (at_lower refs_past plan seed earlier ref (λ r h v. refl) (λ r h v. refl) (λ r h v. refl)))
+      (past_lower earlier ref ∙ sym (at_lower refs_past plan seed earlier ref (λ r h v. refl)
+      (λ r h v. refl) (λ r h v. refl)))
   past_more earlier event.Flush =
-      cc (references_flush earlier, append-nil (past earlier), quiet_flushes refs_past plan seed earlier (λ n. refl) (λ n. refl) (λ n. refl) (λ n. refl))
+      cc (
+        references_flush earlier,
+        append-nil (past earlier),
+        quiet_flushes refs_past plan seed earlier (λ n. refl) (λ n. refl) (λ n. refl) (λ n. refl),
+      )
 
 pub bypassed_law : BypassedLaw
-bypassed_law plan seed events = whole_log refs_past plan seed (past plan seed) refl (past_more plan seed) events
+bypassed_law plan seed events = whole_log refs_past plan seed (past plan seed) refl
+    (past_more plan seed) events

@@ -8,35 +8,64 @@ use Rattle.cache_core.specs.declared.plan.CacheSpec.{CacheSpec}
 use Rattle.cache_core.specs.declared.plan.PlannedCache.{PlannedCache}
 use Rattle.cache_core.specs.declared.plan.FirstLevel.{FirstLevel}
 use Rattle.cache_core.specs.declared.plan.CacheName.TheVariants.{L1D, L1U, L2U}
-use Rattle.cache_core.specs.declared.plan.PlanFault.TheVariants.{NoFirst, MixedFirst, BadGeometry, SmallBlock}
+use Rattle.cache_core.specs.declared.plan.PlanFault.TheVariants.{NoFirst, MixedFirst, BadGeometry}
+use Rattle.cache_core.specs.declared.plan.PlanFault.TheVariants.{SmallBlock}
 use Rattle.cache_core.specs.Geometry.{geometry_value}
 use Rattle.cache_core.specs.Plans.{plan_of, geometry_for, exponent_of}
 
 -- a cache of this size, block size and associativity
 abbrev spec : ℕ → ℕ → ℕ → CacheSpec
-spec size bsize assoc = record { size = size; bsize = bsize; assoc = assoc; repl = Lru; wback = Back; walloc = Always }
+spec size bsize assoc = record {
+  size = size;
+  bsize = bsize;
+  assoc = assoc;
+  repl = Lru;
+  wback =
+      Back;
+  walloc = Always;
+}
 
 abbrev planned : ℕ → ℕ → ℕ → PlannedCache
-planned s e b = record { design = record { geometry = geometry_value s e b; write = Back; allocate = Always }; policy = Lru }
+planned s e b = record {
+  design = record {
+    geometry = geometry_value s e b;
+    write = Back;
+    allocate =
+        Always;
+  };
+  policy = Lru;
+}
 
 abbrev unified : CacheSpec → FirstLevel
 unified u = record { i = None; d = None; u = Some u }
 
-no_first_level : plan_of (record { i = None; d = None; u = None }) (Some (spec 16 16 1)) ≡ Err NoFirst
+no_first_level : plan_of (record { i = None; d = None; u = None })
+    (Some (spec 16 16 1)) ≡ Err NoFirst
 no_first_level = refl
 
-unified_beside_fetches : plan_of (record { i = Some (spec 3 3 3); d = None; u = Some (spec 16 16 1) }) None ≡ Err MixedFirst
+unified_beside_fetches : plan_of (record {
+  i = Some (spec 3 3 3);
+  d = None;
+  u =
+      Some (spec 16 16 1);
+}) None ≡ Err MixedFirst
 unified_beside_fetches = refl
 
 block_above_the_size : plan_of (unified (spec 16 32 1)) None ≡ Err (BadGeometry L1U)
 unfolding exponent_of
 block_above_the_size = refl
 
-first_bad_cache_is_named : plan_of (record { i = Some (spec 16 16 1); d = Some (spec 48 16 1); u = None }) (Some (spec 0 0 0)) ≡ Err (BadGeometry L1D)
+first_bad_cache_is_named : plan_of (record {
+  i = Some (spec 16 16 1);
+  d = Some (spec 48 16 1);
+  u =
+      None;
+}) (Some (spec 0 0 0)) ≡ Err (BadGeometry L1D)
 unfolding exponent_of
 first_bad_cache_is_named = refl
 
-second_level_without_ways : plan_of (unified (spec 32 32 1)) (Some (spec 16 16 0)) ≡ Err (BadGeometry L2U)
+second_level_without_ways : plan_of (unified (spec 32 32 1)) (Some (spec 16 16 0)) ≡ Err
+    (BadGeometry L2U)
 unfolding exponent_of
 second_level_without_ways = refl
 

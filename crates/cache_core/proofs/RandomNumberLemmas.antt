@@ -13,5 +13,7 @@ unfolding state_after
 random_number-suc g n = refl
 
 -- the random numbers after the first are those of the generator after its step
-pub random_number-rest : (g h : Lcg) → h ≡ (pcg32 g).1 → random_number h ≡ (λ n. random_number g (n + 1))
-random_number-rest g h e = rw e (λ i n. (sym (ap (random_number g) (add-one n) ∙ random_number-suc g n)) i)
+pub random_number-rest : (g h : Lcg) → h ≡ (pcg32 g).1 →
+    random_number h ≡ (λ n. random_number g (n + 1))
+random_number-rest g h e = rw e
+    (λ i n. (sym (ap (random_number g) (add-one n) ∙ random_number-suc g n)) i)

@@ -1,7 +1,7 @@
--- A new system, a step, a flush and a run of a system, as its caches see them and as their machines see them.
-use Rattle.std.proofs.Common.{◌≡◌, ℕ, ◌+◌, not, Bool, List, [], ◌∷◌, ◌++◌, Option, Some, None, sym, ◌∙◌}
-use Rattle.std.proofs.Common.{ap, subst, arith}
-use Rattle.std.proofs.Common.{length, length-append}
+-- A new system, a step, a flush and a run of a system, as its caches see them and as their machines
+-- see them.
+use Rattle.std.proofs.Common.{◌≡◌, ℕ, ◌+◌, not, Bool, List, [], ◌∷◌, ◌++◌, Option, Some, None, sym}
+use Rattle.std.proofs.Common.{◌∙◌, ap, subst, arith, length, length-append}
 use Rattle.std.specs.Prelude.{sum, count_by, is_none, MatchOption}
 use Rattle.std.proofs.lemmas.List.Sums.{sum_by_push}
 use Rattle.trace_core.specs.declared.events.Ref.{Ref}
@@ -14,51 +14,67 @@ use Rattle.cache_core.specs.declared.system_cache.SystemCache.{SystemCache}
 use Rattle.cache_core.specs.Machine.{Machine, run, dirty_count}
 use Rattle.cache_core.specs.Plans.{PlannedCaches, IsPlan}
 use Rattle.cache_core.specs.internal.CacheSteps.{system_cache_contents, Empties}
-use Rattle.cache_core.specs.Systems.{machine_of, events_for, first_level_references, below, flush_counts, flush_copybacks, is_taken}
-use Rattle.cache_core.specs.internal.SystemSteps.{SystemValue, present_refs, AccessesFirstLevel, AllDescend, StepsSystem, FlushesSystem, EmptiesCache}
-use Rattle.cache_core.specs.internal.SystemSteps.{IsNewSystemCache, IsNewCache, IsNewSystem}
-use Rattle.cache_core.specs.internal.SystemStands.{SystemStandsFor, NewSystemLaw, StepLaw, SystemFlushLaw}
+use Rattle.cache_core.specs.Systems.{machine_of, events_for, first_level_references, below}
+use Rattle.cache_core.specs.Systems.{flush_counts, flush_copybacks, is_taken}
+use Rattle.cache_core.specs.internal.SystemSteps.{SystemValue, present_refs, AccessesFirstLevel}
+use Rattle.cache_core.specs.internal.SystemSteps.{AllDescend, StepsSystem, FlushesSystem}
+use Rattle.cache_core.specs.internal.SystemSteps.{EmptiesCache, IsNewSystemCache, IsNewCache}
+use Rattle.cache_core.specs.internal.SystemSteps.{IsNewSystem}
+use Rattle.cache_core.specs.internal.SystemStands.{SystemStandsFor, NewSystemLaw, StepLaw}
+use Rattle.cache_core.specs.internal.SystemStands.{SystemFlushLaw}
 use Rattle.cache_core.proofs.RunLaw.{start_law, flush_run}
 use Rattle.cache_core.proofs.Pushes.{count_by_push}
-use Rattle.cache_core.proofs.SystemPushes.{counts_flush, flush_counts_flush, flush_counts_taken, flush_counts_refs, events_flush}
-use Rattle.cache_core.proofs.SystemPushes.{references_push, references_flush, below_push, below_flush, with_refs, memory_flush}
-use Rattle.cache_core.proofs.FirstLevelLaw.{Kept, KeptIfPlanned, with_counts, stands_of, down_list, FirstKept, first_keeps}
+use Rattle.cache_core.proofs.SystemPushes.{counts_flush, flush_counts_flush, flush_counts_taken}
+use Rattle.cache_core.proofs.SystemPushes.{flush_counts_refs, events_flush, references_push}
+use Rattle.cache_core.proofs.SystemPushes.{references_flush, below_push, below_flush, with_refs}
+use Rattle.cache_core.proofs.SystemPushes.{memory_flush}
+use Rattle.cache_core.proofs.FirstLevelLaw.{Kept, KeptIfPlanned, with_counts, stands_of, down_list}
+use Rattle.cache_core.proofs.FirstLevelLaw.{FirstKept, first_keeps}
 use Rattle.cache_core.proofs.LowerLaw.{Lower, lower_after}
 
 -- how many dirty lines the flushes of a list find in all caches
 abbrev pub flushed_all : PlannedCaches → ℕ → List Event → ℕ
 flushed_all plan seed events =
-    flush_copybacks seed plan.i (events_for L1I events) + flush_copybacks seed plan.d (events_for L1D events)
-    + flush_copybacks seed plan.u (events_for L1U events) + flush_copybacks seed plan.second (below plan seed events)
+    flush_copybacks seed plan.i (events_for L1I events) + flush_copybacks seed plan.d
+    (events_for L1D events)
+    + flush_copybacks seed plan.u (events_for L1U events) + flush_copybacks seed plan.second
+    (below plan seed events)
 
 -- a reference that no cache takes
 abbrev pub is_untaken : PlannedCaches → Ref → Bool
 is_untaken plan ref = not (is_taken plan ref)
 
 -- what a system holds and has counted after a list of events, apart from its steps
-record SystemKept (plan : PlannedCaches) (seed : ℕ) (events : List Event) (v : SystemValue) : Type 0 where
+record SystemKept (plan : PlannedCaches) (seed : ℕ) (events : List Event)
+    (v : SystemValue) : Type 0 where
   i : KeptIfPlanned seed plan.i (events_for L1I events) v.i
   d : KeptIfPlanned seed plan.d (events_for L1D events) v.d
   u : KeptIfPlanned seed plan.u (events_for L1U events) v.u
-  lower : Lower seed plan.second (below plan seed events) (flushed_all plan seed events) v.second v.memory
+  lower : Lower seed plan.second (below plan seed events) (flushed_all plan seed events)
+      v.second v.memory
   bypassed : v.bypassed ≡ count_by (is_untaken plan) (references_in events)
 
 module _ (plan : PlannedCaches) (seed : ℕ) where
-  kept_of : (events : List Event) (v : SystemValue) → SystemStandsFor plan seed events v → SystemKept plan seed events v
+  kept_of : (events : List Event) (v : SystemValue) → SystemStandsFor plan seed events v →
+      SystemKept plan seed events v
   kept_of events v s = grind (arith, with_counts)
 
-  stands_kept : (events : List Event) (v : SystemValue) → SystemKept plan seed events v → v.steps ≡ length events → SystemStandsFor plan seed events v
+  stands_kept : (events : List Event) (v : SystemValue) → SystemKept plan seed events v →
+      v.steps ≡ length events → SystemStandsFor plan seed events v
   stands_kept events v k steps = grind (arith, stands_of)
 
 -- a new system
-new_cache : (seed : ℕ) (planned : Option PlannedCache) (cache : Option SystemCache) → IsNewCache seed planned cache → KeptIfPlanned seed planned [] cache
+new_cache : (seed : ℕ) (planned : Option PlannedCache) (cache : Option SystemCache) →
+    IsNewCache seed planned cache → KeptIfPlanned seed planned [] cache
 new_cache seed None cache n = n
 new_cache seed (Some planned) cache n =
     let new : IsNewSystemCache seed planned n.0 = n.2 in
-    let stands = start_law (machine_of seed planned) (system_cache_contents n.0) new.design new.policy new.random_numbers new.empty in
+    let stands = start_law (machine_of seed planned) (system_cache_contents n.0) new.design
+    new.policy new.random_numbers new.empty in
     (n.0, n.1, record { stands = stands; counts = new.counts })
 
-kept_new : (plan : PlannedCaches) (seed : ℕ) (v : SystemValue) → IsNewSystem plan seed v → SystemKept plan seed [] v
+kept_new : (plan : PlannedCaches) (seed : ℕ) (v : SystemValue) → IsNewSystem plan seed v →
+    SystemKept plan seed [] v
 kept_new plan seed v n = grind (arith, new_cache)
 
 pub new_law : NewSystemLaw
@@ -78,45 +94,58 @@ module _ (plan : PlannedCaches) (seed : ℕ) (events : List Event) (ref : Ref) w
     ap sum (flush_counts_taken seed L1D plan.d events ref),
     ap sum (flush_counts_taken seed L1U plan.u events ref),
     ap (flush_copybacks seed plan.second) (below_push plan seed events ref)
-        ∙ ap sum (flush_counts_refs seed plan.second (below plan seed events) (first_level_references plan seed events ref)),
+        ∙ ap sum (flush_counts_refs seed plan.second (below plan seed events)
+        (first_level_references plan seed events ref)),
   )
 
-  bypassed_step : (old new : ℕ) (down : Bool) → new ≡ old + one_if down → down ≡ is_untaken plan ref →
-      old ≡ count_by (is_untaken plan) (references_in events) → new ≡ count_by (is_untaken plan) (references_in more)
+  bypassed_step : (old new : ℕ) (down : Bool) → new ≡ old + one_if down →
+      down ≡ is_untaken plan ref →
+      old ≡ count_by (is_untaken plan) (references_in events) → new ≡ count_by (is_untaken plan)
+      (references_in more)
   bypassed_step old new down moved untaken before = grind (arith, references_push, count_by_push)
 
-  lower_step : (old new : SystemValue) (down : Option (List (Option Ref))) → IsPlan plan → SystemKept plan seed events old →
+  lower_step : (old new : SystemValue) (down : Option (List (Option Ref))) → IsPlan plan →
+      SystemKept plan seed events old →
       down_list down ≡ first_level_references plan seed events ref →
       MatchOption down ((new.second ≡ old.second) × (new.memory ≡ old.memory))
       (λ refs. AllDescend (present_refs refs) old.second old.memory new.second new.memory) →
-      Lower seed plan.second (below plan seed more) (flushed_all plan seed more) new.second new.memory
+      Lower seed plan.second (below plan seed more) (flushed_all plan seed more)
+      new.second new.memory
   lower_step old new down p k all_sent l =
       let moved =
-      lower_after seed (flushed_all plan seed events) plan.second (below plan seed events) old.second new.second old.memory new.memory down p.second
+      lower_after seed (flushed_all plan seed events) plan.second (below plan seed events)
+      old.second new.second old.memory new.memory down p.second
       k.lower l in
       let to : with_refs (below plan seed events) (down_list down) ≡ below plan seed more =
       ap (with_refs (below plan seed events)) all_sent ∙ sym (below_push plan seed events ref) in
       grind (arith, flushed_step)
 
-  kept_step : (old new : SystemValue) → IsPlan plan → SystemKept plan seed events old → StepsSystem old ref new → SystemKept plan seed more new
+  kept_step : (old new : SystemValue) → IsPlan plan → SystemKept plan seed events old →
+      StepsSystem old ref new → SystemKept plan seed more new
   kept_step old new p k t =
       let f : FirstKept seed plan.i plan.d plan.u events ref t.down new.i new.d new.u =
-      first_keeps seed events ref t.down old.i old.d old.u new.i new.d new.u plan.i plan.d plan.u p.i p.d p.u p.apart k.i k.d k.u t.first in
+      first_keeps seed events ref t.down old.i old.d old.u new.i new.d new.u plan.i plan.d plan.u
+      p.i p.d p.u p.apart k.i k.d k.u t.first in
       record {
         i = f.i_kept;
         d = f.d_kept;
         u = f.u_kept;
         lower = lower_step old new t.down p k f.all_sent t.lower;
-        bypassed = bypassed_step old.bypassed new.bypassed (is_none t.down) t.bypassed f.untaken k.bypassed;
+        bypassed = bypassed_step old.bypassed new.bypassed (is_none t.down) t.bypassed
+            f.untaken k.bypassed;
       }
 
 -- what a step sends down from the first level, and whether a cache of it takes the reference
-pub step_sends : (plan : PlannedCaches) (seed : ℕ) (events : List Event) (old : SystemValue) (ref : Ref) (down : Option (List (Option Ref)))
-    (i d u : Option SystemCache) → IsPlan plan → SystemStandsFor plan seed events old → AccessesFirstLevel old.i old.d old.u ref down i d u →
-    (down_list down ≡ first_level_references plan seed events ref) × (is_none down ≡ is_untaken plan ref)
+pub step_sends : (plan : PlannedCaches) (seed : ℕ) (events : List Event) (old : SystemValue)
+    (ref : Ref) (down : Option (List (Option Ref)))
+    (i d u : Option SystemCache) → IsPlan plan → SystemStandsFor plan seed events old →
+    AccessesFirstLevel old.i old.d old.u ref down i d u →
+    (down_list down ≡ first_level_references plan seed events ref) ×
+    (is_none down ≡ is_untaken plan ref)
 step_sends plan seed events old ref down i d u p s f =
     let k = kept_of plan seed events old s in
-    let kept = first_keeps seed events ref down old.i old.d old.u i d u plan.i plan.d plan.u p.i p.d p.u p.apart k.i k.d k.u f in
+    let kept = first_keeps seed events ref down old.i old.d old.u i d u plan.i plan.d plan.u p.i p.d
+    p.u p.apart k.i k.d k.u f in
     (kept.all_sent, kept.untaken)
 
 pub step_law : StepLaw
@@ -130,22 +159,27 @@ record Emptied (m : Machine) (events : List Event) (dirty : ℕ) (new : SystemCa
   kept : Kept m (events ++ event.Flush ∷ []) new
   found : dirty ≡ dirty_count (run m events)
 
-empties : (m : Machine) (events : List Event) (old : SystemCache) (dirty : ℕ) (new : SystemCache) → Kept m events old → Empties old dirty new →
+empties : (m : Machine) (events : List Event) (old : SystemCache) (dirty : ℕ) (new : SystemCache) →
+    Kept m events old → Empties old dirty new →
     Emptied m events dirty new
 empties m events old dirty new k e =
     grind (
       arith,
-      flush_run m events (system_cache_contents old) dirty (system_cache_contents new) k.stands e.flush,
+      flush_run m events (system_cache_contents old) dirty (system_cache_contents new)
+          k.stands e.flush,
       counts_flush m events,
     )
 
 -- a cache that was flushed between two lists of the events that come to it
-record FlushedBetween (seed : ℕ) (planned : Option PlannedCache) (before after : List Event) (dirty : ℕ) (new : Option SystemCache) : Type 0 where
+record FlushedBetween (seed : ℕ) (planned : Option PlannedCache) (before after : List Event)
+    (dirty : ℕ) (new : Option SystemCache) : Type 0 where
   kept : KeptIfPlanned seed planned after new
   found : flush_copybacks seed planned after ≡ flush_copybacks seed planned before + dirty
 
-emptied_if_planned : (seed : ℕ) (planned : Option PlannedCache) (events after : List Event) (cache : Option SystemCache) (dirty : ℕ)
-    (new : Option SystemCache) → after ≡ events ++ event.Flush ∷ [] → KeptIfPlanned seed planned events cache → EmptiesCache cache dirty new →
+emptied_if_planned : (seed : ℕ) (planned : Option PlannedCache) (events after : List Event)
+    (cache : Option SystemCache) (dirty : ℕ)
+    (new : Option SystemCache) → after ≡ events ++ event.Flush ∷ [] →
+    KeptIfPlanned seed planned events cache → EmptiesCache cache dirty new →
     FlushedBetween seed planned events after dirty new
 emptied_if_planned seed None events after cache dirty new is k e = grind arith
 emptied_if_planned seed (Some planned) events after cache dirty new is k e =
@@ -155,20 +189,26 @@ emptied_if_planned seed (Some planned) events after cache dirty new is k e =
     rw is record {
       kept = (f.0, f.1, r.kept);
       found =
-          ap sum (flush_counts_flush m events) ∙ sum_by_push (λ n. n) (flush_counts m events) (dirty_count (run m events))
+          ap sum (flush_counts_flush m events) ∙ sum_by_push (λ n. n) (flush_counts m events)
+          (dirty_count (run m events))
           ∙ ap (λ n. flush_copybacks seed (Some planned) events + n) (sym r.found);
     }
 
 module _ (plan : PlannedCaches) (seed : ℕ) (events : List Event) where
-  kept_flush : (old new : SystemValue) → SystemKept plan seed events old → FlushesSystem old new → SystemKept plan seed (events ++ event.Flush ∷ []) new
+  kept_flush : (old new : SystemValue) → SystemKept plan seed events old → FlushesSystem old new →
+      SystemKept plan seed (events ++ event.Flush ∷ []) new
   kept_flush old new k t =
       let lower = below plan seed events in
       grind (
         arith,
-        emptied_if_planned seed plan.i (events_for L1I events) _ old.i t.dirty_i new.i (events_flush L1I events) k.i t.i,
-        emptied_if_planned seed plan.d (events_for L1D events) _ old.d t.dirty_d new.d (events_flush L1D events) k.d t.d,
-        emptied_if_planned seed plan.u (events_for L1U events) _ old.u t.dirty_u new.u (events_flush L1U events) k.u t.u,
-        emptied_if_planned seed plan.second lower _ old.second t.dirty_second new.second (below_flush plan seed events) k.lower.kept t.second,
+        emptied_if_planned seed plan.i (events_for L1I events) _ old.i t.dirty_i new.i
+            (events_flush L1I events) k.i t.i,
+        emptied_if_planned seed plan.d (events_for L1D events) _ old.d t.dirty_d new.d
+            (events_flush L1D events) k.d t.d,
+        emptied_if_planned seed plan.u (events_for L1U events) _ old.u t.dirty_u new.u
+            (events_flush L1U events) k.u t.u,
+        emptied_if_planned seed plan.second lower _ old.second t.dirty_second new.second
+            (below_flush plan seed events) k.lower.kept t.second,
         below_flush,
         memory_flush,
         references_flush,
@@ -176,5 +216,6 @@ module _ (plan : PlannedCaches) (seed : ℕ) (events : List Event) where
 
 pub system_flush_law : SystemFlushLaw
 system_flush_law plan seed events old new s t =
-    stands_kept plan seed (events ++ event.Flush ∷ []) new (kept_flush plan seed events old new (kept_of plan seed events old s) t)
+    stands_kept plan seed (events ++ event.Flush ∷ []) new (kept_flush plan seed events old new
+    (kept_of plan seed events old s) t)
     (omega (arith, t.steps, s.steps, length-append events (event.Flush ∷ [])))

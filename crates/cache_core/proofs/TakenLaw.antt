@@ -1,5 +1,7 @@
--- What arrives at a cache is what it takes, or what the first level sends: its lines show its accesses.
-use Rattle.std.proofs.Common.{◌≡◌, ℕ, Bool, true, false, cond, List, [], ◌∷◌, ◌++◌, map, Option, Some, None, refl, sym, ap, ◌∙◌}
+-- What arrives at a cache is what it takes, or what the first level sends: its lines show its
+-- accesses.
+use Rattle.std.proofs.Common.{◌≡◌, ℕ, Bool, true, false, cond, List, [], ◌∷◌, ◌++◌, map, Option}
+use Rattle.std.proofs.Common.{Some, None, refl, sym, ap, ◌∙◌}
 use Rattle.std.specs.Prelude.{flat_map, filter, is_some}
 use Rattle.std.proofs.lemmas.Bool.{true≢false}
 use Rattle.trace_core.specs.declared.events.Ref.{Ref}
@@ -16,22 +18,26 @@ use Rattle.cache_core.specs.Machine.{Machine, MachineState, start, step, next, w
 use Rattle.cache_core.specs.Plans.{PlannedCaches}
 use Rattle.cache_core.specs.Systems.{machine_of, is_taken_by, events_for}
 use Rattle.cache_core.specs.Arrivals.{arrivals}
-use Rattle.cache_core.specs.LogLaws.{is_same, planned_of, events_at, refs_at, lines_at, access_line, access_lines, if_there}
-use Rattle.cache_core.specs.LogLaws.{FetchCacheLaw, DataCacheLaw, UnifiedCacheLaw, SecondLevelLaw}
+use Rattle.cache_core.specs.LogLaws.{is_same, planned_of, events_at, refs_at, lines_at, access_line}
+use Rattle.cache_core.specs.LogLaws.{access_lines, if_there, FetchCacheLaw, DataCacheLaw}
+use Rattle.cache_core.specs.LogLaws.{UnifiedCacheLaw, SecondLevelLaw}
 use Rattle.cache_core.proofs.LinesLaw.{same, lines_law}
 
 module _ (name : CacheName) where
   -- its references are those of its lines
-  refs_of_lines : (log : List Arrival) → flat_map (refs_at name) log ≡ flat_map (refs_at name) (flat_map (lines_at name) log)
+  refs_of_lines : (log : List Arrival) → flat_map (refs_at name) log ≡ flat_map (refs_at name)
+      (flat_map (lines_at name) log)
   refs_of_lines [] = refl
   refs_of_lines (Cache at ref hit victim ∷ log) = by_test (is_same name at) refl (refs_of_lines log)
     where
       rest : List Arrival
       rest = flat_map (lines_at name) log
 
-      by_test : (b : Bool) → is_same name at ≡ b → flat_map (refs_at name) log ≡ flat_map (refs_at name) rest →
+      by_test : (b : Bool) → is_same name at ≡ b → flat_map (refs_at name) log ≡ flat_map
+          (refs_at name) rest →
           cond (is_same name at) (ref ∷ []) [] ++ flat_map (refs_at name) log
-          ≡ flat_map (refs_at name) (cond (is_same name at) (Cache at ref hit victim ∷ []) [] ++ rest)
+          ≡ flat_map (refs_at name) (cond (is_same name at) (Cache at ref hit victim ∷ []) [] ++
+          rest)
       by_test true t same = rw (t, t) (ap (λ refs. ref ∷ refs) same)
       by_test false t same = rw t same
   refs_of_lines (Memory ref ∷ log) = refs_of_lines log
@@ -40,9 +46,11 @@ module _ (name : CacheName) where
 
   -- and these those that come to it
   refs_shown : (m : Machine) (g : GeometryValue) (st : MachineState) (events : List Event) →
-      flat_map (refs_at name) (map (access_line name g) (with_effects_from m st events)) ≡ references_in events
+      flat_map (refs_at name) (map (access_line name g)
+      (with_effects_from m st events)) ≡ references_in events
   refs_shown m g st [] = refl
-  refs_shown m g st (event.Reference ref ∷ events) = cc (same name, refs_shown m g (step m st ref).after events)
+  refs_shown m g st (event.Reference ref ∷ events) =
+      cc (same name, refs_shown m g (step m st ref).after events)
   refs_shown m g st (event.Flush ∷ events) = refs_shown m g (next m st event.Flush) events
 
   -- all of them, if there is a cache
@@ -51,30 +59,40 @@ module _ (name : CacheName) where
   all_if_there (Some planned) refs = refs
 
   arrived : (plan : PlannedCaches) (seed : ℕ) (events : List Event) →
-      flat_map (refs_at name) (arrivals plan seed events) ≡ all_if_there (planned_of plan name) (references_in (events_at plan seed name events))
+      flat_map (refs_at name) (arrivals plan seed events) ≡ all_if_there (planned_of plan name)
+      (references_in (events_at plan seed name events))
   arrived plan seed events =
-      refs_of_lines (arrivals plan seed events) ∙ ap (flat_map (refs_at name)) (lines_law name plan seed events)
+      refs_of_lines (arrivals plan seed events) ∙ ap (flat_map (refs_at name))
+      (lines_law name plan seed events)
       ∙ by_plan (planned_of plan name) (events_at plan seed name events)
     where
       by_plan : (planned : Option PlannedCache) (here : List Event) →
-          flat_map (refs_at name) (access_lines seed name planned here) ≡ all_if_there planned (references_in here)
+          flat_map (refs_at name) (access_lines seed name planned here) ≡ all_if_there planned
+          (references_in here)
       by_plan None here = refl
-      by_plan (Some planned) here = refs_shown (machine_of seed planned) planned.design.geometry start here
+      by_plan (Some planned) here = refs_shown (machine_of seed planned)
+          planned.design.geometry start here
 
   -- a cache of the first level gets what it takes
-  references_for : (events : List Event) → references_in (events_for name events) ≡ filter (is_taken_by name) (references_in events)
+  references_for : (events : List Event) → references_in (events_for name events) ≡ filter
+      (is_taken_by name) (references_in events)
   references_for [] = refl
-  references_for (event.Reference ref ∷ events) = by_test (is_taken_by name ref) (references_for events)
+  references_for (event.Reference ref ∷ events) =
+      by_test (is_taken_by name ref) (references_for events)
     where
-      by_test : (b : Bool) → references_in (events_for name events) ≡ filter (is_taken_by name) (references_in events) →
-          references_in (cond b (event.Reference ref ∷ events_for name events) (events_for name events))
-          ≡ cond b (ref ∷ filter (is_taken_by name) (references_in events)) (filter (is_taken_by name) (references_in events))
+      by_test : (b : Bool) → references_in (events_for name events) ≡ filter (is_taken_by name)
+          (references_in events) →
+          references_in (cond b (event.Reference ref ∷ events_for name events)
+          (events_for name events))
+          ≡ cond b (ref ∷ filter (is_taken_by name) (references_in events))
+          (filter (is_taken_by name) (references_in events))
       by_test true same = ap (λ refs. ref ∷ refs) same
       by_test false same = same
   references_for (event.Flush ∷ events) = references_for events
 
   taken : (planned : Option PlannedCache) (events : List Event) →
-      all_if_there planned (references_in (events_for name events)) ≡ if_there planned (is_taken_by name) (references_in events)
+      all_if_there planned (references_in (events_for name events)) ≡ if_there planned
+      (is_taken_by name) (references_in events)
   taken None events = refl
   taken (Some planned) events = references_for events
 
@@ -91,6 +109,7 @@ pub second_level_law : SecondLevelLaw
 second_level_law plan seed events there = arrived L2U plan seed events ∙ by_plan plan.second there
   where
     by_plan : (planned : Option PlannedCache) → is_some planned ≡ true →
-        all_if_there L2U planned (references_in (events_at plan seed L2U events)) ≡ references_in (events_at plan seed L2U events)
+        all_if_there L2U planned (references_in (events_at plan seed L2U events)) ≡ references_in
+        (events_at plan seed L2U events)
     by_plan None none = absurd (true≢false (sym none))
     by_plan (Some planned) t = refl

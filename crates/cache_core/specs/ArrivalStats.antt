@@ -1,4 +1,5 @@
--- The statistics of a system as counts of its log: each arrival counts once, at its place, and so does each copyback of a flush.
+-- The statistics of a system as counts of its log: each arrival counts once, at its place, and so
+-- does each copyback of a flush.
 use Rattle.std.specs.Prelude.{◌≡◌, ℕ, ◌+◌, not, List, fold}
 use Rattle.std.specs.Option.{option_map}
 use Rattle.trace_core.specs.declared.events.Ref.{Ref}
@@ -25,14 +26,21 @@ stats_with_change L2U f s = record s { l2u = option_map f s.l2u }
 -- with one more reference at memory
 abbrev pub stats_after_memory : Ref → Stats → Stats
 stats_after_memory ref s =
-    record s { memory_reads = s.memory_reads + one_if (not (is_write ref.access)); memory_writes = s.memory_writes + one_if (is_write ref.access) }
+    record s {
+      memory_reads = s.memory_reads + one_if (not (is_write ref.access));
+      memory_writes =
+          s.memory_writes + one_if (is_write ref.access);
+    }
 
 -- the statistics with one more arrival
 abbrev pub stats_after_arrival : Stats → Arrival → Stats
-stats_after_arrival s (Cache name ref hit victim) = stats_with_change name (stats_after_access ref.access hit (option_map (λ v. v.dirty) victim)) s
+stats_after_arrival s (Cache name ref hit victim) =
+    stats_with_change name (stats_after_access ref.access hit (option_map (λ v. v.dirty) victim)) s
 stats_after_arrival s (Memory ref) = stats_after_memory ref s
 stats_after_arrival s (Bypassed ref) = record s { bypassed = s.bypassed + 1 }
-stats_after_arrival s (Flush name dirty) = (let t = stats_with_change name (stats_after_flush dirty) s in record t { memory_writes = t.memory_writes + dirty })
+stats_after_arrival s (Flush name dirty) =
+    (let t = stats_with_change name (stats_after_flush dirty) s in
+    record t { memory_writes = t.memory_writes + dirty })
 
 -- the statistics before any
 abbrev pub no_stats : PlannedCaches → Stats
@@ -49,4 +57,5 @@ no_stats plan = record {
 -- the statistics are the counts of the log
 abbrev pub LogLaw : Type 0
 LogLaw = (plan : PlannedCaches) (seed : ℕ) (events : List Event) →
-    fold stats_after_arrival (no_stats plan) (arrivals plan seed events) ≡ system_run plan seed events
+    fold stats_after_arrival (no_stats plan) (arrivals plan seed events) ≡ system_run
+    plan seed events

@@ -1,5 +1,6 @@
 -- The statistics of a cache: what each of them counts.
-use Rattle.std.specs.Prelude.{◌≤◌, ℕ, ◌+◌, ◌^◌, Bool, false, ◌&&◌, not, List, [], Option, is_some, unwrap_or, count_by}
+use Rattle.std.specs.Prelude.{◌≤◌, ℕ, ◌+◌, ◌^◌, Bool, false, ◌&&◌, not, List, [], Option, is_some}
+use Rattle.std.specs.Prelude.{unwrap_or, count_by}
 use Rattle.trace_core.specs.declared.events.Access.{Access}
 use Rattle.trace_core.specs.declared.events.Ref.{Ref}
 use Rattle.trace_core.specs.Events.{is_fetch, is_read, is_write, one_if}
@@ -45,7 +46,8 @@ stats_after_flush dirty s = record s { copybacks = s.copybacks + dirty }
 abbrev pub accesses : CacheStats → ℕ
 accesses s = s.fetches + s.reads + s.writes
 
--- What the counts of a cache keep: there are at most 2^62 accesses, misses are accesses of their kind, and an eviction is an access.
+-- What the counts of a cache keep: there are at most 2^62 accesses, misses are accesses of their
+-- kind, and an eviction is an access.
 pub record IsCounted (s : CacheStats) : Type 0 where
   pub few : accesses s ≤ 2 ^ 62
   pub fetch_misses : s.fetch_misses ≤ s.fetches

@@ -1,5 +1,6 @@
 -- The geometry of a cache: 2^s sets of e lines, each of a block of 2^b bytes (CS:APP).
-use Rattle.std.specs.Prelude.{ℕ, ◌≤◌, ◌+◌, ◌*◌, ◌/◌, ◌%◌, ◌^◌, Bool, ◌&&◌, nat_le, Option, None, Some, if◌then◌else◌}
+use Rattle.std.specs.Prelude.{ℕ, ◌≤◌, ◌+◌, ◌*◌, ◌/◌, ◌%◌, ◌^◌, Bool, ◌&&◌, nat_le, Option, None}
+use Rattle.std.specs.Prelude.{Some, if◌then◌else◌}
 
 -- its numbers: the set index bits, the lines of a set and the block bits
 pub record GeometryValue : Type 0 where
@@ -11,7 +12,8 @@ pub record GeometryValue : Type 0 where
 abbrev pub geometry_value : ℕ → ℕ → ℕ → GeometryValue
 geometry_value s e b = record { s = s; e = e; b = b }
 
--- the limits of a geometry: at most 2^20 sets, blocks of at most 2^20 bytes, 1 to 65,536 lines per set and at most 2^22 in all
+-- the limits of a geometry: at most 2^20 sets, blocks of at most 2^20 bytes, 1 to 65,536 lines per
+-- set and at most 2^22 in all
 pub record IsGeometry (g : GeometryValue) : Type 0 where
   pub sets : g.s ≤ 20
   pub blocks : g.b ≤ 20
@@ -21,7 +23,8 @@ pub record IsGeometry (g : GeometryValue) : Type 0 where
 
 -- the same as a test
 abbrev pub is_geometry : GeometryValue → Bool
-is_geometry g = nat_le g.s 20 && nat_le g.b 20 && nat_le 1 g.e && nat_le g.e 65536 && nat_le (g.e * 2 ^ g.s) (2 ^ 22)
+is_geometry g = nat_le g.s 20 && nat_le g.b 20 && nat_le 1 g.e && nat_le g.e 65536 && nat_le
+    (g.e * 2 ^ g.s) (2 ^ 22)
 
 -- the geometry of three numbers, if it is within the limits
 abbrev pub geometry_of : ℕ → ℕ → ℕ → Option GeometryValue

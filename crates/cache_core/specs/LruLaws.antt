@@ -35,19 +35,23 @@ occurrence_after g events ref = record { block = block_of g ref.addr; window = w
 
 -- the effect of one more reference is what the windows say
 abbrev pub NextLaw : Type 0
-NextLaw = (g : GeometryValue) (write : WriteMode) (events : List Event) (ref : Ref) → 1 ≤ g.e → let m = lru_machine g write in
+NextLaw = (g : GeometryValue) (write : WriteMode) (events : List Event) (ref : Ref) → 1 ≤ g.e →
+    let m = lru_machine g write in
     ((step m (run m events) ref).effect.hit ≡ is_hit g (occurrence_after g events ref))
-    × (is_some (step m (run m events) ref).effect.evicted ≡ is_evict g (occurrence_after g events ref))
+    × (is_some (step m (run m events) ref).effect.evicted ≡ is_evict g
+    (occurrence_after g events ref))
 
 -- the machine hits exactly if the windows say so
 abbrev pub HitLaw : Type 0
 HitLaw = (g : GeometryValue) (write : WriteMode) (events : List Event) → 1 ≤ g.e
-    → map (λ a. a.hit) (effects (lru_machine g write) events) ≡ map (is_hit g) (occurrences g events)
+    → map (λ a. a.hit) (effects (lru_machine g write) events) ≡ map (is_hit g)
+    (occurrences g events)
 
 -- a block is evicted exactly if the windows say so
 abbrev pub VictimLaw : Type 0
 VictimLaw = (g : GeometryValue) (write : WriteMode) (events : List Event) → 1 ≤ g.e
-    → map (λ a. is_some a.evicted) (effects (lru_machine g write) events) ≡ map (is_evict g) (occurrences g events)
+    → map (λ a. is_some a.evicted) (effects (lru_machine g write) events) ≡ map (is_evict g)
+    (occurrences g events)
 
 -- so the counts are equal
 abbrev pub CountLaw : Type 0
@@ -56,9 +60,11 @@ CountLaw = (g : GeometryValue) (write : WriteMode) (events : List Event) → 1 �
 
 -- what a cache hits, one with a line more in each set hits
 abbrev pub HitInclusion : Type 0
-HitInclusion = (g : GeometryValue) (p : Occurrence) → IsTrue (is_hit g p) → IsTrue (is_hit (record g { e = g.e + 1 }) p)
+HitInclusion = (g : GeometryValue) (p : Occurrence) → IsTrue (is_hit g p) →
+    IsTrue (is_hit (record g { e = g.e + 1 }) p)
 
--- what a cache holds after a list of events, one with a line more in each set holds (Mattson and others 1970)
+-- what a cache holds after a list of events, one with a line more in each set holds (Mattson and
+-- others 1970)
 abbrev pub HeldInclusion : Type 0
 HeldInclusion = (g : GeometryValue) (write : WriteMode) (events : List Event) (block : ℕ) → 1 ≤ g.e
     → IsTrue (is_held (run (lru_machine g write) events) block)

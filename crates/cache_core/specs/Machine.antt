@@ -1,7 +1,9 @@
--- The stamp machine: a cache as a map. It holds blocks, each with a stamp (its key) and a dirty mark; the key says which
+-- The stamp machine: a cache as a map. It holds blocks, each with a stamp (its key) and a dirty
+-- mark; the key says which
 -- block of a full set leaves. (LRU by stamps: Mattson, Gecsei, Slutz and Traiger 1970.)
-use Rattle.std.specs.Prelude.{ℕ, ◌+◌, ◌%◌, Bool, ◌||◌, ◌&&◌, not, List, [], ◌∷◌, ◌++◌, Option, Some, None}
-use Rattle.std.specs.Prelude.{if◌then◌else◌, ◌==◌, nat_lt, length, filter, map, find, fold, count_by, is_some}
+use Rattle.std.specs.Prelude.{ℕ, ◌+◌, ◌%◌, Bool, ◌||◌, ◌&&◌, not, List, [], ◌∷◌, ◌++◌, Option, Some}
+use Rattle.std.specs.Prelude.{None, if◌then◌else◌, ◌==◌, nat_lt, length, filter, map, find, fold}
+use Rattle.std.specs.Prelude.{count_by, is_some}
 use Rattle.trace_core.specs.declared.events.Ref.{Ref}
 use Rattle.trace_core.specs.declared.events.Event.{Event}
 use Rattle.trace_core.specs.declared.events.Event.TheVariants as event
@@ -10,18 +12,22 @@ use Rattle.cache_core.specs.declared.outcome.Counts.{Counts}
 use Rattle.cache_core.specs.declared.design.Design.{Design}
 use Rattle.cache_core.specs.declared.design.Repl.{Repl}
 use Rattle.cache_core.specs.Geometry.{GeometryValue, block_of, set_of_block, set_of}
-use Rattle.cache_core.specs.Outcomes.{Effect, on_hit, on_placing, on_passing, is_dirtied, is_allocated}
+use Rattle.cache_core.specs.Outcomes.{Effect, on_hit, on_placing, on_passing, is_dirtied}
+use Rattle.cache_core.specs.Outcomes.{is_allocated}
 use Rattle.cache_core.specs.Rules.{Place, InFront, InPlace, Victim, Last, Drawn, rules, is_random}
 
--- a block that is held. Its key is the clock of the last touch or placing (LRU), the clock of placing
+-- a block that is held. Its key is the clock of the last touch or placing (LRU), the clock of
+-- placing
 -- (FIFO), or the way (random)
 pub record Line : Type 0 where
   pub block : ℕ
   pub key : ℕ
   pub dirty : Bool
 
--- The clock, the blocks held, and how many random numbers were drawn. The lines of each set are in the policy's order, which
--- is that of their keys (the law `sets_in_order`), so nothing hangs on how the lines of different sets are mixed.
+-- The clock, the blocks held, and how many random numbers were drawn. The lines of each set are in
+-- the policy's order, which
+-- is that of their keys (the law `sets_in_order`), so nothing hangs on how the lines of different
+-- sets are mixed.
 pub record MachineState : Type 0 where
   pub clock : ℕ
   pub lines : List Line
@@ -72,12 +78,14 @@ abbrev pub least_line : List Line → Option Line
 least_line [] = None
 least_line (line ∷ lines) = Some (lesser_line line (least_line lines))
 
--- the victim in a full set: the line with the least key (LRU, FIFO), or the line of the way that was drawn (random)
+-- the victim in a full set: the line with the least key (LRU, FIFO), or the line of the way that
+-- was drawn (random)
 abbrev pub victim : Victim → ℕ → List Line → Option Line
 victim Last way lines = least_line lines
 victim Drawn way lines = find (λ line. line.key == way) lines
 
--- the lines with a new one: in front of them, or in the place of the line that goes, and behind them if none goes
+-- the lines with a new one: in front of them, or in the place of the line that goes, and behind
+-- them if none goes
 abbrev pub with_line_at : Place → Line → Option Line → List Line → List Line
 with_line_at InFront new None lines = new ∷ lines
 with_line_at InFront new (Some gone) lines = new ∷ without gone.block lines
@@ -89,26 +97,36 @@ abbrev pub key_at : Place → ℕ → ℕ → ℕ
 key_at InFront clock there = clock
 key_at InPlace clock there = there
 
--- the lines after a touch of this one: LRU puts it in front with this clock as its key, the others leave it where it is
+-- the lines after a touch of this one: LRU puts it in front with this clock as its key, the others
+-- leave it where it is
 abbrev pub with_touch : Repl → ℕ → Line → List Line → List Line
 with_touch policy clock line lines =
-    let to = (rules policy).touched in with_line_at to (record line { key = key_at to clock line.key }) (Some line) lines
+    let to = (rules policy).touched in
+    with_line_at to (record line { key = key_at to clock line.key }) (Some line) lines
 
 -- the key of the line that goes, or of the next way if none goes from a set of so many blocks
 abbrev pub key_there : Option Line → ℕ → ℕ
 key_there None count = count
 key_there (Some gone) count = gone.key
 
--- The lines with a new block placed at this clock in a set that held so many blocks, in place of this line, if any: LRU and FIFO put
--- it in front with the clock as its key, random in the way of the line that goes, or in the next one.
+-- The lines with a new block placed at this clock in a set that held so many blocks, in place of
+-- this line, if any: LRU and FIFO put
+-- it in front with the clock as its key, random in the way of the line that goes, or in the next
+-- one.
 abbrev pub with_block : Repl → ℕ → ℕ → Slot → Option Line → List Line → List Line
 with_block policy clock count new gone lines =
     let to = (rules policy).placed in
-    with_line_at to (record { block = new.block; key = key_at to clock (key_there gone count); dirty = new.dirty }) gone lines
+    with_line_at to (record {
+      block = new.block;
+      key =
+          key_at to clock (key_there gone count);
+      dirty = new.dirty;
+    }) gone lines
 
 -- whether a set is full
 abbrev pub is_full : Machine → MachineState → ℕ → Bool
-is_full m st set = not (nat_lt (length (lines_of_set m.design.geometry set st.lines)) m.design.geometry.e)
+is_full m st set = not (nat_lt (length (lines_of_set m.design.geometry set st.lines))
+    m.design.geometry.e)
 
 -- what one reference does: the state after it, and its effect
 pub record Step : Type 0 where
@@ -122,9 +140,12 @@ placing_step m ref block leaving st =
     record {
       after = record {
         clock = st.clock + 1;
-        lines = with_block m.policy (st.clock + 1) (length (lines_of_set m.design.geometry set st.lines))
-            (record { block = block; dirty = is_dirtied m.design.write ref.access }) leaving st.lines;
-        drawn = (if is_full m st set && is_random (rules m.policy).victim then st.drawn + 1 else st.drawn);
+        lines = with_block m.policy (st.clock + 1)
+            (length (lines_of_set m.design.geometry set st.lines))
+            (record { block = block; dirty = is_dirtied m.design.write ref.access })
+            leaving st.lines;
+        drawn = (if is_full m st set && is_random (rules m.policy).victim then st.drawn + 1
+            else st.drawn);
       };
       effect = on_placing m.design.geometry m.design.write ref block (option_slot leaving);
     }
@@ -133,22 +154,26 @@ placing_step m ref block leaving st =
 abbrev pub passing_step : Ref → MachineState → Step
 passing_step ref st = record { after = record st { clock = st.clock + 1 }; effect = on_passing ref }
 
--- one reference to a block; this line leaves if the block is placed (the last argument is the block's line, if it is held)
+-- one reference to a block; this line leaves if the block is placed (the last argument is the
+-- block's line, if it is held)
 abbrev pub step_at : Machine → Ref → ℕ → Option Line → MachineState → Option Line → Step
 step_at m ref block leaving st (Some line) = record {
   after = record st {
     clock = st.clock + 1;
-    lines = with_touch m.policy (st.clock + 1) (record line { dirty = is_dirtied m.design.write ref.access || line.dirty }) st.lines;
+    lines = with_touch m.policy (st.clock + 1)
+        (record line { dirty = is_dirtied m.design.write ref.access || line.dirty }) st.lines;
   };
   effect = on_hit m.design.write ref;
 }
 step_at m ref block leaving st None =
-    if is_allocated m.design.allocate ref.access then placing_step m ref block leaving st else passing_step ref st
+    if is_allocated m.design.allocate ref.access then placing_step m ref block leaving st else
+    passing_step ref st
 
 -- one reference; this line leaves if its block is placed
 abbrev pub step_with : Machine → Ref → Option Line → MachineState → Step
 step_with m ref leaving st =
-    let block = block_of m.design.geometry ref.addr in step_at m ref block leaving st (find (is_block block) st.lines)
+    let block = block_of m.design.geometry ref.addr in
+    step_at m ref block leaving st (find (is_block block) st.lines)
 
 -- the line that leaves for a block of this set by the policy, if the set is full
 abbrev pub victim_line : Machine → MachineState → ℕ → Option Line
@@ -165,7 +190,8 @@ step m st ref = step_with m ref (victim_line m st (set_of m.design.geometry ref.
 abbrev pub dirty_count : MachineState → ℕ
 dirty_count st = count_by (λ line. line.dirty) st.lines
 
--- the state after one event: a flush empties the cache, and keeps the number of random numbers drawn
+-- the state after one event: a flush empties the cache, and keeps the number of random numbers
+-- drawn
 abbrev pub next : Machine → MachineState → Event → MachineState
 next m st (event.Reference ref) = (step m st ref).after
 next m st event.Flush = record st { lines = [] }
@@ -177,7 +203,8 @@ run m events = fold (next m) start events
 -- the references of a list of events, each with its effect on the machine, from a state
 abbrev pub with_effects_from : Machine → MachineState → List Event → List (Ref × Effect)
 with_effects_from m st [] = []
-with_effects_from m st (event.Reference ref ∷ events) = let now = step m st ref in (ref, now.effect) ∷ with_effects_from m now.after events
+with_effects_from m st (event.Reference ref ∷ events) = let now = step m st ref in
+    (ref, now.effect) ∷ with_effects_from m now.after events
 with_effects_from m st (event.Flush ∷ events) = with_effects_from m (next m st event.Flush) events
 
 -- the same from the start

@@ -1,6 +1,8 @@
--- What one reference does to a cache, apart from which line leaves: the table of outcomes. (Write-back and write-through,
+-- What one reference does to a cache, apart from which line leaves: the table of outcomes.
+-- (Write-back and write-through,
 -- and allocation on writes, as the options wback and walloc of the Dinero IV manual.)
-use Rattle.std.specs.Prelude.{ℕ, Bool, true, false, not, List, [], ◌∷◌, ◌++◌, Option, Some, None, if◌then◌else◌}
+use Rattle.std.specs.Prelude.{ℕ, Bool, true, false, not, List, [], ◌∷◌, ◌++◌, Option, Some, None}
+use Rattle.std.specs.Prelude.{if◌then◌else◌}
 use Rattle.trace_core.specs.declared.events.Ref.{Ref}
 use Rattle.trace_core.specs.declared.events.Access.{Access}
 use Rattle.trace_core.specs.declared.events.Access.TheVariants.{Fetch, Read, Write}
@@ -49,7 +51,13 @@ pub record Effect : Type 0 where
 
 -- a hit: nothing leaves, and only a write that goes through is sent on
 abbrev pub on_hit : WriteMode → Ref → Effect
-on_hit write ref = record { hit = true; evicted = None; placed = false; down = through_writes write ref }
+on_hit write ref = record {
+  hit = true;
+  evicted = None;
+  placed = false;
+  down =
+      through_writes write ref;
+}
 
 -- a miss that places the block and evicts this slot, if any
 abbrev pub on_placing : GeometryValue → WriteMode → Ref → ℕ → Option Slot → Effect
@@ -57,7 +65,11 @@ on_placing g write ref block victim = record {
   hit = false;
   evicted = victim;
   placed = true;
-  down = copyback_writes g victim ++ record { access = block_load_access ref.access; addr = address_of g block } ∷ through_writes write ref;
+  down = copyback_writes g victim ++ record {
+    access = block_load_access ref.access;
+    addr =
+        address_of g block;
+  } ∷ through_writes write ref;
 }
 
 -- a write that misses without allocation
@@ -72,7 +84,13 @@ two_options (x ∷ y ∷ _) = Some x ∷ Some y ∷ []
 
 -- an effect as an outcome of the code
 abbrev pub outcome_of : Effect → Outcome
-outcome_of a = record { hit = a.hit; evicted = a.evicted; placed = a.placed; down = two_options a.down }
+outcome_of a = record {
+  hit = a.hit;
+  evicted = a.evicted;
+  placed = a.placed;
+  down =
+      two_options a.down;
+}
 
 -- the outcome of a hit that sends nothing down
 abbrev pub hit_in_front : Outcome

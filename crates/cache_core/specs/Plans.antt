@@ -1,6 +1,7 @@
 -- The caches of a system: as they are asked for, and as they are planned.
-use Rattle.std.specs.Prelude.{◌≡◌, ℕ, ◌*◌, ◌^◌, Bool, true, false, ◌||◌, ◌&&◌, ◌==◌, nat_lt, if◌then◌else◌, Option, Some}
-use Rattle.std.specs.Prelude.{None, is_some, is_none, find, Result, Ok, Err, option_and_then, ◌↔◌, List, codes}
+use Rattle.std.specs.Prelude.{◌≡◌, ℕ, ◌*◌, ◌^◌, Bool, true, false, ◌||◌, ◌&&◌, ◌==◌, nat_lt}
+use Rattle.std.specs.Prelude.{if◌then◌else◌, Option, Some, None, is_some, is_none, find, Result, Ok}
+use Rattle.std.specs.Prelude.{Err, option_and_then, ◌↔◌, List, codes}
 use Rattle.std.specs.List.{range_with_len}
 use Rattle.std.specs.Option.{option_map}
 use Rattle.cache_core.specs.declared.plan.PlannedCache.{PlannedCache}
@@ -9,7 +10,8 @@ use Rattle.cache_core.specs.declared.plan.FirstLevel.{FirstLevel}
 use Rattle.cache_core.specs.declared.plan.CacheName.{CacheName}
 use Rattle.cache_core.specs.declared.plan.CacheName.TheVariants.{L1I, L1D, L1U, L2U}
 use Rattle.cache_core.specs.declared.plan.PlanFault.{PlanFault}
-use Rattle.cache_core.specs.declared.plan.PlanFault.TheVariants.{NoFirst, MixedFirst, BadGeometry, SmallBlock}
+use Rattle.cache_core.specs.declared.plan.PlanFault.TheVariants.{NoFirst, MixedFirst, BadGeometry}
+use Rattle.cache_core.specs.declared.plan.PlanFault.TheVariants.{SmallBlock}
 use Rattle.cache_core.specs.Geometry.{GeometryValue, IsGeometry, geometry_of}
 
 -- the name of a cache, as options and output write it
@@ -30,10 +32,12 @@ pub record PlannedCaches : Type 0 where
 unfoldable pub exponent_of : ℕ → ℕ → Option ℕ
 exponent_of unit number = find (λ k. unit * 2 ^ k == number) (range_with_len 0 21)
 
--- the geometry of a cache that is asked for: its bsize is 2^b, and its size assoc times bsize times 2^s
+-- the geometry of a cache that is asked for: its bsize is 2^b, and its size assoc times bsize times
+-- 2^s
 abbrev pub geometry_for : CacheSpec → Option GeometryValue
 geometry_for spec = option_and_then
-    (λ b. option_and_then (λ s. geometry_of s spec.assoc b) (exponent_of (spec.assoc * spec.bsize) spec.size))
+    (λ b. option_and_then (λ s. geometry_of s spec.assoc b)
+    (exponent_of (spec.assoc * spec.bsize) spec.size))
     (exponent_of 1 spec.bsize)
 
 -- the same as a relation
@@ -45,7 +49,15 @@ pub record IsGeometryFor (spec : CacheSpec) (g : GeometryValue) : Type 0 where
 
 -- a cache that is asked for, with this geometry
 abbrev pub planned_with : CacheSpec → GeometryValue → PlannedCache
-planned_with spec g = record { design = record { geometry = g; write = spec.wback; allocate = spec.walloc }; policy = spec.repl }
+planned_with spec g = record {
+  design = record {
+    geometry = g;
+    write = spec.wback;
+    allocate =
+        spec.walloc;
+  };
+  policy = spec.repl;
+}
 
 -- the same with its own geometry; none if it has none
 abbrev pub planned_cache : CacheSpec → Option PlannedCache
@@ -73,7 +85,8 @@ has_smaller_blocks_than second (Some spec) = nat_lt second.bsize spec.bsize
 abbrev pub has_larger_blocks_than : FirstLevel → Option CacheSpec → Bool
 has_larger_blocks_than first None = false
 has_larger_blocks_than first (Some second) =
-    has_smaller_blocks_than second first.i || has_smaller_blocks_than second first.d || has_smaller_blocks_than second first.u
+    has_smaller_blocks_than second first.i || has_smaller_blocks_than second first.d ||
+    has_smaller_blocks_than second first.u
 
 -- the first fault of a plan
 abbrev pub plan_fault : FirstLevel → Option CacheSpec → Option PlanFault
@@ -121,4 +134,5 @@ pub record IsPlan (plan : PlannedCaches) : Type 0 where
 
 -- the geometry is the one that the relation gives
 abbrev pub GeometryLaw : Type 0
-GeometryLaw = (spec : CacheSpec) (g : GeometryValue) → (geometry_for spec ≡ Some g) ↔ IsGeometryFor spec g
+GeometryLaw = (spec : CacheSpec) (g : GeometryValue) →
+    (geometry_for spec ≡ Some g) ↔ IsGeometryFor spec g

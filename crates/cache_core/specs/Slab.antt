@@ -1,6 +1,7 @@
 -- A cache's sets in one array of slots: each has a segment of as many slots as it has ways, and the
 -- first of them are filled.
-use Rattle.std.specs.Prelude.{◌≡◌, ◌<◌, ◌≤◌, ℕ, ◌*◌, ◌^◌, List, [], ◌∷◌, Option, length, take, drop, All, replicate}
+use Rattle.std.specs.Prelude.{◌≡◌, ◌<◌, ◌≤◌, ℕ, ◌*◌, ◌^◌, List, [], ◌∷◌, Option, length, take, drop}
+use Rattle.std.specs.Prelude.{All, replicate}
 use Rattle.cache_core.specs.Geometry.{GeometryValue, IsGeometry}
 use Rattle.cache_core.specs.declared.outcome.Slot.{Slot}
 use Rattle.cache_core.specs.declared.design.Design.{Design}
@@ -32,4 +33,10 @@ pub record CacheValue (P : Type 0) : Type 0 where
 
 -- what it holds, with the policy and the numbers of its policy's type
 abbrev pub contents_of : {P : Type 0} → (P → Option Repl) → (P → ℕ → ℕ) → CacheValue P → Contents
-contents_of policy numbers c = record { design = c.design; policy = policy c.policy; random_numbers = numbers c.policy; sets = c.sets }
+contents_of policy numbers c = record {
+  design = c.design;
+  policy =
+      policy c.policy;
+  random_numbers = numbers c.policy;
+  sets = c.sets;
+}

@@ -1,10 +1,12 @@
 -- What a cache holds, as what a machine holds after a list of events.
-use Rattle.std.specs.Prelude.{◌≡◌, ◌≢◌, ◌<◌, ◌≤◌, ℕ, ◌+◌, List, [], ◌∷◌, ◌++◌, Some, map, length, replicate, ◌^◌}
+use Rattle.std.specs.Prelude.{◌≡◌, ◌≢◌, ◌<◌, ◌≤◌, ℕ, ◌+◌, List, [], ◌∷◌, ◌++◌, Some, map, length}
+use Rattle.std.specs.Prelude.{replicate, ◌^◌}
 use Rattle.trace_core.specs.declared.events.Ref.{Ref}
 use Rattle.trace_core.specs.declared.events.Event.{Event}
 use Rattle.trace_core.specs.declared.events.Event.TheVariants as event
 use Rattle.cache_core.specs.declared.outcome.Outcome.{Outcome}
-use Rattle.cache_core.specs.Machine.{Machine, MachineState, Line, run, slot_of, lines_of_set, step, dirty_count}
+use Rattle.cache_core.specs.Machine.{Machine, MachineState, Line, run, slot_of, lines_of_set, step}
+use Rattle.cache_core.specs.Machine.{dirty_count}
 use Rattle.cache_core.specs.Order.{Contents, Accesses, FlushesCache, slots_of}
 use Rattle.cache_core.specs.Outcomes.{outcome_of}
 use Rattle.cache_core.specs.Rules.{Place, InFront, InPlace, rules}
@@ -19,7 +21,8 @@ abbrev pub CountsUp : ℕ → List Line → Type 0
 CountsUp n [] = Unit {0}
 CountsUp n (line ∷ lines) = (line.key ≡ n) × CountsUp (n + 1) lines
 
--- the lines of a set are in order: the newest key first if a new block goes in front, and else way after way
+-- the lines of a set are in order: the newest key first if a new block goes in front, and else way
+-- after way
 abbrev pub InOrder : Place → ℕ → List Line → Type 0
 InOrder InFront clock lines = Falls (clock + 1) lines
 InOrder InPlace clock lines = CountsUp 0 lines

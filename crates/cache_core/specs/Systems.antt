@@ -1,7 +1,9 @@
--- A system of caches: a first level, perhaps a second one, and memory below. (The levels -l1-i, -l1-d, -l1-u and -l2-u of the
+-- A system of caches: a first level, perhaps a second one, and memory below. (The levels -l1-i,
+-- -l1-d, -l1-u and -l2-u of the
 -- Dinero IV manual.)
-use Rattle.std.specs.Prelude.{ℕ, ◌+◌, Bool, true, false, ◌||◌, ◌&&◌, not, List, [], ◌∷◌, ◌++◌, Option, Some, None}
-use Rattle.std.specs.Prelude.{if◌then◌else◌, sum, count_by, map, flat_map, filter, is_some}
+use Rattle.std.specs.Prelude.{ℕ, ◌+◌, Bool, true, false, ◌||◌, ◌&&◌, not, List, [], ◌∷◌, ◌++◌}
+use Rattle.std.specs.Prelude.{Option, Some, None, if◌then◌else◌, sum, count_by, map, flat_map}
+use Rattle.std.specs.Prelude.{filter, is_some}
 use Rattle.trace_core.specs.declared.events.Ref.{Ref}
 use Rattle.trace_core.specs.declared.events.Event.{Event}
 use Rattle.trace_core.specs.declared.events.Event.TheVariants as event
@@ -12,7 +14,8 @@ use Rattle.cache_core.specs.declared.plan.CacheName.{CacheName}
 use Rattle.cache_core.specs.declared.plan.CacheName.TheVariants.{L1I, L1D, L1U, L2U}
 use Rattle.cache_core.specs.declared.stats.CacheStats.{CacheStats}
 use Rattle.cache_core.specs.declared.stats.Stats.{Stats}
-use Rattle.cache_core.specs.Machine.{Machine, MachineState, start, step, next, run, dirty_count, with_effects}
+use Rattle.cache_core.specs.Machine.{Machine, MachineState, start, step, next, run, dirty_count}
+use Rattle.cache_core.specs.Machine.{with_effects}
 use Rattle.cache_core.specs.CacheStats.{stats_from, stats_after_flush}
 use Rattle.cache_core.specs.Plans.{PlannedCaches}
 use Rattle.cache_core.specs.RandomNumbers.{random_number, generator_of}
@@ -20,11 +23,17 @@ use Rattle.cache_core.specs.Rules.{rules, is_random}
 
 -- the random numbers of a policy: only random has a generator
 abbrev pub random_numbers_for : Repl → ℕ → ℕ → ℕ
-random_numbers_for policy seed = if is_random (rules policy).victim then random_number (generator_of seed) else (λ n. 0)
+random_numbers_for policy seed = if is_random (rules policy).victim then random_number
+    (generator_of seed) else (λ n. 0)
 
 -- each cache with random replacement has a generator of its own, of the same seed
 abbrev pub machine_of : ℕ → PlannedCache → Machine
-machine_of seed planned = record { design = planned.design; policy = planned.policy; random_numbers = random_numbers_for planned.policy seed }
+machine_of seed planned = record {
+  design = planned.design;
+  policy =
+      planned.policy;
+  random_numbers = random_numbers_for planned.policy seed;
+}
 
 -- which references a cache of the first level takes
 abbrev pub is_taken_by : CacheName → Ref → Bool
@@ -46,19 +55,24 @@ events_for name events = filter (is_event_of name) events
 abbrev pub sends : ℕ → CacheName → Option PlannedCache → List Event → Ref → List Ref
 sends seed name None earlier ref = []
 sends seed name (Some planned) earlier ref =
-    if is_taken_by name ref then (step (machine_of seed planned) (run (machine_of seed planned) (events_for name earlier)) ref).effect.down else []
+    if is_taken_by name ref then (step (machine_of seed planned)
+    (run (machine_of seed planned) (events_for name earlier)) ref).effect.down else []
 
 -- what the first level sends on for a reference
 abbrev pub first_level_references : PlannedCaches → ℕ → List Event → Ref → List Ref
 first_level_references plan seed earlier ref =
-    sends seed L1I plan.i earlier ref ++ sends seed L1D plan.d earlier ref ++ sends seed L1U plan.u earlier ref
+    sends seed L1I plan.i earlier ref ++ sends seed L1D plan.d earlier ref ++
+    sends seed L1U plan.u earlier ref
 
--- what the first level sends on for events that come after earlier ones, in order, with each flush where it comes
+-- what the first level sends on for events that come after earlier ones, in order, with each flush
+-- where it comes
 abbrev pub below_from : PlannedCaches → ℕ → List Event → List Event → List Event
 below_from plan seed earlier [] = []
 below_from plan seed earlier (event.Reference ref ∷ events) =
-    map event.Reference (first_level_references plan seed earlier ref) ++ below_from plan seed (earlier ++ event.Reference ref ∷ []) events
-below_from plan seed earlier (event.Flush ∷ events) = event.Flush ∷ below_from plan seed (earlier ++ event.Flush ∷ []) events
+    map event.Reference (first_level_references plan seed earlier ref) ++
+    below_from plan seed (earlier ++ event.Reference ref ∷ []) events
+below_from plan seed earlier (event.Flush ∷ events) = event.Flush ∷ below_from plan seed (earlier ++
+    event.Flush ∷ []) events
 
 -- the events of the second level: what the first sends on for a whole list
 abbrev pub below : PlannedCaches → ℕ → List Event → List Event
@@ -67,8 +81,10 @@ below plan seed events = below_from plan seed [] events
 -- how many dirty blocks each flush of a list finds, from a state
 abbrev pub flush_counts_from : Machine → MachineState → List Event → List ℕ
 flush_counts_from m st [] = []
-flush_counts_from m st (event.Reference ref ∷ events) = flush_counts_from m (step m st ref).after events
-flush_counts_from m st (event.Flush ∷ events) = dirty_count st ∷ flush_counts_from m (next m st event.Flush) events
+flush_counts_from m st (event.Reference ref ∷ events) =
+    flush_counts_from m (step m st ref).after events
+flush_counts_from m st (event.Flush ∷ events) = dirty_count st ∷ flush_counts_from m
+    (next m st event.Flush) events
 
 -- the same from the start
 abbrev pub flush_counts : Machine → List Event → List ℕ
@@ -76,7 +92,8 @@ flush_counts m events = flush_counts_from m start events
 
 -- what a cache counts over its events: its accesses, and the copybacks of its flushes
 abbrev pub cache_stats : Machine → List Event → CacheStats
-cache_stats m events = stats_after_flush (sum (flush_counts m events)) (stats_from (with_effects m events))
+cache_stats m events = stats_after_flush (sum (flush_counts m events))
+    (stats_from (with_effects m events))
 
 -- what a cache counts over its events, if the plan has it
 abbrev pub counts_if_planned : ℕ → Option PlannedCache → List Event → Option CacheStats
@@ -95,11 +112,13 @@ flush_copybacks seed planned events = sum (flush_counts_if_planned seed planned 
 -- what the last level sends on, if these events come to the second
 abbrev pub to_memory : ℕ → Option PlannedCache → List Event → List Ref
 to_memory seed None events = references_in events
-to_memory seed (Some planned) events = flat_map (λ p. p.1.down) (with_effects (machine_of seed planned) events)
+to_memory seed (Some planned) events =
+    flat_map (λ p. p.1.down) (with_effects (machine_of seed planned) events)
 
 -- whether some cache of the first level takes a reference
 abbrev pub is_taken : PlannedCaches → Ref → Bool
-is_taken plan ref = is_some plan.u || (is_some plan.i && is_taken_by L1I ref) || (is_some plan.d && is_taken_by L1D ref)
+is_taken plan ref = is_some plan.u || (is_some plan.i && is_taken_by L1I ref) ||
+    (is_some plan.d && is_taken_by L1D ref)
 
 -- the statistics of a system after a list of events
 abbrev pub system_run : PlannedCaches → ℕ → List Event → Stats
@@ -113,7 +132,9 @@ system_run plan seed events =
       l2u = counts_if_planned seed plan.second lower;
       memory_reads = count_by (λ ref. not (is_write ref.access)) memory;
       memory_writes = count_by (λ ref. is_write ref.access) memory
-          + (flush_copybacks seed plan.i (events_for L1I events) + flush_copybacks seed plan.d (events_for L1D events)
-          + flush_copybacks seed plan.u (events_for L1U events) + flush_copybacks seed plan.second lower);
+          + (flush_copybacks seed plan.i (events_for L1I events) + flush_copybacks seed plan.d
+          (events_for L1D events)
+          + flush_copybacks seed plan.u (events_for L1U events) + flush_copybacks seed
+          plan.second lower);
       bypassed = count_by (λ ref. not (is_taken plan ref)) (references_in events);
     }

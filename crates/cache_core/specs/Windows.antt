@@ -1,6 +1,8 @@
--- LRU stack distances (Mattson, Gecsei, Slutz and Traiger 1970): what each reference of a list of events finds before it.
-use Rattle.std.specs.Prelude.{ℕ, ◌+◌, ◌^◌, min, Bool, true, false, not, ◌&&◌, ◌==◌, nat_lt, nat_le, if◌then◌else◌, Option, Some}
-use Rattle.std.specs.Prelude.{None, List, [], ◌∷◌, ◌++◌, length, filter, reverse, sum_by, count_by, filter_map}
+-- LRU stack distances (Mattson, Gecsei, Slutz and Traiger 1970): what each reference of a list of
+-- events finds before it.
+use Rattle.std.specs.Prelude.{ℕ, ◌+◌, ◌^◌, min, Bool, true, false, not, ◌&&◌, ◌==◌, nat_lt, nat_le}
+use Rattle.std.specs.Prelude.{if◌then◌else◌, Option, Some, None, List, [], ◌∷◌, ◌++◌, length}
+use Rattle.std.specs.Prelude.{filter, reverse, sum_by, count_by, filter_map}
 use Rattle.std.specs.List.{before_first, list_any, range_with_len}
 use Rattle.trace_core.specs.declared.events.Event.{Event}
 use Rattle.trace_core.specs.declared.events.Event.TheVariants as event
@@ -30,7 +32,8 @@ pub record Occurrence : Type 0 where
 unfoldable pub occurrences_after : GeometryValue → List Event → List Event → List Occurrence
 occurrences_after g before [] = []
 occurrences_after g before (event.Reference r ∷ es) =
-    record { block = block_of g r.addr; window = window g before } ∷ occurrences_after g (before ++ event.Reference r ∷ []) es
+    record { block = block_of g r.addr; window = window g before } ∷ occurrences_after g (before ++
+    event.Reference r ∷ []) es
 occurrences_after g before (event.Flush ∷ es) = occurrences_after g (before ++ event.Flush ∷ []) es
 
 -- the occurrences in a list of events, in order: one for each reference
@@ -50,9 +53,11 @@ distinct_of_set g k w = filter (λ block. set_of_block g block == k) (distinct w
 abbrev pub has_last : Occurrence → Bool
 has_last p = list_any (λ block. block == p.block) p.window
 
--- the stack distance: how many different blocks of its set were referenced since the last reference to the block
+-- the stack distance: how many different blocks of its set were referenced since the last reference
+-- to the block
 abbrev pub distance : GeometryValue → Occurrence → ℕ
-distance g p = length (distinct_of_set g (set_of_block g p.block) (before_first (λ block. block == p.block) p.window))
+distance g p = length (distinct_of_set g (set_of_block g p.block)
+    (before_first (λ block. block == p.block) p.window))
 
 -- how many different blocks of its set were referenced before, since the last flush
 abbrev pub blocks_seen : GeometryValue → Occurrence → ℕ
@@ -74,13 +79,16 @@ counts g es = record {
   evictions = count_by (is_evict g) (occurrences g es);
 }
 
--- the comparisons that look for each block among the g.e most recent blocks of its set, from the most recent on
+-- the comparisons that look for each block among the g.e most recent blocks of its set, from the
+-- most recent on
 unfoldable pub probes : GeometryValue → List Event → ℕ
-probes g es = sum_by (λ p. if is_hit g p then distance g p + 1 else min (blocks_seen g p) g.e) (occurrences g es)
+probes g es = sum_by (λ p. if is_hit g p then distance g p + 1 else min (blocks_seen g p) g.e)
+    (occurrences g es)
 
 -- how many blocks are in all sets, at most g.e in each
 unfoldable pub held : GeometryValue → List Event → ℕ
-held g es = sum_by (λ k. min (length (distinct_of_set g k (window g es))) g.e) (range_with_len 0 (2 ^ g.s))
+held g es = sum_by (λ k. min (length (distinct_of_set g k (window g es))) g.e)
+    (range_with_len 0 (2 ^ g.s))
 
 -- the window after one more event
 abbrev pub window_after : GeometryValue → List ℕ → Event → List ℕ

@@ -4,8 +4,9 @@ ghost use Rattle.std.specs.Prelude.{IfOk, All, Option, IfSome, option_to_list, c
 ghost use Rattle.std.specs.Prelude.{replicate, IsTrue, ◌↔◌, None, is_some};
 ghost use Rattle.cache_core.specs.declared.design.Repl.{Repl};
 ghost use Rattle.cache_core.specs.Geometry.{IsGeometry, address_of};
-ghost use Rattle.cache_core.specs.Outcomes.{outcome_of, on_hit, on_placing, on_passing, is_dirtied, hit_in_front};
-ghost use Rattle.cache_core.specs.Outcomes.{is_allocated, through_writes, block_load_access};
+ghost use Rattle.cache_core.specs.Outcomes.{outcome_of, on_hit, on_placing, on_passing, is_dirtied};
+ghost use Rattle.cache_core.specs.Outcomes.{hit_in_front, is_allocated, through_writes};
+ghost use Rattle.cache_core.specs.Outcomes.{block_load_access};
 ghost use Rattle.cache_core.specs.Order.{Touches, Visits, position_of, Accesses, FlushesCache};
 ghost use Rattle.cache_core.specs.Order.{with_dirty_at, dirty_slots};
 ghost use Rattle.cache_core.specs.internal.Order.{DirtiesByWrites};

@@ -1,8 +1,9 @@
 //! The blocks behind the first ways of each set of an LRU cache with many ways.
-ghost use Rattle.std.specs.Prelude.{◌≡◌, ◌≤◌, ◌<◌, ◌+◌, ◌*◌, ◌^◌, [], false, length, map, replicate, IfOk};
-ghost use Rattle.std.specs.Prelude.{slice_index_or};
+ghost use Rattle.std.specs.Prelude.{◌≡◌, ◌≤◌, ◌<◌, ◌+◌, ◌*◌, ◌^◌, [], false, length, map};
+ghost use Rattle.std.specs.Prelude.{replicate, IfOk, slice_index_or};
 ghost use Rattle.deep_list.specs.Deep.{has_block};
-ghost use Rattle.cache_core.specs.internal.DeepSets.{blocks_in, cleared_sets, sets_after_touch, deep_lookup, no_blocks};
+ghost use Rattle.cache_core.specs.internal.DeepSets.{blocks_in, cleared_sets, sets_after_touch};
+ghost use Rattle.cache_core.specs.internal.DeepSets.{deep_lookup, no_blocks};
 ghost use Rattle.cache_core.specs.internal.Touched.{Covers, ListsFilled};
 
 use crate::simulation::Lookup;

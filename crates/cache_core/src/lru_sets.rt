@@ -1,6 +1,6 @@
 //! The sets of an LRU cache of any number of ways, as far as hits and evictions go.
-ghost use Rattle.std.specs.Prelude.{◌≡◌, ◌<◌, false, length, [], None, IfOk, IfSome, slice_index_or};
-ghost use Rattle.std.specs.Prelude.{option_map};
+ghost use Rattle.std.specs.Prelude.{◌≡◌, ◌<◌, false, length, [], None, IfOk, IfSome};
+ghost use Rattle.std.specs.Prelude.{slice_index_or, option_map};
 ghost use Rattle.cache_core.specs.internal.DeepSets.{no_blocks};
 ghost use Rattle.deep_list.specs.Deep.{has_block};
 ghost use Rattle.cache_core.specs.internal.LruSets.{LruSetsStandFor, far_lookup, pushed_back};

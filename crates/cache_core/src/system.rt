@@ -1,14 +1,15 @@
 //! A system of caches.
 ghost use Rattle.std.specs.Prelude.{◌≡◌, ◌≤◌, ◌<◌, ◌+◌, ◌^◌, ℕ, List, length, ◌∷◌, [], IfOk};
 ghost use Rattle.std.specs.Prelude.{Option, ◌++◌, Some, MatchBool};
-ghost use Rattle.cache_core.specs.internal.SystemSteps.{present_refs, memory_after_all, Descends, AllDescend};
-ghost use Rattle.cache_core.specs.internal.SystemSteps.{AccessesFirst, AccessesFirstLevel, EmptiesCache};
+ghost use Rattle.cache_core.specs.internal.SystemSteps.{present_refs, memory_after_all, Descends};
+ghost use Rattle.cache_core.specs.internal.SystemSteps.{AllDescend, AccessesFirst};
+ghost use Rattle.cache_core.specs.internal.SystemSteps.{AccessesFirstLevel, EmptiesCache};
 ghost use Rattle.cache_core.specs.internal.SystemSteps.{accesses_of, memory_accesses, stats_held};
 ghost use Rattle.cache_core.specs.internal.SystemSteps.{IsNewCache, nothing_down};
 ghost use Rattle.cache_core.specs.internal.SystemSteps.{first_hits_in_front, level_hits_in_front};
 ghost use Rattle.cache_core.specs.internal.SystemStands.{PlannedCacheStandsFor};
-ghost use Rattle.cache_core.specs.Arrivals.{Saw, cache_arrivals, arrivals_below, all_arrivals_below};
-ghost use Rattle.cache_core.specs.Arrivals.{at_memory, first_arrivals, flushes};
+ghost use Rattle.cache_core.specs.Arrivals.{Saw, cache_arrivals, arrivals_below};
+ghost use Rattle.cache_core.specs.Arrivals.{all_arrivals_below, at_memory, first_arrivals, flushes};
 ghost use Rattle.cache_core.specs.Plans.{PlannedCaches, IsPlan, IsPlannedCache};
 ghost use Rattle.cache_core.specs.Systems.{events_for};
 ghost use Rattle.cache_core.specs.declared.plan.CacheName.TheVariants.{L1I, L1D, L1U, L2U};
@@ -246,7 +247,8 @@ fn access_first<O: Observer>(
     ensures value { AccessesFirst cache.old reference result cache.new }
     ensures seen { (seed : ℕ) (planned : Option PlannedCache) (events : List Event) →
         IsPlannedCache planned → PlannedCacheStandsFor seed planned events cache.old →
-        Saw O.has_seen observer.old (cache_arrivals seed name planned events reference) observer.new }
+        Saw O.has_seen observer.old (cache_arrivals seed name planned events reference)
+        observer.new }
     ensures room { O.room observer.old ≤ O.room observer.new + 1 }
 {
     match cache {

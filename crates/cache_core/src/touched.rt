@@ -2,7 +2,8 @@
 //! alone.
 ghost use Rattle.std.specs.Prelude.{◌≡◌, ◌<◌, ◌/◌, ◌^◌, [], length, Some, IfOk, option_map};
 ghost use Rattle.std.specs.Prelude.{replicate};
-ghost use Rattle.cache_core.specs.internal.Touched.{after_count, with_set, no_sets, Covers, ListsFilled};
+ghost use Rattle.cache_core.specs.internal.Touched.{after_count, with_set, no_sets, Covers};
+ghost use Rattle.cache_core.specs.internal.Touched.{ListsFilled};
 
 use std::alloc::{AllocError, Global};
 use std::marker::Model;

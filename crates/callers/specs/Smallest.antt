@@ -14,4 +14,5 @@ pub record IsSmallest (most : ℕ) (rows : List (Config × Counts)) (c : Config)
 
 -- the smallest one, or none misses at most so often
 abbrev pub IsSmallestIfAny : ℕ → List (Config × Counts) → Option Config → Type 0
-IsSmallestIfAny most rows found = MatchOption found (AllByRecursion (λ row. most < row.1.misses) rows) (IsSmallest most rows)
+IsSmallestIfAny most rows found =
+    MatchOption found (AllByRecursion (λ row. most < row.1.misses) rows) (IsSmallest most rows)

@@ -17,14 +17,16 @@ use Rattle.cache_core.specs.declared.simulation.Simulation.{Simulation}
 use Rattle.cache_core.specs.Geometry.{GeometryValue}
 use Rattle.cache_core.specs.internal.Simulation.{SimulationStandsFor}
 use Rattle.cache_core.specs.Windows.{counts}
-use Rattle.commands.specs.CsimText.{csim_task, csim_lines, lines_after, line_of, lookups_of, summary}
+use Rattle.commands.specs.CsimText.{csim_task, csim_lines, lines_after, line_of, lookups_of}
+use Rattle.commands.specs.CsimText.{summary}
 
 -- the data references of entries
 abbrev pub data_of : List Entry → List Event
 data_of es = flat_map (events_of DataOnly) es
 
 lines_after-append : (g : GeometryValue) (before : List Event) (xs ys : List Entry)
-    → lines_after g before (xs ++ ys) ≡ lines_after g before xs ++ lines_after g (before ++ data_of xs) ys
+    → lines_after g before (xs ++ ys) ≡ lines_after g before xs ++
+    lines_after g (before ++ data_of xs) ys
 unfolding lines_after
 lines_after-append g before [] ys = ap (λ b. lines_after g b ys) (sym (append-nil before))
 lines_after-append g before (e ∷ xs) ys =
@@ -32,7 +34,8 @@ lines_after-append g before (e ∷ xs) ys =
     let later : List Event = before ++ events_of DataOnly e in
     ap (λ l. line ++ l) (lines_after-append g later xs ys)
     ∙ sym (append_assoc line (lines_after g later xs) (lines_after g (later ++ data_of xs) ys))
-    ∙ ap (λ b. (line ++ lines_after g later xs) ++ lines_after g b ys) (append_assoc before (events_of DataOnly e) (data_of xs))
+    ∙ ap (λ b. (line ++ lines_after g later xs) ++ lines_after g b ys)
+    (append_assoc before (events_of DataOnly e) (data_of xs))
 
 -- the lines of later entries, where they are wanted
 abbrev later_lines : GeometryValue → Bool → List Entry → List Entry → List ℕ
@@ -50,16 +53,19 @@ one_line g true xs e = append-nil (line_of e (lookups_of g (data_of xs) e))
 one_line g false xs e = refl
 
 -- the lines of one entry more
-pub lines-more : (g : GeometryValue) (verbose : Bool) (xs : List Entry) (e : Entry) (lookups : List Lookup)
+pub lines-more : (g : GeometryValue) (verbose : Bool) (xs : List Entry) (e : Entry)
+    (lookups : List Lookup)
     → lookups ≡ lookups_of g (data_of xs) e
-    → csim_lines g verbose (xs ++ e ∷ []) ≡ csim_lines g verbose xs ++ cond verbose (line_of e lookups) []
+    → csim_lines g verbose (xs ++ e ∷ []) ≡ csim_lines g verbose xs ++
+    cond verbose (line_of e lookups) []
 lines-more g verbose xs e lookups is =
     csim_lines-append g verbose xs (e ∷ [])
     ∙ ap (λ l. csim_lines g verbose xs ++ l)
     (one_line g verbose xs e ∙ ap (λ l. cond verbose (line_of e l) []) (sym is))
 
 -- what is written of some entries comes before what is written of more, and of the whole text
-pub along : (g : GeometryValue) (verbose : Bool) (limit : ℕ) → WritesAlong (csim_task g verbose limit)
+pub along : (g : GeometryValue) (verbose : Bool) (limit : ℕ) →
+    WritesAlong (csim_task g verbose limit)
 unfolding csim_task
 along g verbose limit = record {
   partial = λ xs ys. (later_lines g verbose xs ys, csim_lines-append g verbose xs ys);
@@ -68,19 +74,25 @@ along g verbose limit = record {
 
 -- what a simulation stands for once these entries were read, and what stands written
 abbrev pub Simulated : GeometryValue → Bool → SinkView → SinkView → Simulation → List Entry → Type 0
-Simulated g verbose sink sink' sim es = SimulationStandsFor g (data_of es) sim × Wrote sink sink' (csim_lines g verbose es)
+Simulated g verbose sink sink' sim es = SimulationStandsFor g (data_of es) sim ×
+    Wrote sink sink' (csim_lines g verbose es)
 
-pub simulated-none : (g : GeometryValue) (verbose : Bool) (sink : SinkView) (sim : Simulation) → SimulationStandsFor g [] sim
+pub simulated-none : (g : GeometryValue) (verbose : Bool) (sink : SinkView) (sim : Simulation) →
+    SimulationStandsFor g [] sim
     → Simulated g verbose sink sink sim []
 unfolding lines_after
 simulated-none g true sink sim stands = (stands, Wrote-none sink)
 simulated-none g false sink sim stands = (stands, Wrote-none sink)
 
-pub simulated-more : (g : GeometryValue) (verbose : Bool) (es : List Entry) (e : Entry) (lookups : List Lookup)
+pub simulated-more : (g : GeometryValue) (verbose : Bool) (es : List Entry) (e : Entry)
+    (lookups : List Lookup)
     {sink between sink' : SinkView} (old new : Simulation) → Simulated g verbose sink between old es
-    → SimulationStandsFor g (data_of es ++ events_of DataOnly e) new × (lookups ≡ lookups_of g (data_of es) e)
-    → Wrote between sink' (cond verbose (line_of e lookups) []) → Simulated g verbose sink sink' new (es ++ e ∷ [])
+    → SimulationStandsFor g (data_of es ++ events_of DataOnly e) new ×
+    (lookups ≡ lookups_of g (data_of es) e)
+    → Wrote between sink' (cond verbose (line_of e lookups) []) → Simulated g verbose sink sink' new
+    (es ++ e ∷ [])
 simulated-more g verbose es e lookups {sink} {sink' = sink'} old new so_far stands wrote = (
   subst (λ xs. SimulationStandsFor g xs new) (sym (events_more DataOnly es e)) stands.0,
-  subst (Wrote sink sink') (sym (lines-more g verbose es e lookups stands.1)) (Wrote-more so_far.1 wrote),
+  subst (Wrote sink sink') (sym (lines-more g verbose es e lookups stands.1))
+      (Wrote-more so_far.1 wrote),
 )

@@ -1,6 +1,8 @@
--- What `csim` writes of a trace, in the form of the CS:APP cache lab handout: a line for each data item if lines are wanted, and
+-- What `csim` writes of a trace, in the form of the CS:APP cache lab handout: a line for each data
+-- item if lines are wanted, and
 -- a summary.
-use Rattle.std.specs.Prelude.{ℕ, Bool, true, List, [], ◌∷◌, ◌++◌, Option, None, Some, if◌then◌else◌, map, flat_map, codes}
+use Rattle.std.specs.Prelude.{ℕ, Bool, true, List, [], ◌∷◌, ◌++◌, Option, None, Some, if◌then◌else◌}
+use Rattle.std.specs.Prelude.{map, flat_map, codes}
 use Rattle.std.specs.Option.{option_to_list}
 use Rattle.std.specs.Fmt.{decimal}
 use Rattle.trace_core.specs.declared.events.Op.{Op}
@@ -39,9 +41,11 @@ letter_of Modify = Some 77
 abbrev pub item_line : Option ℕ → Item → List Lookup → List ℕ
 item_line None item lookups = []
 item_line (Some letter) item lookups =
-    letter ∷ codes " " ++ hexadecimal item.addr ++ codes "," ++ decimal item.size ++ flat_map lookup_text lookups ++ codes "\n"
+    letter ∷ codes " " ++ hexadecimal item.addr ++ codes "," ++ decimal item.size ++
+    flat_map lookup_text lookups ++ codes "\n"
 
--- The line of an entry whose references had these lookups. A flush has none; lackey traces have no flush.
+-- The line of an entry whose references had these lookups. A flush has none; lackey traces have no
+-- flush.
 abbrev pub line_of : Entry → List Lookup → List ℕ
 line_of (entry.Item item) lookups = item_line (letter_of item.op) item lookups
 line_of entry.Flush lookups = []
@@ -57,7 +61,8 @@ lookups_of_pair p = option_to_list p.0 ++ option_to_list p.1
 -- the lines of entries that come after these events
 unfoldable pub lines_after : GeometryValue → List Event → List Entry → List ℕ
 lines_after g before [] = []
-lines_after g before (e ∷ es) = line_of e (lookups_of g before e) ++ lines_after g (before ++ events_of DataOnly e) es
+lines_after g before (e ∷ es) = line_of e (lookups_of g before e) ++
+    lines_after g (before ++ events_of DataOnly e) es
 
 -- the lines of entries, if they are wanted
 abbrev pub csim_lines : GeometryValue → Bool → List Entry → List ℕ
@@ -65,12 +70,22 @@ csim_lines g verbose es = if verbose then lines_after g [] es else []
 
 -- the handout's last line
 abbrev pub summary : Counts → List ℕ
-summary c = codes "hits:" ++ decimal c.hits ++ codes " misses:" ++ decimal c.misses ++ codes " evictions:" ++ decimal c.evictions ++ codes "\n"
+summary c = codes "hits:" ++ decimal c.hits ++ codes " misses:" ++ decimal c.misses ++
+    codes " evictions:" ++ decimal c.evictions ++ codes "\n"
 
 -- all that `csim` writes of a text without a fault
 abbrev pub csim_text : GeometryValue → Bool → List ℕ → List ℕ
-csim_text g verbose text = csim_lines g verbose (entries Lackey text) ++ summary (counts g (events Lackey DataOnly text))
+csim_text g verbose text = csim_lines g verbose (entries Lackey text) ++
+    summary (counts g (events Lackey DataOnly text))
 
--- `csim` reads lackey lines. At a fault it has written the lines of the entries before it, and no summary.
+-- `csim` reads lackey lines. At a fault it has written the lines of the entries before it, and no
+-- summary.
 unfoldable pub csim_task : GeometryValue → Bool → ℕ → Task
-csim_task g verbose limit = record { format = Lackey; limit = limit; writes_early = true; whole = csim_text g verbose; partial = csim_lines g verbose }
+csim_task g verbose limit = record {
+  format = Lackey;
+  limit = limit;
+  writes_early = true;
+  whole =
+      csim_text g verbose;
+  partial = csim_lines g verbose;
+}

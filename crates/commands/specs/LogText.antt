@@ -1,5 +1,7 @@
--- What `log` writes of a trace: a line for each arrival, and one for each cache that is flushed. The layout is this project's.
-use Rattle.std.specs.Prelude.{true, Bool, ℕ, List, [], ◌∷◌, ◌++◌, Option, None, Some, if◌then◌else◌, flat_map, codes}
+-- What `log` writes of a trace: a line for each arrival, and one for each cache that is flushed.
+-- The layout is this project's.
+use Rattle.std.specs.Prelude.{true, Bool, ℕ, List, [], ◌∷◌, ◌++◌, Option, None, Some, if◌then◌else◌}
+use Rattle.std.specs.Prelude.{flat_map, codes}
 use Rattle.std.specs.Fmt.{decimal}
 use Rattle.trace_core.specs.declared.events.Ref.{Ref}
 use Rattle.trace_core.specs.declared.events.Entry.{Entry}
@@ -27,11 +29,13 @@ result_text hit = if hit then codes " hit" else codes " miss"
 -- the evicted block, if there is one
 abbrev pub victim_text : Option Victim → List ℕ
 victim_text None = []
-victim_text (Some victim) = codes " eviction " ++ hexadecimal victim.addr ++ (if victim.dirty then codes " dirty" else [])
+victim_text (Some victim) = codes " eviction " ++ hexadecimal victim.addr ++
+    (if victim.dirty then codes " dirty" else [])
 
 -- the line of an arrival
 abbrev pub arrival_line : Arrival → List ℕ
-arrival_line (Cache name ref hit victim) = cache_name name ++ reference_text ref ++ result_text hit ++ victim_text victim ++ codes "\n"
+arrival_line (Cache name ref hit victim) = cache_name name ++ reference_text ref ++
+    result_text hit ++ victim_text victim ++ codes "\n"
 arrival_line (Memory ref) = codes "memory" ++ reference_text ref ++ codes "\n"
 arrival_line (Bypassed ref) = codes "bypassed" ++ reference_text ref ++ codes "\n"
 arrival_line (Flush name dirty) = cache_name name ++ codes " flush " ++ decimal dirty ++ codes "\n"
@@ -51,4 +55,11 @@ log_text plan seed format text = arrival_lines (arrivals plan seed (events forma
 -- At a fault `log` has written the lines of the entries before it.
 unfoldable pub log_task : PlannedCaches → ℕ → Format → ℕ → Task
 log_task plan seed format limit =
-    record { format = format; limit = limit; writes_early = true; whole = log_text plan seed format; partial = log_lines plan seed }
+    record {
+      format = format;
+      limit = limit;
+      writes_early = true;
+      whole =
+          log_text plan seed format;
+      partial = log_lines plan seed;
+    }

@@ -1,12 +1,14 @@
 -- Chains of slots: a slot in front of a chain leaves the others on theirs.
-use Rattle.std.proofs.Common.{◌≡◌, ℕ, zero, suc, ◌+◌, ◌*◌, ◌/◌, ◌%◌, ◌<◌, ◌≤◌, ◌^◌, ◌≢◌, ◌⊎◌, inl, inr, List, [], ◌∷◌, length, get_or, set}
-use Rattle.std.proofs.Common.{refl, sym, ◌∙◌, ap, subst, arith, length-set, get_or-set_same, get_or-set_other}
+use Rattle.std.proofs.Common.{◌≡◌, ℕ, zero, suc, ◌+◌, ◌*◌, ◌/◌, ◌%◌, ◌<◌, ◌≤◌, ◌^◌, ◌≢◌, ◌⊎◌, inl}
+use Rattle.std.proofs.Common.{inr, List, [], ◌∷◌, length, get_or, set, refl, sym, ◌∙◌, ap, subst}
+use Rattle.std.proofs.Common.{arith, length-set, get_or-set_same, get_or-set_other}
 use Rattle.std.specs.Prelude.{replicate}
 use Rattle.std.proofs.Math.Nat.{mul-lt-mul_of_pos_right}
 use Rattle.std.proofs.lemmas.Bool.{cases_eq}
 use Rattle.std.proofs.lemmas.List.{get_or_past}
 use Rattle.deep_list.specs.Slots.{SlotsValue}
-use Rattle.deep_list.specs.Chains.{ChainsValue, AreChains, AreFiledFrom, IsAfter, IsOnChain, IsFiled, chain_of, with_slot}
+use Rattle.deep_list.specs.Chains.{ChainsValue, AreChains, AreFiledFrom, IsAfter, IsOnChain}
+use Rattle.deep_list.specs.Chains.{IsFiled, chain_of, with_slot}
 
 -- numbers below 2^32, times n
 pub spread_small : (m n : ℕ) → 1 ≤ n → m < 2 ^ 32 → m * n / 2 ^ 32 < n
@@ -15,7 +17,8 @@ spread_small m n some lt =
     omega (arith, p)
 
 pub chain_small : (n x : ℕ) → 1 ≤ n → chain_of n x < n
-chain_small n x some = spread_small (x * 0x9E37_79B9_7F4A_7C15 % 2 ^ 64 / 2 ^ 32) n some (omega arith)
+chain_small n x some = spread_small (x * 0x9E37_79B9_7F4A_7C15 % 2 ^ 64 / 2 ^ 32) n some
+    (omega arith)
 
 pub zeros : (n k : ℕ) → get_or {A = ℕ} (replicate n 0) k 0 ≡ 0
 zeros zero k = refl
@@ -33,23 +36,28 @@ same_most (suc count) n zero = omega arith
 same_most (suc count) n (suc k) = same_most count n k
 
 -- a chain that a changed slot is not on
-pub after_set : (next : List ℕ) (top t v : ℕ) → t < top → ((s : ℕ) → top ≤ s → s < length next → top ≤ get_or next s 0)
+pub after_set : (next : List ℕ) (top t v : ℕ) → t < top →
+    ((s : ℕ) → top ≤ s → s < length next → top ≤ get_or next s 0)
     → (m a s : ℕ) → top ≤ a → IsAfter next m a s → IsAfter (set next t v) m a s
 after_set next top t v lt from zero a s le at = at
 after_set next top t v lt from (suc m) a s le (within, at) =
     let P : ℕ → Type 0 = λ b. IsAfter (set next t v) m b s in (
       omega (arith, within, length-set next t v),
-      subst P (sym (get_or-set_other next t a v 0 (omega arith))) (after_set next top t v lt from m (get_or next a 0) s (from a le within) at),
+      subst P (sym (get_or-set_other next t a v 0 (omega arith))) (after_set next top t v lt from m
+          (get_or next a 0) s (from a le within) at),
     )
 
 -- the slot after a slot that is not wanted
-pub on_chain_past : (next : List ℕ) (a s : ℕ) → (a ≡ s → ⊥) → IsOnChain next a s → IsOnChain next (get_or next a 0) s
+pub on_chain_past : (next : List ℕ) (a s : ℕ) → (a ≡ s → ⊥) → IsOnChain next a s →
+    IsOnChain next (get_or next a 0) s
 on_chain_past next a s other (zero, same) = absurd (other same)
 on_chain_past next a s other (suc m, (within, at)) = (m, at)
 
 -- no slot comes after the last
-pub on_chain_none : (next live : List ℕ) (a s : ℕ) → length next ≡ length live → a ≡ length live → get_or live s 0 ≡ 1 → IsOnChain next a s → ⊥
-on_chain_none next live a s long end one (zero, same) = omega (arith, get_or_past live s 0 (omega (arith, end, same)), one)
+pub on_chain_none : (next live : List ℕ) (a s : ℕ) → length next ≡ length live → a ≡ length live →
+    get_or live s 0 ≡ 1 → IsOnChain next a s → ⊥
+on_chain_none next live a s long end one (zero, same) =
+    omega (arith, get_or_past live s 0 (omega (arith, end, same)), one)
 on_chain_none next live a s long end one (suc m, (within, at)) = omega (arith, within, long, end)
 
 module _ {top n : ℕ} {v : ChainsValue} (h : AreChains top n v) where
@@ -60,7 +68,8 @@ module _ {top n : ℕ} {v : ChainsValue} (h : AreChains top n v) where
       let up = h.next_from a le (omega (arith, within, h.long)) in
       omega (arith, up, chain_rises m (get_or v.next a 0) s (omega (arith, le, up)) at)
 
-module _ {top n : ℕ} {v : ChainsValue} (h : AreChains top n v) (t : ℕ) (next : t + 1 ≡ top) (lt : t < n) where
+module _ {top n : ℕ} {v : ChainsValue} (h : AreChains top n v) (t : ℕ) (next : t + 1 ≡ top)
+    (lt : t < n) where
   pub chains_more : (k : ℕ) → k < length v.heads → AreChains t n (with_slot v t k)
   chains_more k within =
       let head : ℕ = get_or v.heads k 0 in
@@ -72,18 +81,40 @@ module _ {top n : ℕ} {v : ChainsValue} (h : AreChains top n v) (t : ℕ) (next
         long = length-set v.next t head ∙ h.long;
         heads_from = λ j less. elim (cases_eq j k) [
           | inl same ↦ omega (arith, ap (λ i. get_or (set v.heads k t) i 0) same, head_same)
-          | inr other ↦ omega (arith, get_or-set_other v.heads k j t 0 other, h.heads_from j (omega (arith, less, length-set v.heads k t)), next)
+          | inr other ↦ omega (
+            arith,
+            get_or-set_other v.heads k j t 0 other,
+            h.heads_from j (omega (arith, less, length-set v.heads k t)),
+            next,
+          )
         ];
         heads_within = λ j. elim (cases_eq j k) [
           | inl same ↦ omega (arith, ap (λ i. get_or (set v.heads k t) i 0) same, head_same, lt)
           | inr other ↦ omega (arith, get_or-set_other v.heads k j t 0 other, h.heads_within j)
         ];
         next_from = λ s le less. elim (cases_eq s t) [
-          | inl same ↦ omega (arith, ap (λ i. get_or (set v.next t head) i 0) same, next_same, h.heads_from k within, next, same)
-          | inr other ↦ omega (arith, get_or-set_other v.next t s head 0 other, h.next_from s (omega (arith, le, other, next)) less, next)
+          | inl same ↦ omega (
+            arith,
+            ap (λ i. get_or (set v.next t head) i 0) same,
+            next_same,
+            h.heads_from k within,
+            next,
+            same,
+          )
+          | inr other ↦ omega (
+            arith,
+            get_or-set_other v.next t s head 0 other,
+            h.next_from s (omega (arith, le, other, next)) less,
+            next,
+          )
         ];
         next_within = λ s. elim (cases_eq s t) [
-          | inl same ↦ omega (arith, ap (λ i. get_or (set v.next t head) i 0) same, next_same, h.heads_within k)
+          | inl same ↦ omega (
+            arith,
+            ap (λ i. get_or (set v.next t head) i 0) same,
+            next_same,
+            h.heads_within k,
+          )
           | inr other ↦ omega (arith, get_or-set_other v.next t s head 0 other, h.next_within s)
         ];
       }
@@ -104,20 +135,24 @@ module _ {top n : ℕ} {v : ChainsValue} (h : AreChains top n v) (t : ℕ) (next
       let j : ℕ = chain_of (length v.heads) y in
       let next' : List ℕ = set v.next t head in
       let heads' : List ℕ = set v.heads k t in
-      let from : (i : ℕ) → top ≤ i → i < length v.next → top ≤ get_or v.next i 0 = λ i le less. omega (arith, le, h.next_from i le (omega (arith, less, h.long))) in
-      let kept : IsAfter next' m (get_or v.heads j 0) s = after_set v.next top t head (omega arith) from m (get_or v.heads j 0) s
+      let from : (i : ℕ) → top ≤ i → i < length v.next → top ≤ get_or v.next i 0 =
+      λ i le less. omega (arith, le, h.next_from i le (omega (arith, less, h.long))) in
+      let kept : IsAfter next' m (get_or v.heads j 0) s =
+      after_set v.next top t head (omega arith) from m (get_or v.heads j 0) s
       (h.heads_from j (chain_small (length v.heads) y h.some)) at in
       let P : ℕ → Type 0 = λ i. IsOnChain next' (get_or heads' (chain_of i y) 0) s in
       let Q : ℕ → Type 0 = λ a. IsOnChain next' a s in
       let R : ℕ → Type 0 = λ b. IsAfter next' m b s in
       subst P (sym (length-set v.heads k t)) (elim (cases_eq j k) [
-        | inl same ↦ subst Q (sym (ap (λ i. get_or heads' i 0) same ∙ get_or-set_same v.heads k t 0 within)) (
-          suc m,
-          (
-            omega (arith, h.long, lt, length-set v.next t head),
-            subst R (ap (λ i. get_or v.heads i 0) same ∙ sym (get_or-set_same v.next t head 0 (omega (arith, h.long, lt)))) kept,
-          ),
-        )
+        | inl same ↦ subst Q (sym (ap (λ i. get_or heads' i 0) same ∙
+            get_or-set_same v.heads k t 0 within)) (
+              suc m,
+              (
+                omega (arith, h.long, lt, length-set v.next t head),
+                subst R (ap (λ i. get_or v.heads i 0) same ∙
+                    sym (get_or-set_same v.next t head 0 (omega (arith, h.long, lt)))) kept,
+              ),
+            )
         | inr other ↦ subst Q (sym (get_or-set_other v.heads k j t 0 other)) (m, kept)
       ])
 
@@ -129,5 +164,6 @@ module _ {top n : ℕ} {v : ChainsValue} (h : AreChains top n v) (t : ℕ) (next
       let P : ℕ → Type 0 = λ i. IsFiled (with_slot v t k) (get_or slots.blocks i 0) i in
       elim (cases_eq s t) [
         | inl same ↦ subst P (sym same) (more_here x)
-        | inr other ↦ more_other k (get_or slots.blocks s 0) s (chain_small (length v.heads) x h.some) (filed s (omega (arith, le, other, next)) one)
+        | inr other ↦ more_other k (get_or slots.blocks s 0) s
+            (chain_small (length v.heads) x h.some) (filed s (omega (arith, le, other, next)) one)
       ]

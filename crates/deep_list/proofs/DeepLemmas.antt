@@ -1,17 +1,27 @@
 -- The slots of a list, after each change.
-use Rattle.std.proofs.Common.{◌≡◌, ℕ, zero, suc, ◌+◌, ◌-◌, ◌*◌, ◌<◌, ◌≤◌, ◌^◌, ◌≢◌, ◌⊎◌, inl, inr, Bool, true, false, cond, Some, None, Option, List, [], ◌∷◌, length, take, drop}
-use Rattle.std.proofs.Common.{get_or, set, sum, refl, sym, ◌∙◌, ap, subst, arith, length-set, get_or-set_same, get_or-set_other}
+use Rattle.std.proofs.Common.{◌≡◌, ℕ, zero, suc, ◌+◌, ◌-◌, ◌*◌, ◌<◌, ◌≤◌, ◌^◌, ◌≢◌, ◌⊎◌, inl, inr}
+use Rattle.std.proofs.Common.{Bool, true, false, cond, Some, None, Option, List, [], ◌∷◌, length}
+use Rattle.std.proofs.Common.{take, drop, get_or, set, sum, refl, sym, ◌∙◌, ap, subst, arith}
+use Rattle.std.proofs.Common.{length-set, get_or-set_same, get_or-set_other}
 use Rattle.std.specs.Prelude.{replicate}
 use Rattle.std.specs.List.{remove}
 use Rattle.std.proofs.lemmas.Bool.{cases_eq, cases_lt, false≢true}
-use Rattle.std.proofs.lemmas.List.{take_all, length-take-le, get_or_past, nil_from_length, length-replicate}
+use Rattle.std.proofs.lemmas.List.{take_all, length-take-le, get_or_past, nil_from_length}
+use Rattle.std.proofs.lemmas.List.{length-replicate}
 use Rattle.std.proofs.lemmas.List.Sums.{sum_by-set, sum_by_more, sum_by-take-le}
-use Rattle.deep_list.specs.Slots.{SlotsValue, AreFlags, kept, slots_with_block, slots_without, IsAt, NoneHas}
-use Rattle.deep_list.specs.Chains.{ChainsValue, AreChains, AreFiled, AreFiledFrom, IsFiled, chain_of, with_slot}
-use Rattle.deep_list.specs.Deep.{Deep, index_of_block, has_block, place_of, IsOnce, IsRanked, IsDeep, IsGathering, IsGathered}
-use Rattle.deep_list.proofs.ChainLemmas.{chain_small, chains_more, filed_more, same_all, same_most, zeros}
+use Rattle.deep_list.specs.Slots.{SlotsValue, AreFlags, kept, slots_with_block, slots_without, IsAt}
+use Rattle.deep_list.specs.Slots.{NoneHas}
+use Rattle.deep_list.specs.Chains.{ChainsValue, AreChains, AreFiled, AreFiledFrom, IsFiled}
+use Rattle.deep_list.specs.Chains.{chain_of, with_slot}
+use Rattle.deep_list.specs.Deep.{Deep, index_of_block, has_block, place_of, IsOnce, IsRanked}
+use Rattle.deep_list.specs.Deep.{IsDeep, IsGathering, IsGathered}
+use Rattle.deep_list.proofs.ChainLemmas.{chain_small, chains_more, filed_more, same_all, same_most}
+use Rattle.deep_list.proofs.ChainLemmas.{zeros}
 use Rattle.deep_list.proofs.SlotLemmas.{sum_take-set_above, flags_set, flags_sum}
-use Rattle.deep_list.proofs.KeptLemmas.{kept-vacate, kept-fill, kept-move, kept-dead, length-kept, sum-dead, is_in-kept, absent-kept, index-kept, sum-some, remove-last, remove-end, once-take, once-remove, index-absent}
+use Rattle.deep_list.proofs.KeptLemmas.{kept-vacate, kept-fill, kept-move, kept-dead, length-kept}
+use Rattle.deep_list.proofs.KeptLemmas.{sum-dead, is_in-kept, absent-kept, index-kept, sum-some}
+use Rattle.deep_list.proofs.KeptLemmas.{remove-last, remove-end, once-take, once-remove}
+use Rattle.deep_list.proofs.KeptLemmas.{index-absent}
 
 zero_set : (xs : List ℕ) (s k : ℕ) → get_or xs k 0 ≡ 0 → get_or (set xs s 0) k 0 ≡ 0
 zero_set [] s k h = h
@@ -28,21 +38,29 @@ one_set (x ∷ xs) (suc s) zero h = h
 one_set (x ∷ xs) (suc s) (suc k) h = one_set xs s k h
 
 pub live_within : (xs : List ℕ) (s : ℕ) → get_or xs s 0 ≡ 1 → s < length xs
-live_within xs s one = elim (cases_lt s (length xs)) [ inl lt ↦ lt | inr le ↦ absurd (omega (arith, get_or_past xs s 0 le, one)) ]
+live_within xs s one = elim (cases_lt s (length xs)) [
+  | inl lt ↦ lt
+  | inr le ↦
+      absurd (omega (arith, get_or_past xs s 0 le, one))
+]
 
 dead_flag : (xs : List ℕ) (s : ℕ) → AreFlags xs → (get_or xs s 0 ≡ 1 → ⊥) → get_or xs s 0 ≡ 0
 dead_flag xs s flags ne = let le : get_or xs s 0 ≤ 1 = flags s in omega arith
 
 -- where a block stands
-pub place_found : (x i : ℕ) (xs : List ℕ) → has_block x xs ≡ true → index_of_block x xs ≡ i → Some i ≡ place_of x xs
-place_found x i xs inside at = ap (λ j. Some j) (sym at) ∙ sym (ap (λ b. cond b (Some (index_of_block x xs)) None) inside)
+pub place_found : (x i : ℕ) (xs : List ℕ) → has_block x xs ≡ true → index_of_block x xs ≡ i →
+    Some i ≡ place_of x xs
+place_found x i xs inside at = ap (λ j. Some j) (sym at) ∙
+    sym (ap (λ b. cond b (Some (index_of_block x xs)) None) inside)
 
 pub place_none : (x : ℕ) (xs : List ℕ) → has_block x xs ≡ false → None ≡ place_of x xs
 place_none x xs absent = sym (ap (λ b. cond b (Some (index_of_block x xs)) None) absent)
 
-module _ {top end : ℕ} {slots : SlotsValue} {chains : ChainsValue} (r : IsRanked top end slots chains) where
+module _ {top end : ℕ} {slots : SlotsValue} {chains : ChainsValue}
+    (r : IsRanked top end slots chains) where
   -- a slot vacated
-  pub vacated_ranked : (s end' : ℕ) → top ≤ end' → end' ≤ end → ((k : ℕ) → end' ≤ k → get_or (set slots.live s 0) k 0 ≡ 0)
+  pub vacated_ranked : (s end' : ℕ) → top ≤ end' → end' ≤ end →
+      ((k : ℕ) → end' ≤ k → get_or (set slots.live s 0) k 0 ≡ 0)
       → IsRanked top end' (slots_without slots s) chains
   vacated_ranked s end' order less behind = record {
     same = r.same ∙ sym (length-set slots.live s 0);
@@ -52,30 +70,46 @@ module _ {top end : ℕ} {slots : SlotsValue} {chains : ChainsValue} (r : IsRank
     within = omega (arith, less, r.within, length-set slots.live s 0);
     before = λ k lt. zero_set slots.live s k (r.before k lt);
     behind = behind;
-    chains_are = let P : ℕ → Type 0 = λ n. AreChains top n chains in subst P (sym (length-set slots.live s 0)) r.chains_are;
+    chains_are = let P : ℕ → Type 0 = λ n. AreChains top n chains in
+        subst P (sym (length-set slots.live s 0)) r.chains_are;
     filed = λ k one. r.filed k (one_set slots.live s k one);
   }
 
   pub vacated_any : (s : ℕ) → IsRanked top end (slots_without slots s) chains
-  vacated_any s = vacated_ranked s end r.order (omega arith) (λ k le. zero_set slots.live s k (r.behind k le))
+  vacated_any s = vacated_ranked s end r.order (omega arith) (λ k le. zero_set slots.live s k
+      (r.behind k le))
 
-  pub behind_last : (s : ℕ) → ((k : ℕ) → s < k → k < end → get_or slots.live k 0 ≡ 1 → ⊥) → (k : ℕ) → s < k → get_or slots.live k 0 ≡ 0
+  pub behind_last : (s : ℕ) → ((k : ℕ) → s < k → k < end → get_or slots.live k 0 ≡ 1 → ⊥) →
+      (k : ℕ) → s < k → get_or slots.live k 0 ≡ 0
   behind_last s none k past =
-      elim (cases_lt k end) [ inl inside ↦ dead_flag slots.live k r.flags (none k past inside) | inr le ↦ r.behind k le ]
+      elim (cases_lt k end) [
+        | inl inside ↦ dead_flag slots.live k r.flags (none k past inside)
+        | inr le ↦ r.behind k le
+      ]
 
-  pub vacated_last : (s : ℕ) → get_or slots.live s 0 ≡ 1 → s < end → ((k : ℕ) → s < k → k < end → get_or slots.live k 0 ≡ 1 → ⊥)
+  pub vacated_last : (s : ℕ) → get_or slots.live s 0 ≡ 1 → s < end →
+      ((k : ℕ) → s < k → k < end → get_or slots.live k 0 ≡ 1 → ⊥)
       → IsRanked top s (slots_without slots s) chains
   vacated_last s one lt none =
       vacated_ranked s s
-      (elim (cases_lt s top) [ inl before ↦ absurd (omega (arith, r.before s before, one)) | inr le ↦ le ])
+      (elim (cases_lt s top) [
+        | inl before ↦ absurd (omega (arith, r.before s before, one))
+        | inr le ↦ le
+      ])
       (omega arith)
       (λ k le. elim (cases_eq k s) [
-        | inl same ↦ ap (λ j. get_or (set slots.live s 0) j 0) same ∙ get_or-set_same slots.live s 0 0 (live_within slots.live s one)
+        | inl same ↦ ap (λ j. get_or (set slots.live s 0) j 0) same ∙
+            get_or-set_same slots.live s 0 0 (live_within slots.live s one)
         | inr other ↦ zero_set slots.live s k (behind_last s none k (omega (arith, le, other)))
       ])
 
   vacated_sum : (s : ℕ) → get_or slots.live s 0 ≡ 1 → sum (set slots.live s 0) + 1 ≡ sum slots.live
-  vacated_sum s one = omega (arith, sum_by-set (λ x. x) slots.live s 0 0 (live_within slots.live s one), one)
+  vacated_sum s one = omega (
+    arith,
+    sum_by-set (λ x. x) slots.live s 0 0
+        (live_within slots.live s one),
+    one,
+  )
 
   -- block x in the slot before all live ones
   module _ (x t : ℕ) (next : t + 1 ≡ top) where
@@ -85,7 +119,8 @@ module _ {top end : ℕ} {slots : SlotsValue} {chains : ChainsValue} (r : IsRank
     lt : t < length slots.live
     lt = omega (arith, r.order, r.within)
 
-    pub filled_kept : kept (set slots.blocks t x) (set slots.live t 1) ≡ x ∷ kept slots.blocks slots.live
+    pub filled_kept : kept (set slots.blocks t x) (set slots.live t 1) ≡ x ∷ kept
+        slots.blocks slots.live
     filled_kept = kept-fill slots.blocks slots.live t x r.same lt free
 
     pub filled_sum : sum (set slots.live t 1) ≡ sum slots.live + 1
@@ -95,14 +130,20 @@ module _ {top end : ℕ} {slots : SlotsValue} {chains : ChainsValue} (r : IsRank
     filled_filed s le one =
         let other : (s ≡ t → ⊥) = λ same. omega (arith, le, same, next) in
         let P : ℕ → Type 0 = λ y. IsFiled chains y s in
-        subst P (sym (get_or-set_other slots.blocks t s x 0 other)) (r.filed s (sym (get_or-set_other slots.live t s 1 0 other) ∙ one))
+        subst P (sym (get_or-set_other slots.blocks t s x 0 other))
+        (r.filed s (sym (get_or-set_other slots.live t s 1 0 other) ∙ one))
 
-    pub filled_ranked : IsRanked t end (slots_with_block slots t x) (with_slot chains t (chain_of (length chains.heads) x))
+    pub filled_ranked : IsRanked t end (slots_with_block slots t x)
+        (with_slot chains t (chain_of (length chains.heads) x))
     filled_ranked =
-        let here : get_or (set slots.blocks t x) t 0 ≡ x = get_or-set_same slots.blocks t x 0 (omega (arith, lt, r.same)) in
-        let Q : ℕ → Type 0 = λ y. AreFiledFrom t (with_slot chains t (chain_of (length chains.heads) y)) (slots_with_block slots t x) in
-        let from = subst Q here (filed_more r.chains_are t next lt (slots_with_block slots t x) filled_filed) in
-        let P : ℕ → Type 0 = λ n. AreChains t n (with_slot chains t (chain_of (length chains.heads) x)) in
+        let here : get_or (set slots.blocks t x) t 0 ≡ x =
+        get_or-set_same slots.blocks t x 0 (omega (arith, lt, r.same)) in
+        let Q : ℕ → Type 0 = λ y. AreFiledFrom t
+        (with_slot chains t (chain_of (length chains.heads) y)) (slots_with_block slots t x) in
+        let from = subst Q here (filed_more r.chains_are t next lt (slots_with_block slots t x)
+        filled_filed) in
+        let P : ℕ → Type 0 = λ n. AreChains t n
+        (with_slot chains t (chain_of (length chains.heads) x)) in
         record {
           same = length-set slots.blocks t x ∙ r.same ∙ sym (length-set slots.live t 1);
           small = omega (arith, r.small, length-set slots.live t 1);
@@ -110,17 +151,25 @@ module _ {top end : ℕ} {slots : SlotsValue} {chains : ChainsValue} (r : IsRank
           order = omega (arith, r.order);
           within = omega (arith, r.within, length-set slots.live t 1);
           before = λ k lt. get_or-set_other slots.live t k 1 0 (omega arith) ∙ free k (omega arith);
-          behind = λ k le. get_or-set_other slots.live t k 1 0 (omega (arith, r.order)) ∙ r.behind k le;
-          chains_are = subst P (sym (length-set slots.live t 1)) (chains_more r.chains_are t next lt (chain_of (length chains.heads) x)
+          behind = λ k le. get_or-set_other slots.live t k 1 0 (omega (arith, r.order)) ∙
+              r.behind k le;
+          chains_are = subst P (sym (length-set slots.live t 1)) (chains_more r.chains_are t next lt
+              (chain_of (length chains.heads) x)
               (chain_small (length chains.heads) x r.chains_are.some));
           filed = λ s one. elim (cases_lt s t) [
-            | inl past ↦ absurd (omega (arith, get_or-set_other slots.live t s 1 0 (omega arith), free s (omega arith), one))
+            | inl past ↦ absurd (omega (
+              arith,
+              get_or-set_other slots.live t s 1 0 (omega arith),
+              free s (omega arith),
+              one,
+            ))
             | inr le ↦ from s le one
           ];
         }
 
 -- the moves to the end
-pub gathering_none : (v : SlotsValue) → length v.blocks ≡ length v.live → AreFlags v.live → IsGathering (length v.live) (length v.live) v v
+pub gathering_none : (v : SlotsValue) → length v.blocks ≡ length v.live → AreFlags v.live →
+    IsGathering (length v.live) (length v.live) v v
 gathering_none v same flags = record {
   same = same;
   long = refl;
@@ -132,9 +181,11 @@ gathering_none v same flags = record {
   left = ap (λ xs. length v.live + sum xs) (take_all (length v.live) v.live (omega arith));
 }
 
-module _ {from to : ℕ} {v w : SlotsValue} (g : IsGathering from to v w) (f : ℕ) (next : f + 1 ≡ from) where
+module _ {from to : ℕ} {v w : SlotsValue} (g : IsGathering from to v w) (f : ℕ)
+    (next : f + 1 ≡ from) where
   one_more : sum (take from w.live) ≡ sum (take f w.live) + get_or w.live f 0
-  one_more = ap (λ j. sum (take j w.live)) (sym next) ∙ sum_by_more (λ x. x) w.live f 0 (omega (arith, g.order, g.within))
+  one_more = ap (λ j. sum (take j w.live)) (sym next) ∙ sum_by_more (λ x. x) w.live f 0
+      (omega (arith, g.order, g.within))
 
   pub gathering_past : (get_or w.live f 0 ≡ 1 → ⊥) → IsGathering f to v w
   gathering_past ne =
@@ -145,25 +196,35 @@ module _ {from to : ℕ} {v w : SlotsValue} (g : IsGathering from to v w) (f : �
         flags = g.flags;
         order = omega (arith, g.order);
         within = g.within;
-        dead = λ s le lt. elim (cases_eq s f) [ inl same ↦ ap (λ j. get_or w.live j 0) same ∙ none | inr other ↦ g.dead s (omega arith) lt ];
+        dead = λ s le lt. elim (cases_eq s f) [
+          | inl same ↦ ap (λ j. get_or w.live j 0) same ∙ none
+          | inr other ↦ g.dead s (omega arith) lt
+        ];
         kept_same = g.kept_same;
         left = omega (arith, g.left, one_more, none);
       }
 
-  pub gathering_moved : (u : ℕ) → u + 1 ≡ to → get_or w.live f 0 ≡ 1 → IsGathering f u v (slots_with_block (slots_without w f) u (get_or w.blocks f 0))
+  pub gathering_moved : (u : ℕ) → u + 1 ≡ to → get_or w.live f 0 ≡ 1 →
+      IsGathering f u v (slots_with_block (slots_without w f) u (get_or w.blocks f 0))
   gathering_moved u last one =
-      let long : length (set (set w.live f 0) u 1) ≡ length w.live = length-set (set w.live f 0) u 1 ∙ length-set w.live f 0 in
+      let long : length (set (set w.live f 0) u 1) ≡ length w.live =
+      length-set (set w.live f 0) u 1 ∙ length-set w.live f 0 in
       record {
         same = length-set w.blocks u (get_or w.blocks f 0) ∙ g.same ∙ sym long;
         long = long ∙ g.long;
-        flags = flags_set (set w.live f 0) u 1 (omega arith) (flags_set w.live f 0 (omega arith) g.flags);
+        flags = flags_set (set w.live f 0) u 1 (omega arith)
+            (flags_set w.live f 0 (omega arith) g.flags);
         order = omega (arith, g.order);
         within = omega (arith, g.within, long);
-        dead = λ s le lt. get_or-set_other (set w.live f 0) u s 1 0 (omega arith) ∙ elim (cases_eq s f) [
-          | inl same ↦ ap (λ j. get_or (set w.live f 0) j 0) same ∙ get_or-set_same w.live f 0 0 (live_within w.live f one)
-          | inr other ↦ get_or-set_other w.live f s 0 0 other ∙ g.dead s (omega arith) (omega arith)
-        ];
-        kept_same = kept-move w.blocks w.live f u g.same one (omega (arith, g.order)) (omega (arith, g.within))
+        dead = λ s le lt. get_or-set_other (set w.live f 0) u s 1 0 (omega arith) ∙
+            elim (cases_eq s f) [
+              | inl same ↦ ap (λ j. get_or (set w.live f 0) j 0) same ∙ get_or-set_same w.live f 0 0
+                  (live_within w.live f one)
+              | inr other ↦ get_or-set_other w.live f s 0 0 other ∙ g.dead s (omega arith)
+                  (omega arith)
+            ];
+        kept_same = kept-move w.blocks w.live f u g.same one (omega (arith, g.order))
+            (omega (arith, g.within))
             (λ k past le. g.dead k (omega arith) (omega arith)) ∙ g.kept_same;
         left = omega (
           arith,
@@ -176,7 +237,8 @@ module _ {from to : ℕ} {v w : SlotsValue} (g : IsGathering from to v w) (f : �
         );
       }
 
-pub gathered : {from to : ℕ} {v w : SlotsValue} → IsGathering from to v w → from ≡ 0 → IsGathered to v w
+pub gathered : {from to : ℕ} {v w : SlotsValue} → IsGathering from to v w → from ≡ 0 →
+    IsGathered to v w
 gathered {from} {to} {v} {w} g none = record {
   same = g.same;
   long = g.long;
@@ -186,8 +248,10 @@ gathered {from} {to} {v} {w} g none = record {
   top_is = omega (arith, g.left, ap (λ j. sum (take j w.live)) none);
 }
 
-pub gathered_ranked : {top : ℕ} {v w : SlotsValue} (chains : ChainsValue) → IsGathered top v w → length w.live ≤ 2 ^ 24
-    → AreChains top (length w.live) chains → AreFiled chains w → IsRanked top (length w.live) w chains
+pub gathered_ranked : {top : ℕ} {v w : SlotsValue} (chains : ChainsValue) → IsGathered top v w →
+    length w.live ≤ 2 ^ 24
+    → AreChains top (length w.live) chains → AreFiled chains w →
+    IsRanked top (length w.live) w chains
 gathered_ranked {top} {v} {w} chains g small are filed = record {
   same = g.same;
   small = small;
@@ -201,7 +265,8 @@ gathered_ranked {top} {v} {w} chains g small are filed = record {
 }
 
 -- no live slot
-module _ (cap n : ℕ) (slots : SlotsValue) (long : length slots.blocks ≡ n) (none : slots.live ≡ replicate n 0) where
+module _ (cap n : ℕ) (slots : SlotsValue) (long : length slots.blocks ≡ n)
+    (none : slots.live ≡ replicate n 0) where
   dead : (k : ℕ) → get_or slots.live k 0 ≡ 0
   dead k = ap (λ xs. get_or xs k 0) none ∙ zeros n k
 
@@ -211,7 +276,8 @@ module _ (cap n : ℕ) (slots : SlotsValue) (long : length slots.blocks ≡ n) (
   pub none_kept : kept slots.blocks slots.live ≡ []
   none_kept = kept-dead slots.blocks slots.live dead
 
-  pub none_deep : (chains : ChainsValue) → 1 ≤ cap → cap < n → n ≤ 2 ^ 24 → AreChains n n chains → IsDeep cap 0 n n slots chains
+  pub none_deep : (chains : ChainsValue) → 1 ≤ cap → cap < n → n ≤ 2 ^ 24 → AreChains n n chains →
+      IsDeep cap 0 n n slots chains
   none_deep chains some room small are = record {
     some = some;
     room = omega (arith, size, room);
@@ -231,18 +297,24 @@ module _ (cap n : ℕ) (slots : SlotsValue) (long : length slots.blocks ≡ n) (
     };
   }
 
-pub chains_none : (n count : ℕ) (v : ChainsValue) → 1 ≤ count → count ≤ 2 ^ 24 → v.heads ≡ replicate count n → v.next ≡ replicate n 0 → AreChains n n v
+pub chains_none : (n count : ℕ) (v : ChainsValue) → 1 ≤ count → count ≤ 2 ^ 24 →
+    v.heads ≡ replicate count n → v.next ≡ replicate n 0 → AreChains n n v
 chains_none n count v one few heads next = record {
   some = omega (arith, ap length heads, length-replicate {A = ℕ} count n, one);
   few = omega (arith, ap length heads, length-replicate {A = ℕ} count n, few);
   long = ap length next ∙ length-replicate {A = ℕ} n 0;
-  heads_from = λ k lt. omega (arith, ap (λ xs. get_or xs k 0) heads, same_all count n k (omega (arith, lt, ap length heads, length-replicate {A = ℕ} count n)));
+  heads_from = λ k lt. omega (
+    arith,
+    ap (λ xs. get_or xs k 0) heads,
+    same_all count n k (omega (arith, lt, ap length heads, length-replicate {A = ℕ} count n)),
+  );
   heads_within = λ k. omega (arith, ap (λ xs. get_or xs k 0) heads, same_most count n k);
   next_from = λ s le lt. absurd (omega arith);
   next_within = λ s. omega (arith, ap (λ xs. get_or xs s 0) next, zeros n s);
 }
 
-module _ {cap held top end : ℕ} {slots : SlotsValue} {chains : ChainsValue} (d : IsDeep cap held top end slots chains) where
+module _ {cap held top end : ℕ} {slots : SlotsValue} {chains : ChainsValue}
+    (d : IsDeep cap held top end slots chains) where
   pub held_length : held ≡ length (kept slots.blocks slots.live)
   held_length = d.held_is ∙ sym (length-kept slots.blocks slots.live d.ranked.same d.ranked.flags)
 
@@ -251,10 +323,12 @@ module _ {cap held top end : ℕ} {slots : SlotsValue} {chains : ChainsValue} (d
 
   -- a live slot vacated
   module _ (s : ℕ) (one : get_or slots.live s 0 ≡ 1) where
-    pub vacated_kept : kept slots.blocks (set slots.live s 0) ≡ remove (kept slots.blocks slots.live) (sum (take s slots.live))
+    pub vacated_kept : kept slots.blocks (set slots.live s 0) ≡ remove
+        (kept slots.blocks slots.live) (sum (take s slots.live))
     vacated_kept = kept-vacate slots.blocks slots.live s d.ranked.same d.ranked.flags one
 
-    pub vacated_deep : (end' : ℕ) (w : SlotsValue) → w ≡ slots_without slots s → IsRanked top end' (slots_without slots s) chains
+    pub vacated_deep : (end' : ℕ) (w : SlotsValue) → w ≡ slots_without slots s →
+        IsRanked top end' (slots_without slots s) chains
         → IsDeep cap (held - 1) top end' w chains
     vacated_deep end' w is ranked =
         let sums = vacated_sum d.ranked s one in
@@ -265,7 +339,8 @@ module _ {cap held top end : ℕ} {slots : SlotsValue} {chains : ChainsValue} (d
           at_most = omega (arith, d.at_most);
           held_is = omega (arith, d.held_is, sums);
           once = let Q : List ℕ → Type 0 = IsOnce in
-              subst Q (sym vacated_kept) (once-remove (sum (take s slots.live)) (kept slots.blocks slots.live) d.once);
+              subst Q (sym vacated_kept) (once-remove (sum (take s slots.live))
+              (kept slots.blocks slots.live) d.once);
           ranked = ranked;
         })
 
@@ -275,45 +350,70 @@ module _ {cap held top end : ℕ} {slots : SlotsValue} {chains : ChainsValue} (d
     found_inside = is_in-kept x slots.blocks slots.live s d.ranked.same at.live at.block
 
     pub found_index : index_of_block x (kept slots.blocks slots.live) ≡ sum (take s slots.live)
-    found_index = index-kept x slots.blocks slots.live s d.ranked.same d.ranked.flags d.once at.live at.block
+    found_index = index-kept x slots.blocks slots.live s d.ranked.same d.ranked.flags d.once
+        at.live at.block
 
   pub not_found : (x : ℕ) → NoneHas slots x → has_block x (kept slots.blocks slots.live) ≡ false
   not_found x none =
-      absent-kept x slots.blocks slots.live d.ranked.flags (λ s lt live is. none s lt (record { live = live; block = is }))
+      absent-kept x slots.blocks slots.live d.ranked.flags
+      (λ s lt live is. none s lt (record { live = live; block = is }))
 
   -- the last live slot
-  module _ (s : ℕ) (one : get_or slots.live s 0 ≡ 1) (past : (k : ℕ) → s < k → k < end → get_or slots.live k 0 ≡ 1 → ⊥) where
-    pub last_kept : kept slots.blocks (set slots.live s 0) ≡ take (length (kept slots.blocks slots.live) - 1) (kept slots.blocks slots.live)
+  module _ (s : ℕ) (one : get_or slots.live s 0 ≡ 1) (past : (k : ℕ) → s < k → k < end →
+      get_or slots.live k 0 ≡ 1 → ⊥) where
+    pub last_kept : kept slots.blocks (set slots.live s 0) ≡ take
+        (length (kept slots.blocks slots.live) - 1) (kept slots.blocks slots.live)
     last_kept =
         let sums : sum slots.live ≡ sum (take s slots.live) + 1 =
         sum-some slots.live s (live_within slots.live s one) one (behind_last d.ranked s past) in
-        let index : suc (sum (take s slots.live)) ≡ length (kept slots.blocks slots.live) = omega (arith, held_length, d.held_is, sums) in
-        vacated_kept s one ∙ remove-last (kept slots.blocks slots.live) (sum (take s slots.live)) index
+        let index : suc (sum (take s slots.live)) ≡ length (kept slots.blocks slots.live) =
+        omega (arith, held_length, d.held_is, sums) in
+        vacated_kept s one ∙ remove-last (kept slots.blocks slots.live)
+        (sum (take s slots.live)) index
         ∙ ap (λ n. take n (kept slots.blocks slots.live)) (omega (arith, index))
 
-  pub some_live : ((k : ℕ) → k < end → get_or slots.live k 0 ≡ 1 → ⊥) → kept slots.blocks slots.live ≡ []
+  pub some_live : ((k : ℕ) → k < end → get_or slots.live k 0 ≡ 1 → ⊥) →
+      kept slots.blocks slots.live ≡ []
   some_live none =
       kept-dead slots.blocks slots.live
-      (λ k. elim (cases_lt k end) [ inl inside ↦ dead_flag slots.live k d.ranked.flags (none k inside) | inr le ↦ d.ranked.behind k le ])
+      (λ k. elim (cases_lt k end) [
+        | inl inside ↦ dead_flag slots.live k d.ranked.flags
+            (none k inside)
+        | inr le ↦ d.ranked.behind k le
+      ])
 
-pub without_absent : (x : ℕ) (xs : List ℕ) → has_block x xs ≡ false → remove xs (index_of_block x xs) ≡ xs
+pub without_absent : (x : ℕ) (xs : List ℕ) → has_block x xs ≡ false →
+    remove xs (index_of_block x xs) ≡ xs
 without_absent x xs absent = remove-end xs (index_of_block x xs) (index-absent x xs absent)
 
 -- a list of which one slot more is live, that before all live ones
-pub filled_deep : {cap held top0 end0 top end : ℕ} {slots0 slots : SlotsValue} {chains0 chains : ChainsValue}
-    → IsDeep cap held top0 end0 slots0 chains0 → IsRanked top end slots chains → kept slots.blocks slots.live ≡ kept slots0.blocks slots0.live
-    → length slots.live ≡ length slots0.live → (x t : ℕ) → t + 1 ≡ top → has_block x (kept slots0.blocks slots0.live) ≡ false
-    → length (kept slots0.blocks slots0.live) < cap → (w : SlotsValue) (chains' : ChainsValue) → w ≡ slots_with_block slots t x
+pub filled_deep : {cap held top0 end0 top end : ℕ} {slots0 slots : SlotsValue}
+    {chains0 chains : ChainsValue}
+    → IsDeep cap held top0 end0 slots0 chains0 → IsRanked top end slots chains →
+    kept slots.blocks slots.live ≡ kept slots0.blocks slots0.live
+    → length slots.live ≡ length slots0.live → (x t : ℕ) → t + 1 ≡ top →
+    has_block x (kept slots0.blocks slots0.live) ≡ false
+    → length (kept slots0.blocks slots0.live) < cap → (w : SlotsValue) (chains' : ChainsValue) →
+    w ≡ slots_with_block slots t x
     → IsRanked t end (slots_with_block slots t x) chains' → IsDeep cap (held + 1) t end w chains'
-filled_deep {cap} {held} {top0} {end0} {top} {end} {slots0} {slots} d r same long x t next absent short w chains' is ranked =
+filled_deep {cap} {held} {top0} {end0} {top} {end} {slots0} {slots} d r same long x t next absent
+    short w chains' is ranked =
     let P : SlotsValue → Type 0 = λ v. IsDeep cap (held + 1) t end v chains' in
     let Q : List ℕ → Type 0 = IsOnce in
-    let once : IsOnce (x ∷ kept slots.blocks slots.live) = (ap (has_block x) same ∙ absent, subst Q (sym same) d.once) in
+    let once : IsOnce (x ∷ kept slots.blocks slots.live) =
+    (ap (has_block x) same ∙ absent, subst Q (sym same) d.once) in
     subst P (sym is) (record {
       some = d.some;
       room = omega (arith, d.room, long, length-set slots.live t 1);
       at_most = omega (arith, held_length d, short);
-      held_is = omega (arith, held_length d, ap length same, length-kept slots.blocks slots.live r.same r.flags, filled_sum r x t next);
+      held_is = omega (
+        arith,
+        held_length d,
+        ap length same,
+        length-kept slots.blocks slots.live
+            r.same r.flags,
+        filled_sum r x t next,
+      );
       once = subst Q (sym (filled_kept r x t next)) once;
       ranked = ranked;
     })
@@ -330,7 +430,8 @@ pub record IsHeld (cap held : ℕ) (v : Deep) : Type 0 where
   pub at_most : held ≤ cap
   pub length_is : length v.blocks ≡ held
 
-pub held_is : {cap held top end : ℕ} {slots : SlotsValue} {chains : ChainsValue} (v : Deep) → IsDeep cap held top end slots chains
+pub held_is : {cap held top end : ℕ} {slots : SlotsValue} {chains : ChainsValue} (v : Deep) →
+    IsDeep cap held top end slots chains
     → record { cap = cap; blocks = kept slots.blocks slots.live } ≡ v → IsHeld cap held v
 held_is v d is = record {
   cap_is = ap (λ w. w.cap) is;
@@ -351,11 +452,21 @@ module _ {cap held : ℕ} {v : Deep} (h : IsHeld cap held v) where
 
   pub full_room : (w : Deep) → held ≡ cap → w ≡ cut (length v.blocks - 1) → length w.blocks < w.cap
   full_room w full is =
-      omega (arith, ap (λ u. length u.blocks) is, ap (λ u. u.cap) is, length-take-le (length v.blocks - 1) v.blocks (omega arith), h.length_is, h.some, full, h.cap_is)
+      omega (
+        arith,
+        ap (λ u. length u.blocks) is,
+        ap (λ u. u.cap) is,
+        length-take-le (length v.blocks - 1) v.blocks (omega arith),
+        h.length_is,
+        h.some,
+        full,
+        h.cap_is,
+      )
 
   pub short_cut : (held ≡ cap → ⊥) → v ≡ cut (v.cap - 1)
   short_cut short =
-      let whole : take (v.cap - 1) v.blocks ≡ v.blocks = take_all (v.cap - 1) v.blocks (omega (arith, h.length_is, h.at_most, h.cap_is, short)) in
+      let whole : take (v.cap - 1) v.blocks ≡ v.blocks =
+      take_all (v.cap - 1) v.blocks (omega (arith, h.length_is, h.at_most, h.cap_is, short)) in
       let made : List ℕ → Deep = λ xs. record { cap = v.cap; blocks = xs } in
       ap made (sym whole)
 

@@ -1,8 +1,10 @@
 -- Chains of slots, by which the slot of a block is found.
-use Rattle.std.specs.Prelude.{ℕ, zero, suc, ◌≡◌, ◌≤◌, ◌<◌, ◌*◌, ◌/◌, ◌%◌, ◌^◌, List, length, replicate, slice_set, slice_index}
+use Rattle.std.specs.Prelude.{ℕ, zero, suc, ◌≡◌, ◌≤◌, ◌<◌, ◌*◌, ◌/◌, ◌%◌, ◌^◌, List, length}
+use Rattle.std.specs.Prelude.{replicate, slice_set, slice_index}
 use Rattle.deep_list.specs.Slots.{SlotsValue}
 
--- the first slot of each chain, and for each slot the one after it on its chain; the number of slots stands for none
+-- the first slot of each chain, and for each slot the one after it on its chain; the number of
+-- slots stands for none
 pub record ChainsValue : Type 0 where
   pub heads : List ℕ
   pub next : List ℕ
@@ -30,11 +32,16 @@ AreFiled v slots = (s : ℕ) → slice_index slots.live s ≡ 1 → IsFiled v (s
 
 -- the live slots from n on are on the chains of their blocks
 abbrev pub AreFiledFrom : ℕ → ChainsValue → SlotsValue → Type 0
-AreFiledFrom n v slots = (s : ℕ) → n ≤ s → slice_index slots.live s ≡ 1 → IsFiled v (slice_index slots.blocks s) s
+AreFiledFrom n v slots = (s : ℕ) → n ≤ s → slice_index slots.live s ≡ 1 →
+    IsFiled v (slice_index slots.blocks s) s
 
 -- with slot s in front of chain k
 abbrev pub with_slot : ChainsValue → ℕ → ℕ → ChainsValue
-with_slot v s k = record { heads = slice_set v.heads k s; next = slice_set v.next s (slice_index v.heads k) }
+with_slot v s k = record {
+  heads = slice_set v.heads k s;
+  next =
+      slice_set v.next s (slice_index v.heads k);
+}
 
 -- with empty chains
 abbrev pub cleared : ChainsValue → ChainsValue

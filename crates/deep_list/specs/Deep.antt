@@ -1,5 +1,7 @@
 -- A list of different blocks, the most recent first, and the slots that it stands in.
-use Rattle.std.specs.Prelude.{ℕ, ◌≡◌, ◌≤◌, ◌<◌, ◌+◌, ◌-◌, ◌==◌, ◌^◌, Bool, true, false, if◌then◌else◌, Option, Some, None, List, [], ◌∷◌, length, take, sum, slice_index}
+use Rattle.std.specs.Prelude.{ℕ, ◌≡◌, ◌≤◌, ◌<◌, ◌+◌, ◌-◌, ◌==◌, ◌^◌, Bool, true, false}
+use Rattle.std.specs.Prelude.{if◌then◌else◌, Option, Some, None, List, [], ◌∷◌, length, take, sum}
+use Rattle.std.specs.Prelude.{slice_index}
 use Rattle.std.specs.List.{list_any, position_or_len, remove}
 use Rattle.deep_list.specs.Slots.{SlotsValue, AreFlags, kept}
 use Rattle.deep_list.specs.Chains.{ChainsValue, AreChains, AreFiled}
@@ -32,7 +34,10 @@ without_block d x = record d { blocks = remove d.blocks (index_of_block x d.bloc
 
 -- with block y in front and without block x, as far as there is room
 abbrev pub list_after_exchange : Deep → ℕ → ℕ → Deep
-list_after_exchange d x y = record d { blocks = take d.cap (y ∷ remove d.blocks (index_of_block x d.blocks)) }
+list_after_exchange d x y = record d {
+  blocks =
+      take d.cap (y ∷ remove d.blocks (index_of_block x d.blocks));
+}
 
 -- slots whose live ones are from top on and before end, and are on the chains of their blocks
 pub record IsRanked (top end : ℕ) (slots : SlotsValue) (chains : ChainsValue) : Type 0 where
@@ -55,7 +60,8 @@ pub record IsDeep (cap held top end : ℕ) (slots : SlotsValue) (chains : Chains
   pub once : IsOnce (kept slots.blocks slots.live)
   pub ranked : IsRanked top end slots chains
 
--- what moves the live slots to the end, when those from `from` on were moved: those before `to` of them are free
+-- what moves the live slots to the end, when those from `from` on were moved: those before `to` of
+-- them are free
 pub record IsGathering (from to : ℕ) (before slots : SlotsValue) : Type 0 where
   pub same : length slots.blocks ≡ length slots.live
   pub long : length slots.live ≡ length before.live

@@ -36,7 +36,11 @@ impl Chains {
     /// Empty chains, for a number of slots.
     pub fn new(alloc: Global, count: usize, slots: usize) -> Result<Chains, AllocError>
         requires { slots ≤ 2 ^ 24 }
-        ensures { IfOk result (λ c. c ≡ record { heads = replicate count slots; next = replicate slots 0 }) }
+        ensures { IfOk result (λ c. c ≡ record {
+          heads = replicate count slots;
+          next =
+              replicate slots 0;
+        }) }
     {
         Ok(Chains {
             heads: vec![in alloc; slots as u32; count]?,

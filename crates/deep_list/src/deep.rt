@@ -1,20 +1,22 @@
 //! A list of different blocks, the most recent first. A block is looked up by a table, and where it
 //! stands is counted by flags and counts (Bennett and Kruskal 1975): both without a walk over the
 //! list.
-ghost use Rattle.std.specs.Prelude.{◌≡◌, ◌+◌, ◌-◌, ◌<◌, ◌≤◌, ◌^◌, ◌≢◌, ℕ, false, [], ◌∷◌, length, sum, take};
-ghost use Rattle.std.specs.Prelude.{IfOk, MatchOption, slice_index};
-ghost use Rattle.deep_list.specs.Slots.{SlotsValue, AreFlags, slots_with_block, slots_without, kept};
+ghost use Rattle.std.specs.Prelude.{◌≡◌, ◌+◌, ◌-◌, ◌<◌, ◌≤◌, ◌^◌, ◌≢◌, ℕ, false, [], ◌∷◌, length};
+ghost use Rattle.std.specs.Prelude.{sum, take, IfOk, MatchOption, slice_index};
+ghost use Rattle.deep_list.specs.Slots.{SlotsValue, AreFlags, slots_with_block, slots_without};
+ghost use Rattle.deep_list.specs.Slots.{kept};
 ghost use Rattle.deep_list.specs.Chains.{AreChains, AreFiled};
-ghost use Rattle.deep_list.specs.Deep.{has_block, place_of, without_block, list_after_exchange, IsRanked, IsGathered};
+ghost use Rattle.deep_list.specs.Deep.{has_block, place_of, without_block, list_after_exchange};
+ghost use Rattle.deep_list.specs.Deep.{IsRanked, IsGathered};
 
 use crate::chains::Chains;
 use crate::slots::{Slots, Span};
 use std::alloc::{AllocError, Global};
 use std::marker::Model;
 
-/// A list of at most `cap` different blocks. The blocks of the live slots are the list. A block that
-/// comes to the front takes the slot before all live ones; when there is none, all are moved to the
-/// end of the slots.
+/// A list of at most `cap` different blocks. The blocks of the live slots are the list. A block
+/// that comes to the front takes the slot before all live ones; when there is none, all are moved
+/// to the end of the slots.
 #[derive(Drop)]
 pub struct DeepList {
     cap: usize,
@@ -36,8 +38,8 @@ impl Model for DeepList {
 }
 
 impl DeepList {
-    /// An empty list. It takes all its memory here: three slots for each two blocks, of 13 bytes each,
-    /// and 4 bytes for each chain, of which there is one for each two blocks.
+    /// An empty list. It takes all its memory here: three slots for each two blocks, of 13 bytes
+    /// each, and 4 bytes for each chain, of which there is one for each two blocks.
     pub fn new(alloc: Global, cap: usize) -> Result<DeepList, AllocError>
         requires some { 1 ≤ cap }
         requires small { cap ≤ 2 ^ 22 }
@@ -94,7 +96,10 @@ impl DeepList {
 
     /// Takes the last block out of the list if it is full.
     fn drop_if_full(&mut self)
-        ensures dropped { self.new ≡ record self.old { blocks = take (self.old.cap - 1) self.old.blocks } }
+        ensures dropped { self.new ≡ record self.old {
+          blocks =
+              take (self.old.cap - 1) self.old.blocks;
+        } }
         ensures room { length self.new.blocks < self.new.cap }
     {
         if self.held == self.cap {
@@ -105,7 +110,10 @@ impl DeepList {
     /// Takes the last block out of the list.
     fn drop_last(&mut self)
         requires { self.old.blocks ≢ [] }
-        ensures { self.new ≡ record self.old { blocks = take (length self.old.blocks - 1) self.old.blocks } }
+        ensures { self.new ≡ record self.old {
+          blocks =
+              take (length self.old.blocks - 1) self.old.blocks;
+        } }
     {
         let Some(slot) = last_live(&self.slots, self.span.end) else {
             unreachable!()
@@ -162,7 +170,8 @@ fn make_room(slots: &mut Slots, chains: &mut Chains, span: Span) -> Span
     requires room { sum slots.old.live < length slots.old.live }
     ensures ranked { IsRanked result.top result.end slots.new chains.new }
     ensures free { 1 ≤ result.top }
-    ensures kept_same { kept slots.new.blocks slots.new.live ≡ kept slots.old.blocks slots.old.live }
+    ensures kept_same { kept slots.new.blocks slots.new.live ≡ kept slots.old.blocks
+        slots.old.live }
     ensures long { length slots.new.live ≡ length slots.old.live }
 {
     if span.top > 0 {
@@ -201,7 +210,8 @@ fn shift(slots: &mut Slots, from: usize, to: usize)
     requires same { length slots.old.blocks ≡ length slots.old.live }
     requires live { slice_index slots.old.live from ≡ 1 }
     requires dead { (s : ℕ) → from < s → s ≤ to → slice_index slots.old.live s ≡ 0 }
-    ensures { slots.new ≡ slots_with_block (slots_without slots.old from) to (slice_index slots.old.blocks from) }
+    ensures { slots.new ≡ slots_with_block (slots_without slots.old from) to
+        (slice_index slots.old.blocks from) }
 {
     let block = slots.block(from);
     slots.vacate(from);

@@ -1,5 +1,5 @@
-//! A list of different blocks, the most recent first, that says where a block stands without a walk over
-//! the list.
+//! A list of different blocks, the most recent first, that says where a block stands without a walk
+//! over the list.
 #![tactic(auto)]
 
 mod chains;

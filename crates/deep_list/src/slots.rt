@@ -1,6 +1,7 @@
 //! Slots for blocks, and how many of the slots before one are live.
-ghost use Rattle.std.specs.Prelude.{◌≡◌, ◌+◌, ◌<◌, ◌≤◌, ◌^◌, ◌*◌, ℕ, length, sum, take, drop, replicate, slice_set};
-ghost use Rattle.std.specs.Prelude.{IfOk, MatchOption, slice_index, nat_eq, IsTrue, ◌↔◌};
+ghost use Rattle.std.specs.Prelude.{◌≡◌, ◌+◌, ◌<◌, ◌≤◌, ◌^◌, ◌*◌, ℕ, length, sum, take, drop};
+ghost use Rattle.std.specs.Prelude.{replicate, slice_set, IfOk, MatchOption, slice_index, nat_eq};
+ghost use Rattle.std.specs.Prelude.{IsTrue, ◌↔◌};
 ghost use Rattle.deep_list.specs.Slots.{SlotsValue, IsAt, NoneHas, slots_with_block, slots_without};
 
 use std::alloc::{AllocError, Global};
@@ -16,8 +17,8 @@ pub struct Span {
     pub end: usize,
 }
 
-/// Slots, each with a block, and with 1 if it is live and else 0; `counts` has for each `CHUNK` slots
-/// how many of them are live.
+/// Slots, each with a block, and with 1 if it is live and else 0; `counts` has for each `CHUNK`
+/// slots how many of them are live.
 #[derive(Drop)]
 pub struct Slots {
     blocks: Vec<u64>,
@@ -39,7 +40,11 @@ impl Slots {
     /// Slots of which none is live.
     pub fn new(alloc: Global, count: usize) -> Result<Slots, AllocError>
         requires { count ≤ 2 ^ 24 }
-        ensures { IfOk result (λ r. r ≡ record { blocks = replicate count 0; live = replicate count 0 }) }
+        ensures { IfOk result (λ r. r ≡ record {
+          blocks = replicate count 0;
+          live =
+              replicate count 0;
+        }) }
     {
         Ok(Slots {
             blocks: vec![in alloc; 0; count]?,
@@ -115,8 +120,8 @@ impl Slots {
         self.counts[slot / CHUNK] -= 1;
     }
 
-    /// The live slot that has a block, by a walk over the slots from one on and before an end, where
-    /// it is, if it is anywhere.
+    /// The live slot that has a block, by a walk over the slots from one on and before an end,
+    /// where it is, if it is anywhere.
     #[inline(never)]
     pub fn search(&self, from: usize, end: usize, block: u64) -> Option<usize>
         requires end { end ≤ length self.now.live }

@@ -57,9 +57,11 @@ abbrev pub verbose_option : Rule
 verbose_option = flag (by_letter (codes "-v") 118)
 
 abbrev pub csim_rules : List Rule
-csim_rules = set_bits_option ∷ lines_option ∷ block_bits_option ∷ lackey_file_option ∷ verbose_option ∷ []
+csim_rules = set_bits_option ∷ lines_option ∷ block_bits_option ∷ lackey_file_option ∷
+    verbose_option ∷ []
 
--- ---- the options of `din` and of `log`: those of the caches and -informat are Dinero IV's, but for the number of sets
+-- ---- the options of `din` and of `log`: those of the caches and -informat are Dinero IV's, but
+-- for the number of sets
 
 abbrev pub informat_option : Rule
 informat_option = optional (by_name (codes "-") (codes "informat"))
@@ -97,7 +99,8 @@ wback_option_of cache = cache_option cache (codes "wback")
 
 -- the seven options of a cache
 abbrev pub cache_rules : CacheName → List Rule
-cache_rules cache = size_option_of cache ∷ sets_option_of cache ∷ bsize_option_of cache ∷ assoc_option_of cache
+cache_rules cache = size_option_of cache ∷ sets_option_of cache ∷ bsize_option_of
+    cache ∷ assoc_option_of cache
     ∷ repl_option_of cache ∷ walloc_option_of cache ∷ wback_option_of cache ∷ []
 
 abbrev pub din_rules : List Rule
@@ -154,7 +157,8 @@ cachesim_top = record (new_shape (codes "cachesim")) {
 abbrev pub cachesim_app : App
 cachesim_app = record {
   top = record cachesim_top { is_leaf = false };
-  subs = leaf (codes "csim") csim_rules ∷ leaf (codes "din") din_rules ∷ leaf (codes "log") din_rules ∷ leaf (codes "sweep") sweep_rules ∷ [];
+  subs = leaf (codes "csim") csim_rules ∷ leaf (codes "din") din_rules ∷ leaf (codes "log")
+      din_rules ∷ leaf (codes "sweep") sweep_rules ∷ [];
 }
 
 -- ---- what the code has of them

@@ -1,5 +1,6 @@
 -- Dinero IV spells the options of its caches with one dash; here they may have one or two.
-use Rattle.std.specs.Prelude.{Bool, false, List, ◌++◌, ◌||◌, map, take, drop, slice_get, nat_eq, codes, if◌then◌else◌}
+use Rattle.std.specs.Prelude.{Bool, false, List, ◌++◌, ◌||◌, map, take, drop, slice_get, nat_eq}
+use Rattle.std.specs.Prelude.{codes, if◌then◌else◌}
 use Rattle.std.specs.List.{starts_with}
 use Rattle.std.specs.Option.{option_map_or}
 use Rattle.std.specs.Str.{bytes_eq}
@@ -24,8 +25,10 @@ is_dinero_command arguments = option_map_or has_dinero_options (slice_get argume
 
 -- an argument after the command's name, as clap gets it
 abbrev pub spelling_of : Bool → Text → Text
-spelling_of is_dinero_command argument = if is_dinero_command then with_two_dashes argument else argument
+spelling_of is_dinero_command argument = if is_dinero_command then with_two_dashes argument
+    else argument
 
 -- the arguments as clap gets them
 abbrev pub respelling_of : List Text → List Text
-respelling_of arguments = take 2 arguments ++ map (spelling_of (is_dinero_command arguments)) (drop 2 arguments)
+respelling_of arguments = take 2 arguments ++ map (spelling_of (is_dinero_command arguments))
+    (drop 2 arguments)

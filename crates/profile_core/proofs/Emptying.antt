@@ -9,7 +9,8 @@ use Rattle.profile_core.specs.internal.Slab.{IsListed}
 
 -- the sets that have a block are those whose fronts may not be 0
 filled_fronts : (listed : Option (List ℕ)) (fronts lens : List ℕ) → length fronts ≡ length lens
-    → ((k : ℕ) → get_or lens k 0 ≡ 0 → get_or fronts k 0 ≡ 0) → IfSome listed (λ sets. ListsFilled sets lens)
+    → ((k : ℕ) → get_or lens k 0 ≡ 0 → get_or fronts k 0 ≡ 0) →
+    IfSome listed (λ sets. ListsFilled sets lens)
     → IfSome listed (λ sets. ListsFilled sets fronts)
 filled_fronts None fronts lens same blank l = tt
 filled_fronts (Some sets) fronts lens same blank l = record {
@@ -17,7 +18,8 @@ filled_fronts (Some sets) fronts lens same blank l = record {
   others = λ k unlisted. blank k (l.others k unlisted);
 }
 
-pub covers_fronts : {n : ℕ} {fronts slab lens : List ℕ} {touched : TouchedValue} → IsListed n fronts slab lens touched → Covers touched fronts
+pub covers_fronts : {n : ℕ} {fronts slab lens : List ℕ} {touched : TouchedValue} →
+    IsListed n fronts slab lens touched → Covers touched fronts
 covers_fronts {n} {fronts} {slab} {lens} {touched} l =
     filled_fronts touched.listed fronts lens l.sound.fronts_len l.sound.blank l.covers
 
@@ -26,8 +28,10 @@ zero_at zero k = refl
 zero_at (suc n) zero = refl
 zero_at (suc n) (suc k) = zero_at n k
 
-pub listed_none : (n m : ℕ) (fronts slab lens : List ℕ) (before touched : TouchedValue) → fronts ≡ replicate m 0 → lens ≡ replicate m 0
-    → length slab ≡ m * n → m * (n + 1) ≤ 2 ^ 22 → touched ≡ no_sets before → IsListed n fronts slab lens touched
+pub listed_none : (n m : ℕ) (fronts slab lens : List ℕ) (before touched : TouchedValue) →
+    fronts ≡ replicate m 0 → lens ≡ replicate m 0
+    → length slab ≡ m * n → m * (n + 1) ≤ 2 ^ 22 → touched ≡ no_sets before →
+    IsListed n fronts slab lens touched
 listed_none n m fronts slab lens before touched blank none long small is =
     let count : length lens ≡ m = ap length none ∙ length-replicate m 0 in
     record {

@@ -1,15 +1,20 @@
--- A profile that was fed a reference whose block is not the front of its set's list: its fields are sound again, and they are those of
+-- A profile that was fed a reference whose block is not the front of its set's list: its fields are
+-- sound again, and they are those of
 -- the state after the reference.
-use Rattle.std.proofs.Common.{◌≡◌, ℕ, zero, suc, ◌+◌, ◌-◌, ◌*◌, ◌<◌, ◌≤◌, false, List, [], ◌∷◌, length, take, get_or, set, sum, refl, sym, ◌∙◌, ap, subst}
-use Rattle.std.proofs.Common.{arith, length-set, length-take}
+use Rattle.std.proofs.Common.{◌≡◌, ℕ, zero, suc, ◌+◌, ◌-◌, ◌*◌, ◌<◌, ◌≤◌, false, List, [], ◌∷◌}
+use Rattle.std.proofs.Common.{length, take, get_or, set, sum, refl, sym, ◌∙◌, ap, subst, arith}
+use Rattle.std.proofs.Common.{length-set, length-take}
 use Rattle.std.proofs.Math.Nat.{suc-mul}
 use Rattle.std.proofs.lemmas.List.{get_or_read}
 use Rattle.cache_core.specs.Geometry.{GeometryValue, set_of_block}
 use Rattle.profile_core.specs.internal.Moves.{is_front, move_to_front}
 use Rattle.profile_core.specs.internal.Slab.{Lists, lists_after_touch}
-use Rattle.profile_core.specs.internal.State.{ProfileState, IsSound, IsNext, list_of, fed_of, after_reference, compared_behind, distances_of, most_references}
-use Rattle.profile_core.proofs.Feeding.{FoundAt, FoundNowhere, behind_front, first-raised, raised_behind, sum-distances, after_fed}
-use Rattle.profile_core.proofs.Feeding.{found_step, nowhere_step}
+use Rattle.profile_core.specs.internal.State.{ProfileState, IsSound, IsNext, list_of, fed_of}
+use Rattle.profile_core.specs.internal.State.{after_reference, compared_behind, distances_of}
+use Rattle.profile_core.specs.internal.State.{most_references}
+use Rattle.profile_core.proofs.Feeding.{FoundAt, FoundNowhere, behind_front, first-raised}
+use Rattle.profile_core.proofs.Feeding.{raised_behind, sum-distances, after_fed, found_step}
+use Rattle.profile_core.proofs.Feeding.{nowhere_step}
 use Rattle.profile_core.proofs.Weighing.{raised_fits, weighed-raised}
 
 -- the value of a profile, by its fields
@@ -23,7 +28,8 @@ state_of g lists behind missed probes = record {
 }
 
 -- a list that is set is as short as the others
-short_set : (ls : List (List ℕ)) (k e : ℕ) (ys : List ℕ) → ((i : ℕ) → length (get_or ls i []) ≤ e) → length ys ≤ e
+short_set : (ls : List (List ℕ)) (k e : ℕ) (ys : List ℕ) → ((i : ℕ) → length (get_or ls i []) ≤ e) →
+    length ys ≤ e
     → (i : ℕ) → length (get_or (set ls k ys) i []) ≤ e
 short_set [] k e ys h le i = h i
 short_set (l ∷ ls) zero e ys h le zero = le
@@ -35,22 +41,29 @@ at_most : (p p' m n d : ℕ) → p ≤ n → p' ≡ p + m → m ≤ d → p' ≤
 at_most p p' m n d h e k = omega arith
 
 -- what is known of a profile's fields before a reference to block x
-module _ {g : GeometryValue} {was : Lists} {behind missed : List ℕ} {probes : ℕ} {v : ProfileState} (h : IsSound g was behind missed probes)
+module _ {g : GeometryValue} {was : Lists} {behind missed : List ℕ} {probes : ℕ} {v : ProfileState}
+    (h : IsSound g was behind missed probes)
     (view_is : state_of g was behind missed probes ≡ v) (x : ℕ) where
   pub one_more : fed_of (after_reference v x) ≡ fed_of v + 1
   one_more =
       let s : ProfileState = state_of g was behind missed probes in
       let k : ℕ = set_of_block g x in
-      let long : length (distances_of probes behind missed) ≡ g.e = length-set behind 0 (probes - compared_behind behind missed) ∙ h.behind_count in
+      let long : length (distances_of probes behind missed) ≡ g.e =
+      length-set behind 0 (probes - compared_behind behind missed) ∙ h.behind_count in
       subst (λ w. fed_of (after_reference w x) ≡ fed_of w + 1) view_is
       (after_fed s x (omega (arith, long, h.short k)) (omega (arith, h.occupancy_count, h.short k)))
 
   -- sound again, by the state after it
-  pub sound_after : {now : Lists} {behind' missed' : List ℕ} {probes' m : ℕ} → state_of g now behind' missed' probes' ≡ after_reference v x
-      → now.depth ≡ was.depth → length now.lists ≡ length was.lists → ((k : ℕ) → length (get_or now.lists k []) ≤ g.e)
-      → length behind' ≡ length behind → take 1 behind' ≡ take 1 behind → length missed' ≡ length missed
-      → compared_behind behind' missed' ≤ probes' → probes' ≡ probes + m → m ≤ g.e → fed_of v < most_references → IsSound g now behind' missed' probes'
-  sound_after {now} {behind'} {missed'} {probes'} {m} step depth sets short long first far told more le few =
+  pub sound_after : {now : Lists} {behind' missed' : List ℕ} {probes' m : ℕ} →
+      state_of g now behind' missed' probes' ≡ after_reference v x
+      → now.depth ≡ was.depth → length now.lists ≡ length was.lists →
+      ((k : ℕ) → length (get_or now.lists k []) ≤ g.e)
+      → length behind' ≡ length behind → take 1 behind' ≡ take 1 behind →
+      length missed' ≡ length missed
+      → compared_behind behind' missed' ≤ probes' → probes' ≡ probes + m → m ≤ g.e →
+      fed_of v < most_references → IsSound g now behind' missed' probes'
+  sound_after {now} {behind'} {missed'} {probes'} {m} step depth sets short long first far told
+      more le few =
       let n : ℕ = sum (distances_of probes behind missed) + sum missed in
       let n' : ℕ = sum (distances_of probes' behind' missed') + sum missed' in
       let was_fed : n ≡ fed_of v = ap fed_of view_is in
@@ -65,17 +78,21 @@ module _ {g : GeometryValue} {was : Lists} {behind missed : List ℕ} {probes : 
         occupancy_count = far ∙ h.occupancy_count;
         told = told;
         fed = omega (arith, fed, was_fed, few);
-        compared = subst (λ (k : ℕ). probes' ≤ k) (sym grown) (at_most probes probes' m (n * g.e) g.e h.compared more le);
+        compared = subst (λ (k : ℕ). probes' ≤ k) (sym grown)
+            (at_most probes probes' m (n * g.e) g.e h.compared more le);
       }
 
--- what is known where block x is brought to the front of its set's list, and the numbers are as they were
-pub record IsMoved (g : GeometryValue) (was now : Lists) (behind missed : List ℕ) (probes x k : ℕ) (v : ProfileState) : Type 0 where
+-- what is known where block x is brought to the front of its set's list, and the numbers are as
+-- they were
+pub record IsMoved (g : GeometryValue) (was now : Lists) (behind missed : List ℕ) (probes x k : ℕ)
+    (v : ProfileState) : Type 0 where
   pub sound : IsSound g was behind missed probes
   pub view_is : state_of g was behind missed probes ≡ v
   pub next : IsNext v k x
   pub moved : now ≡ lists_after_touch was k x
 
-module _ {g : GeometryValue} {was now : Lists} {behind missed : List ℕ} {probes x k : ℕ} {v : ProfileState}
+module _ {g : GeometryValue} {was now : Lists} {behind missed : List ℕ} {probes x k : ℕ}
+    {v : ProfileState}
     (m : IsMoved g was now behind missed probes x k v) where
   abbrev list : List ℕ
   list = get_or was.lists k []
@@ -90,12 +107,14 @@ module _ {g : GeometryValue} {was now : Lists} {behind missed : List ℕ} {probe
   fed = omega (arith, m.next.few, ap fed_of m.view_is)
 
   moved : now.lists ≡ set was.lists k (take g.e (move_to_front x list))
-  moved = ap (λ l. l.lists) m.moved ∙ ap (λ d. set was.lists k (take d (move_to_front x list))) m.sound.depth
+  moved = ap (λ l. l.lists) m.moved ∙ ap (λ d. set was.lists k (take d (move_to_front x list)))
+      m.sound.depth
 
   short : (i : ℕ) → length (get_or now.lists i []) ≤ g.e
   short i =
       subst (λ (ls : List (List ℕ)). length (get_or ls i []) ≤ g.e) (sym moved)
-      (short_set was.lists k g.e _ m.sound.short (omega (arith, length-take g.e (move_to_front x list))) i)
+      (short_set was.lists k g.e _ m.sound.short
+      (omega (arith, length-take g.e (move_to_front x list))) i)
 
   sets : length now.lists ≡ length was.lists
   sets = ap length moved ∙ length-set was.lists k _
@@ -106,27 +125,40 @@ module _ {g : GeometryValue} {was now : Lists} {behind missed : List ℕ} {probe
     distance_fits = omega (arith, f.within, m.sound.short k, m.sound.behind_count)
 
     pub distance_few : {n : ℕ} → n ≡ get_or behind distance n → n < most_references
-    distance_few {n} read = omega (arith, raised_fits behind distance n distance_fits read, fed, sum-distances probes behind missed m.sound.none_in_front)
+    distance_few {n} read = omega (
+      arith,
+      raised_fits behind distance n distance_fits read,
+      fed,
+      sum-distances probes behind missed m.sound.none_in_front,
+    )
 
-    module _ {n probes' : ℕ} (read : n ≡ get_or behind distance n) (more : probes' ≡ probes + (distance + 1)) where
+    module _ {n probes' : ℕ} (read : n ≡ get_or behind distance n)
+        (more : probes' ≡ probes + (distance + 1)) where
       some : 1 ≤ distance
       some = behind_front x distance list other f
 
-      weight : compared_behind (set behind distance (n + 1)) missed ≡ compared_behind behind missed + (1 + distance)
+      weight : compared_behind (set behind distance (n + 1)) missed ≡ compared_behind behind
+          missed + (1 + distance)
       weight = omega (arith, weighed-raised 1 behind distance n distance_fits read)
 
-      pub found_after : state_of g now (set behind distance (n + 1)) missed probes' ≡ after_reference v x
+      pub found_after : state_of g now (set behind distance (n + 1)) missed
+          probes' ≡ after_reference v x
       found_after =
           let h : ℕ = probes - compared_behind behind missed in
-          let same : probes' - compared_behind (set behind distance (n + 1)) missed ≡ h = omega (arith, weight, more, m.sound.told) in
-          found_step (state_of g was behind missed probes) x k of_set distance probes' now.lists _ f moved
-          (ap (set (set behind distance (n + 1)) 0) same ∙ raised_behind behind distance n h some (get_or_read behind distance n distance_fits read 0)) more
+          let same : probes' - compared_behind (set behind distance (n + 1)) missed ≡ h =
+          omega (arith, weight, more, m.sound.told) in
+          found_step (state_of g was behind missed probes) x k of_set distance probes'
+          now.lists _ f moved
+          (ap (set (set behind distance (n + 1)) 0) same ∙ raised_behind behind distance n h some
+          (get_or_read behind distance n distance_fits read 0)) more
           ∙ ap (λ w. after_reference w x) m.view_is
 
       pub found_sound : IsSound g now (set behind distance (n + 1)) missed probes'
       found_sound =
-          sound_after m.sound m.view_is x found_after (ap (λ l. l.depth) m.moved) sets short (length-set behind distance (n + 1))
-          (first-raised behind distance (n + 1) some) refl (omega (arith, weight, more, m.sound.told)) more
+          sound_after m.sound m.view_is x found_after (ap (λ l. l.depth) m.moved) sets short
+          (length-set behind distance (n + 1))
+          (first-raised behind distance (n + 1) some) refl
+          (omega (arith, weight, more, m.sound.told)) more
           (omega (arith, f.within, m.sound.short k)) m.next.few
 
   -- found nowhere in a list of `len` blocks
@@ -138,17 +170,23 @@ module _ {g : GeometryValue} {was now : Lists} {behind missed : List ℕ} {probe
     len_few {n} read = omega (arith, raised_fits missed len n len_fits read, fed)
 
     module _ {n probes' : ℕ} (read : n ≡ get_or missed len n) (more : probes' ≡ probes + len) where
-      missed_weight : compared_behind behind (set missed len (n + 1)) ≡ compared_behind behind missed + len
+      missed_weight : compared_behind behind (set missed len (n + 1)) ≡ compared_behind
+          behind missed + len
       missed_weight = omega (arith, weighed-raised 0 missed len n len_fits read)
 
-      pub nowhere_after : state_of g now behind (set missed len (n + 1)) probes' ≡ after_reference v x
+      pub nowhere_after : state_of g now behind (set missed len (n + 1))
+          probes' ≡ after_reference v x
       nowhere_after =
-          let same : probes' - compared_behind behind (set missed len (n + 1)) ≡ probes - compared_behind behind missed =
+          let same : probes' - compared_behind behind (set missed len (n + 1)) ≡ probes -
+          compared_behind behind missed =
           omega (arith, missed_weight, more, m.sound.told) in
-          nowhere_step (state_of g was behind missed probes) x k of_set len n probes' now.lists _ f moved (ap (set behind 0) same)
+          nowhere_step (state_of g was behind missed probes) x k of_set len n probes' now.lists _ f
+          moved (ap (set behind 0) same)
           (get_or_read missed len n len_fits read 0) more ∙ ap (λ w. after_reference w x) m.view_is
 
       pub nowhere_sound : IsSound g now behind (set missed len (n + 1)) probes'
       nowhere_sound =
-          sound_after m.sound m.view_is x nowhere_after (ap (λ l. l.depth) m.moved) sets short refl refl (length-set missed len (n + 1))
-          (omega (arith, missed_weight, more, m.sound.told)) more (omega (arith, f.len_is, m.sound.short k)) m.next.few
+          sound_after m.sound m.view_is x nowhere_after (ap (λ l. l.depth) m.moved) sets short refl
+          refl (length-set missed len (n + 1))
+          (omega (arith, missed_weight, more, m.sound.told)) more
+          (omega (arith, f.len_is, m.sound.short k)) m.next.few

@@ -1,6 +1,7 @@
 -- A profile after a reference: where the reference finds its block, and what the numbers say then.
-use Rattle.std.proofs.Common.{◌≡◌, ℕ, zero, suc, ◌+◌, ◌-◌, ◌<◌, ◌≤◌, ◌^◌, cond, Bool, true, false, not, eqb, ◌||◌, min}
-use Rattle.std.proofs.Common.{List, [], ◌∷◌, length, take, get_or, set, sum, refl, sym, ◌∙◌, ap, subst, arith}
+use Rattle.std.proofs.Common.{◌≡◌, ℕ, zero, suc, ◌+◌, ◌-◌, ◌<◌, ◌≤◌, ◌^◌, cond, Bool, true, false}
+use Rattle.std.proofs.Common.{not, eqb, ◌||◌, min, List, [], ◌∷◌, length, take, get_or, set, sum}
+use Rattle.std.proofs.Common.{refl, sym, ◌∙◌, ap, subst, arith}
 use Rattle.std.proofs.lemmas.Bool.{ltb-true, eqb-true}
 use Rattle.std.proofs.lemmas.List.{set-get_or, take_all}
 use Rattle.std.proofs.lemmas.List.Sums.{sum_by-cons, sum_by-set}
@@ -10,14 +11,18 @@ use Rattle.std.proofs.lemmas.List.{length-replicate}
 use Rattle.cache_core.proofs.Lists.{list_any_is}
 use Rattle.cache_core.specs.Geometry.{GeometryValue, set_of_block}
 use Rattle.profile_core.specs.declared.recency.Touch.TheVariants.{Behind, New}
-use Rattle.profile_core.specs.internal.Moves.{index_of, is_in, is_front, is_second, move_to_front, touch_of}
+use Rattle.profile_core.specs.internal.Moves.{index_of, is_in, is_front, is_second, move_to_front}
+use Rattle.profile_core.specs.internal.Moves.{touch_of}
 use Rattle.profile_core.specs.internal.Slab.{Lists}
-use Rattle.profile_core.specs.internal.State.{ProfileState, IsSound, list_of, one_more_at, after_reference, fed_of, weighed, compared_behind, distances_of}
+use Rattle.profile_core.specs.internal.State.{ProfileState, IsSound, list_of, one_more_at}
+use Rattle.profile_core.specs.internal.State.{after_reference, fed_of, weighed, compared_behind}
+use Rattle.profile_core.specs.internal.State.{distances_of}
 use Rattle.profile_core.proofs.Bringing.{absent_at}
 use Rattle.profile_core.proofs.Shifting.{other_front, index_behind, index-le}
 use Rattle.profile_core.proofs.Weighing.{weighed-zeros, sum-zeros}
 
-behind_at : (b : Bool) (distance p n : ℕ) → Behind distance ≡ cond b (Behind p) (New n) → (b ≡ true) × (distance ≡ p)
+behind_at : (b : Bool) (distance p n : ℕ) → Behind distance ≡ cond b (Behind p) (New n) →
+    (b ≡ true) × (distance ≡ p)
 behind_at true distance p n e = (refl, cc)
 behind_at false distance p n e = absurd (cc)
 
@@ -39,19 +44,24 @@ found_front x (y ∷ ys) front = record {
   within = omega arith;
 }
 
-pub front_stays : (x e : ℕ) (xs : List ℕ) → is_front x xs ≡ true → length xs ≤ e → take e (move_to_front x xs) ≡ xs
+pub front_stays : (x e : ℕ) (xs : List ℕ) → is_front x xs ≡ true → length xs ≤ e →
+    take e (move_to_front x xs) ≡ xs
 front_stays x e [] front short = absurd (cc)
 front_stays x e (y ∷ ys) front short =
-    ap (λ i. take e (x ∷ remove (y ∷ ys) i)) (found_front x (y ∷ ys) front).distance_is ∙ ap (λ z. take e (z ∷ ys)) (sym (eqb-true y x front))
+    ap (λ i. take e (x ∷ remove (y ∷ ys) i)) (found_front x (y ∷ ys) front).distance_is ∙
+    ap (λ z. take e (z ∷ ys)) (sym (eqb-true y x front))
     ∙ take_all e (y ∷ ys) short
 
-pub found_behind : (x distance : ℕ) (xs : List ℕ) → Behind distance ≡ touch_of x xs → FoundAt x distance xs
+pub found_behind : (x distance : ℕ) (xs : List ℕ) → Behind distance ≡ touch_of x xs →
+    FoundAt x distance xs
 found_behind x distance xs touch =
     let at = behind_at (is_in x xs) distance (index_of x xs) (length xs) touch in
-    let lt : index_of x xs < length xs = ltb-true (index_of x xs) (length xs) (sym (list_any_is (λ z. eqb z x) xs) ∙ at.0) in
+    let lt : index_of x xs < length xs = ltb-true (index_of x xs) (length xs)
+    (sym (list_any_is (λ z. eqb z x) xs) ∙ at.0) in
     record { inside = at.0; distance_is = sym at.1; within = omega (arith, at.1, lt) }
 
-pub found_second : (x : ℕ) (xs : List ℕ) → is_front x xs ≡ false → is_second x xs ≡ true → FoundAt x 1 xs
+pub found_second : (x : ℕ) (xs : List ℕ) → is_front x xs ≡ false → is_second x xs ≡ true →
+    FoundAt x 1 xs
 found_second x [] other second = absurd (cc)
 found_second x (y ∷ []) other second = absurd (cc)
 found_second x (y ∷ z ∷ zs) other second =
@@ -63,9 +73,11 @@ found_second x (y ∷ z ∷ zs) other second =
     }
 
 -- behind the front, the distance is not 0
-pub behind_front : (x distance : ℕ) (xs : List ℕ) → is_front x xs ≡ false → FoundAt x distance xs → 1 ≤ distance
+pub behind_front : (x distance : ℕ) (xs : List ℕ) → is_front x xs ≡ false →
+    FoundAt x distance xs → 1 ≤ distance
 behind_front x distance [] other f = absurd (omega (arith, f.within))
-behind_front x distance (y ∷ ys) other f = omega (arith, index_behind x y ys (other_front x y ys other), f.distance_is)
+behind_front x distance (y ∷ ys) other f =
+    omega (arith, index_behind x y ys (other_front x y ys other), f.distance_is)
 
 pub record FoundNowhere (x len : ℕ) (xs : List ℕ) : Type 0 where
   pub outside : is_in x xs ≡ false
@@ -77,17 +89,20 @@ found_nowhere x len xs touch =
     let at = new_at (is_in x xs) len (index_of x xs) (length xs) touch in
     record {
       outside = at.0;
-      index_is = absent_at (is_in x xs) (index_of x xs) (length xs) (list_any_is (λ z. eqb z x) xs) at.0 (index-le x xs);
+      index_is = absent_at (is_in x xs) (index_of x xs) (length xs) (list_any_is (λ z. eqb z x) xs)
+          at.0 (index-le x xs);
       len_is = at.1;
     }
 
 -- The histogram of those found behind the front: it has an entry for distance 0, which stays 0.
-pub first-raised : (behind : List ℕ) (distance n : ℕ) → 1 ≤ distance → take 1 (set behind distance n) ≡ take 1 behind
+pub first-raised : (behind : List ℕ) (distance n : ℕ) → 1 ≤ distance →
+    take 1 (set behind distance n) ≡ take 1 behind
 first-raised [] distance n some = refl
 first-raised (y ∷ bs) zero n some = absurd (omega (arith, some))
 first-raised (y ∷ bs) (suc distance) n some = refl
 
-pub raised_behind : (behind : List ℕ) (distance n h : ℕ) → 1 ≤ distance → n ≡ get_or behind distance 0
+pub raised_behind : (behind : List ℕ) (distance n h : ℕ) → 1 ≤ distance →
+    n ≡ get_or behind distance 0
     → set (set behind distance (n + 1)) 0 h ≡ one_more_at (set behind 0 h) distance
 raised_behind [] distance n h some read = refl
 raised_behind (y ∷ bs) zero n h some read = absurd (omega (arith, some))
@@ -110,8 +125,10 @@ one_of_both : (b : Bool) (ds ms : List ℕ) (i n : ℕ) → (b ≡ true → i < 
 one_of_both true ds ms i n here le = omega (arith, sum-raise ds i (here refl))
 one_of_both false ds ms i n here le = omega (arith, sum-raise ms n le)
 
-pub after_fed : (v : ProfileState) (x : ℕ) → length (list_of v (set_of_block v.geometry x)) ≤ length v.distances
-    → length (list_of v (set_of_block v.geometry x)) < length v.misses_by_occupancy → fed_of (after_reference v x) ≡ fed_of v + 1
+pub after_fed : (v : ProfileState) (x : ℕ) →
+    length (list_of v (set_of_block v.geometry x)) ≤ length v.distances
+    → length (list_of v (set_of_block v.geometry x)) < length v.misses_by_occupancy →
+    fed_of (after_reference v x) ≡ fed_of v + 1
 after_fed v x near far = grind (arith, one_of_both, ltb-true, list_any_is)
 
 -- The state after a reference, part by part.
@@ -119,44 +136,69 @@ module _ (v : ProfileState) (x k : ℕ) (of_set : k ≡ set_of_block v.geometry 
   abbrev xs : List ℕ
   xs = list_of v (set_of_block v.geometry x)
 
-  lists_step : (lists' : List (List ℕ)) → lists' ≡ set v.lists k (take v.geometry.e (move_to_front x (list_of v k)))
+  lists_step : (lists' : List (List ℕ)) →
+      lists' ≡ set v.lists k (take v.geometry.e (move_to_front x (list_of v k)))
       → lists' ≡ set v.lists (set_of_block v.geometry x) (take v.geometry.e (move_to_front x xs))
-  lists_step lists' moved = moved ∙ ap (λ j. set v.lists j (take v.geometry.e (move_to_front x (list_of v j)))) of_set
+  lists_step lists' moved = moved ∙
+      ap (λ j. set v.lists j (take v.geometry.e (move_to_front x (list_of v j)))) of_set
 
-  pub found_step : (distance probes' : ℕ) (lists' : List (List ℕ)) (distances' : List ℕ) → FoundAt x distance (list_of v k)
-      → lists' ≡ set v.lists k (take v.geometry.e (move_to_front x (list_of v k))) → distances' ≡ one_more_at v.distances distance
+  pub found_step : (distance probes' : ℕ) (lists' : List (List ℕ)) (distances' : List ℕ) →
+      FoundAt x distance (list_of v k)
+      → lists' ≡ set v.lists k (take v.geometry.e (move_to_front x (list_of v k))) →
+      distances' ≡ one_more_at v.distances distance
       → probes' ≡ v.probes + (distance + 1)
       → record v { lists = lists'; distances = distances'; probes = probes' } ≡ after_reference v x
   found_step distance probes' lists' distances' found moved raised more =
       let f : FoundAt x distance xs = subst (λ j. FoundAt x distance (list_of v j)) of_set found in
       let lists = lists_step lists' moved in
-      let distances : distances' ≡ cond (is_in x xs) (one_more_at v.distances (index_of x xs)) v.distances =
-      raised ∙ sym (ap (λ b. cond b (one_more_at v.distances (index_of x xs)) v.distances) f.inside ∙ ap (one_more_at v.distances) f.distance_is) in
-      let missed : v.misses_by_occupancy ≡ cond (is_in x xs) v.misses_by_occupancy (one_more_at v.misses_by_occupancy (length xs)) =
-      sym (ap (λ b. cond b v.misses_by_occupancy (one_more_at v.misses_by_occupancy (length xs))) f.inside) in
-      let probes : probes' ≡ v.probes + min (index_of x xs + 1) (length xs) = omega (arith, more, f.distance_is, f.within) in
+      let distances : distances' ≡ cond (is_in x xs) (one_more_at v.distances (index_of x xs))
+      v.distances =
+      raised ∙ sym (ap (λ b. cond b (one_more_at v.distances (index_of x xs)) v.distances)
+      f.inside ∙ ap (one_more_at v.distances) f.distance_is) in
+      let missed : v.misses_by_occupancy ≡ cond (is_in x xs) v.misses_by_occupancy
+      (one_more_at v.misses_by_occupancy (length xs)) =
+      sym (ap (λ b. cond b v.misses_by_occupancy (one_more_at v.misses_by_occupancy (length xs)))
+      f.inside) in
+      let probes : probes' ≡ v.probes + min (index_of x xs + 1) (length xs) =
+      omega (arith, more, f.distance_is, f.within) in
       cc
 
-  pub nowhere_step : (len n probes' : ℕ) (lists' : List (List ℕ)) (distances' : List ℕ) → FoundNowhere x len (list_of v k)
-      → lists' ≡ set v.lists k (take v.geometry.e (move_to_front x (list_of v k))) → distances' ≡ v.distances
+  pub nowhere_step : (len n probes' : ℕ) (lists' : List (List ℕ)) (distances' : List ℕ) →
+      FoundNowhere x len (list_of v k)
+      → lists' ≡ set v.lists k (take v.geometry.e (move_to_front x (list_of v k))) →
+      distances' ≡ v.distances
       → n ≡ get_or v.misses_by_occupancy len 0 → probes' ≡ v.probes + len
-      → record v { lists = lists'; distances = distances'; misses_by_occupancy = set v.misses_by_occupancy len (n + 1); probes = probes' }
+      → record v {
+        lists = lists';
+        distances = distances';
+        misses_by_occupancy =
+            set v.misses_by_occupancy len (n + 1);
+        probes = probes';
+      }
       ≡ after_reference v x
   nowhere_step len n probes' lists' distances' found moved same read more =
       let f : FoundNowhere x len xs = subst (λ j. FoundNowhere x len (list_of v j)) of_set found in
       let lists = lists_step lists' moved in
-      let distances : distances' ≡ cond (is_in x xs) (one_more_at v.distances (index_of x xs)) v.distances =
-      same ∙ sym (ap (λ b. cond b (one_more_at v.distances (index_of x xs)) v.distances) f.outside) in
-      let missed : set v.misses_by_occupancy len (n + 1) ≡ cond (is_in x xs) v.misses_by_occupancy (one_more_at v.misses_by_occupancy (length xs)) =
-      ap (λ m. set v.misses_by_occupancy len (m + 1)) read ∙ ap (one_more_at v.misses_by_occupancy) f.len_is
-      ∙ sym (ap (λ b. cond b v.misses_by_occupancy (one_more_at v.misses_by_occupancy (length xs))) f.outside) in
-      let probes : probes' ≡ v.probes + min (index_of x xs + 1) (length xs) = omega (arith, more, f.index_is, f.len_is) in
+      let distances : distances' ≡ cond (is_in x xs) (one_more_at v.distances (index_of x xs))
+      v.distances =
+      same ∙ sym (ap (λ b. cond b (one_more_at v.distances (index_of x xs)) v.distances)
+      f.outside) in
+      let missed : set v.misses_by_occupancy len (n + 1) ≡ cond (is_in x xs) v.misses_by_occupancy
+      (one_more_at v.misses_by_occupancy (length xs)) =
+      ap (λ m. set v.misses_by_occupancy len (m + 1)) read ∙
+      ap (one_more_at v.misses_by_occupancy) f.len_is
+      ∙ sym (ap (λ b. cond b v.misses_by_occupancy (one_more_at v.misses_by_occupancy (length xs)))
+      f.outside) in
+      let probes : probes' ≡ v.probes + min (index_of x xs + 1) (length xs) =
+      omega (arith, more, f.index_is, f.len_is) in
       cc
 
   -- the front, which stays
-  pub front_step : (distances' : List ℕ) → is_front x (list_of v k) ≡ true → length (list_of v k) ≤ v.geometry.e → distances' ≡ one_more_at v.distances 0
+  pub front_step : (distances' : List ℕ) → is_front x (list_of v k) ≡ true →
+      length (list_of v k) ≤ v.geometry.e → distances' ≡ one_more_at v.distances 0
       → record v { distances = distances'; probes = v.probes + 1 } ≡ after_reference v x
-  front_step distances' front short raised = grind (arith, found_step, found_front, front_stays, set-get_or)
+  front_step distances' front short raised =
+      grind (arith, found_step, found_front, front_stays, set-get_or)
 
 -- A new profile, whose lists are empty and whose numbers are all 0
 first-zero : (n : ℕ) → 1 ≤ n → take {A = ℕ} 1 (replicate n 0) ≡ 0 ∷ []
@@ -168,8 +210,10 @@ no_list zero k = refl
 no_list (suc n) zero = refl
 no_list (suc n) (suc k) = no_list n k
 
-pub new_sound : (g : GeometryValue) (lists : Lists) (behind missed : List ℕ) → lists.depth ≡ g.e → lists.lists ≡ replicate (2 ^ g.s) []
-    → 1 ≤ g.e → behind ≡ replicate g.e 0 → missed ≡ replicate (g.e + 1) 0 → IsSound g lists behind missed 0
+pub new_sound : (g : GeometryValue) (lists : Lists) (behind missed : List ℕ) → lists.depth ≡ g.e →
+    lists.lists ≡ replicate (2 ^ g.s) []
+    → 1 ≤ g.e → behind ≡ replicate g.e 0 → missed ≡ replicate (g.e + 1) 0 →
+    IsSound g lists behind missed 0
 new_sound g lists behind missed depth sets some near far =
     let near_none = ap (weighed 1) near ∙ weighed-zeros 1 g.e in
     let far_none = ap (weighed 0) far ∙ weighed-zeros 0 (g.e + 1) in
@@ -179,7 +223,8 @@ new_sound g lists behind missed depth sets some near far =
     record {
       depth = depth;
       set_count = ap length sets ∙ length-replicate (2 ^ g.s) [];
-      short = λ k. subst (λ (ls : List (List ℕ)). length (get_or ls k []) ≤ g.e) (sym sets) (omega (arith, no_list (2 ^ g.s) k));
+      short = λ k. subst (λ (ls : List (List ℕ)). length (get_or ls k []) ≤ g.e) (sym sets)
+          (omega (arith, no_list (2 ^ g.s) k));
       behind_count = ap length near ∙ length-replicate g.e 0;
       none_in_front = first;
       occupancy_count = ap length far ∙ length-replicate (g.e + 1) 0;

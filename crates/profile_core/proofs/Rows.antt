@@ -6,7 +6,8 @@ use Rattle.trace_core.specs.declared.events.Event.{Event}
 use Rattle.trace_core.specs.declared.events.Event.TheVariants as event
 use Rattle.cache_core.specs.Geometry.{geometry_value}
 use Rattle.cache_core.specs.declared.outcome.Counts.{Counts}
-use Rattle.profile_core.specs.internal.State.{ProfileState, empty, after_event, fed_of, held_of, counts_at}
+use Rattle.profile_core.specs.internal.State.{ProfileState, empty, after_event, fed_of, held_of}
+use Rattle.profile_core.specs.internal.State.{counts_at}
 
 abbrev reads : List ℕ → List Event
 reads addrs = map (λ addr. event.Reference (record { access = access.Read; addr = addr })) addrs
@@ -18,7 +19,8 @@ fed_with depth es = fold after_event (empty (geometry_value 0 depth 4)) es
 abbrev hits_misses_evictions : ℕ → ℕ → ℕ → Counts
 hits_misses_evictions h m e = record { hits = h; misses = m; evictions = e }
 
--- what the caches of one to three lines count over these, and the references fed, the blocks held and the comparisons
+-- what the caches of one to three lines count over these, and the references fed, the blocks held
+-- and the comparisons
 abbrev nearby : ProfileState
 nearby = fed_with 3 (reads (16 ∷ 32 ∷ 32 ∷ 34 ∷ 24 ∷ 272 ∷ 528 ∷ 18 ∷ 18 ∷ []))
 

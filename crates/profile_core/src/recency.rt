@@ -6,7 +6,8 @@ ghost use Rattle.std.specs.Prelude.{take, slice_index, MatchOption, ◌-◌};
 ghost use Rattle.std.specs.Prelude.{sum_by, replicate, IfOk, slice_index_or};
 ghost use Rattle.std.specs.List.{remove};
 ghost use Rattle.cache_core.specs.internal.Touched.{Covers, ListsFilled};
-ghost use Rattle.profile_core.specs.internal.Moves.{index_of, is_front, is_second, touch_of, shifted_of};
+ghost use Rattle.profile_core.specs.internal.Moves.{index_of, is_front, is_second, touch_of};
+ghost use Rattle.profile_core.specs.internal.Moves.{shifted_of};
 ghost use Rattle.profile_core.specs.internal.Slab.{lists_after_touch, IsRow, IsBroughtInRow};
 
 use cache_core::touched::TouchedSets;
@@ -152,7 +153,8 @@ impl RecencyLists {
     pub fn last_of_full(&self, set: usize) -> Option<u64>
         requires within { set < length self.now.lists }
         requires two { 2 ≤ self.now.depth }
-        ensures { MatchOption result (length (slice_index_or self.now.lists set []) < self.now.depth)
+        ensures { MatchOption result (length
+            (slice_index_or self.now.lists set []) < self.now.depth)
             (λ last. (length (slice_index_or self.now.lists set []) ≡ self.now.depth)
             × (last ≡ slice_index (slice_index_or self.now.lists set []) (self.now.depth - 1))) }
     {

@@ -1,7 +1,7 @@
 //! A recency list for each set, the most recent block first: its first blocks in a row, and those
 //! behind them, if lists may be long, in a list that is not walked.
-ghost use Rattle.std.specs.Prelude.{◌≡◌, ◌*◌, ◌^◌, ◌<◌, ◌≤◌, [], ◌∷◌, true, false, length, replicate, sum_by, map};
-ghost use Rattle.std.specs.Prelude.{IfOk, IsTrue, ◌↔◌, slice_index_or};
+ghost use Rattle.std.specs.Prelude.{◌≡◌, ◌*◌, ◌^◌, ◌<◌, ◌≤◌, [], ◌∷◌, true, false, length};
+ghost use Rattle.std.specs.Prelude.{replicate, sum_by, map, IfOk, IsTrue, ◌↔◌, slice_index_or};
 ghost use Rattle.deep_list.specs.Deep.{list_after_exchange};
 ghost use Rattle.profile_core.specs.internal.Moves.{is_in, is_front, is_second, touch_of};
 ghost use Rattle.profile_core.specs.internal.Stacks.{rest_touch_of, in_row_of, empty_deep};
@@ -27,8 +27,8 @@ enum InRow {
     Full(usize, u64),
 }
 
-/// The lists of all sets. If they are not deep, each stands in its row of `near`. Else `near` has the
-/// first `ROW` blocks of each, and `far` a list for each set, of up to `beyond` blocks more.
+/// The lists of all sets. If they are not deep, each stands in its row of `near`. Else `near` has
+/// the first `ROW` blocks of each, and `far` a list for each set, of up to `beyond` blocks more.
 #[derive(Drop)]
 pub struct Stacks {
     near: RecencyLists,
@@ -43,7 +43,11 @@ impl Model for Stacks {
 
     ghost Value = { Lists };
 
-    ghost view = { λ s. record { depth = s.near.depth + s.beyond; lists = whole_lists s.near.lists s.far.items } };
+    ghost view = { λ s. record {
+      depth = s.near.depth + s.beyond;
+      lists =
+          whole_lists s.near.lists s.far.items;
+    } };
 
     ghost invariant = { λ s. IsStacked s.near s.beyond s.far.items };
 }
@@ -201,7 +205,8 @@ fn bring_near(near: &mut RecencyLists, set: usize, block: u64) -> InRow
 fn far_lists(alloc: Global, sets: usize, beyond: usize) -> Result<Vec<DeepList>, AllocError>
     requires some { 1 ≤ beyond }
     requires small { beyond ≤ 2 ^ 22 }
-    ensures { IfOk result (λ far. far.items ≡ replicate sets (record { cap = beyond; blocks = [] })) }
+    ensures { IfOk result (λ far.
+        far.items ≡ replicate sets (record { cap = beyond; blocks = [] })) }
 {
     let mut far = Vec::with_capacity(alloc, sets)?;
     for made in 0..sets {

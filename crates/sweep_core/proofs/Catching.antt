@@ -1,6 +1,7 @@
 -- Profiles that are not fed what they find in front, and catch up.
-use Rattle.std.proofs.Common.{◌≡◌, ℕ, zero, suc, ◌+◌, ◌-◌, ◌<◌, ◌≤◌, Bool, true, false, not, cond, List, [], ◌∷◌, ◌++◌, map, take, drop, length, fold, get_or}
-use Rattle.std.proofs.Common.{refl, sym, ap, ◌∙◌, subst, arith}
+use Rattle.std.proofs.Common.{◌≡◌, ℕ, zero, suc, ◌+◌, ◌-◌, ◌<◌, ◌≤◌, Bool, true, false, not, cond}
+use Rattle.std.proofs.Common.{List, [], ◌∷◌, ◌++◌, map, take, drop, length, fold, get_or, refl, sym}
+use Rattle.std.proofs.Common.{ap, ◌∙◌, subst, arith}
 use Rattle.std.specs.List.{AllByRecursion as Each}
 use Rattle.std.specs.Prelude.{flat_map}
 use Rattle.std.proofs.Math.ListN.{set}
@@ -14,14 +15,21 @@ use Rattle.trace_core.specs.declared.events.Kind.{Kind}
 use Rattle.trace_core.specs.Events.{is_kept}
 use Rattle.cache_core.specs.Geometry.{GeometryValue, IsGeometry, block_of}
 use Rattle.cache_core.proofs.Lists.{cases}
-use Rattle.profile_core.specs.internal.State.{ProfileState, empty, fed_of, after_event, after_reference}
-use Rattle.profile_core.specs.internal.Fronts.{after_unless_front, after_fronts, profile_with_fronts, is_front_of, is_refined, IsFit, Leads}
-use Rattle.profile_core.proofs.Fronts.{fronts_none, fit_of, fit_behind, leads_after, caught_more, fed_more as profile-fed_more}
+use Rattle.profile_core.specs.internal.State.{ProfileState, empty, fed_of, after_event}
+use Rattle.profile_core.specs.internal.State.{after_reference}
+use Rattle.profile_core.specs.internal.Fronts.{after_unless_front, after_fronts}
+use Rattle.profile_core.specs.internal.Fronts.{profile_with_fronts, is_front_of, is_refined, IsFit}
+use Rattle.profile_core.specs.internal.Fronts.{Leads}
+use Rattle.profile_core.proofs.Fronts.{fronts_none, fit_of, fit_behind, leads_after, caught_more}
+use Rattle.profile_core.proofs.Fronts.{fed_more as profile-fed_more}
 use Rattle.profile_core.proofs.Runs.{stands_after}
 use Rattle.sweep_core.specs.declared.profiles.PairProfile.{PairProfile}
 use Rattle.sweep_core.specs.declared.request.Request.{Request}
-use Rattle.sweep_core.specs.internal.Pass.{pair_after_reference, pair_after_flush, profiles_after, kept_events, SweepStandsFor, WasFed}
-use Rattle.sweep_core.specs.internal.Implied.{implied_by, linked, IsLinked, AreLed, IsFresh, pair_unless_front, pair_with_fronts, profiles_with_fronts, FedAtMost, AreBehind}
+use Rattle.sweep_core.specs.internal.Pass.{pair_after_reference, pair_after_flush, profiles_after}
+use Rattle.sweep_core.specs.internal.Pass.{kept_events, SweepStandsFor, WasFed}
+use Rattle.sweep_core.specs.internal.Implied.{implied_by, linked, IsLinked, AreLed, IsFresh}
+use Rattle.sweep_core.specs.internal.Implied.{pair_unless_front, pair_with_fronts}
+use Rattle.sweep_core.specs.internal.Implied.{profiles_with_fronts, FedAtMost, AreBehind}
 use Rattle.sweep_core.specs.Work.{pair_of}
 use Rattle.sweep_core.specs.internal.Runs.{rows_of_profile}
 use Rattle.sweep_core.specs.SweepText.{configs_of}
@@ -32,48 +40,66 @@ use Rattle.sweep_core.proofs.Sweeping.{empty-fed}
 -- new profiles
 pub fresh-few : (xs : List PairProfile) → Each IsFresh xs → FedAtMost 0 xs
 fresh-few [] h = tt
-fresh-few (x ∷ xs) h = (omega (arith, ap fed_of h.0.is, empty-fed x.profile.geometry), fresh-few xs h.1)
+fresh-few (x ∷ xs) h = (
+  omega (arith, ap fed_of h.0.is, empty-fed x.profile.geometry),
+  fresh-few xs h.1,
+)
 
 pub caught-none : (xs : List PairProfile) → profiles_with_fronts 0 xs ≡ xs
 caught-none [] = refl
 caught-none (x ∷ xs) =
-    ap (λ n. record x { profile = after_fronts n x.profile } ∷ profiles_with_fronts 0 xs) {x = 0 - fed_of x.profile} {y = 0} (omega arith)
-    ∙ ap (λ v. record x { profile = v } ∷ profiles_with_fronts 0 xs) (fronts_none x.profile) ∙ ap (λ l. x ∷ l) (caught-none xs)
+    ap (λ n. record x { profile = after_fronts n x.profile } ∷ profiles_with_fronts 0 xs) {x =
+    0 - fed_of x.profile} {y = 0} (omega arith)
+    ∙ ap (λ v. record x { profile = v } ∷ profiles_with_fronts 0 xs) (fronts_none x.profile) ∙
+    ap (λ l. x ∷ l) (caught-none xs)
 
 -- after some events what is in front in a profile is so in those that refine it
-led-each : (es : List Event) (x : PairProfile) (m : ℕ) (xs : List PairProfile) → IsFresh x → Each IsFresh xs
+led-each : (es : List Event) (x : PairProfile) (m : ℕ) (xs : List PairProfile) → IsFresh x →
+    Each IsFresh xs
     → Each (λ y. is_refined x.profile.geometry y.profile.geometry ≡ true) (take m xs)
     → Each (λ y. Leads (fold after_event x.profile es) y.profile) (take m (profiles_after es xs))
 led-each es x zero xs one others refined = tt
 led-each es x (suc m) [] one others refined = tt
 led-each es x (suc m) (y ∷ ys) one others refined =
     let g = x.profile.geometry in let h = y.profile.geometry in
-    let fresh : Leads (fold after_event (empty g) es) (fold after_event (empty h) es) = leads_after g h es one.geometry others.0.geometry refined.0 in
+    let fresh : Leads (fold after_event (empty g) es) (fold after_event (empty h) es) =
+    leads_after g h es one.geometry others.0.geometry refined.0 in
     let this : Leads (fold after_event x.profile es) (fold after_event (empty h) es) =
-    subst (λ v. Leads (fold after_event v es) (fold after_event (empty h) es)) {x = empty g} {y = x.profile} (sym one.is) fresh in
+    subst (λ v. Leads (fold after_event v es) (fold after_event (empty h) es)) {x = empty g} {y =
+    x.profile} (sym one.is) fresh in
     let both : Leads (fold after_event x.profile es) (fold after_event y.profile es) =
-    subst (λ w. Leads (fold after_event x.profile es) (fold after_event w es)) {x = empty h} {y = y.profile} (sym others.0.is) this in
+    subst (λ w. Leads (fold after_event x.profile es) (fold after_event w es)) {x = empty h} {y =
+    y.profile} (sym others.0.is) this in
     (both, led-each es x m ys one others.1 refined.1)
 
-led-after : (es : List Event) (xs : List PairProfile) → Each IsFresh xs → IsLinked xs → AreLed (profiles_after es xs)
+led-after : (es : List Event) (xs : List PairProfile) → Each IsFresh xs → IsLinked xs →
+    AreLed (profiles_after es xs)
 led-after es [] fresh links = tt
-led-after es (x ∷ xs) fresh links =
-    (subst (λ (n : ℕ). x.implied ≤ n) (sym (length-map xs _)) links.0, led-each es x x.implied xs fresh.0 fresh.1 links.1, led-after es xs fresh.1 links.2)
+led-after es (x ∷ xs) fresh links = (
+  subst (λ (n : ℕ). x.implied ≤ n) (sym (length-map xs _)) links.0,
+  led-each es x x.implied xs fresh.0 fresh.1 links.1,
+  led-after es xs fresh.1 links.2,
+)
 
-fit-after : (es : List Event) (xs : List PairProfile) → Each IsFresh xs → Each (λ x. IsFit x.profile) (profiles_after es xs)
+fit-after : (es : List Event) (xs : List PairProfile) → Each IsFresh xs →
+    Each (λ x. IsFit x.profile) (profiles_after es xs)
 fit-after es [] fresh = tt
 fit-after es (x ∷ xs) fresh = (
-  subst (λ v. IsFit (fold after_event v es)) {x = empty x.profile.geometry} {y = x.profile} (sym fresh.0.is)
+  subst (λ v. IsFit (fold after_event v es)) {x = empty x.profile.geometry} {y = x.profile}
+      (sym fresh.0.is)
       (fit_of (stands_after x.profile.geometry es fresh.0.geometry)),
   fit-after es xs fresh.1,
 )
 
 -- the same of profiles that are still behind
-fit-behind : (n : ℕ) (xs : List PairProfile) → Each (λ x. IsFit x.profile) (profiles_with_fronts n xs) → Each (λ x. IsFit x.profile) xs
+fit-behind : (n : ℕ) (xs : List PairProfile) →
+    Each (λ x. IsFit x.profile) (profiles_with_fronts n xs) → Each (λ x. IsFit x.profile) xs
 fit-behind n [] h = tt
 fit-behind n (x ∷ xs) h = (fit_behind (n - fed_of x.profile) x.profile h.0, fit-behind n xs h.1)
 
-led-some : (n m : ℕ) (x : PairProfile) (xs : List PairProfile) → Each (λ y. Leads (profile_with_fronts n x.profile) y.profile) (take m (profiles_with_fronts n xs))
+led-some : (n m : ℕ) (x : PairProfile) (xs : List PairProfile) →
+    Each (λ y. Leads (profile_with_fronts n x.profile) y.profile)
+    (take m (profiles_with_fronts n xs))
     → Each (λ y. Leads x.profile y.profile) (take m xs)
 led-some n zero x xs h = tt
 led-some n (suc m) x [] h = tt
@@ -81,10 +107,14 @@ led-some n (suc m) x (y ∷ ys) h = (h.0, led-some n m x ys h.1)
 
 led-behind : (n : ℕ) (xs : List PairProfile) → AreLed (profiles_with_fronts n xs) → AreLed xs
 led-behind n [] h = tt
-led-behind n (x ∷ xs) h =
-    (subst (λ (k : ℕ). x.implied ≤ k) (length-map xs (pair_with_fronts n)) h.0, led-some n x.implied x xs h.1, led-behind n xs h.2)
+led-behind n (x ∷ xs) h = (
+  subst (λ (k : ℕ). x.implied ≤ k) (length-map xs (pair_with_fronts n)) h.0,
+  led-some n x.implied x xs h.1,
+  led-behind n xs h.2,
+)
 
-pub behind-after : (n : ℕ) (es : List Event) (old xs : List PairProfile) → Each IsFresh old → IsLinked old → profiles_with_fronts n xs ≡ profiles_after es old
+pub behind-after : (n : ℕ) (es : List Event) (old xs : List PairProfile) → Each IsFresh old →
+    IsLinked old → profiles_with_fronts n xs ≡ profiles_after es old
     → FedAtMost n xs → AreBehind n xs
 behind-after n es old xs fresh links caught fed = record {
   fed = fed;
@@ -93,82 +123,112 @@ behind-after n es old xs fresh links caught fed = record {
 }
 
 -- one reference more
-caught-reference : (n addr : ℕ) (xs : List PairProfile) → FedAtMost n xs → Each (λ x. IsFit x.profile) xs
-    → profiles_with_fronts (n + 1) (map (pair_unless_front addr) xs) ≡ map (pair_after_reference addr) (profiles_with_fronts n xs)
+caught-reference : (n addr : ℕ) (xs : List PairProfile) → FedAtMost n xs →
+    Each (λ x. IsFit x.profile) xs
+    → profiles_with_fronts (n + 1) (map (pair_unless_front addr) xs) ≡ map
+    (pair_after_reference addr) (profiles_with_fronts n xs)
 caught-reference n addr [] fed fit = refl
 caught-reference n addr (x ∷ xs) fed fit =
-    ap (λ v. record x { profile = v } ∷ profiles_with_fronts (n + 1) (map (pair_unless_front addr) xs))
+    ap (λ v. record x { profile = v } ∷ profiles_with_fronts (n + 1)
+    (map (pair_unless_front addr) xs))
     (caught_more n x.profile (block_of x.profile.geometry addr) fit.0 fed.0)
-    ∙ ap (λ l. pair_after_reference addr (pair_with_fronts n x) ∷ l) (caught-reference n addr xs fed.1 fit.1)
+    ∙ ap (λ l. pair_after_reference addr (pair_with_fronts n x) ∷ l)
+    (caught-reference n addr xs fed.1 fit.1)
 
-few-reference : (n addr : ℕ) (xs : List PairProfile) → FedAtMost n xs → Each (λ x. IsFit x.profile) xs
+few-reference : (n addr : ℕ) (xs : List PairProfile) → FedAtMost n xs →
+    Each (λ x. IsFit x.profile) xs
     → FedAtMost (n + 1) (map (pair_unless_front addr) xs)
 few-reference n addr [] fed fit = tt
-few-reference n addr (x ∷ xs) fed fit =
-    (profile-fed_more n x.profile (block_of x.profile.geometry addr) fit.0 fed.0, few-reference n addr xs fed.1 fit.1)
+few-reference n addr (x ∷ xs) fed fit = (
+  profile-fed_more n x.profile (block_of x.profile.geometry addr) fit.0 fed.0,
+  few-reference n addr xs fed.1 fit.1,
+)
 
-pub kept-caught : (n : ℕ) (kind : Kind) (r : Ref) (xs ys : List PairProfile) → AreBehind n xs → is_kept kind r.access ≡ true
+pub kept-caught : (n : ℕ) (kind : Kind) (r : Ref) (xs ys : List PairProfile) → AreBehind n xs →
+    is_kept kind r.access ≡ true
     → ys ≡ map (pair_unless_front r.addr) xs
-    → (profiles_with_fronts (n + 1) ys ≡ profiles_after (kept_events kind (r ∷ [])) (profiles_with_fronts n xs)) × FedAtMost (n + 1) ys
+    → (profiles_with_fronts (n + 1) ys ≡ profiles_after (kept_events kind (r ∷ []))
+    (profiles_with_fronts n xs)) × FedAtMost (n + 1) ys
 kept-caught n kind r xs ys behind kept fed = (
   ap (profiles_with_fronts (n + 1)) fed ∙ caught-reference n r.addr xs behind.fed behind.fit
-      ∙ ap (λ b. profiles_after (map (λ x. event.Reference x) (cond b (r ∷ []) [])) (profiles_with_fronts n xs)) (sym kept),
+      ∙ ap (λ b. profiles_after (map (λ x. event.Reference x) (cond b (r ∷ []) []))
+      (profiles_with_fronts n xs)) (sym kept),
   subst (FedAtMost (n + 1)) (sym fed) (few-reference n r.addr xs behind.fed behind.fit),
 )
 
-pub left-caught : (n : ℕ) (kind : Kind) (r : Ref) (xs : List PairProfile) → is_kept kind r.access ≡ false
-    → profiles_with_fronts n xs ≡ profiles_after (kept_events kind (r ∷ [])) (profiles_with_fronts n xs)
+pub left-caught : (n : ℕ) (kind : Kind) (r : Ref) (xs : List PairProfile) →
+    is_kept kind r.access ≡ false
+    → profiles_with_fronts n xs ≡ profiles_after (kept_events kind (r ∷ []))
+    (profiles_with_fronts n xs)
 left-caught n kind r xs left =
-    sym (all_after-nil (profiles_with_fronts n xs)) ∙ ap (λ b. profiles_after (map (λ x. event.Reference x) (cond b (r ∷ []) [])) (profiles_with_fronts n xs)) (sym left)
+    sym (all_after-nil (profiles_with_fronts n xs)) ∙
+    ap (λ b. profiles_after (map (λ x. event.Reference x) (cond b (r ∷ []) []))
+    (profiles_with_fronts n xs)) (sym left)
 
 -- a flush
-pub caught-flush : (n : ℕ) (xs : List PairProfile) → profiles_with_fronts n (map pair_after_flush xs) ≡ map pair_after_flush (profiles_with_fronts n xs)
+pub caught-flush : (n : ℕ) (xs : List PairProfile) →
+    profiles_with_fronts n (map pair_after_flush xs) ≡ map pair_after_flush
+    (profiles_with_fronts n xs)
 caught-flush n [] = refl
 caught-flush n (x ∷ xs) = ap (λ l. pair_with_fronts n (pair_after_flush x) ∷ l) (caught-flush n xs)
 
-pub few-flush : (n : ℕ) (xs : List PairProfile) → FedAtMost n xs → FedAtMost n (map pair_after_flush xs)
+pub few-flush : (n : ℕ) (xs : List PairProfile) → FedAtMost n xs →
+    FedAtMost n (map pair_after_flush xs)
 few-flush n [] h = tt
 few-flush n (x ∷ xs) h = (h.0, few-flush n xs h.1)
 
 -- The profiles that are skipped stay.
-skip-first : (f : PairProfile → PairProfile) (m : ℕ) (xs : List PairProfile) → Each (λ y. f y ≡ y) (take m xs) → map f (take m xs) ++ drop m xs ≡ xs
+skip-first : (f : PairProfile → PairProfile) (m : ℕ) (xs : List PairProfile) →
+    Each (λ y. f y ≡ y) (take m xs) → map f (take m xs) ++ drop m xs ≡ xs
 skip-first f zero xs h = refl
 skip-first f (suc m) [] h = refl
-skip-first f (suc m) (x ∷ xs) h = ap (λ y. y ∷ (map f (take m xs) ++ drop m xs)) h.0 ∙ ap (λ l. x ∷ l) (skip-first f m xs h.1)
+skip-first f (suc m) (x ∷ xs) h = ap (λ y. y ∷ (map f (take m xs) ++ drop m xs)) h.0 ∙
+    ap (λ l. x ∷ l) (skip-first f m xs h.1)
 
-skip : (f : PairProfile → PairProfile) (i m k : ℕ) (xs : List PairProfile) → k ≡ i + m → Each (λ y. f y ≡ y) (take m (drop i xs))
+skip : (f : PairProfile → PairProfile) (i m k : ℕ) (xs : List PairProfile) → k ≡ i + m →
+    Each (λ y. f y ≡ y) (take m (drop i xs))
     → map f (take i xs) ++ drop i xs ≡ map f (take k xs) ++ drop k xs
-skip f zero m k xs is h = sym (skip-first f m xs h) ∙ ap (λ n. map f (take n xs) ++ drop n xs) {x = m} {y = k} (omega (arith, is))
+skip f zero m k xs is h = sym (skip-first f m xs h) ∙ ap (λ n. map f (take n xs) ++ drop n xs) {x =
+    m} {y = k} (omega (arith, is))
 skip f (suc i) m zero xs is h = absurd (omega (arith, is))
 skip f (suc i) m (suc k) [] is h = refl
 skip f (suc i) m (suc k) (x ∷ xs) is h = ap (λ l. f x ∷ l) (skip f i m k xs (omega (arith, is)) h)
 
 led-at : (xs : List PairProfile) (i : ℕ) (d : PairProfile) → i < length xs → AreLed xs
-    → (suc i + (get_or xs i d).implied ≤ length xs) × Each (λ y. Leads (get_or xs i d).profile y.profile) (take (get_or xs i d).implied (drop (suc i) xs))
+    → (suc i + (get_or xs i d).implied ≤ length xs) ×
+    Each (λ y. Leads (get_or xs i d).profile y.profile)
+    (take (get_or xs i d).implied (drop (suc i) xs))
 led-at [] i d inside led = absurd (omega (arith, inside))
 led-at (x ∷ xs) zero d inside led = (omega (arith, led.0), led.1)
 led-at (x ∷ xs) (suc i) d inside led =
     let rest = led-at xs i d (omega (arith, inside)) led.2 in
     (omega (arith, rest.0), rest.1)
 
-stays : (addr : ℕ) (x : PairProfile) → is_front_of x.profile (block_of x.profile.geometry addr) ≡ true → pair_unless_front addr x ≡ x
-stays addr x front = ap (λ b. record x { profile = cond b x.profile (after_reference x.profile (block_of x.profile.geometry addr)) }) front
+stays : (addr : ℕ) (x : PairProfile) →
+    is_front_of x.profile (block_of x.profile.geometry addr) ≡ true → pair_unless_front addr x ≡ x
+stays addr x front = ap (λ b. record x {
+  profile =
+      cond b x.profile (after_reference x.profile (block_of x.profile.geometry addr));
+}) front
 
 -- the profiles before an index were fed a reference, where they do not find its block in front
 abbrev pub FedSoFar : ℕ → ℕ → List PairProfile → List PairProfile → Type 0
 FedSoFar addr i old now = now ≡ map (pair_unless_front addr) (take i old) ++ drop i old
 
-module _ (addr i : ℕ) (old now : List PairProfile) (x : PairProfile) (so_far : FedSoFar addr i old now) (inside : i < length old) where
+module _ (addr i : ℕ) (old now : List PairProfile) (x : PairProfile)
+    (so_far : FedSoFar addr i old now) (inside : i < length old) where
   pub at-index : get_or now i x ≡ get_or old i x
   at-index = ap (λ ys. get_or ys i x) so_far ∙ unreached (pair_unless_front addr) old i x inside
 
   -- one of them more
   pub fed-next : (p : ProfileState) → x ≡ get_or now i x
-      → p ≡ after_unless_front (get_or now i x).profile (block_of (get_or now i x).profile.geometry addr)
+      → p ≡ after_unless_front (get_or now i x).profile
+      (block_of (get_or now i x).profile.geometry addr)
       → FedSoFar addr (i + 1) old (set now i (record (get_or now i x) { profile = p }))
   fed-next p is fed =
       let after = pair_unless_front addr in
-      ap (λ v. set now i (record (get_or now i x) { profile = v })) fed ∙ ap (λ y. set now i (after y)) (sym is)
+      ap (λ v. set now i (record (get_or now i x) { profile = v })) fed ∙
+      ap (λ y. set now i (after y)) (sym is)
       ∙ map_over_more after old now i x inside so_far is
 
   -- and those that its front implies
@@ -177,26 +237,36 @@ module _ (addr i : ℕ) (old now : List PairProfile) (x : PairProfile) (so_far :
     implied-within = omega (arith, (led-at old i x inside led).0, ap (λ y. y.implied) at-index)
 
     pub skip-next : (p : ProfileState) → x ≡ get_or now i x
-        → p ≡ after_unless_front (get_or now i x).profile (block_of (get_or now i x).profile.geometry addr)
-        → is_front_of (get_or now i x).profile (block_of (get_or now i x).profile.geometry addr) ≡ true
-        → FedSoFar addr (i + 1 + (get_or now i x).implied) old (set now i (record (get_or now i x) { profile = p }))
+        → p ≡ after_unless_front (get_or now i x).profile
+        (block_of (get_or now i x).profile.geometry addr)
+        → is_front_of (get_or now i x).profile
+        (block_of (get_or now i x).profile.geometry addr) ≡ true
+        → FedSoFar addr (i + 1 + (get_or now i x).implied) old
+        (set now i (record (get_or now i x) { profile = p }))
     skip-next p is fed front =
         let after = pair_unless_front addr in
-        let here = sym (ap (λ y. is_front_of y.profile (block_of y.profile.geometry addr)) at-index) ∙ front in
-        fed-next p is fed ∙ ap (λ n. map after (take n old) ++ drop n old) {x = i + 1} {y = suc i} (omega arith)
-        ∙ skip after (suc i) (get_or old i x).implied (i + 1 + (get_or now i x).implied) old (omega (arith, ap (λ y. y.implied) at-index))
-        (Each-weaker (λ y. Leads (get_or old i x).profile y.profile) (λ y. after y ≡ y) (λ y leads. stays addr y (leads addr here))
+        let here = sym (ap (λ y. is_front_of y.profile (block_of y.profile.geometry addr))
+        at-index) ∙ front in
+        fed-next p is fed ∙ ap (λ n. map after (take n old) ++ drop n old) {x = i + 1} {y = suc i}
+        (omega arith)
+        ∙ skip after (suc i) (get_or old i x).implied (i + 1 + (get_or now i x).implied) old
+        (omega (arith, ap (λ y. y.implied) at-index))
+        (Each-weaker (λ y. Leads (get_or old i x).profile y.profile) (λ y. after y ≡ y)
+        (λ y leads. stays addr y (leads addr here))
         (take (get_or old i x).implied (drop (suc i) old)) (led-at old i x inside led).1)
 
 -- The links.
-refined-each : (g : GeometryValue) (xs : List PairProfile) → Each (λ y. is_refined g y.profile.geometry ≡ true) (take (implied_by g xs) (linked xs))
+refined-each : (g : GeometryValue) (xs : List PairProfile) →
+    Each (λ y. is_refined g y.profile.geometry ≡ true) (take (implied_by g xs) (linked xs))
 unfolding linked
 refined-each g [] = tt
 refined-each g (x ∷ xs) =
-    cases (λ b. is_refined g x.profile.geometry ≡ b → Each (λ y. is_refined g y.profile.geometry ≡ true)
+    cases (λ b. is_refined g x.profile.geometry ≡ b →
+    Each (λ y. is_refined g y.profile.geometry ≡ true)
     (take (cond (not (not b)) (1 + implied_by g xs) 0) (linked (x ∷ xs))))
     (is_refined g x.profile.geometry)
-    (λ t is. subst (λ n. Each (λ y. is_refined g y.profile.geometry ≡ true) (take n (linked (x ∷ xs)))) {x = suc (implied_by g xs)}
+    (λ t is. subst (λ n. Each (λ y. is_refined g y.profile.geometry ≡ true)
+    (take n (linked (x ∷ xs)))) {x = suc (implied_by g xs)}
     {y = 1 + implied_by g xs} (omega arith) (is, refined-each g xs))
     (λ f is. tt)
     refl
@@ -204,23 +274,28 @@ refined-each g (x ∷ xs) =
 implied-most : (g : GeometryValue) (xs : List PairProfile) → implied_by g xs ≤ length xs
 implied-most g [] = omega arith
 implied-most g (x ∷ xs) =
-    cases (λ b. cond (not (not b)) (1 + implied_by g xs) 0 ≤ length (x ∷ xs)) (is_refined g x.profile.geometry)
+    cases (λ b. cond (not (not b)) (1 + implied_by g xs) 0 ≤ length (x ∷ xs))
+    (is_refined g x.profile.geometry)
     (λ t. omega (arith, implied-most g xs)) (λ f. omega arith)
 
 pub implied-is : (g : GeometryValue) (xs : List PairProfile) (i : ℕ) → i ≤ length xs
     → ((k : ℕ) (d : PairProfile) → k < i → is_refined g (get_or xs k d).profile.geometry ≡ true)
-    → ((d : PairProfile) → i < length xs → is_refined g (get_or xs i d).profile.geometry ≡ false) → i ≡ implied_by g xs
+    → ((d : PairProfile) → i < length xs → is_refined g (get_or xs i d).profile.geometry ≡ false) →
+    i ≡ implied_by g xs
 implied-is g [] i le first stop = omega (arith, le)
 implied-is g (x ∷ xs) i le first stop =
-    sym (position_or_len_is (λ y. not (is_refined g y.profile.geometry)) (x ∷ xs) i x le (λ k lt. ap not (first k x lt)) (λ lt. ap not (stop x lt)))
+    sym (position_or_len_is (λ y. not (is_refined g y.profile.geometry)) (x ∷ xs) i x le
+    (λ k lt. ap not (first k x lt)) (λ lt. ap not (stop x lt)))
 
 -- the first that does not refine it
-pub implied-at : (g : GeometryValue) (xs : List PairProfile) (i : ℕ) (x : PairProfile) (b : Bool) → i < length xs
+pub implied-at : (g : GeometryValue) (xs : List PairProfile) (i : ℕ) (x : PairProfile) (b : Bool) →
+    i < length xs
     → ((k : ℕ) (d : PairProfile) → k < i → is_refined g (get_or xs k d).profile.geometry ≡ true)
     → x ≡ get_or xs i x → b ≡ is_refined g x.profile.geometry → b ≡ false → i ≡ implied_by g xs
 implied-at g xs i x b inside first is refines fails =
     implied-is g xs i (omega (arith, inside)) first
-    (λ d lt. ap (λ y. is_refined g y.profile.geometry) (sym (get_or_read xs i x inside is d)) ∙ sym refines ∙ fails)
+    (λ d lt. ap (λ y. is_refined g y.profile.geometry) (sym (get_or_read xs i x inside is d)) ∙
+    sym refines ∙ fails)
 
 length-linked : (xs : List PairProfile) → length (linked xs) ≡ length xs
 unfolding linked
@@ -230,46 +305,65 @@ length-linked (x ∷ xs) = ap suc (length-linked xs)
 pub linked-is : (xs : List PairProfile) → IsLinked (linked xs)
 unfolding linked
 linked-is [] = tt
-linked-is (x ∷ xs) =
-    (omega (arith, implied-most x.profile.geometry xs, length-linked xs), refined-each x.profile.geometry xs, linked-is xs)
+linked-is (x ∷ xs) = (
+  omega (arith, implied-most x.profile.geometry xs, length-linked xs),
+  refined-each x.profile.geometry xs,
+  linked-is xs,
+)
 
 link-here : (xs : List PairProfile) (i n : ℕ) (d : PairProfile) → i < length xs
-    → n ≡ implied_by (get_or (take i (linked xs) ++ drop i xs) i d).profile.geometry (drop (suc i) (take i (linked xs) ++ drop i xs))
-    → set (take i (linked xs) ++ drop i xs) i (record (get_or (take i (linked xs) ++ drop i xs) i d) { implied = n }) ≡ take (suc i) (linked xs) ++ drop
+    → n ≡ implied_by (get_or (take i (linked xs) ++ drop i xs) i d).profile.geometry
+    (drop (suc i) (take i (linked xs) ++ drop i xs))
+    → set (take i (linked xs) ++ drop i xs) i (record (get_or (take i (linked xs) ++ drop i xs) i d)
+    { implied = n }) ≡ take (suc i) (linked xs) ++ drop
     (suc i) xs
 unfolding linked
 link-here [] i n d inside is = absurd (omega (arith, inside))
 link-here (x ∷ xs) zero n d inside is = ap (λ m. record x { implied = m } ∷ xs) is
-link-here (x ∷ xs) (suc i) n d inside is = ap (λ l. record x { implied = implied_by x.profile.geometry xs } ∷ l) (link-here xs i n d (omega (arith, inside)) is)
+link-here (x ∷ xs) (suc i) n d inside is =
+    ap (λ l. record x { implied = implied_by x.profile.geometry xs } ∷ l)
+    (link-here xs i n d (omega (arith, inside)) is)
 
-pub linked-whole : (xs : List PairProfile) (i : ℕ) → length xs ≤ i → take i (linked xs) ++ drop i xs ≡ linked xs
+pub linked-whole : (xs : List PairProfile) (i : ℕ) → length xs ≤ i → take i (linked xs) ++
+    drop i xs ≡ linked xs
 unfolding linked
 linked-whole [] zero all = refl
 linked-whole [] (suc i) all = refl
 linked-whole (x ∷ xs) zero all = absurd (omega (arith, all))
-linked-whole (x ∷ xs) (suc i) all = ap (λ l. record x { implied = implied_by x.profile.geometry xs } ∷ l) (linked-whole xs i (omega (arith, all)))
+linked-whole (x ∷ xs) (suc i) all =
+    ap (λ l. record x { implied = implied_by x.profile.geometry xs } ∷ l)
+    (linked-whole xs i (omega (arith, all)))
 
 -- what is counted over the rest of the profiles
-pub rest-implied : (now : List PairProfile) (i n : ℕ) (x d : PairProfile) → i < length now → x ≡ get_or now i x
-    → n ≡ implied_by (get_or now i x).profile.geometry (take (length now - (i + 1)) (drop (i + 1) now))
+pub rest-implied : (now : List PairProfile) (i n : ℕ) (x d : PairProfile) → i < length now →
+    x ≡ get_or now i x
+    → n ≡ implied_by (get_or now i x).profile.geometry
+    (take (length now - (i + 1)) (drop (i + 1) now))
     → n ≡ implied_by (get_or now i d).profile.geometry (drop (i + 1) now)
 rest-implied now i n x d inside read is =
-    is ∙ ap (implied_by (get_or now i x).profile.geometry) (take_all (length now - (i + 1)) (drop (i + 1) now) (omega (arith, length-drop (i + 1) now)))
-    ∙ ap (λ y. implied_by y.profile.geometry (drop (i + 1) now)) (sym read ∙ get_or_read now i x inside read d)
+    is ∙ ap (implied_by (get_or now i x).profile.geometry) (take_all (length now - (i + 1))
+    (drop (i + 1) now) (omega (arith, length-drop (i + 1) now)))
+    ∙ ap (λ y. implied_by y.profile.geometry (drop (i + 1) now)) (sym read ∙
+    get_or_read now i x inside read d)
 
-pub link-next : (xs now : List PairProfile) (i n : ℕ) (d : PairProfile) → now ≡ take i (linked xs) ++ drop i xs → i < length xs
+pub link-next : (xs now : List PairProfile) (i n : ℕ) (d : PairProfile) →
+    now ≡ take i (linked xs) ++ drop i xs → i < length xs
     → n ≡ implied_by (get_or now i d).profile.geometry (drop (i + 1) now)
-    → set now i (record (get_or now i d) { implied = n }) ≡ take (i + 1) (linked xs) ++ drop (i + 1) xs
+    → set now i (record (get_or now i d) { implied = n }) ≡ take (i + 1) (linked xs) ++
+    drop (i + 1) xs
 link-next xs now i n d so_far inside is =
     let all = take i (linked xs) ++ drop i xs in
     ap (λ (ys : List PairProfile). set ys i (record (get_or ys i d) { implied = n })) so_far
     ∙ link-here xs i n d inside
-    (is ∙ ap (λ (ys : List PairProfile). implied_by (get_or ys i d).profile.geometry (drop (i + 1) ys)) so_far
-    ∙ ap (λ k. implied_by (get_or all i d).profile.geometry (drop k all)) {x = i + 1} {y = suc i} (omega arith))
+    (is ∙ ap (λ (ys : List PairProfile). implied_by (get_or ys i d).profile.geometry
+    (drop (i + 1) ys)) so_far
+    ∙ ap (λ k. implied_by (get_or all i d).profile.geometry (drop k all)) {x = i + 1} {y = suc i}
+    (omega arith))
     ∙ ap (λ k. take k (linked xs) ++ drop k xs) {x = suc i} {y = i + 1} (omega arith)
 
 -- they change nothing else
-linked-stands : (r : Request) (xs : List PairProfile) → SweepStandsFor r [] xs → SweepStandsFor r [] (linked xs)
+linked-stands : (r : Request) (xs : List PairProfile) → SweepStandsFor r [] xs →
+    SweepStandsFor r [] (linked xs)
 unfolding linked
 linked-stands r xs h = record {
   space = h.space;
@@ -278,26 +372,39 @@ linked-stands r xs h = record {
   fed = fed-kept xs h.fed;
 }
   where
-    pairs-kept : (ys : List PairProfile) → map (λ x. pair_of x.first) (linked ys) ≡ map (λ x. pair_of x.first) ys
+    pairs-kept : (ys : List PairProfile) → map (λ x. pair_of x.first) (linked ys) ≡ map
+        (λ x. pair_of x.first) ys
     pairs-kept [] = refl
     pairs-kept (y ∷ ys) = ap (λ l. pair_of y.first ∷ l) (pairs-kept ys)
 
-    rows-kept : (ys : List PairProfile) → flat_map (rows_of_profile r.space.powers) (linked ys) ≡ flat_map (rows_of_profile r.space.powers) ys
+    rows-kept : (ys : List PairProfile) → flat_map (rows_of_profile r.space.powers)
+        (linked ys) ≡ flat_map (rows_of_profile r.space.powers) ys
     rows-kept [] = refl
     rows-kept (y ∷ ys) = ap (λ l. rows_of_profile r.space.powers y ++ l) (rows-kept ys)
 
-    fed-kept : (ys : List PairProfile) → Each (WasFed (configs_of r) []) ys → Each (WasFed (configs_of r) []) (linked ys)
+    fed-kept : (ys : List PairProfile) → Each (WasFed (configs_of r) []) ys →
+        Each (WasFed (configs_of r) []) (linked ys)
     fed-kept [] h = tt
-    fed-kept (y ∷ ys) h = (record { some = h.0.some; sound = h.0.sound; is = h.0.is }, fed-kept ys h.1)
+    fed-kept (y ∷ ys) h = (
+      record { some = h.0.some; sound = h.0.sound; is = h.0.is },
+      fed-kept ys h.1,
+    )
 
-pub linked-items : (made now rest : List PairProfile) (n : ℕ) → n ≡ length made → now ≡ linked made → take n (now ++ rest) ≡ linked made
-linked-items made now rest n len is = take_at now rest n (ap length is ∙ length-linked made ∙ sym len) ∙ is
+pub linked-items : (made now rest : List PairProfile) (n : ℕ) → n ≡ length made →
+    now ≡ linked made → take n (now ++ rest) ≡ linked made
+linked-items made now rest n len is = take_at now rest n (ap length is ∙ length-linked made ∙
+    sym len) ∙ is
 
-pub linked-sweep : (r : Request) (made now : List PairProfile) → SweepStandsFor r [] made → now ≡ linked made → SweepStandsFor r [] now
-linked-sweep r made now stands is = subst (SweepStandsFor r []) (sym is) (linked-stands r made stands)
+pub linked-sweep : (r : Request) (made now : List PairProfile) → SweepStandsFor r [] made →
+    now ≡ linked made → SweepStandsFor r [] now
+linked-sweep r made now stands is = subst (SweepStandsFor r []) (sym is)
+    (linked-stands r made stands)
 
-pub fresh-sweep : (r : Request) (xs : List PairProfile) → Each (WasFed (configs_of r) []) xs → Each IsFresh xs
+pub fresh-sweep : (r : Request) (xs : List PairProfile) → Each (WasFed (configs_of r) []) xs →
+    Each IsFresh xs
 fresh-sweep r [] h = tt
 fresh-sweep r (x ∷ xs) h =
-    let g = ap (λ v. v.geometry) h.0.is in
-    (record { geometry = subst IsGeometry (sym g) h.0.sound; is = h.0.is ∙ ap empty (sym g) }, fresh-sweep r xs h.1)
+    let g = ap (λ v. v.geometry) h.0.is in (
+      record { geometry = subst IsGeometry (sym g) h.0.sound; is = h.0.is ∙ ap empty (sym g) },
+      fresh-sweep r xs h.1,
+    )

@@ -1,6 +1,7 @@
 -- Profiles after some events, and then more.
-use Rattle.std.proofs.Common.{◌≡◌, ℕ, zero, suc, ◌<◌, List, [], ◌∷◌, ◌++◌, map, length, refl, sym, ap, ◌∙◌, arith, fold}
-use Rattle.std.proofs.Common.{Option, None, Some, true, false, cond, take, drop, get_or}
+use Rattle.std.proofs.Common.{◌≡◌, ℕ, zero, suc, ◌<◌, List, [], ◌∷◌, ◌++◌, map, length, refl, sym}
+use Rattle.std.proofs.Common.{ap, ◌∙◌, arith, fold, Option, None, Some, true, false, cond, take}
+use Rattle.std.proofs.Common.{drop, get_or}
 use Rattle.std.specs.Prelude.{filter}
 use Rattle.std.specs.List.{flat_map}
 use Rattle.std.proofs.lemmas.List.Sums.{fold-append}
@@ -21,42 +22,57 @@ pub all_after-nil : (xs : List PairProfile) → profiles_after [] xs ≡ xs
 all_after-nil [] = refl
 all_after-nil (x ∷ xs) = ap (λ l. x ∷ l) (all_after-nil xs)
 
-pub all_after-append : (es fs : List Event) (xs : List PairProfile) → profiles_after (es ++ fs) xs ≡ profiles_after fs (profiles_after es xs)
+pub all_after-append : (es fs : List Event) (xs : List PairProfile) →
+    profiles_after (es ++ fs) xs ≡ profiles_after fs (profiles_after es xs)
 all_after-append es fs [] = refl
 all_after-append es fs (x ∷ xs) =
-    ap (λ v. record x { profile = v } ∷ profiles_after (es ++ fs) xs) (fold-append after_event x.profile es fs)
-    ∙ ap (λ l. record x { profile = fold after_event (fold after_event x.profile es) fs } ∷ l) (all_after-append es fs xs)
+    ap (λ v. record x { profile = v } ∷ profiles_after (es ++ fs) xs)
+    (fold-append after_event x.profile es fs)
+    ∙ ap (λ l. record x { profile = fold after_event (fold after_event x.profile es) fs } ∷ l)
+    (all_after-append es fs xs)
 
 -- the references of an item that are kept, one after the other
-pub fed-both : (kind : Kind) (xs ys zs : List PairProfile) {e : Entry} {item : Item} {both : Ref × Option Ref} {second : Ref}
+pub fed-both : (kind : Kind) (xs ys zs : List PairProfile) {e : Entry} {item : Item} {both : Ref ×
+    Option Ref} {second : Ref}
     → e ≡ entry.Item item → both ≡ references item → both.1 ≡ Some second
-    → ys ≡ profiles_after (kept_events kind (both.0 ∷ [])) xs → zs ≡ profiles_after (kept_events kind (second ∷ [])) ys
+    → ys ≡ profiles_after (kept_events kind (both.0 ∷ [])) xs →
+    zs ≡ profiles_after (kept_events kind (second ∷ [])) ys
     → zs ≡ profiles_after (events_of kind e) xs
 fed-both kind xs ys zs {both = both} {second} is refs two first later =
     later ∙ ap (profiles_after (kept_events kind (second ∷ []))) first
     ∙ sym (all_after-append (kept_events kind (both.0 ∷ [])) (kept_events kind (second ∷ [])) xs)
     ∙ ap (λ es. profiles_after es xs) (joined both.0 ∙ sym (two_events kind is refs two))
   where
-    joined : (r : Ref) → kept_events kind (r ∷ []) ++ kept_events kind (second ∷ []) ≡ kept_events kind (r ∷ second ∷ [])
-    joined r = elim (is_kept kind r.access) as (λ b. map (λ x. event.Reference x) (cond b (r ∷ []) []) ++ kept_events kind (second ∷ [])
-        ≡ map (λ x. event.Reference x) (cond b (r ∷ filter (λ x. is_kept kind x.access) (second ∷ [])) (filter (λ x. is_kept kind x.access) (second ∷ []))))
+    joined : (r : Ref) → kept_events kind (r ∷ []) ++ kept_events kind (second ∷ []) ≡ kept_events
+        kind (r ∷ second ∷ [])
+    joined r = elim (is_kept kind r.access) as (λ b. map (λ x. event.Reference x)
+        (cond b (r ∷ []) []) ++ kept_events kind (second ∷ [])
+        ≡ map (λ x. event.Reference x)
+        (cond b (r ∷ filter (λ x. is_kept kind x.access) (second ∷ []))
+        (filter (λ x. is_kept kind x.access) (second ∷ []))))
         [ true ↦ refl | false ↦ refl ]
 
-pub fed-one : (kind : Kind) (xs ys : List PairProfile) {e : Entry} {item : Item} {both : Ref × Option Ref}
-    → e ≡ entry.Item item → both ≡ references item → both.1 ≡ None → ys ≡ profiles_after (kept_events kind (both.0 ∷ [])) xs
+pub fed-one : (kind : Kind) (xs ys : List PairProfile) {e : Entry} {item : Item}
+    {both : Ref × Option Ref}
+    → e ≡ entry.Item item → both ≡ references item → both.1 ≡ None →
+    ys ≡ profiles_after (kept_events kind (both.0 ∷ [])) xs
     → ys ≡ profiles_after (events_of kind e) xs
-fed-one kind xs ys is refs none fed = fed ∙ ap (λ es. profiles_after es xs) (sym (one_event kind is refs none))
+fed-one kind xs ys is refs none fed = fed ∙ ap (λ es. profiles_after es xs)
+    (sym (one_event kind is refs none))
 
 -- the profiles after some entries, and then one more
 pub fed-more : (kind : Kind) (old xs ys : List PairProfile) (es : List Entry) (e : Entry)
-    → xs ≡ profiles_after (flat_map (events_of kind) es) old → ys ≡ profiles_after (events_of kind e) xs
+    → xs ≡ profiles_after (flat_map (events_of kind) es) old →
+    ys ≡ profiles_after (events_of kind e) xs
     → ys ≡ profiles_after (flat_map (events_of kind) (es ++ e ∷ [])) old
 fed-more kind old xs ys es e so_far fed =
-    fed ∙ ap (profiles_after (events_of kind e)) so_far ∙ sym (all_after-append (flat_map (events_of kind) es) (events_of kind e) old)
+    fed ∙ ap (profiles_after (events_of kind e)) so_far ∙
+    sym (all_after-append (flat_map (events_of kind) es) (events_of kind e) old)
     ∙ ap (λ l. profiles_after l old) (sym (events_more kind es e))
 
 -- a loop over profiles has not yet reached the one at its index
-pub unreached : {A : Type 0} (f : A → A) (xs : List A) (i : ℕ) (d : A) → i < length xs → get_or (map f (take i xs) ++ drop i xs) i d ≡ get_or xs i d
+pub unreached : {A : Type 0} (f : A → A) (xs : List A) (i : ℕ) (d : A) → i < length xs →
+    get_or (map f (take i xs) ++ drop i xs) i d ≡ get_or xs i d
 unreached f [] i d inside = absurd (omega arith)
 unreached f (x ∷ xs) zero d inside = refl
 unreached f (x ∷ xs) (suc i) d inside = unreached f xs i d (omega arith)

@@ -1,5 +1,6 @@
 -- The profiles of a sweep have the counts of their rows.
-use Rattle.std.proofs.Common.{◌≡◌, ℕ, zero, suc, ◌-◌, ◌≤◌, Bool, Option, None, Some, List, [], ◌∷◌, ◌++◌, map, refl, sym, ap, ap₂, ◌∙◌, arith, subst}
+use Rattle.std.proofs.Common.{◌≡◌, ℕ, zero, suc, ◌-◌, ◌≤◌, Bool, Option, None, Some, List, [], ◌∷◌}
+use Rattle.std.proofs.Common.{◌++◌, map, refl, sym, ap, ap₂, ◌∙◌, arith, subst}
 use Rattle.std.specs.Prelude.{flat_map, nat_lt}
 use Rattle.std.specs.Bool.{then_some}
 use Rattle.std.specs.List.{AllByRecursion as Each}
@@ -20,7 +21,9 @@ use Rattle.sweep_core.specs.SweepText.{row_counts, configs_of, rows_of}
 use Rattle.sweep_core.specs.Rows.{counted_rows}
 use Rattle.cache_core.specs.Powers.{log2}
 use Rattle.sweep_core.specs.Work.{pair_of, depth}
-use Rattle.sweep_core.specs.internal.Runs.{next_ways, run_of, rows_of_profile, counted_run, counted_profiles, rows_by_pair, Serves, ServesRows, IsWalk, rows_to_come, MayCome}
+use Rattle.sweep_core.specs.internal.Runs.{next_ways, run_of, rows_of_profile, counted_run}
+use Rattle.sweep_core.specs.internal.Runs.{counted_profiles, rows_by_pair, Serves, ServesRows}
+use Rattle.sweep_core.specs.internal.Runs.{IsWalk, rows_to_come, MayCome}
 use Rattle.sweep_core.specs.internal.Pass.{SweepStandsFor, WasFed}
 use Rattle.sweep_core.proofs.Lists.{Each-self, Each-both, Each-split, Each-append}
 use Rattle.sweep_core.proofs.Validity.{IsLimited, space-limited, valid_of, products}
@@ -37,21 +40,31 @@ pub record Sized (r : Request) (c : Config) : Type 0 where
   pub few : c.assoc ≤ most_ways
   pub fits : HasSize c
 
-sized : (r : Request) (c : Config) → IsLimited r.space → Belongs r c → c.assoc ≤ depth (configs_of r) (pair_of c) → Sized r c
+sized : (r : Request) (c : Config) → IsLimited r.space → Belongs r c →
+    c.assoc ≤ depth (configs_of r) (pair_of c) → Sized r c
 sized r c l b d =
     let v = valid_of r.space c b.0 in
     let p = products r.space c.bsize c.sets c.assoc l v.bsize v.sets v.assoc in
-    record { some = omega (arith, v.assoc.0, l.assoc.0); deep = d; few = omega (arith, v.assoc.1, l.assoc.1); fits = (p.1, p.2) }
+    record {
+      some = omega (arith, v.assoc.0, l.assoc.0);
+      deep = d;
+      few =
+          omega (arith, v.assoc.1, l.assoc.1);
+      fits = (p.1, p.2);
+    }
 
 pub rows-sized : (r : Request) → space_fault r.space ≡ None → Each (Sized r) (rows_of r)
 rows-sized r sound =
-    Each-both (Belongs r) (λ c. c.assoc ≤ depth (configs_of r) (pair_of c)) (Sized r) (λ c b d. sized r c (space-limited r.space sound) b d) (rows_of r)
+    Each-both (Belongs r) (λ c. c.assoc ≤ depth (configs_of r) (pair_of c)) (Sized r)
+    (λ c b d. sized r c (space-limited r.space sound) b d) (rows_of r)
     (rows-belong r)
     (first-each (λ c. c.assoc ≤ depth (configs_of r) (pair_of c)) r.rows (configs_of r)
-    (Each-self (λ c. c.assoc ≤ depth (configs_of r) (pair_of c)) (configs_of r) (λ c m. depth-above (configs_of r) c m)))
+    (Each-self (λ c. c.assoc ≤ depth (configs_of r) (pair_of c)) (configs_of r)
+    (λ c m. depth-above (configs_of r) c m)))
 
 module _ (r : Request) (es : List Event) where
-  serves : (x : PairProfile) → WasFed (configs_of r) es x → Each (Sized r) (rows_of_profile r.space.powers x) → ServesRows r.space.powers x
+  serves : (x : PairProfile) → WasFed (configs_of r) es x →
+      Each (Sized r) (rows_of_profile r.space.powers x) → ServesRows r.space.powers x
   serves x fed sized =
       let is = geometry-kept (configs_of r) es x fed in
       record {
@@ -67,114 +80,157 @@ module _ (r : Request) (es : List Event) where
       }
 
   -- its counts of a row are those of a separate cache
-  row-is : (x : PairProfile) → WasFed (configs_of r) es x → (c : Config) → c.assoc ≤ x.profile.geometry.e → pair_of c ≡ pair_of x.first
+  row-is : (x : PairProfile) → WasFed (configs_of r) es x → (c : Config) →
+      c.assoc ≤ x.profile.geometry.e → pair_of c ≡ pair_of x.first
       → counts_at x.profile c.assoc ≡ row_counts es c
   row-is x fed c deep same =
       counts_are es x.profile c.assoc (stands (configs_of r) es x fed) deep
       ∙ ap (λ g. counts (record g { e = c.assoc }) es) (geometry-kept (configs_of r) es x fed)
       ∙ ap (λ p. counts (geometry_value (log2 p.1) c.assoc (log2 p.0)) es) (sym same)
 
-  counted-each : (x : PairProfile) → WasFed (configs_of r) es x → (cs : List Config) → Each (Serves x.profile) cs
-      → Each (λ c. pair_of c ≡ pair_of x.first) cs → map (λ c. (c, counts_at x.profile c.assoc)) cs ≡ counted_rows es cs
+  counted-each : (x : PairProfile) → WasFed (configs_of r) es x → (cs : List Config) →
+      Each (Serves x.profile) cs
+      → Each (λ c. pair_of c ≡ pair_of x.first) cs →
+      map (λ c. (c, counts_at x.profile c.assoc)) cs ≡ counted_rows es cs
   counted-each x fed [] serve pair = refl
   counted-each x fed (c ∷ cs) serve pair =
-      ap (λ (n : Counts). (c, n) ∷ map (λ d. (d, counts_at x.profile d.assoc)) cs) (row-is x fed c serve.0.deep pair.0)
+      ap (λ (n : Counts). (c, n) ∷ map (λ d. (d, counts_at x.profile d.assoc)) cs)
+      (row-is x fed c serve.0.deep pair.0)
       ∙ ap (λ l. (c, row_counts es c) ∷ l) (counted-each x fed cs serve.1 pair.1)
 
-  all-serve : (xs : List PairProfile) → Each (WasFed (configs_of r) es) xs → Each (Sized r) (flat_map (rows_of_profile r.space.powers) xs)
+  all-serve : (xs : List PairProfile) → Each (WasFed (configs_of r) es) xs →
+      Each (Sized r) (flat_map (rows_of_profile r.space.powers) xs)
       → Each (ServesRows r.space.powers) xs
   all-serve [] fed sized = tt
   all-serve (x ∷ xs) fed sized =
-      let w = Each-split (Sized r) (rows_of_profile r.space.powers x) (flat_map (rows_of_profile r.space.powers) xs) sized in
+      let w = Each-split (Sized r) (rows_of_profile r.space.powers x)
+      (flat_map (rows_of_profile r.space.powers) xs) sized in
       (serves x fed.0 w.0, all-serve xs fed.1 w.1)
 
   -- the counts of all rows can be had
-  pub swept-serve : (xs : List PairProfile) → SweepStandsFor r es xs → Each (ServesRows r.space.powers) xs
-  swept-serve xs swept = all-serve xs swept.fed (subst (Each (Sized r)) (sym swept.rows) (rows-sized r swept.space))
+  pub swept-serve : (xs : List PairProfile) → SweepStandsFor r es xs →
+      Each (ServesRows r.space.powers) xs
+  swept-serve xs swept = all-serve xs swept.fed (subst (Each (Sized r)) (sym swept.rows)
+      (rows-sized r swept.space))
 
-  all-counted : (xs : List PairProfile) → Each (WasFed (configs_of r) es) xs → Each (ServesRows r.space.powers) xs
-      → counted_profiles r.space.powers xs ≡ counted_rows es (flat_map (rows_of_profile r.space.powers) xs)
+  all-counted : (xs : List PairProfile) → Each (WasFed (configs_of r) es) xs →
+      Each (ServesRows r.space.powers) xs
+      → counted_profiles r.space.powers xs ≡ counted_rows es
+      (flat_map (rows_of_profile r.space.powers) xs)
   all-counted [] fed serve = refl
   all-counted (x ∷ xs) fed serve =
-      ap₂ (λ l k. l ++ k) (counted-each x fed.0 (rows_of_profile r.space.powers x) serve.0.rows (run-pair r.space.powers x.first x.rows))
+      ap₂ (λ l k. l ++ k) (counted-each x fed.0 (rows_of_profile r.space.powers x) serve.0.rows
+      (run-pair r.space.powers x.first x.rows))
       (all-counted xs fed.1 serve.1)
-      ∙ sym (map-append (λ c. (c, row_counts es c)) (rows_of_profile r.space.powers x) (flat_map (rows_of_profile r.space.powers) xs))
+      ∙ sym (map-append (λ c. (c, row_counts es c)) (rows_of_profile r.space.powers x)
+      (flat_map (rows_of_profile r.space.powers) xs))
 
   -- and are those of separate caches
-  pub swept-counted : (xs : List PairProfile) → SweepStandsFor r es xs → counted_profiles r.space.powers xs ≡ counted_rows es (rows_of r)
-  swept-counted xs swept = all-counted xs swept.fed (swept-serve xs swept) ∙ ap (counted_rows es) swept.rows
+  pub swept-counted : (xs : List PairProfile) → SweepStandsFor r es xs →
+      counted_profiles r.space.powers xs ≡ counted_rows es (rows_of r)
+  swept-counted xs swept = all-counted xs swept.fed (swept-serve xs swept) ∙
+      ap (counted_rows es) swept.rows
 
 -- A walk over the rows of a pair begins.
-pub walk-start : {powers : Bool} {x : PairProfile} {w : PairWalk} → ServesRows powers x → w.profile.now ≡ x.profile
+pub walk-start : {powers : Bool} {x : PairProfile} {w : PairWalk} → ServesRows powers x →
+    w.profile.now ≡ x.profile
     → w.sums ≡ hit_sums_at x.profile 0 → w.next ≡ x.first → w.left ≡ x.rows → IsWalk powers w
 walk-start {powers = powers} {x = x} {w = w} rows same begun first all =
     let none : w.sums.ways ≡ 0 = ap (λ t. t.ways) begun in
     record {
-      summed = begun ∙ ap (hit_sums_at x.profile) (sym none) ∙ ap (λ v. hit_sums_at v w.sums.ways) (sym same);
+      summed = begun ∙ ap (hit_sums_at x.profile) (sym none) ∙
+          ap (λ v. hit_sums_at v w.sums.ways) (sym same);
       rising = omega (arith, none);
-      serves = subst (λ (v : ProfileState). Each (Serves v) (run_of powers w.next w.left)) (sym same)
+      serves = subst (λ (v : ProfileState). Each (Serves v) (run_of powers w.next w.left))
+          (sym same)
           (subst (λ (c : Config). Each (Serves x.profile) (run_of powers c w.left)) (sym first)
-          (subst (λ (n : ℕ). Each (Serves x.profile) (run_of powers x.first n)) (sym all) rows.rows));
+          (subst (λ (n : ℕ). Each (Serves x.profile) (run_of powers x.first n))
+          (sym all) rows.rows));
     }
 
 -- the rows that it has are those of the profile
-pub walk-rows : (powers : Bool) (x : PairProfile) (w : PairWalk) → w.profile.now ≡ x.profile → w.next ≡ x.first → w.left ≡ x.rows
+pub walk-rows : (powers : Bool) (x : PairProfile) (w : PairWalk) → w.profile.now ≡ x.profile →
+    w.next ≡ x.first → w.left ≡ x.rows
     → counted_run powers w.profile.now w.next w.left ≡ counted_run powers x.profile x.first x.rows
 walk-rows powers x w same first all =
-    ap (λ v. counted_run powers v w.next w.left) same ∙ ap (λ c. counted_run powers x.profile c w.left) first
+    ap (λ v. counted_run powers v w.next w.left) same ∙
+    ap (λ c. counted_run powers x.profile c w.left) first
     ∙ ap (counted_run powers x.profile x.first) all
 
 -- It goes on.
 module _ {powers : Bool} {w : PairWalk} (is_walk : IsWalk powers w) (some : 1 ≤ w.left) where
-  first-and-rest : Each (Serves w.profile.now) (w.next ∷ run_of powers (next powers w.next) (w.left - 1))
+  first-and-rest : Each (Serves w.profile.now) (w.next ∷ run_of powers (next powers w.next)
+      (w.left - 1))
   first-and-rest =
-      subst (Each (Serves w.profile.now)) (run-first powers w.next w.left (w.left - 1) (omega (arith, some))) is_walk.serves
+      subst (Each (Serves w.profile.now)) (run-first powers w.next w.left (w.left - 1)
+      (omega (arith, some))) is_walk.serves
 
   pub walk-first : Serves w.profile.now w.next
   walk-first = first-and-rest.0
 
   -- after the next row
-  pub walk-next : {after : PairWalk} → after.profile.now ≡ w.profile.now → after.sums ≡ hit_sums_at w.profile.now w.next.assoc
+  pub walk-next : {after : PairWalk} → after.profile.now ≡ w.profile.now →
+      after.sums ≡ hit_sums_at w.profile.now w.next.assoc
       → after.next ≡ next powers w.next → after.left ≡ w.left - 1 → IsWalk powers after
   walk-next {after = after} same added is one =
       let ways : after.sums.ways ≡ w.next.assoc = ap (λ t. t.ways) added in
       record {
-        summed = added ∙ ap (hit_sums_at w.profile.now) (sym ways) ∙ ap (λ v. hit_sums_at v after.sums.ways) (sym same);
-        rising = omega (arith, ways, ap (λ c. c.assoc) is, next-more powers w.next.assoc walk-first.some);
-        serves = subst (λ (v : ProfileState). Each (Serves v) (run_of powers after.next after.left)) (sym same)
-            (subst (λ (c : Config). Each (Serves w.profile.now) (run_of powers c after.left)) (sym is)
-            (subst (λ (n : ℕ). Each (Serves w.profile.now) (run_of powers (next powers w.next) n)) (sym one) first-and-rest.1));
+        summed = added ∙ ap (hit_sums_at w.profile.now) (sym ways) ∙
+            ap (λ v. hit_sums_at v after.sums.ways) (sym same);
+        rising = omega (
+          arith,
+          ways,
+          ap (λ c. c.assoc) is,
+          next-more powers w.next.assoc walk-first.some,
+        );
+        serves = subst (λ (v : ProfileState). Each (Serves v) (run_of powers after.next after.left))
+            (sym same)
+            (subst (λ (c : Config). Each (Serves w.profile.now) (run_of powers c after.left))
+            (sym is)
+            (subst (λ (n : ℕ). Each (Serves w.profile.now) (run_of powers (next powers w.next) n))
+            (sym one) first-and-rest.1));
       }
 
-  pub walk-more : (after : PairWalk) → after.profile.now ≡ w.profile.now → after.next ≡ next powers w.next → after.left ≡ w.left - 1
+  pub walk-more : (after : PairWalk) → after.profile.now ≡ w.profile.now →
+      after.next ≡ next powers w.next → after.left ≡ w.left - 1
       → counted_run powers w.profile.now w.next w.left
-      ≡ (w.next, counts_at w.profile.now w.next.assoc) ∷ counted_run powers after.profile.now after.next after.left
+      ≡ (w.next, counts_at w.profile.now w.next.assoc) ∷ counted_run powers after.profile.now
+      after.next after.left
   walk-more after same is one =
-      ap (map (λ d. (d, counts_at w.profile.now d.assoc))) (run-first powers w.next w.left (w.left - 1) (omega (arith, some)))
+      ap (map (λ d. (d, counts_at w.profile.now d.assoc))) (run-first powers w.next w.left
+      (w.left - 1) (omega (arith, some)))
       ∙ ap (λ l. (w.next, counts_at w.profile.now w.next.assoc) ∷ l)
       (ap (λ v. counted_run powers v (next powers w.next) (w.left - 1)) (sym same)
       ∙ ap (λ c. counted_run powers after.profile.now c (w.left - 1)) (sym is)
       ∙ ap (counted_run powers after.profile.now after.next) (sym one))
 
--- The next row of a walk comes first of all that are left, where the walk stays as long as it has a row.
-pub comes-first : (powers : Bool) (rows : List (Config × Counts)) (w after : PairWalk) (later : List PairProfile) (row : Config × Counts)
+-- The next row of a walk comes first of all that are left, where the walk stays as long as it has a
+-- row.
+pub comes-first : (powers : Bool) (rows : List (Config × Counts)) (w after : PairWalk)
+    (later : List PairProfile) (row : Config × Counts)
     (rest : Option PairWalk) → rows ≡ rows_to_come powers (Some w) later
-    → counted_run powers w.profile.now w.next w.left ≡ row ∷ counted_run powers after.profile.now after.next after.left
+    → counted_run powers w.profile.now w.next w.left ≡ row ∷ counted_run powers after.profile.now
+    after.next after.left
     → rest ≡ then_some (nat_lt 0 after.left) after → rows ≡ row ∷ rows_to_come powers rest later
 comes-first powers rows w after later row rest whole first stays =
-    whole ∙ ap (λ l. l ++ counted_profiles powers later) first ∙ ap (λ l. row ∷ l) (by_left after.left refl)
+    whole ∙ ap (λ l. l ++ counted_profiles powers later) first ∙
+    ap (λ l. row ∷ l) (by_left after.left refl)
     ∙ ap (λ r. row ∷ rows_to_come powers r later) (sym stays)
   where
-    by_left : (n : ℕ) → after.left ≡ n → counted_run powers after.profile.now after.next after.left ++ counted_profiles powers later
+    by_left : (n : ℕ) → after.left ≡ n → counted_run powers after.profile.now after.next
+        after.left ++ counted_profiles powers later
         ≡ rows_to_come powers (then_some (nat_lt 0 after.left) after) later
     by_left zero none =
-        ap (λ k. counted_run powers after.profile.now after.next k ++ counted_profiles powers later) none
+        ap (λ k. counted_run powers after.profile.now after.next k ++
+        counted_profiles powers later) none
         ∙ sym (ap (λ k. rows_to_come powers (then_some (nat_lt 0 k) after) later) none)
     by_left (suc k) more =
-        sym (ap (λ b. rows_to_come powers (then_some b after) later) (lt-ltb 0 after.left (omega (arith, more))))
+        sym (ap (λ b. rows_to_come powers (then_some b after) later)
+        (lt-ltb 0 after.left (omega (arith, more))))
 
 -- the sizes of all rows fit
-run-sizes : (v : ProfileState) (cs : List Config) → Each (Serves v) cs → Each (λ (row : Config × Counts). HasSize row.0) (map (λ d. (d, counts_at v d.assoc)) cs)
+run-sizes : (v : ProfileState) (cs : List Config) → Each (Serves v) cs →
+    Each (λ (row : Config × Counts). HasSize row.0) (map (λ d. (d, counts_at v d.assoc)) cs)
 run-sizes v [] serve = tt
 run-sizes v (c ∷ cs) serve = (serve.0.fits, run-sizes v cs serve.1)
 
@@ -189,8 +245,13 @@ all-sizes powers (x ∷ xs) serve =
 pub pairs-sizes : (powers : Bool) (xs : List PairProfile) → Each (ServesRows powers) xs
     → Each (Each (λ (row : Config × Counts). HasSize row.0)) (rows_by_pair powers xs)
 pairs-sizes powers [] serve = tt
-pairs-sizes powers (x ∷ xs) serve = (run-sizes x.profile (rows_of_profile powers x) serve.0.rows, pairs-sizes powers xs serve.1)
+pairs-sizes powers (x ∷ xs) serve = (
+  run-sizes x.profile (rows_of_profile powers x) serve.0.rows,
+  pairs-sizes powers xs serve.1,
+)
 
-pub pairs-rows : (powers : Bool) (xs : List PairProfile) → flat_map (λ rows. rows) (rows_by_pair powers xs) ≡ counted_profiles powers xs
+pub pairs-rows : (powers : Bool) (xs : List PairProfile) →
+    flat_map (λ rows. rows) (rows_by_pair powers xs) ≡ counted_profiles powers xs
 pairs-rows powers [] = refl
-pairs-rows powers (x ∷ xs) = ap (λ l. counted_run powers x.profile x.first x.rows ++ l) (pairs-rows powers xs)
+pairs-rows powers (x ∷ xs) = ap (λ l. counted_run powers x.profile x.first x.rows ++ l)
+    (pairs-rows powers xs)

@@ -1,5 +1,6 @@
 -- The text of a row, and the rows of a sweep, written one after another.
-use Rattle.std.proofs.Common.{◌≡◌, ℕ, List, [], ◌∷◌, ◌++◌, refl, sym, ap, ◌∙◌, append-nil, append_assoc, subst}
+use Rattle.std.proofs.Common.{◌≡◌, ℕ, List, [], ◌∷◌, ◌++◌, refl, sym, ap, ◌∙◌, append-nil}
+use Rattle.std.proofs.Common.{append_assoc, subst}
 use Rattle.std.specs.Prelude.{decimal}
 use Rattle.std.proofs.lemmas.List.Concat.{flat_map-append}
 use Rattle.trace_core.specs.declared.events.Event.{Event}
@@ -12,7 +13,8 @@ use Rattle.sweep_core.specs.SweepText.{rows_text, csv_rows, row_of, row_counts}
 use Rattle.sweep_core.specs.Rows.{counted_rows}
 
 -- the bytes of a row, as they are put together
-pub row-pieces : {l₀ l₁ l₂ l₃ l₄ l₅ l₆ l₇ : List ℕ} (c : Config) (size : ℕ) (n : Counts) → size ≡ bytes_of c → l₀ ≡ []
+pub row-pieces : {l₀ l₁ l₂ l₃ l₄ l₅ l₆ l₇ : List ℕ} (c : Config) (size : ℕ) (n : Counts) →
+    size ≡ bytes_of c → l₀ ≡ []
     → l₁ ≡ l₀ ++ decimal c.bsize ++ 44 ∷ [] → l₂ ≡ l₁ ++ decimal c.sets ++ 44 ∷ []
     → l₃ ≡ l₂ ++ decimal c.assoc ++ 44 ∷ [] → l₄ ≡ l₃ ++ decimal size ++ 44 ∷ []
     → l₅ ≡ l₄ ++ decimal n.hits ++ 44 ∷ [] → l₆ ≡ l₅ ++ decimal n.misses ++ 44 ∷ []
@@ -20,27 +22,33 @@ pub row-pieces : {l₀ l₁ l₂ l₃ l₄ l₅ l₆ l₇ : List ℕ} (c : Confi
 row-pieces c size n z y a b d e f g h = rw (h, g, f, e, d, b, a, y, z) (simp append_assoc)
 
 -- the text of rows with their counts is that of the configurations over a trace
-pub csv-counted : (es : List Event) (cs : List Config) → csv_rows (counted_rows es cs) ≡ rows_text es cs
+pub csv-counted : (es : List Event) (cs : List Config) →
+    csv_rows (counted_rows es cs) ≡ rows_text es cs
 unfolding csv_rows rows_text
 csv-counted es [] = refl
 csv-counted es (c ∷ cs) = ap (λ l. row_of c (row_counts es c) ++ l) (csv-counted es cs)
 
 -- the text of some rows, and then of more
-csv-append : (rows more : List (Config × Counts)) → csv_rows (rows ++ more) ≡ csv_rows rows ++ csv_rows more
+csv-append : (rows more : List (Config × Counts)) → csv_rows (rows ++ more) ≡ csv_rows rows ++
+    csv_rows more
 unfolding csv_rows
 csv-append rows more = flat_map-append (λ x. row_of x.0 x.1) rows more
 
 -- the text of one row more
-csv-more : (rows left : List (Config × Counts)) (row : Config × Counts) → csv_rows (rows ++ row ∷ left) ≡ csv_rows rows ++ (row_of row.0 row.1 ++ csv_rows left)
+csv-more : (rows left : List (Config × Counts)) (row : Config × Counts) →
+    csv_rows (rows ++ row ∷ left) ≡ csv_rows rows ++ (row_of row.0 row.1 ++ csv_rows left)
 unfolding csv_rows
 csv-more rows left row = flat_map-append (λ x. row_of x.0 x.1) rows (row ∷ left)
 
-csv-one : (rows : List (Config × Counts)) (row : Config × Counts) → csv_rows (rows ++ row ∷ []) ≡ csv_rows rows ++ row_of row.0 row.1
+csv-one : (rows : List (Config × Counts)) (row : Config × Counts) →
+    csv_rows (rows ++ row ∷ []) ≡ csv_rows rows ++ row_of row.0 row.1
 unfolding csv_rows
-csv-one rows row = csv-more rows [] row ∙ ap (λ l. csv_rows rows ++ l) (append-nil (row_of row.0 row.1))
+csv-one rows row = csv-more rows [] row ∙ ap (λ l. csv_rows rows ++ l)
+    (append-nil (row_of row.0 row.1))
 
 -- Of some rows those before some that are left were written.
-pub record WroteBefore (rows : List (Config × Counts)) (old new : SinkView) (left : List (Config × Counts)) : Type 0 where
+pub record WroteBefore (rows : List (Config × Counts)) (old new : SinkView)
+    (left : List (Config × Counts)) : Type 0 where
   pub front : List (Config × Counts)
   pub whole : rows ≡ front ++ left
   pub wrote : Wrote old new (csv_rows front)
@@ -49,7 +57,8 @@ pub rows-begin : (rows : List (Config × Counts)) (v : SinkView) → WroteBefore
 unfolding csv_rows
 rows-begin rows v = record { front = []; whole = refl; wrote = Wrote-none v }
 
-module _ {rows left rest : List (Config × Counts)} {row : Config × Counts} {a b d : SinkView} (w : WroteBefore rows a b left) (is : left ≡ row ∷ rest) where
+module _ {rows left rest : List (Config × Counts)} {row : Config × Counts} {a b d : SinkView}
+    (w : WroteBefore rows a b left) (is : left ≡ row ∷ rest) where
   -- one more was written
   pub rows-more : Wrote b d (row_of row.0 row.1) → WroteBefore rows a d rest
   rows-more more = record {
@@ -61,12 +70,14 @@ module _ {rows left rest : List (Config × Counts)} {row : Config × Counts} {a 
   -- the sink failed while it took it
   pub rows-failed : WrotePart b d (row_of row.0 row.1) → WrotePart a d (csv_rows rows)
   rows-failed part =
-      subst (WrotePart a d) (sym (ap csv_rows (w.whole ∙ ap (λ l. w.front ++ l) is) ∙ csv-more w.front rest row
+      subst (WrotePart a d) (sym (ap csv_rows (w.whole ∙ ap (λ l. w.front ++ l) is) ∙
+      csv-more w.front rest row
       ∙ sym (append_assoc (csv_rows w.front) (row_of row.0 row.1) (csv_rows rest))))
       (WrotePart-more (csv_rows rest) (WrotePart-after w.wrote part))
 
 -- some more at once
-module _ {rows left : List (Config × Counts)} (pair rest : List (Config × Counts)) {a b d : SinkView} (w : WroteBefore rows a b left)
+module _ {rows left : List (Config × Counts)} (pair rest : List (Config × Counts))
+    {a b d : SinkView} (w : WroteBefore rows a b left)
     (is : left ≡ pair ++ rest) where
   pub pair-more : Wrote b d (csv_rows pair) → WroteBefore rows a d rest
   pair-more more = record {
@@ -77,10 +88,14 @@ module _ {rows left : List (Config × Counts)} (pair rest : List (Config × Coun
 
   pub pair-failed : WrotePart b d (csv_rows pair) → WrotePart a d (csv_rows rows)
   pair-failed part =
-      subst (WrotePart a d) (sym (ap csv_rows (w.whole ∙ ap (λ l. w.front ++ l) is) ∙ csv-append w.front (pair ++ rest)
-      ∙ ap (λ l. csv_rows w.front ++ l) (csv-append pair rest) ∙ sym (append_assoc (csv_rows w.front) (csv_rows pair) (csv_rows rest))))
+      subst (WrotePart a d) (sym (ap csv_rows (w.whole ∙ ap (λ l. w.front ++ l) is) ∙
+      csv-append w.front (pair ++ rest)
+      ∙ ap (λ l. csv_rows w.front ++ l) (csv-append pair rest) ∙
+      sym (append_assoc (csv_rows w.front) (csv_rows pair) (csv_rows rest))))
       (WrotePart-more (csv_rows rest) (WrotePart-after w.wrote part))
 
-pub rows-written : {rows left : List (Config × Counts)} {a b : SinkView} → WroteBefore rows a b left → left ≡ [] → Wrote a b (csv_rows rows)
+pub rows-written : {rows left : List (Config × Counts)} {a b : SinkView} →
+    WroteBefore rows a b left → left ≡ [] → Wrote a b (csv_rows rows)
 rows-written {a = a} {b = b} w none =
-    subst (λ l. Wrote a b (csv_rows l)) (sym (w.whole ∙ ap (λ l. w.front ++ l) none ∙ append-nil w.front)) w.wrote
+    subst (λ l. Wrote a b (csv_rows l)) (sym (w.whole ∙ ap (λ l. w.front ++ l) none ∙
+    append-nil w.front)) w.wrote

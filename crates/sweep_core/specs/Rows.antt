@@ -29,10 +29,15 @@ pub record CountedSweep : Type 0 where
 
 -- what a sweep counts over a trace: the rows of its request, and the comparisons of their profiles
 abbrev pub counted_sweep : Request → List Event → CountedSweep
-counted_sweep r es = record { rows = counted_rows es (rows_of r); comparisons = work es (configs_of r) (rows_of r) }
+counted_sweep r es = record {
+  rows = counted_rows es (rows_of r);
+  comparisons =
+      work es (configs_of r) (rows_of r);
+}
 
 -- A reader that was begun on a source came to this state, and has read these entries.
-pub record ReadsTo (format : Format) (limit : ℕ) (start now : SourceView) (state : ReaderState) : Type 0 where
+pub record ReadsTo (format : Format) (limit : ℕ) (start now : SourceView)
+    (state : ReaderState) : Type 0 where
   pub read : List (ℕ × Entry)
   pub at : Progress
   pub reached : Reached format limit start now read at
@@ -42,11 +47,13 @@ pub record ReadsTo (format : Format) (limit : ℕ) (start now : SourceView) (sta
 abbrev pub events_read : Kind → List (ℕ × Entry) → List Event
 events_read kind read = flat_map (events_of kind) (entries_of read)
 
--- What reading a trace for a request did to its source, by its result: it came to the end and counted what it read, or to a fault;
+-- What reading a trace for a request did to its source, by its result: it came to the end and
+-- counted what it read, or to a fault;
 -- for lack of memory nothing was read.
 abbrev pub ReadsCounts : Request → SourceView → SourceView → Result CountedSweep RunFault → Type 0
 ReadsCounts r start now (Ok counts) =
-    (run : ReadsTo r.format r.max_lines start now Ended) × (counts ≡ counted_sweep r (events_read r.kind run.read))
+    (run : ReadsTo r.format r.max_lines start now Ended) ×
+    (counts ≡ counted_sweep r (events_read r.kind run.read))
 ReadsCounts r start now (Err (Trace fault)) = ReadsTo r.format r.max_lines start now (Failed fault)
 ReadsCounts r start now (Err Memory) = now ≡ start
 ReadsCounts r start now (Err Write) = ⊥

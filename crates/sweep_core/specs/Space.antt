@@ -1,6 +1,6 @@
 -- Which configurations a space has, and which ranges make a space.
-use Rattle.std.specs.Prelude.{ℕ, ◌<◌, ◌*◌, ◌^◌, ◌&&◌, ◌||◌, not, nat_lt, nat_le, Bool, Option, None, Some, Result, Ok, Err, List, []}
-use Rattle.std.specs.Prelude.{◌∷◌, if◌then◌else◌, codes}
+use Rattle.std.specs.Prelude.{ℕ, ◌<◌, ◌*◌, ◌^◌, ◌&&◌, ◌||◌, not, nat_lt, nat_le, Bool, Option, None}
+use Rattle.std.specs.Prelude.{Some, Result, Ok, Err, List, [], ◌∷◌, if◌then◌else◌, codes}
 use Rattle.cache_core.specs.Powers.{is_power}
 use Rattle.sweep_core.specs.declared.space.Config.{Config}
 use Rattle.sweep_core.specs.declared.space.Which.{Which}
@@ -42,7 +42,14 @@ pub record Ranges : Type 0 where
 
 -- the ranges with these ends
 abbrev pub ranges : ℕ × ℕ → ℕ × ℕ → ℕ × ℕ → ℕ × ℕ → Bool → Ranges
-ranges bsize sets assoc size powers = record { bsize = bsize; sets = sets; assoc = assoc; size = size; powers = powers }
+ranges bsize sets assoc size powers = record {
+  bsize = bsize;
+  sets = sets;
+  assoc = assoc;
+  size =
+      size;
+  powers = powers;
+}
 
 -- whether a number is in a range, ends included
 abbrev pub is_in_range : ℕ × ℕ → ℕ → Bool
@@ -63,7 +70,8 @@ HasSize c = (c.bsize * c.sets < 2 ^ 64) × (bytes_of c < 2 ^ 64)
 -- whether a configuration is one of a space
 abbrev pub is_valid : Ranges → Config → Bool
 is_valid space c =
-    is_in_range space.bsize c.bsize && is_in_range space.sets c.sets && is_in_range space.assoc c.assoc
+    is_in_range space.bsize c.bsize && is_in_range space.sets c.sets && is_in_range
+    space.assoc c.assoc
     && is_in_range space.size (bytes_of c)
     && is_power c.bsize && is_power c.sets && (not space.powers || is_power c.assoc)
     && nat_le (c.assoc * c.sets) most_cache_lines
@@ -75,7 +83,8 @@ order_cause range = if nat_lt range.1 range.0 then Some Reversed else None
 -- the same, but before that a range with an end outside 1 to the most
 abbrev pub limit_cause : ℕ → ℕ × ℕ → Option Cause
 limit_cause most range =
-    if is_in_range (1, most) range.0 && is_in_range (1, most) range.1 then order_cause range else Some Limit
+    if is_in_range (1, most) range.0 && is_in_range (1, most) range.1 then order_cause range
+    else Some Limit
 
 -- the same, but before that a range with an end that is no power of two
 abbrev pub power_cause : ℕ → ℕ × ℕ → Option Cause

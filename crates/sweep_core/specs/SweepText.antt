@@ -1,5 +1,6 @@
 -- What a sweep writes.
-use Rattle.std.specs.Prelude.{ℕ, ◌&&◌, if◌then◌else◌, false, Option, None, Some, List, [], ◌∷◌, ◌++◌, map, flat_map, decimal, codes}
+use Rattle.std.specs.Prelude.{ℕ, ◌&&◌, if◌then◌else◌, false, Option, None, Some, List, [], ◌∷◌}
+use Rattle.std.specs.Prelude.{◌++◌, map, flat_map, decimal, codes}
 use Rattle.std.specs.List.{join_with_byte}
 use Rattle.trace_core.specs.declared.events.Event.{Event}
 use Rattle.trace_core.specs.Reading.{events}
@@ -17,10 +18,12 @@ use Rattle.sweep_core.specs.Table.{table, first_rows}
 abbrev pub geometry_of_config : Config → GeometryValue
 geometry_of_config c = geometry_value (log2 c.sets) c.assoc (log2 c.bsize)
 
--- the geometry of a configuration, if it has one: its block size and set count are powers of two, and it is within the limits
+-- the geometry of a configuration, if it has one: its block size and set count are powers of two,
+-- and it is within the limits
 abbrev pub config_geometry : Config → Option GeometryValue
 config_geometry c =
-    if is_power c.bsize && is_power c.sets then geometry_of (log2 c.sets) c.assoc (log2 c.bsize) else None
+    if is_power c.bsize && is_power c.sets then geometry_of (log2 c.sets) c.assoc
+    (log2 c.bsize) else None
 
 -- the counts of a configuration over a trace
 abbrev pub row_counts : List Event → Config → Counts
@@ -32,7 +35,8 @@ csv_line numbers = join_with_byte 44 (map decimal numbers) ++ 10 ∷ []
 
 -- the row of a configuration
 abbrev pub row_of : Config → Counts → List ℕ
-row_of c n = csv_line (c.bsize ∷ c.sets ∷ c.assoc ∷ bytes_of c ∷ n.hits ∷ n.misses ∷ n.evictions ∷ [])
+row_of c n = csv_line (c.bsize ∷ c.sets ∷ c.assoc ∷ bytes_of
+    c ∷ n.hits ∷ n.misses ∷ n.evictions ∷ [])
 
 -- the text of some rows
 unfoldable pub csv_rows : List (Config × Counts) → List ℕ
@@ -65,4 +69,11 @@ sweep_text r text = table_text r (events r.format r.kind text)
 
 -- a sweep writes nothing before it has read a whole text
 unfoldable pub sweep_task : Request → Task
-sweep_task r = record { format = r.format; limit = r.max_lines; writes_early = false; whole = sweep_text r; partial = λ es. [] }
+sweep_task r = record {
+  format = r.format;
+  limit = r.max_lines;
+  writes_early = false;
+  whole =
+      sweep_text r;
+  partial = λ es. [];
+}

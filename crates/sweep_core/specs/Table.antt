@@ -1,5 +1,6 @@
 -- The configurations of a space in order.
-use Rattle.std.specs.Prelude.{◌≡◌, ⊤, [], ◌∷◌, ℕ, ◌+◌, ◌-◌, ◌^◌, ◌==◌, ◌&&◌, ◌||◌, nat_lt, Bool, true, Option, None, Some, List, take, map, filter, flat_map}
+use Rattle.std.specs.Prelude.{◌≡◌, ⊤, [], ◌∷◌, ℕ, ◌+◌, ◌-◌, ◌^◌, ◌==◌, ◌&&◌, ◌||◌, nat_lt, Bool}
+use Rattle.std.specs.Prelude.{true, Option, None, Some, List, take, map, filter, flat_map}
 use Rattle.std.specs.List.{range_with_len, AllByRecursion}
 use Rattle.sweep_core.specs.declared.space.Config.{Config}
 use Rattle.sweep_core.specs.Space.{Ranges, config, is_valid}
@@ -26,7 +27,8 @@ numbers range = range_with_len range.0 (range.1 + 1 - range.0)
 -- all configurations whose associativity lies in a range, in order
 unfoldable pub all_configs : ℕ × ℕ → List Config
 all_configs range =
-    flat_map (λ bsize. flat_map (λ sets. map (config bsize sets) (numbers range)) powers_of_two) powers_of_two
+    flat_map (λ bsize. flat_map (λ sets. map (config bsize sets) (numbers range)) powers_of_two)
+    powers_of_two
 
 -- The table: the configurations of a space that are greater than a triple, in order.
 unfoldable pub table : Ranges → Option Config → List Config

@@ -1,6 +1,8 @@
--- How many comparisons a sweep counts: those of profiles that each look for the block of each reference. One look that decides for
+-- How many comparisons a sweep counts: those of profiles that each look for the block of each
+-- reference. One look that decides for
 -- several profiles counts as one comparison in each of them.
-use Rattle.std.specs.Prelude.{ℕ, ◌==◌, ◌&&◌, not, max, Bool, List, [], ◌∷◌, map, filter, fold, sum_by}
+use Rattle.std.specs.Prelude.{ℕ, ◌==◌, ◌&&◌, not, max, Bool, List, [], ◌∷◌, map, filter, fold}
+use Rattle.std.specs.Prelude.{sum_by}
 use Rattle.trace_core.specs.declared.events.Event.{Event}
 use Rattle.trace_core.specs.Reading.{events}
 use Rattle.cache_core.specs.Geometry.{GeometryValue, geometry_value}
@@ -31,7 +33,8 @@ depth all p = fold max 0 (map (λ c. c.assoc) (filter (has_pair p) all))
 abbrev pub geometry_of_pair : List Config → ℕ × ℕ → GeometryValue
 geometry_of_pair all p = geometry_value (log2 p.1) (depth all p) (log2 p.0)
 
--- the comparisons of one profile for each pair of the rows, as deep as the greatest associativity of that pair in all
+-- the comparisons of one profile for each pair of the rows, as deep as the greatest associativity
+-- of that pair in all
 unfoldable pub work : List Event → List Config → List Config → ℕ
 work es all rows = sum_by (λ p. probes (geometry_of_pair all p) es) (pairs rows)
 

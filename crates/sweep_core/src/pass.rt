@@ -5,8 +5,9 @@ ghost use Rattle.trace_core.specs.Reader.{new_progress};
 ghost use Rattle.profile_core.specs.internal.State.{fed_of};
 ghost use Rattle.sweep_core.specs.internal.Pass.{pair_after_flush};
 ghost use Rattle.sweep_core.specs.internal.Pass.{kept_events, profiles_after, state_after, Feeds};
-ghost use Rattle.sweep_core.specs.internal.Implied.{IsLinked, IsFresh, AreLed, AreBehind, FedAtMost};
-ghost use Rattle.sweep_core.specs.internal.Implied.{profiles_with_fronts, pair_unless_front};
+ghost use Rattle.sweep_core.specs.internal.Implied.{IsLinked, IsFresh, AreLed, AreBehind};
+ghost use Rattle.sweep_core.specs.internal.Implied.{FedAtMost, profiles_with_fronts};
+ghost use Rattle.sweep_core.specs.internal.Implied.{pair_unless_front};
 
 use crate::profiles::PairProfile;
 use cache_core::MAX_BITS;
@@ -87,7 +88,8 @@ fn feed_kept(profiles: &mut [PairProfile], kind: Kind, reference: Ref, fed: &mut
     requires few { fed.old < MAX_REFERENCES }
     requires behind { AreBehind fed.old profiles.old }
     ensures caught { profiles_with_fronts fed.new profiles.new
-        ≡ profiles_after (kept_events kind (reference ∷ [])) (profiles_with_fronts fed.old profiles.old) }
+        ≡ profiles_after (kept_events kind (reference ∷ []))
+        (profiles_with_fronts fed.old profiles.old) }
     ensures behind { FedAtMost fed.new profiles.new }
     ensures more { fed.new ≤ fed.old + 1 }
 {

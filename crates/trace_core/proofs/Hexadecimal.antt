@@ -1,5 +1,6 @@
 -- Hexadecimal digits, written from the last one to the first.
-use Rattle.std.proofs.Common.{◌≡◌, ℕ, zero, suc, ◌+◌, ◌-◌, ◌/◌, ◌%◌, ◌^◌, ◌<◌, ◌≤◌, Bool, false, true, cond, eqb, List, [], ◌∷◌, sym, ap, ◌∙◌, subst, arith}
+use Rattle.std.proofs.Common.{◌≡◌, ℕ, zero, suc, ◌+◌, ◌-◌, ◌/◌, ◌%◌, ◌^◌, ◌<◌, ◌≤◌, Bool, false}
+use Rattle.std.proofs.Common.{true, cond, eqb, List, [], ◌∷◌, sym, ap, ◌∙◌, subst, arith}
 use Rattle.std.proofs.Math.Nat.{add-suc, pow-suc}
 use Rattle.std.proofs.lemmas.Nat.{div_below}
 use Rattle.std.specs.Fmt.{digits, digits_onto, digit_glyph}
@@ -18,26 +19,31 @@ after_one most n acc alone =
     let written = digit_glyph false (n % 16) ∷ acc in
     cond alone written (digits_before most (n / 16) written)
 
-one_step : (most n : ℕ) (acc : List ℕ) → digits_before (suc most) n acc ≡ after_one most n acc (eqb (n / 16) 0)
+one_step : (most n : ℕ) (acc : List ℕ) → digits_before (suc most) n acc ≡ after_one most n acc
+    (eqb (n / 16) 0)
 unfolding digits_before
 one_step most n acc = ap (λ k. digits_onto k 16 false n acc) (add-suc 48 most)
 
-pub digits_last : (most n : ℕ) (acc : List ℕ) → 1 ≤ most → eqb (n / 16) 0 ≡ true → digits_before most n acc ≡ digit_glyph false (n % 16) ∷ acc
+pub digits_last : (most n : ℕ) (acc : List ℕ) → 1 ≤ most → eqb (n / 16) 0 ≡ true →
+    digits_before most n acc ≡ digit_glyph false (n % 16) ∷ acc
 digits_last zero n acc some last = absurd (omega arith)
 digits_last (suc most) n acc some last = one_step most n acc ∙ ap (after_one most n acc) last
 
 pub digits_more : (most n : ℕ) (acc : List ℕ) → 1 ≤ most → eqb (n / 16) 0 ≡ false
-    → digits_before most n acc ≡ digits_before (most - 1) (n / 16) (digit_glyph false (n % 16) ∷ acc)
+    → digits_before most n acc ≡ digits_before (most - 1) (n / 16)
+    (digit_glyph false (n % 16) ∷ acc)
 digits_more zero n acc some more = absurd (omega arith)
 digits_more (suc most) n acc some more =
     let less : most ≡ suc most - 1 = omega arith in
-    one_step most n acc ∙ ap (after_one most n acc) more ∙ ap (λ k. digits_before k (n / 16) (digit_glyph false (n % 16) ∷ acc)) less
+    one_step most n acc ∙ ap (after_one most n acc) more ∙
+    ap (λ k. digits_before k (n / 16) (digit_glyph false (n % 16) ∷ acc)) less
 
 pub sixteenth_fits : (most n : ℕ) → 1 ≤ most → n < 16 ^ most → n / 16 < 16 ^ (most - 1)
 sixteenth_fits zero n some fits = absurd (omega arith)
 sixteenth_fits (suc most) n some fits =
     let less : most ≡ suc most - 1 = omega arith in
-    subst (λ (k : ℕ). n / 16 < 16 ^ k) less (div_below n 16 (16 ^ most) (omega arith) (subst (λ (m : ℕ). n < m) (pow-suc 16 most) fits))
+    subst (λ (k : ℕ). n / 16 < 16 ^ k) less (div_below n 16 (16 ^ most) (omega arith)
+    (subst (λ (m : ℕ). n < m) (pow-suc 16 most) fits))
 
 pub digits_left : (most n : ℕ) → n < 16 ^ most → (n ≡ 0 → ⊥) → 1 ≤ most
 digits_left zero n fits some = absurd (some (omega (arith, fits)))

@@ -1,7 +1,7 @@
 -- The number that digits in front of a text write.
-use Rattle.std.proofs.Common.{◌≡◌, ℕ, ◌+◌, ◌*◌, ◌<◌, ◌≤◌, ◌^◌, ◌⊎◌, inl, inr, Bool, true, false, List, [], ◌∷◌, ◌++◌, length, take, drop}
-use Rattle.std.proofs.Common.{get_or, Some, refl, sym, ap, ◌∙◌}
-use Rattle.std.proofs.Common.{arith, rules, tests, ltb, leb, if◌then◌else◌}
+use Rattle.std.proofs.Common.{◌≡◌, ℕ, ◌+◌, ◌*◌, ◌<◌, ◌≤◌, ◌^◌, ◌⊎◌, inl, inr, Bool, true, false}
+use Rattle.std.proofs.Common.{List, [], ◌∷◌, ◌++◌, length, take, drop, get_or, Some, refl, sym, ap}
+use Rattle.std.proofs.Common.{◌∙◌, arith, rules, tests, ltb, leb, if◌then◌else◌}
 use Rattle.std.specs.List.{list_all}
 use Rattle.std.specs.Char.{digit_value, is_digit}
 use Rattle.std.specs.Str.Parse.{AllDigits, digits_value}
@@ -16,7 +16,8 @@ abbrev pub entry : ℕ → ℕ
 entry c = if is_digit c 16 then digit_value c else NO_DIGIT
 
 abbrev Known : ℕ → Type 0
-Known c = ((entry c ≡ digit_value c) × (digit_value c < 16)) ⊎ ((entry c ≡ NO_DIGIT) × (16 ≤ digit_value c))
+Known c = ((entry c ≡ digit_value c) × (digit_value c < 16)) ⊎
+    ((entry c ≡ NO_DIGIT) × (16 ≤ digit_value c))
 
 known : (c : ℕ) → Known c
 known c = by_case (is_digit c 16) refl
@@ -41,7 +42,8 @@ digit-known c below = by_case (known c)
     by_case (inr other) = absurd (omega (arith, other.0, below))
 
 -- a byte whose entry is below a radix is a digit in it
-pub digit-below : (c radix : ℕ) → radix ≤ 16 → entry c < radix → (entry c ≡ digit_value c) × (digit_value c < radix)
+pub digit-below : (c radix : ℕ) → radix ≤ 16 → entry c < radix → (entry c ≡ digit_value c) ×
+    (digit_value c < radix)
 digit-below c radix small below = by_case (known c)
   where
     by_case : Known c → (entry c ≡ digit_value c) × (digit_value c < radix)
@@ -52,12 +54,16 @@ pub no-digit : (c radix : ℕ) → radix ≤ 16 → radix ≤ entry c → is_dig
 no-digit c radix small above = by_case (known c)
   where
     by_case : Known c → is_digit c radix ≡ false
-    by_case (inl digit) = let high : radix ≤ digit_value c = omega (arith, digit.0, above) in search (rules, tests)
-    by_case (inr other) = let high : radix ≤ digit_value c = omega (arith, other.1) in search (rules, tests)
+    by_case (inl digit) = let high : radix ≤ digit_value c = omega (arith, digit.0, above) in
+        search (rules, tests)
+    by_case (inr other) = let high : radix ≤ digit_value c = omega (arith, other.1) in
+        search (rules, tests)
 
 -- one digit more
-pub writes-more : (radix : ℕ) (text : List ℕ) (value at digit : ℕ) → at < length text → digit ≡ digit_value (get_or text at 0)
-    → digit_value (get_or text at 0) < radix → WritesNumber radix text (value, at) → WritesNumber radix text (value * radix + digit, at + 1)
+pub writes-more : (radix : ℕ) (text : List ℕ) (value at digit : ℕ) → at < length text →
+    digit ≡ digit_value (get_or text at 0)
+    → digit_value (get_or text at 0) < radix → WritesNumber radix text (value, at) →
+    WritesNumber radix text (value * radix + digit, at + 1)
 writes-more radix text value at digit inside is below written = (
   omega (arith, is, ap (λ v. v * radix) written.0, digits_value_more radix text at inside),
   digits_more radix text at inside written.1 below,
@@ -65,23 +71,29 @@ writes-more radix text value at digit inside is below written = (
 )
 
 module _ (radix most : ℕ) (some : 0 < radix) where
-  pub number-fits : (ds : List ℕ) (i : ℕ) → i < length ds → i < most → AllDigits radix (take i ds) → digit_value (get_or ds i 0) < radix
+  pub number-fits : (ds : List ℕ) (i : ℕ) → i < length ds → i < most → AllDigits radix (take i ds) →
+      digit_value (get_or ds i 0) < radix
       → digits_value radix (take i ds) * radix + digit_value (get_or ds i 0) < radix ^ most
   number-fits ds i inside short digits digit =
-      let below = digits_value-lt radix (take (i + 1) ds) (digits_more radix ds i inside digits digit) in
-      let power = pow-le-pow_right some {i = length (take (i + 1) ds)} {j = most} (omega (arith, length-take-le (i + 1) ds (omega arith))) in
+      let below = digits_value-lt radix (take (i + 1) ds)
+      (digits_more radix ds i inside digits digit) in
+      let power = pow-le-pow_right some {i = length (take (i + 1) ds)} {j = most}
+      (omega (arith, length-take-le (i + 1) ds (omega arith))) in
       omega (arith, below, power, digits_value_more radix ds i inside)
 
-  value-below : (ds : List ℕ) → length ds ≤ most → AllDigits radix ds → digits_value radix ds < radix ^ most
+  value-below : (ds : List ℕ) → length ds ≤ most → AllDigits radix ds →
+      digits_value radix ds < radix ^ most
   value-below ds short digits =
       let below = digits_value-lt radix ds digits in
       let power = pow-le-pow_right some {i = length ds} {j = most} short in
       omega (arith, below, power)
 
   -- the value of the first digits
-  pub value-of_front : (ds : List ℕ) (n value : ℕ) → n ≤ length ds → n ≤ most → AllDigits radix (take n ds) → value ≡ digits_value radix (take n ds)
+  pub value-of_front : (ds : List ℕ) (n value : ℕ) → n ≤ length ds → n ≤ most →
+      AllDigits radix (take n ds) → value ≡ digits_value radix (take n ds)
       → value < radix ^ most
-  value-of_front ds n value within short digits is = omega (arith, value-below (take n ds) (omega (arith, length-take-le n ds within)) digits, is)
+  value-of_front ds n value within short digits is =
+      omega (arith, value-below (take n ds) (omega (arith, length-take-le n ds within)) digits, is)
 
   all_digits : (ds : List ℕ) → AllDigits radix ds → list_all (λ c. is_digit c radix) ds ≡ true
   all_digits [] digits = refl
@@ -97,11 +109,14 @@ module _ (radix most : ℕ) (some : 0 < radix) where
       rw (at_least, at_most, all_digits ds digits) refl
 
   -- a text is the digits in front, which write a number, and the rest
-  pub number-front : (text : List ℕ) (n value : ℕ) (rest : List ℕ) → WritesNumber radix text (value, n) → 1 ≤ n → n ≤ most → rest ≡ drop n text
-      → (digits : List ℕ) × (text ≡ digits ++ rest) × (number_written radix most digits ≡ Some value)
+  pub number-front : (text : List ℕ) (n value : ℕ) (rest : List ℕ) →
+      WritesNumber radix text (value, n) → 1 ≤ n → n ≤ most → rest ≡ drop n text
+      → (digits : List ℕ) × (text ≡ digits ++ rest) ×
+      (number_written radix most digits ≡ Some value)
   number-front text n value rest written low high is =
       let len = length-take-le n text (omega (arith, written.2)) in (
         take n text,
         sym (take-append-drop n text) ∙ ap (λ back. take n text ++ back) (sym is),
-        number_written-some (take n text) (omega (arith, len)) (omega (arith, len)) written.1 ∙ ap Some (sym written.0),
+        number_written-some (take n text) (omega (arith, len)) (omega (arith, len)) written.1 ∙
+            ap Some (sym written.0),
       )

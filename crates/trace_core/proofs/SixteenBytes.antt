@@ -1,11 +1,15 @@
 -- Sixteen bytes at once, lane by lane.
-use Rattle.std.proofs.Common.{◌≡◌, ℕ, zero, suc, ◌+◌, ◌-◌, ◌*◌, ◌/◌, ◌%◌, ◌^◌, ◌<◌, ◌≤◌, Bool, true, false, cond, eqb, leb, ltb, List, [], ◌∷◌, map, length, get_or, replicate, refl, sym, ap, ◌∙◌, arith, ◌⊎◌, inl, inr, bit_and, bit_or, w8, w64, Fits, take}
+use Rattle.std.proofs.Common.{◌≡◌, ℕ, zero, suc, ◌+◌, ◌-◌, ◌*◌, ◌/◌, ◌%◌, ◌^◌, ◌<◌, ◌≤◌, Bool, true}
+use Rattle.std.proofs.Common.{false, cond, eqb, leb, ltb, List, [], ◌∷◌, map, length, get_or}
+use Rattle.std.proofs.Common.{replicate, refl, sym, ap, ◌∙◌, arith, ◌⊎◌, inl, inr, bit_and, bit_or}
+use Rattle.std.proofs.Common.{w8, w64, Fits, take}
 use Rattle.std.proofs.lemmas.Bool.{false≢true}
 use Rattle.std.proofs.lemmas.Int.Digits.{number_more}
 use Rattle.std.proofs.lemmas.Nat.{and_mask, le-div, div_below}
 use Rattle.std.proofs.lemmas.List.{take_all}
 use Rattle.std.specs.Int.{from_be_bytes, bit_at, trailing_ones}
-use Rattle.std.proofs.Common.{pow_pos, subst, length-take-le, pow-suc, drop, take-append-drop, ltb-true, length-drop}
+use Rattle.std.proofs.Common.{pow_pos, subst, length-take-le, pow-suc, drop, take-append-drop}
+use Rattle.std.proofs.Common.{ltb-true, length-drop}
 use Rattle.std.specs.Str.Parse.{AllDigits, digits_value}
 use Rattle.std.proofs.lemmas.Nat.Bits.{bit_at-trailing_ones}
 use Rattle.std.proofs.lemmas.Simd.{mask_l-lt, bit_mask_l}
@@ -25,35 +29,45 @@ abbrev pub near : ℕ → ℕ → ℕ → ℕ
 near first more c = cond (leb ((c + (256 - first)) % 256) more) 255 0
 
 -- a choice of two splats
-select_splat : (p : ℕ → Bool) (xs : List ℕ) (n a b : ℕ) → length xs ≡ n → sel_l (map p xs) (replicate n a) (replicate n b) ≡ map (λ x. cond (p x) a b) xs
+select_splat : (p : ℕ → Bool) (xs : List ℕ) (n a b : ℕ) → length xs ≡ n →
+    sel_l (map p xs) (replicate n a) (replicate n b) ≡ map (λ x. cond (p x) a b) xs
 select_splat p [] n a b long = refl
 select_splat p (x ∷ xs) zero a b long = absurd (omega arith)
-select_splat p (x ∷ xs) (suc n) a b long = ap (λ rest. cond (p x) a b ∷ rest) (select_splat p xs n a b (omega arith))
+select_splat p (x ∷ xs) (suc n) a b long =
+    ap (λ rest. cond (p x) a b ∷ rest) (select_splat p xs n a b (omega arith))
 
 pub within_is : (xs : List ℕ) (first more : ℕ) → length xs ≡ 16
-    → sel_l (map (top 7) (zip2 (λ a b. cond (leb a b) 255 0) (zip2 (λ a b. (a + (256 - b)) % 256) xs (replicate 16 first)) (replicate 16 more))) (replicate 16 255) (replicate 16 0)
+    → sel_l (map (top 7) (zip2 (λ a b. cond (leb a b) 255 0) (zip2 (λ a b. (a + (256 - b)) % 256) xs
+    (replicate 16 first)) (replicate 16 more))) (replicate 16 255) (replicate 16 0)
     ≡ map (near first more) xs
 within_is xs first more long =
     let moved = λ (x : ℕ). (x + (256 - first)) % 256 in
     let lanes = zip2_splat (λ a b. (a + (256 - b)) % 256) xs 16 first long in
-    let ms = tops_compared w8 leb (zip2 (λ a b. (a + (256 - b)) % 256) xs (replicate 16 first)) (replicate 16 more)
+    let ms = tops_compared w8 leb (zip2 (λ a b. (a + (256 - b)) % 256) xs (replicate 16 first))
+    (replicate 16 more)
     ∙ ap (λ l. zip2 leb l (replicate 16 more)) lanes
     ∙ zip2_splat leb (map moved xs) 16 more (length-map xs moved ∙ long)
     ∙ map-map (λ x. leb x more) moved xs in
-    ap (λ m. sel_l m (replicate 16 255) (replicate 16 0)) ms ∙ select_splat (λ x. leb (moved x) more) xs 16 255 0 long
+    ap (λ m. sel_l m (replicate 16 255) (replicate 16 0)) ms ∙
+    select_splat (λ x. leb (moved x) more) xs 16 255 0 long
 
 abbrev pub letter : ℕ → ℕ
 letter c = near 97 5 (bit_or c 32)
 
-pub letters_are : (xs : List ℕ) → length xs ≡ 16 → map (near 97 5) (zip2 bit_or xs (replicate 16 32)) ≡ map letter xs
-letters_are xs long = ap (map (near 97 5)) (zip2_splat bit_or xs 16 32 long) ∙ map-map (near 97 5) (λ c. bit_or c 32) xs
+pub letters_are : (xs : List ℕ) → length xs ≡ 16 →
+    map (near 97 5) (zip2 bit_or xs (replicate 16 32)) ≡ map letter xs
+letters_are xs long = ap (map (near 97 5)) (zip2_splat bit_or xs 16 32 long) ∙
+    map-map (near 97 5) (λ c. bit_or c 32) xs
 
 -- two functions that agree on each byte
-same_on_bytes : {A : Type 0} (d : A) (f g : ℕ → A) → map f (range_with_len 0 256) ≡ map g (range_with_len 0 256) → (c : ℕ) → c < 256 → f c ≡ g c
+same_on_bytes : {A : Type 0} (d : A) (f g : ℕ → A) → map f (range_with_len 0 256) ≡ map g
+    (range_with_len 0 256) → (c : ℕ) → c < 256 → f c ≡ g c
 same_on_bytes d f g same c below =
-    sym (get_or-map-range_with_len f 0 256 c c d below (omega arith)) ∙ ap (λ t. get_or t c d) same ∙ get_or-map-range_with_len g 0 256 c c d below (omega arith)
+    sym (get_or-map-range_with_len f 0 256 c c d below (omega arith)) ∙
+    ap (λ t. get_or t c d) same ∙ get_or-map-range_with_len g 0 256 c c d below (omega arith)
 
-map_same : {A : Type 0} (f g : ℕ → A) → ((c : ℕ) → c < 256 → f c ≡ g c) → (xs : List ℕ) → Each1 (Fits w8) xs → map f xs ≡ map g xs
+map_same : {A : Type 0} (f g : ℕ → A) → ((c : ℕ) → c < 256 → f c ≡ g c) → (xs : List ℕ) →
+    Each1 (Fits w8) xs → map f xs ≡ map g xs
 map_same f g same [] fits = refl
 map_same f g same (x ∷ xs) fits = λ i. same x fits.0.fits i ∷ map_same f g same xs fits.1 i
 
@@ -64,35 +78,44 @@ either_is : (c : ℕ) → c < 256 → eqb (either c) 255 ≡ is_digit c 16
 either_is = same_on_bytes false (λ c. eqb (either c) 255) (λ c. is_digit c 16) refl
 
 pub mask_is : (xs : List ℕ) → length xs ≡ 16 → Each1 (Fits w8) xs
-    → mask_l (map (top 7) (zip2 (λ a b. cond (eqb a b) 255 0) (zip2 bit_or (map (near 48 9) xs) (map letter xs)) (replicate 16 255))) % 2 ^ 64
+    → mask_l (map (top 7) (zip2 (λ a b. cond (eqb a b) 255 0) (zip2 bit_or (map (near 48 9) xs)
+    (map letter xs)) (replicate 16 255))) % 2 ^ 64
     ≡ mask_l (map (λ c. is_digit c 16) xs)
 mask_is xs long fits =
-    ap (λ l. mask_l (map (top 7) (zip2 (λ a b. cond (eqb a b) 255 0) l (replicate 16 255))) % 2 ^ 64) (zip2-map bit_or (near 48 9) letter xs)
+    ap (λ l. mask_l (map (top 7) (zip2 (λ a b. cond (eqb a b) 255 0) l (replicate 16 255))) % 2 ^
+    64) (zip2-map bit_or (near 48 9) letter xs)
     ∙ bitmask_splat w8 eqb (map either xs) 16 255 (length-map xs either ∙ long) (omega arith)
-    ∙ ap mask_l (map-map (λ x. eqb x 255) either xs ∙ map_same (λ c. eqb (either c) 255) (λ c. is_digit c 16) either_is xs fits)
+    ∙ ap mask_l (map-map (λ x. eqb x 255) either xs ∙ map_same (λ c. eqb (either c) 255)
+    (λ c. is_digit c 16) either_is xs fits)
 
 -- the value of a byte, if it is a digit
 abbrev pub nibble : ℕ → ℕ
 nibble c = (bit_and c 15 + bit_and (letter c) 9) % 256
 
 pub nibbles_are : (xs : List ℕ) → length xs ≡ 16
-    → zip2 (λ a b. (a + b) % 256) (zip2 bit_and xs (replicate 16 15)) (zip2 bit_and (map letter xs) (replicate 16 9)) ≡ map nibble xs
+    → zip2 (λ a b. (a + b) % 256) (zip2 bit_and xs (replicate 16 15))
+    (zip2 bit_and (map letter xs) (replicate 16 9)) ≡ map nibble xs
 nibbles_are xs long =
     let low = zip2_splat bit_and xs 16 15 long in
-    let high = zip2_splat bit_and (map letter xs) 16 9 (length-map xs letter ∙ long) ∙ map-map (λ x. bit_and x 9) letter xs in
-    (λ i. zip2 (λ a b. (a + b) % 256) (low i) (high i)) ∙ zip2-map (λ a b. (a + b) % 256) (λ c. bit_and c 15) (λ c. bit_and (letter c) 9) xs
+    let high = zip2_splat bit_and (map letter xs) 16 9 (length-map xs letter ∙ long) ∙
+    map-map (λ x. bit_and x 9) letter xs in
+    (λ i. zip2 (λ a b. (a + b) % 256) (low i) (high i)) ∙ zip2-map (λ a b. (a + b) % 256)
+    (λ c. bit_and c 15) (λ c. bit_and (letter c) 9) xs
 
 nibble_small : (c : ℕ) → c < 256 → ltb (nibble c) 16 ≡ true
 nibble_small = same_on_bytes false (λ c. ltb (nibble c) 16) (λ _. true) refl
 
-nibble_is : (c : ℕ) → c < 256 → cond (is_digit c 16) (nibble c) 0 ≡ cond (is_digit c 16) (digit_value c) 0
-nibble_is = same_on_bytes 0 (λ c. cond (is_digit c 16) (nibble c) 0) (λ c. cond (is_digit c 16) (digit_value c) 0) refl
+nibble_is : (c : ℕ) → c < 256 → cond (is_digit c 16) (nibble c) 0 ≡ cond (is_digit c 16)
+    (digit_value c) 0
+nibble_is = same_on_bytes 0 (λ c. cond (is_digit c 16) (nibble c) 0)
+    (λ c. cond (is_digit c 16) (digit_value c) 0) refl
 
 pub nibbles_small : (xs : List ℕ) → Each1 (Fits w8) xs → AllBelowBase 16 (map nibble xs)
 nibbles_small [] fits = tt
 nibbles_small (x ∷ xs) fits = (ltb-true _ _ (nibble_small x fits.0.fits), nibbles_small xs fits.1)
 
-pub nibble_value : (xs : List ℕ) (k : ℕ) → Each1 (Fits w8) xs → is_digit (get_or xs k 0) 16 ≡ true → get_or (map nibble xs) k 0 ≡ digit_value (get_or xs k 0)
+pub nibble_value : (xs : List ℕ) (k : ℕ) → Each1 (Fits w8) xs → is_digit (get_or xs k 0) 16 ≡ true →
+    get_or (map nibble xs) k 0 ≡ digit_value (get_or xs k 0)
 nibble_value [] k fits is = absurd (false≢true is)
 nibble_value (x ∷ xs) zero fits is = let e = nibble_is x fits.0.fits in (rw is at e)
 nibble_value (x ∷ xs) (suc k) fits is = nibble_value xs k fits.1 is
@@ -113,23 +136,27 @@ packed (a ∷ b ∷ ds) = (a * 16 + b) ∷ packed ds
 abbrev pub pack : ℕ → ℕ
 pack w = bit_and ((w * 16 % 65536 + w / 256) % 65536) 255
 
-joined_are : (k : ℕ) (ds : List ℕ) → length ds ≡ 2 * k → AllBelowBase 16 ds → digits_l 65536 k (number_l 256 ds) ≡ joined ds
+joined_are : (k : ℕ) (ds : List ℕ) → length ds ≡ 2 * k → AllBelowBase 16 ds →
+    digits_l 65536 k (number_l 256 ds) ≡ joined ds
 joined_are zero [] long small = refl
 joined_are zero (a ∷ ds) long small = absurd (omega arith)
 joined_are (suc k) [] long small = absurd (omega arith)
 joined_are (suc k) (a ∷ []) long small = absurd (omega arith)
 joined_are (suc k) (a ∷ b ∷ ds) long small =
     let more = number_l 256 ds in
-    let low : (a + 256 * (b + 256 * more)) % 65536 ≡ a + 256 * b = omega (arith, small.0, small.1.0) in
+    let low : (a + 256 * (b + 256 * more)) % 65536 ≡ a + 256 * b =
+    omega (arith, small.0, small.1.0) in
     let high : (a + 256 * (b + 256 * more)) / 65536 ≡ more = omega (arith, small.0, small.1.0) in
-    (λ i. low i ∷ digits_l 65536 k (high i)) ∙ ap (λ l. (a + 256 * b) ∷ l) (joined_are k ds (omega arith) small.1.1)
+    (λ i. low i ∷ digits_l 65536 k (high i)) ∙ ap (λ l. (a + 256 * b) ∷ l)
+    (joined_are k ds (omega arith) small.1.1)
 
 packed_are : (ds : List ℕ) → AllBelowBase 16 ds → map pack (joined ds) ≡ packed ds
 packed_are [] small = refl
 packed_are (a ∷ []) small = refl
 packed_are (a ∷ b ∷ ds) small =
     let w = a + 256 * b in
-    let one : pack w ≡ a * 16 + b = and_mask ((w * 16 % 65536 + w / 256) % 65536) 8 ∙ omega (arith, small.0, small.1.0) in
+    let one : pack w ≡ a * 16 + b = and_mask ((w * 16 % 65536 + w / 256) % 65536) 8 ∙
+    omega (arith, small.0, small.1.0) in
     λ i. one i ∷ packed_are ds small.1.1 i
 
 length-packed : (k : ℕ) (ds : List ℕ) → length ds ≡ 2 * k → length (packed ds) ≡ k
@@ -139,23 +166,38 @@ length-packed (suc k) [] long = absurd (omega arith)
 length-packed (suc k) (a ∷ []) long = absurd (omega arith)
 length-packed (suc k) (a ∷ b ∷ ds) long = ap suc (length-packed k ds (omega arith))
 
-packed_number : (k n : ℕ) (ds : List ℕ) → length ds ≡ 2 * k → number_from_digits_after 256 n (packed ds) ≡ number_from_digits_after 16 n ds
+packed_number : (k n : ℕ) (ds : List ℕ) → length ds ≡ 2 * k →
+    number_from_digits_after 256 n (packed ds) ≡ number_from_digits_after 16 n ds
 packed_number zero n [] long = refl
 packed_number zero n (a ∷ ds) long = absurd (omega arith)
 packed_number (suc k) n [] long = absurd (omega arith)
 packed_number (suc k) n (a ∷ []) long = absurd (omega arith)
 packed_number (suc k) n (a ∷ b ∷ ds) long =
     let same : n * 256 + (a * 16 + b) ≡ (n * 16 + a) * 16 + b = omega arith in
-    ap (λ x. number_from_digits_after 256 x (packed ds)) same ∙ packed_number k ((n * 16 + a) * 16 + b) ds (omega arith)
+    ap (λ x. number_from_digits_after 256 x (packed ds)) same ∙
+    packed_number k ((n * 16 + a) * 16 + b) ds (omega arith)
 
 -- eight bytes, the first of them worth most
 eight_bytes : (bs : List ℕ) → length bs ≡ 8 → from_be_bytes w64 bs ≡ number_from_digits 256 bs
 eight_bytes bs long =
     let step = number_more 256 bs in
-    let all : number_from_digits 256 (take 8 bs) ≡ number_from_digits 256 bs = ap (number_from_digits 256) (take_all 8 bs (omega arith)) in
-    omega (arith, step 0 (omega arith), step 1 (omega arith), step 2 (omega arith), step 3 (omega arith), step 4 (omega arith), step 5 (omega arith), step 6 (omega arith), step 7 (omega arith), all)
+    let all : number_from_digits 256 (take 8 bs) ≡ number_from_digits 256 bs =
+    ap (number_from_digits 256) (take_all 8 bs (omega arith)) in
+    omega (
+      arith,
+      step 0 (omega arith),
+      step 1 (omega arith),
+      step 2 (omega arith),
+      step 3 (omega arith),
+      step 4 (omega arith),
+      step 5 (omega arith),
+      step 6 (omega arith),
+      step 7 (omega arith),
+      all,
+    )
 
-pub number_is : (ds : List ℕ) → length ds ≡ 16 → AllBelowBase 16 ds → from_be_bytes w64 (map pack (digits_l 65536 8 (number_l 256 ds))) ≡ number_from_digits 16 ds
+pub number_is : (ds : List ℕ) → length ds ≡ 16 → AllBelowBase 16 ds →
+    from_be_bytes w64 (map pack (digits_l 65536 8 (number_l 256 ds))) ≡ number_from_digits 16 ds
 number_is ds long small =
     ap (λ ws. from_be_bytes w64 (map pack ws)) (joined_are 8 ds long small)
     ∙ ap (from_be_bytes w64) (packed_are ds small)
@@ -170,7 +212,8 @@ set : (b : Bool) → cond {A = ℕ} b 1 0 ≡ 1 → b ≡ true
 set true is = refl
 set false is = absurd (omega (arith, is))
 
-pub digits_in_front : (xs : List ℕ) (n : ℕ) → length xs ≡ 16 → n ≡ trailing_ones w64 (mask_l (map hex xs))
+pub digits_in_front : (xs : List ℕ) (n : ℕ) → length xs ≡ 16 →
+    n ≡ trailing_ones w64 (mask_l (map hex xs))
     → (n ≤ 16) × ((i : ℕ) → i < n → is_digit (get_or xs i 0) 16 ≡ true)
 digits_in_front xs n long is = (short (cases_lt 16 n), each)
   where
@@ -181,19 +224,23 @@ digits_in_front xs n long is = (short (cases_lt 16 n), each)
     many = length-map xs hex ∙ long
 
     ones : (i : ℕ) → i < n → bit_at mask i ≡ 1
-    ones i below = (bit_at-trailing_ones w64 mask (omega (arith, rw many at (mask_l-lt (map hex xs))))).2 i (omega (arith, is))
+    ones i below = (bit_at-trailing_ones w64 mask
+        (omega (arith, rw many at (mask_l-lt (map hex xs))))).2 i (omega (arith, is))
 
     bit : (i : ℕ) → i < n → get_or (map hex xs) i false ≡ true
     bit i below = set (get_or (map hex xs) i false) (sym (bit_mask_l (map hex xs) i) ∙ ones i below)
 
     short : (16 < n) ⊎ (n ≤ 16) → n ≤ 16
-    short (inl high) = absurd (false≢true (sym (get_or_past (map hex xs) 16 false (omega (arith, many))) ∙ bit 16 high))
+    short (inl high) = absurd (false≢true
+        (sym (get_or_past (map hex xs) 16 false (omega (arith, many))) ∙ bit 16 high))
     short (inr low) = low
 
     each : (i : ℕ) → i < n → is_digit (get_or xs i 0) 16 ≡ true
-    each i below = sym (get_or-map hex xs i 0 false (omega (arith, long, short (cases_lt 16 n)))) ∙ bit i below
+    each i below = sym (get_or-map hex xs i 0 false (omega (arith, long, short (cases_lt 16 n)))) ∙
+        bit i below
 
-pub values_in_front : (n : ℕ) (xs ds : List ℕ) → n ≤ length xs → length ds ≡ length xs → ((i : ℕ) → i < n → is_digit (get_or xs i 0) 16 ≡ true)
+pub values_in_front : (n : ℕ) (xs ds : List ℕ) → n ≤ length xs → length ds ≡ length xs →
+    ((i : ℕ) → i < n → is_digit (get_or xs i 0) 16 ≡ true)
     → ((i : ℕ) → is_digit (get_or xs i 0) 16 ≡ true → get_or ds i 0 ≡ digit_value (get_or xs i 0))
     → AllDigits 16 (take n xs) × (take n ds ≡ map digit_value (take n xs))
 values_in_front zero xs ds within same digits values = (tt, refl)
@@ -201,7 +248,8 @@ values_in_front (suc n) [] ds within same digits values = absurd (omega arith)
 values_in_front (suc n) (x ∷ xs) [] within same digits values = absurd (omega arith)
 values_in_front (suc n) (x ∷ xs) (d ∷ ds) within same digits values =
     let first = digits 0 (omega arith) in
-    let more = values_in_front n xs ds (omega arith) (omega arith) (λ i below. digits (suc i) (omega arith)) (λ i. values (suc i)) in
+    let more = values_in_front n xs ds (omega arith) (omega arith)
+    (λ i below. digits (suc i) (omega arith)) (λ i. values (suc i)) in
     ((ltb-true _ _ first, more.0), λ i. values 0 first i ∷ more.1 i)
 
 -- digits that are dropped from the end
@@ -215,7 +263,15 @@ fours : (k : ℕ) → 2 ^ (4 * k) ≡ 16 ^ k
 fours zero = refl
 fours (suc k) =
     let n : 4 * suc k ≡ suc (suc (suc (suc (4 * k)))) = omega arith in
-    ap (λ m. 2 ^ m) n ∙ omega (arith, pow-suc 2 (suc (suc (suc (4 * k)))), pow-suc 2 (suc (suc (4 * k))), pow-suc 2 (suc (4 * k)), pow-suc 2 (4 * k), pow-suc 16 k, fours k)
+    ap (λ m. 2 ^ m) n ∙ omega (
+      arith,
+      pow-suc 2 (suc (suc (suc (4 * k)))),
+      pow-suc 2 (suc (suc (4 * k))),
+      pow-suc 2 (suc (4 * k)),
+      pow-suc 2 (4 * k),
+      pow-suc 16 k,
+      fours k,
+    )
 
 below_drop : (n : ℕ) (ds : List ℕ) → AllBelowBase 16 ds → AllBelowBase 16 (drop n ds)
 below_drop zero ds small = small
@@ -228,27 +284,46 @@ front_of_number n ds most long small =
     let v = number_from_digits 16 (take n ds) in
     let back = drop n ds in
     let whole : number_from_digits 16 ds ≡ number_from_digits_after 16 v back =
-    ap (number_from_digits 16) (sym (take-append-drop n ds)) ∙ number_after_append 16 0 (take n ds) back in
+    ap (number_from_digits 16) (sym (take-append-drop n ds)) ∙ number_after_append 16 0
+    (take n ds) back in
     let left : length back ≡ 16 - n = length-drop n ds ∙ ap (λ l. l - n) long in
     let exponent : 64 - 4 * n ≡ 4 * length back = omega (arith, left) in
-    let power : 2 ^ (64 - 4 * n) ≡ 16 ^ length back = ap (λ k. 2 ^ k) exponent ∙ fours (length back) in
+    let power : 2 ^ (64 - 4 * n) ≡ 16 ^ length back = ap (λ k. 2 ^ k) exponent ∙
+    fours (length back) in
     let after = number_from_digits_after 16 v back in
     let positive = pow_pos (64 - 4 * n) in
     let low : v * 16 ^ length back ≤ after = at_least v back in
-    let high : after < (v + 1) * 16 ^ length back = number_after_lt 16 v back (below_drop n ds small) in
-    rw (whole, power) (omega (arith, le-div v after (16 ^ length back) (omega (arith, positive, power)) low, div_below after (16 ^ length back) (v + 1) (omega (arith, positive, power)) high))
+    let high : after < (v + 1) * 16 ^ length back =
+    number_after_lt 16 v back (below_drop n ds small) in
+    rw (whole, power) (omega (
+      arith,
+      le-div v after (16 ^ length back)
+          (omega (arith, positive, power)) low,
+      div_below after (16 ^ length back) (v + 1)
+          (omega (arith, positive, power)) high,
+    ))
 
 -- the number that the digits in front write
-pub read_is : (text ds : List ℕ) (n value : ℕ) → 16 ≤ length text → length ds ≡ 16 → AllBelowBase 16 ds
+pub read_is : (text ds : List ℕ) (n value : ℕ) → 16 ≤ length text → length ds ≡ 16 →
+    AllBelowBase 16 ds
     → n ≡ trailing_ones w64 (mask_l (map hex (take 16 text))) → value ≡ number_from_digits 16 ds
-    → ((k : ℕ) → is_digit (get_or (take 16 text) k 0) 16 ≡ true → get_or ds k 0 ≡ digit_value (get_or (take 16 text) k 0))
+    → ((k : ℕ) → is_digit (get_or (take 16 text) k 0) 16 ≡ true →
+    get_or ds k 0 ≡ digit_value (get_or (take 16 text) k 0))
     → (n ≤ 16) × WritesNumber 16 text (value / 2 ^ (64 - 4 * n), n)
 read_is text ds n value room long small is number values =
     let bytes = take 16 text in
     let all : length bytes ≡ 16 = length-take-le 16 text room in
     let front = digits_in_front bytes n all is in
-    let agree = values_in_front n bytes ds (omega (arith, front.0)) (omega (arith, long)) front.1 values in
+    let agree = values_in_front n bytes ds (omega (arith, front.0)) (omega (arith, long))
+    front.1 values in
     let same : take n bytes ≡ take n text = take-take n 16 text front.0 in
     let read : value / 2 ^ (64 - 4 * n) ≡ digits_value 16 (take n bytes) =
-    ap (λ v. v / 2 ^ (64 - 4 * n)) number ∙ front_of_number n ds front.0 long small ∙ ap (number_from_digits 16) agree.1 ∙ sym (digits_value_is 16 (take n bytes)) in
-    (front.0, (read ∙ ap (digits_value 16) same, subst (AllDigits 16) same agree.0, omega (arith, front.0)))
+    ap (λ v. v / 2 ^ (64 - 4 * n)) number ∙ front_of_number n ds front.0 long small ∙
+    ap (number_from_digits 16) agree.1 ∙ sym (digits_value_is 16 (take n bytes)) in (
+      front.0,
+      (
+        read ∙ ap (digits_value 16) same,
+        subst (AllDigits 16) same agree.0,
+        omega (arith, front.0),
+      ),
+    )

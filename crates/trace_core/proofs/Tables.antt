@@ -1,5 +1,6 @@
 -- The worked tables of the formats, computed.
-use Rattle.std.proofs.Common.{◌≡◌, ℕ, ◌++◌, [], ◌∷◌, Option, None, Some, Result, Ok, Err, refl, replicate}
+use Rattle.std.proofs.Common.{◌≡◌, ℕ, ◌++◌, [], ◌∷◌, Option, None, Some, Result, Ok, Err, refl}
+use Rattle.std.proofs.Common.{replicate}
 use Rattle.std.specs.Prelude.{codes}
 use Rattle.trace_core.specs.Line.{meaning, item}
 use Rattle.trace_core.specs.Reading.{reading, cut_reading}
@@ -158,7 +159,11 @@ limit5 : cut_reading Din 1 (codes "0 1" ++ 10 ∷ replicate 4097 32)
 limit5 = refl
 
 -- one that is too long and cut off before its failure is too long
-cut3 : cut_reading Din 9 (replicate 4097 32) ≡ record { entries = []; fault = Some (fault.TooLong 1) }
+cut3 : cut_reading Din 9 (replicate 4097 32) ≡ record {
+  entries = [];
+  fault =
+      Some (fault.TooLong 1);
+}
 cut3 = refl
 
 -- a line of 4,096 bytes and one of 4,097

@@ -1,5 +1,6 @@
 -- The loop of a scan.
-use Rattle.std.proofs.Common.{◌≡◌, ℕ, ◌+◌, ◌≤◌, List, [], ◌++◌, Option, None, false, refl, sym, ap, ◌∙◌, subst, arith}
+use Rattle.std.proofs.Common.{◌≡◌, ℕ, ◌+◌, ◌≤◌, List, [], ◌++◌, Option, None, false, refl, sym, ap}
+use Rattle.std.proofs.Common.{◌∙◌, subst, arith}
 use Rattle.std.specs.Option.{option_to_list}
 use Rattle.trace_core.specs.declared.events.Entry.{Entry}
 use Rattle.trace_core.proofs.Deliveries.{Delivers-none, Delivers-then}
@@ -27,7 +28,8 @@ pub record Skips (before after : SourceView) (old new : Scan) : Type 0 where
   pub delivers : Delivers before.remaining after.remaining (device_failed new.state) bytes
   pub advances : Advances after.remaining (progress old) (progress new) bytes []
   pub at_end : old.state ≡ state.Open → new.state ≡ state.Ended → IsAtEnd after.remaining
-  pub counted : old.state ≡ state.Open → after.failures ≡ failures_after (device_failed new.state) before.failures
+  pub counted : old.state ≡ state.Open → after.failures ≡ failures_after (device_failed new.state)
+      before.failures
   pub format : new.format ≡ old.format
   pub limit : new.limit ≡ old.limit
   pub lines : old.lines ≤ new.lines
@@ -44,22 +46,28 @@ Skips-start v s = record {
   lines = omega arith;
 }
 
-module _ {a b : SourceView} (now : SourceView) {old mid : Scan} (new : Scan) (skips : Skips a b old mid) (opened : mid.state ≡ state.Open) where
+module _ {a b : SourceView} (now : SourceView) {old mid : Scan} (new : Scan)
+    (skips : Skips a b old mid) (opened : mid.state ≡ state.Open) where
   -- what a step of an open scan gives after the turns before it
   pub Skips-advances : (xs : Option (ℕ × Entry)) → Reads b now mid new xs → Reads a now old new xs
   Skips-advances xs step =
       let consumes : Delivers a.remaining b.remaining false skips.bytes =
-      subst (λ s. Delivers a.remaining b.remaining (device_failed s) skips.bytes) opened skips.delivers in (
+      subst (λ s. Delivers a.remaining b.remaining (device_failed s) skips.bytes) opened
+      skips.delivers in (
         skips.bytes ++ step.0,
-        Delivers-then a.remaining b.remaining now.remaining (device_failed new.state) skips.bytes step.0 consumes step.1,
-        Advances-then now.remaining b.remaining (progress old) (progress mid) (progress new) skips.bytes step.0 [] (option_to_list xs) opened
+        Delivers-then a.remaining b.remaining now.remaining (device_failed new.state) skips.bytes
+            step.0 consumes step.1,
+        Advances-then now.remaining b.remaining (progress old) (progress mid) (progress new)
+            skips.bytes step.0 [] (option_to_list xs) opened
             skips.advances step.2,
       )
 
-  Skips-counted : old.state ≡ state.Open → now.failures ≡ failures_after (device_failed new.state) b.failures
+  Skips-counted : old.state ≡ state.Open →
+      now.failures ≡ failures_after (device_failed new.state) b.failures
       → now.failures ≡ failures_after (device_failed new.state) a.failures
   Skips-counted began counted =
-      let same : b.failures ≡ a.failures = skips.counted began ∙ ap (λ s. failures_after (device_failed s) a.failures) opened in
+      let same : b.failures ≡ a.failures = skips.counted began ∙
+      ap (λ s. failures_after (device_failed s) a.failures) opened in
       counted ∙ ap (failures_after (device_failed new.state)) same
 
   -- one turn more with no entry

@@ -1,5 +1,6 @@
 -- The references of an item, and what a trace gives a cache.
-use Rattle.std.specs.Prelude.{ℕ, Bool, true, false, Option, None, Some, List, [], ◌∷◌, map, filter, if◌then◌else◌}
+use Rattle.std.specs.Prelude.{ℕ, Bool, true, false, Option, None, Some, List, [], ◌∷◌, map, filter}
+use Rattle.std.specs.Prelude.{if◌then◌else◌}
 use Rattle.std.specs.Option.{option_to_list}
 use Rattle.trace_core.specs.declared.events.Op.{Op}
 use Rattle.trace_core.specs.declared.events.Op.TheVariants as op
@@ -18,7 +19,8 @@ use Rattle.trace_core.specs.declared.events.Kind.TheVariants.{All, DataOnly, Fet
 abbrev pub at : Access → ℕ → Ref
 at access addr = record { access = access; addr = addr }
 
--- a fetch gives a fetch, a load a read, a store a write, a modify a read and then a write (lackey; CS:APP)
+-- a fetch gives a fetch, a load a read, a store a write, a modify a read and then a write (lackey;
+-- CS:APP)
 abbrev pub references_to : Op → ℕ → Ref × Option Ref
 references_to op.Fetch addr = (at Fetch addr, None)
 references_to op.Load addr = (at Read addr, None)
@@ -42,7 +44,8 @@ is_kept FetchOnly Write = false
 -- what an entry gives a cache: the references of its item that are kept, or a flush
 abbrev pub events_of : Kind → Entry → List Event
 events_of kind (entry.Item item) =
-    map event.Reference (filter (λ r. is_kept kind r.access) ((references item).0 ∷ option_to_list (references item).1))
+    map event.Reference (filter (λ r. is_kept kind r.access) ((references item).0 ∷ option_to_list
+    (references item).1))
 events_of kind entry.Flush = event.Flush ∷ []
 
 -- whether an access is an instruction fetch

@@ -1,5 +1,6 @@
 -- The meaning of a line, or its fault.
-use Rattle.std.specs.Prelude.{ℕ, ◌==◌, nat_lt, ◌||◌, Bool, false, List, [], ◌∷◌, Option, None, Some, Result, Ok, Err, if◌then◌else◌}
+use Rattle.std.specs.Prelude.{ℕ, ◌==◌, nat_lt, ◌||◌, Bool, false, List, [], ◌∷◌, Option, None, Some}
+use Rattle.std.specs.Prelude.{Result, Ok, Err, if◌then◌else◌}
 use Rattle.std.specs.List.{before_first, after_first}
 use Rattle.trace_core.specs.Fields.{without_trailing, fields, number_written, without_0x}
 use Rattle.trace_core.specs.declared.events.Op.{Op}
@@ -18,7 +19,8 @@ abbrev pub item : Op → ℕ → ℕ → Option Entry
 item op addr size = Some (entry.Item (record { op = op; addr = addr; size = size }))
 
 -- goes on with what is there, or stops with a fault
-abbrev pub or_fault : {T : Type 0} → LineFault → Option T → (T → Result (Option Entry) LineFault) → Result (Option Entry) LineFault
+abbrev pub or_fault : {T : Type 0} → LineFault → Option T → (T → Result (Option Entry) LineFault) →
+    Result (Option Entry) LineFault
 or_fault fault None next = Err fault
 or_fault fault (Some x) next = next x
 
@@ -42,7 +44,8 @@ op_of access.Read = Load
 op_of access.Write = Store
 op_of access.Fetch = Fetch
 
--- what a line with this label, this operation of it if any, and this address means; `3` is nothing, and `4` a flush (these two are
+-- what a line with this label, this operation of it if any, and this address means; `3` is nothing,
+-- and `4` a flush (these two are
 -- this project's)
 abbrev pub entry_of_label : ℕ → ℕ → Option Op → Option Entry
 entry_of_label label addr (Some op) = item op addr 0
@@ -62,7 +65,8 @@ abbrev pub din_meaning : List (List ℕ) → Result (Option Entry) LineFault
 din_meaning [] = Ok None
 din_meaning ([] ∷ further) = Err Label
 din_meaning ((label ∷ []) ∷ further) =
-    if nat_lt label 48 || nat_lt 52 label then Err Label else or_fault Address (din_address further) (λ addr. Ok (din_entry label addr))
+    if nat_lt label 48 || nat_lt 52 label then Err Label else or_fault Address (din_address further)
+    (λ addr. Ok (din_entry label addr))
 din_meaning ((label ∷ more ∷ bytes) ∷ further) = Err Label
 
 -- what the labels `I`, `L`, `S`, `M` mean (valgrind's lackey, `--trace-mem=yes`)
@@ -83,13 +87,16 @@ abbrev pub lackey_access : Op → List (List ℕ) → Result (Option Entry) Line
 lackey_access op [] = Err Address
 lackey_access op (field ∷ further) =
     or_fault Address (number_written 16 16 (before_first is_comma field))
-    (λ addr. or_fault Size (number_written 10 9 (after_first is_comma field)) (λ size. Ok (item op addr size)))
+    (λ addr. or_fault Size (number_written 10 9 (after_first is_comma field))
+    (λ size. Ok (item op addr size)))
 
--- A lackey line by its fields: an operation of one byte, an address and a size, and whatever follows.
+-- A lackey line by its fields: an operation of one byte, an address and a size, and whatever
+-- follows.
 abbrev pub lackey_meaning : List (List ℕ) → Result (Option Entry) LineFault
 lackey_meaning [] = Ok None
 lackey_meaning ([] ∷ further) = Err Label
-lackey_meaning ((label ∷ []) ∷ further) = or_fault Label (lackey_op label) (λ op. lackey_access op further)
+lackey_meaning ((label ∷ []) ∷ further) =
+    or_fault Label (lackey_op label) (λ op. lackey_access op further)
 lackey_meaning ((label ∷ more ∷ bytes) ∷ further) = Err Label
 
 -- a message of valgrind's begins with `=`, `-` or `*`
@@ -97,7 +104,9 @@ abbrev pub is_message : List ℕ → Bool
 is_message [] = false
 is_message (c ∷ cs) = c == 61 || c == 45 || c == 42
 
--- The meaning of a line: an entry, or nothing if it is skipped; or the fault of its leftmost bad field.
+-- The meaning of a line: an entry, or nothing if it is skipped; or the fault of its leftmost bad
+-- field.
 abbrev pub meaning : Format → List ℕ → Result (Option Entry) LineFault
 meaning Din line = din_meaning (fields (without_trailing line))
-meaning Lackey line = if is_message line then Ok None else lackey_meaning (fields (without_trailing line))
+meaning Lackey line = if is_message line then Ok None else lackey_meaning
+    (fields (without_trailing line))

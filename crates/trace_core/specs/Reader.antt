@@ -1,8 +1,10 @@
 -- The state of a reader, and what it has read of a source.
-use Rattle.std.specs.Prelude.{◌≡◌, ◌≢◌, ⊤, IfSome, Bool, true, false, ℕ, List, [], ◌++◌, Option, None, Some, Result, Ok, Err}
+use Rattle.std.specs.Prelude.{◌≡◌, ◌≢◌, ⊤, IfSome, Bool, true, false, ℕ, List, [], ◌++◌, Option}
+use Rattle.std.specs.Prelude.{None, Some, Result, Ok, Err}
 use Rattle.std.specs.Io.KnownBytes.{Consumes, IsAtEnd}
 use Rattle.std.specs.Option.{option_to_list}
-use Rattle.trace_core.specs.Reading.{Reading, reading_end, Ending, reading_after, at_end, at_failure}
+use Rattle.trace_core.specs.Reading.{Reading, reading_end, Ending, reading_after, at_end}
+use Rattle.trace_core.specs.Reading.{at_failure}
 use Rattle.trace_core.specs.Device.{SourceView, failures_after}
 use Rattle.trace_core.specs.declared.events.Entry.{Entry}
 use Rattle.trace_core.specs.declared.line.Format.{Format}
@@ -11,7 +13,8 @@ use Rattle.trace_core.specs.declared.fault.TraceFault.TheVariants as fault
 use Rattle.trace_core.specs.declared.state.ReaderState.{ReaderState}
 use Rattle.trace_core.specs.declared.state.ReaderState.TheVariants as state
 
--- The progress of a reader: how many lines it has read, which bytes were delivered and not yet read (none once it has stopped),
+-- The progress of a reader: how many lines it has read, which bytes were delivered and not yet read
+-- (none once it has stopped),
 -- and whether it goes on.
 pub record Progress : Type 0 where
   pub format : Format
@@ -28,31 +31,43 @@ left_in (state.Failed f) r = reading_end (Some f)
 
 -- what a reader will return, if these bytes come and then this ending
 abbrev pub still_gives : Ending → Progress → List ℕ → Reading
-still_gives e p later = left_in p.state (reading_after e p.format p.limit p.lines (p.unread ++ later))
+still_gives e p later = left_in p.state (reading_after e p.format p.limit p.lines
+    (p.unread ++ later))
 
--- What may follow the bytes that led to a state (`reported` is what the source still reports): anything while the reader is
+-- What may follow the bytes that led to a state (`reported` is what the source still reports):
+-- anything while the reader is
 -- open, nothing after the end or a failure, and after another fault what is reported.
 abbrev pub MayFollow : Option (List ℕ) → ReaderState → Ending → List ℕ → Type 0
 MayFollow reported state.Open e later = ⊤
 MayFollow reported state.Ended e later = (e ≡ at_end) × (later ≡ [])
 MayFollow reported (state.Failed (fault.Read n)) e later = (e ≡ at_failure) × (later ≡ [])
 MayFollow reported (state.Failed (fault.TooLong n)) e later = (e ≡ at_end) × (reported ≡ Some later)
-MayFollow reported (state.Failed (fault.TooManyLines n)) e later = (e ≡ at_end) × (reported ≡ Some later)
+MayFollow reported (state.Failed (fault.TooManyLines n)) e later = (e ≡ at_end) ×
+    (reported ≡ Some later)
 MayFollow reported (state.Failed (fault.Line n f)) e later = (e ≡ at_end) × (reported ≡ Some later)
 
 -- these entries, and then a reading
 abbrev pub reading_with_entries : List (ℕ × Entry) → Reading → Reading
 reading_with_entries xs r = record { entries = xs ++ r.entries; fault = r.fault }
 
--- A reader went from old to new over these bytes and gave these entries: whatever may follow, what old gives is these entries
+-- A reader went from old to new over these bytes and gave these entries: whatever may follow, what
+-- old gives is these entries
 -- and then what new gives.
-pub record Advances (reported : Option (List ℕ)) (old new : Progress) (bytes : List ℕ) (xs : List (ℕ × Entry)) : Type 0 where
+pub record Advances (reported : Option (List ℕ)) (old new : Progress) (bytes : List ℕ)
+    (xs : List (ℕ × Entry)) : Type 0 where
   pub gives : (e : Ending) (later : List ℕ) → MayFollow reported new.state e later
       → still_gives e old (bytes ++ later) ≡ reading_with_entries xs (still_gives e new later)
 
 -- the state of a reader that began
 abbrev pub new_progress : Format → ℕ → Progress
-new_progress format limit = record { format = format; limit = limit; lines = 0; unread = []; state = state.Open }
+new_progress format limit = record {
+  format = format;
+  limit = limit;
+  lines = 0;
+  unread =
+      [];
+  state = state.Open;
+}
 
 -- the entry that a call returned, if it did
 abbrev pub entries_returned : Result (Option (ℕ × Entry)) TraceFault → List (ℕ × Entry)
@@ -74,7 +89,8 @@ device_failed (state.Failed (fault.TooLong n)) = false
 device_failed (state.Failed (fault.TooManyLines n)) = false
 device_failed (state.Failed (fault.Line n f)) = false
 
--- The source reported these bytes before they were delivered, and goes on reporting unless it failed.
+-- The source reported these bytes before they were delivered, and goes on reporting unless it
+-- failed.
 abbrev pub Delivers : Option (List ℕ) → Option (List ℕ) → Bool → List ℕ → Type 0
 Delivers old new false bytes = Consumes old new bytes
 Delivers old new true bytes = IfSome old (λ before. IfSome new (λ later. before ≡ bytes ++ later))
@@ -85,8 +101,10 @@ stopped_result state.Open = Ok None
 stopped_result state.Ended = Ok None
 stopped_result (state.Failed f) = Err f
 
--- A reader was begun on a source seen as `start`, which is seen as `now`, and has read these entries since.
-pub record Reached (format : Format) (limit : ℕ) (start now : SourceView) (xs : List (ℕ × Entry)) (p : Progress) : Type 0 where
+-- A reader was begun on a source seen as `start`, which is seen as `now`, and has read these
+-- entries since.
+pub record Reached (format : Format) (limit : ℕ) (start now : SourceView) (xs : List (ℕ × Entry))
+    (p : Progress) : Type 0 where
   -- the bytes that the source delivered
   pub bytes : List ℕ
   -- they were the first of what it had to give

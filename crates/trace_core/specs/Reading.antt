@@ -1,7 +1,8 @@
--- The reading of a text: its entries with their line numbers, and the fault at which they end. What is at fault, and which fault comes
+-- The reading of a text: its entries with their line numbers, and the fault at which they end. What
+-- is at fault, and which fault comes
 -- first, is this project's own rule.
-use Rattle.std.specs.Prelude.{ℕ, ◌+◌, nat_lt, List, [], ◌∷◌, length, take, drop, map, filter_map, Option, None, Some, Result, Ok, Err}
-use Rattle.std.specs.Prelude.{if◌then◌else◌, flat_map}
+use Rattle.std.specs.Prelude.{ℕ, ◌+◌, nat_lt, List, [], ◌∷◌, length, take, drop, map, filter_map}
+use Rattle.std.specs.Prelude.{Option, None, Some, Result, Ok, Err, if◌then◌else◌, flat_map}
 use Rattle.std.specs.List.{enumerate_from}
 use Rattle.std.specs.Option.{option_map}
 use Rattle.trace_core.specs.Lines.{lines, line_feeds}
@@ -24,7 +25,8 @@ abbrev pub with_line : ℕ → Result (Option Entry) LineFault → Result (Optio
 with_line n (Ok entry) = Ok entry
 with_line n (Err f) = Err (fault.Line n f)
 
--- Line n of a trace of at most `limit` lines: past the limit, too long, or what its format says of it.
+-- Line n of a trace of at most `limit` lines: past the limit, too long, or what its format says of
+-- it.
 abbrev pub judgement : Format → ℕ → ℕ → List ℕ → Result (Option Entry) TraceFault
 judgement format limit n line =
     if nat_lt limit n then Err (fault.TooManyLines limit)
@@ -40,24 +42,32 @@ pub record Reading : Type 0 where
 abbrev pub reading_end : Option TraceFault → Reading
 reading_end f = record { entries = []; fault = f }
 
--- what line n gives, and then the later ones; a skipped line gives nothing, and a fault ends the reading
+-- what line n gives, and then the later ones; a skipped line gives nothing, and a fault ends the
+-- reading
 abbrev pub reading_with_line : ℕ → Result (Option Entry) TraceFault → Reading → Reading
 reading_with_line n (Ok None) later = later
-reading_with_line n (Ok (Some entry)) later = record { entries = (n, entry) ∷ later.entries; fault = later.fault }
+reading_with_line n (Ok (Some entry)) later = record {
+  entries = (n, entry) ∷ later.entries;
+  fault =
+      later.fault;
+}
 reading_with_line n (Err f) later = reading_end (Some f)
 
--- the reading of some lines, of which the first has the number n + 1, and then of what comes after them
+-- the reading of some lines, of which the first has the number n + 1, and then of what comes after
+-- them
 abbrev pub read_lines : Format → ℕ → ℕ → List (List ℕ) → Reading → Reading
 read_lines format limit n [] last = last
 read_lines format limit n (line ∷ more) last =
-    reading_with_line (n + 1) (judgement format limit (n + 1) line) (read_lines format limit (n + 1) more last)
+    reading_with_line (n + 1) (judgement format limit (n + 1) line)
+    (read_lines format limit (n + 1) more last)
 
 -- How the bytes that a device delivers end: with the text, or with a failure.
 pub data Ending : Type 0 where
   at_end : Ending
   at_failure : Ending
 
--- Where a device failed in line n, of which this piece had come: a byte past the limit, too many bytes, or the failure itself.
+-- Where a device failed in line n, of which this piece had come: a byte past the limit, too many
+-- bytes, or the failure itself.
 abbrev pub cut_fault : ℕ → ℕ → List (List ℕ) → TraceFault
 cut_fault limit n [] = fault.Read n
 cut_fault limit n (piece ∷ none) =
@@ -65,13 +75,15 @@ cut_fault limit n (piece ∷ none) =
     else if nat_lt longest_line (length piece) then fault.TooLong n
     else fault.Read n
 
--- The reading of a text, n lines before which were read: of all its lines; or, if the device then failed, of the lines
+-- The reading of a text, n lines before which were read: of all its lines; or, if the device then
+-- failed, of the lines
 -- whose LF came, and of the piece that was cut off.
 abbrev pub reading_after : Ending → Format → ℕ → ℕ → List ℕ → Reading
 reading_after at_end format limit n text = read_lines format limit n (lines text) (reading_end None)
 reading_after at_failure format limit n text =
     let whole = line_feeds text in
-    read_lines format limit n (take whole (lines text)) (reading_end (Some (cut_fault limit (n + whole + 1) (drop whole (lines text)))))
+    read_lines format limit n (take whole (lines text))
+    (reading_end (Some (cut_fault limit (n + whole + 1) (drop whole (lines text)))))
 
 -- the reading of a whole text
 abbrev pub reading : Format → ℕ → List ℕ → Reading
@@ -87,7 +99,8 @@ first_fault format limit text = (reading format limit text).fault
 
 -- the judgements of a text's lines, in order; lines are numbered from 1
 abbrev pub judgements : Format → ℕ → List ℕ → List (Result (Option Entry) TraceFault)
-judgements format limit text = map (λ x. judgement format limit x.0 x.1) (enumerate_from 1 (lines text))
+judgements format limit text = map (λ x. judgement format limit x.0 x.1)
+    (enumerate_from 1 (lines text))
 
 -- the judgements of the lines whose LF is in a text
 abbrev pub whole_judgements : Format → ℕ → List ℕ → List (Result (Option Entry) TraceFault)
@@ -100,7 +113,8 @@ entry_in (Err f) = None
 
 -- the entry of a line, if it has one, with the line's number
 abbrev pub numbered_entry : Format → ℕ × List ℕ → Option (ℕ × Entry)
-numbered_entry format line = option_map (λ entry. (line.0, entry)) (entry_in (meaning format line.1))
+numbered_entry format line = option_map (λ entry. (line.0, entry))
+    (entry_in (meaning format line.1))
 
 -- the entries of a text's lines in order
 abbrev pub entries : Format → List ℕ → List Entry

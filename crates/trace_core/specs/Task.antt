@@ -1,7 +1,9 @@
 -- Runs over traces: what each has to read and write, and what it did.
-use Rattle.std.specs.Prelude.{◌≡◌, ℕ, List, [], ◌++◌, map, Option, None, Some, Bool, true, false, Result, Err, IfSome, OnOk}
+use Rattle.std.specs.Prelude.{◌≡◌, ℕ, List, [], ◌++◌, map, Option, None, Some, Bool, true, false}
+use Rattle.std.specs.Prelude.{Result, Err, IfSome, OnOk}
 use Rattle.std.specs.Io.KnownBytes.{Appends, IsAtEnd}
-use Rattle.trace_core.specs.Device.{SourceView, SinkView, WritesPrefix, one_more, failures_after, FlushesAfter, FlushesAtMostOnce}
+use Rattle.trace_core.specs.Device.{SourceView, SinkView, WritesPrefix, one_more, failures_after}
+use Rattle.trace_core.specs.Device.{FlushesAfter, FlushesAtMostOnce}
 use Rattle.trace_core.specs.Reading.{Reading, reading, cut_reading}
 use Rattle.trace_core.specs.Reader.{Progress, Reached, device_failed}
 use Rattle.trace_core.specs.declared.events.Entry.{Entry}
@@ -29,7 +31,8 @@ abbrev pub entries_of : List (ℕ × Entry) → List Entry
 entries_of xs = map (λ x. x.1) xs
 
 -- These entries were read of a source, and this holds of them.
-pub record HasRead (format : Format) (limit : ℕ) (start now : SourceView) (p : Progress) (Holds : List Entry → Type 0) : Type 0 where
+pub record HasRead (format : Format) (limit : ℕ) (start now : SourceView) (p : Progress)
+    (Holds : List Entry → Type 0) : Type 0 where
   -- the entries, with the numbers of their lines
   pub read : List (ℕ × Entry)
   -- the reader has come so far
@@ -47,10 +50,13 @@ output_for task text before (Some f) = task.partial before
 
 -- all that a run writes of a text which its source gives to the end
 abbrev pub output : Task → List ℕ → List ℕ
-output task text = let r = reading task.format task.limit text in output_for task text (entries_in r) r.fault
+output task text = let r = reading task.format task.limit text in
+    output_for task text (entries_in r) r.fault
 
--- A run has read this text to its end and written all of its output. Devices are seen before and after the run, here and below.
-pub record Completes (task : Task) (text : List ℕ) (source' : SourceView) (sink sink' : SinkView) : Type 0 where
+-- A run has read this text to its end and written all of its output. Devices are seen before and
+-- after the run, here and below.
+pub record Completes (task : Task) (text : List ℕ) (source' : SourceView)
+    (sink sink' : SinkView) : Type 0 where
   -- the text has no fault
   pub faultless : (reading task.format task.limit text).fault ≡ None
   -- no byte is left to read
@@ -59,24 +65,29 @@ pub record Completes (task : Task) (text : List ℕ) (source' : SourceView) (sin
   pub wrote : Appends sink.written sink'.written (task.whole text)
 
 -- A run has met this fault of the text.
-pub record StopsAt (task : Task) (f : TraceFault) (text : List ℕ) (sink sink' : SinkView) : Type 0 where
+pub record StopsAt (task : Task) (f : TraceFault) (text : List ℕ)
+    (sink sink' : SinkView) : Type 0 where
   -- it is the first fault
   pub first : (reading task.format task.limit text).fault ≡ Some f
   -- the output for the entries before it was written, and no more
-  pub wrote : Appends sink.written sink'.written (task.partial (entries_in (reading task.format task.limit text)))
+  pub wrote : Appends sink.written sink'.written
+      (task.partial (entries_in (reading task.format task.limit text)))
 
 -- The source of a run failed within this text, and left the rest.
-pub record CutsOff (task : Task) (f : TraceFault) (text rest : List ℕ) (sink sink' : SinkView) : Type 0 where
+pub record CutsOff (task : Task) (f : TraceFault) (text rest : List ℕ)
+    (sink sink' : SinkView) : Type 0 where
   -- the bytes that it delivered before
   pub delivered : List ℕ
   pub delivers : text ≡ delivered ++ rest
   -- this is their first fault
   pub first : (cut_reading task.format task.limit delivered).fault ≡ Some f
   -- the output for the entries before it was written, and no more
-  pub wrote : Appends sink.written sink'.written (task.partial (entries_in (cut_reading task.format task.limit delivered)))
+  pub wrote : Appends sink.written sink'.written
+      (task.partial (entries_in (cut_reading task.format task.limit delivered)))
 
 -- A run has read this text to its end, and the sink failed within its output.
-pub record BreaksOff (task : Task) (text : List ℕ) (source' : SourceView) (sink sink' : SinkView) : Type 0 where
+pub record BreaksOff (task : Task) (text : List ℕ) (source' : SourceView)
+    (sink sink' : SinkView) : Type 0 where
   -- the text has no fault
   pub faultless : (reading task.format task.limit text).fault ≡ None
   -- no byte is left to read
@@ -89,7 +100,8 @@ abbrev pub is_failed_read : TraceFault → Bool
 is_failed_read f = device_failed (state.Failed f)
 
 -- What a run did that returned `Ok`.
-pub record Finished (task : Task) (source source' : SourceView) (sink sink' : SinkView) : Type 0 where
+pub record Finished (task : Task) (source source' : SourceView)
+    (sink sink' : SinkView) : Type 0 where
   -- the text has no fault, was read to its end, and its whole output was written
   pub completes : IfSome source.remaining (λ text. Completes task text source' sink sink')
   -- no byte is left to read
@@ -102,11 +114,16 @@ pub record Finished (task : Task) (source source' : SourceView) (sink sink' : Si
   pub flushes : sink'.flushes ≡ one_more sink.flushes
 
 -- What a run did that returned this fault of the trace, or this failure of its source.
-pub record Stopped (task : Task) (f : TraceFault) (source source' : SourceView) (sink sink' : SinkView) : Type 0 where
-  -- a fault of the trace is the first of the text, and the output for the entries before it was written
-  pub fault : is_failed_read f ≡ false → IfSome source.remaining (λ text. StopsAt task f text sink sink')
+pub record Stopped (task : Task) (f : TraceFault) (source source' : SourceView)
+    (sink sink' : SinkView) : Type 0 where
+  -- a fault of the trace is the first of the text, and the output for the entries before it was
+  -- written
+  pub fault : is_failed_read f ≡ false →
+      IfSome source.remaining (λ text. StopsAt task f text sink sink')
   -- a failure of the source came after some bytes, and the output for their entries was written
-  pub cut : is_failed_read f ≡ true → IfSome source.remaining (λ text. IfSome source'.remaining (λ rest. CutsOff task f text rest sink sink'))
+  pub cut : is_failed_read f ≡ true →
+      IfSome source.remaining (λ text. IfSome source'.remaining
+      (λ rest. CutsOff task f text rest sink sink'))
   -- one read failed if the fault is the source's failure, and none otherwise
   pub read_failures : source'.failures ≡ failures_after (is_failed_read f) source.failures
   -- no write failed
@@ -115,11 +132,14 @@ pub record Stopped (task : Task) (f : TraceFault) (source source' : SourceView) 
   pub flushes : sink'.flushes ≡ sink.flushes
 
 -- What a run did that returned a failed write: a write or the flush failed.
-pub record WriteFailed (task : Task) (source source' : SourceView) (sink sink' : SinkView) : Type 0 where
+pub record WriteFailed (task : Task) (source source' : SourceView)
+    (sink sink' : SinkView) : Type 0 where
   -- the sink took some part of the output
-  pub part : IfSome source.remaining (λ text. WritesPrefix sink.written sink'.written (output task text))
+  pub part : IfSome source.remaining (λ text. WritesPrefix sink.written sink'.written
+      (output task text))
   -- a run that does not write early had read the whole text, which has no fault
-  pub late : task.writes_early ≡ false → IfSome source.remaining (λ text. BreaksOff task text source' sink sink')
+  pub late : task.writes_early ≡ false →
+      IfSome source.remaining (λ text. BreaksOff task text source' sink sink')
   -- a run that does not write early has left no byte to read
   pub at_end : task.writes_early ≡ false → IsAtEnd source'.remaining
   -- no read failed
@@ -131,17 +151,21 @@ pub record WriteFailed (task : Task) (source source' : SourceView) (sink sink' :
   -- a sink that was flushed had taken the whole output
   pub last : IfSome source.remaining (λ text. FlushesAfter (task.whole text) sink sink')
 
--- What a run of a task did to a source and a sink, by its result. Each device is seen through its view.
-pub record Performs {T S K : Type 0} (task : Task) (result : Result T RunFault) (source_view : S → SourceView) (source source' : S)
+-- What a run of a task did to a source and a sink, by its result. Each device is seen through its
+-- view.
+pub record Performs {T S K : Type 0} (task : Task) (result : Result T RunFault) (source_view : S →
+    SourceView) (source source' : S)
     (sink_view : K → SinkView) (sink sink' : K) : Type 0 where
   -- it finished
-  pub ok : OnOk result (Finished task (source_view source) (source_view source') (sink_view sink) (sink_view sink'))
+  pub ok : OnOk result (Finished task (source_view source) (source_view source') (sink_view sink)
+      (sink_view sink'))
   -- it stopped at a fault of the trace, or at a failure of its source
   pub trace : (f : TraceFault) → result ≡ Err (Trace f) →
       Stopped task f (source_view source) (source_view source') (sink_view sink) (sink_view sink')
   -- there, a run that does not write early has not touched its sink
   pub silent : (f : TraceFault) → result ≡ Err (Trace f) → task.writes_early ≡ false → sink' ≡ sink
   -- its sink failed
-  pub write : result ≡ Err Write → WriteFailed task (source_view source) (source_view source') (sink_view sink) (sink_view sink')
+  pub write : result ≡ Err Write → WriteFailed task (source_view source) (source_view source')
+      (sink_view sink) (sink_view sink')
   -- for lack of memory it has touched neither device
   pub memory : result ≡ Err Memory → (source' ≡ source) × (sink' ≡ sink)

@@ -3,8 +3,8 @@
 //!
 //! This way is for speed alone. A reader that never took it would meet each contract, and read most
 //! traces several times slower: only `tests/limits` sees that.
-ghost use Rattle.std.specs.Prelude.{◌^◌, ◌<◌, ◌≡◌, ℕ, ◌≤◌, List, ◌++◌, true, Ok, Some, IfSome, take};
-ghost use Rattle.std.specs.Prelude.{length, ◌+◌};
+ghost use Rattle.std.specs.Prelude.{◌^◌, ◌<◌, ◌≡◌, ℕ, ◌≤◌, List, ◌++◌, true, Ok, Some, IfSome};
+ghost use Rattle.std.specs.Prelude.{take, length, ◌+◌};
 ghost use Rattle.std.specs.List.{list_all};
 ghost use Rattle.memchr.specs.Find.{IsFirstByte, is_byte};
 ghost use Rattle.trace_core.specs.Fields.{is_blank, number_written};

@@ -8,7 +8,8 @@ ghost use Rattle.std.specs.List.{enumerate_from, prefix_len, slice_split};
 ghost use Rattle.trace_core.specs.Device.{SourceView};
 ghost use Rattle.trace_core.specs.Events.{events_of};
 ghost use Rattle.trace_core.specs.Lines.{is_line_feed, lines, line_feeds, without_empty_last};
-ghost use Rattle.trace_core.specs.Reader.{Progress, Reached, new_progress, device_failed, reading_with_entries};
+ghost use Rattle.trace_core.specs.Reader.{Progress, Reached, new_progress, device_failed};
+ghost use Rattle.trace_core.specs.Reader.{reading_with_entries};
 ghost use Rattle.trace_core.specs.Reading.{Reading, reading, cut_reading, first_fault, judgements};
 ghost use Rattle.trace_core.specs.Reading.{whole_judgements, cut_fault, numbered_entry, entries};
 ghost use Rattle.trace_core.specs.Reading.{events};
@@ -108,9 +109,9 @@ pub fn ended_reader_has_read_all()
         reader.state ≡ ReaderState.Ended → now.remaining ≡ Some [] }
 {}
 
-/// What a whole trace gives: a reader at its end has returned the entries of a text without a fault,
-/// and they give a cache the events of the text.
-/// Lemmas: `Entries.entries-reading`, `Runs.Reached-end`.
+/// What a whole trace gives: a reader at its end has returned the entries of a text without a
+/// fault, and they give a cache the events of the text. Lemmas: `Entries.entries-reading`,
+/// `Runs.Reached-end`.
 pub fn whole_trace_gives_its_events()
     ensures faultless { (format : Format) (limit : ℕ) (text : List ℕ) (start now : SourceView)
         (given : List (ℕ × Entry)) (reader : Progress) →

@@ -1,5 +1,6 @@
 //! Sixteen bytes at once, as hexadecimal digits.
-ghost use Rattle.std.specs.Prelude.{◌≡◌, ℕ, ◌+◌, ◌-◌, ◌%◌, true, map, nat_le, length, slice_index, if◌then◌else◌, bit_or};
+ghost use Rattle.std.specs.Prelude.{◌≡◌, ℕ, ◌+◌, ◌-◌, ◌%◌, true, map, nat_le, length, slice_index};
+ghost use Rattle.std.specs.Prelude.{if◌then◌else◌, bit_or};
 ghost use Rattle.std.specs.Char.{digit_value, is_digit};
 ghost use Rattle.std.specs.Int.Digits.{number_from_digits, AllBelowBase};
 ghost use Rattle.std.specs.Simd.Lanes.{mask_l};
@@ -40,7 +41,8 @@ pub(crate) fn number_of(digits: u8x16) -> u64
 /// 255 for each byte that is a letter from `a` to `f` or from `A` to `F`, and 0 for the others.
 #[inline(always)]
 fn letters(bytes: u8x16) -> u8x16
-    ensures { result ≡ map (λ c. if nat_le ((bit_or c 32 + (256 - 97)) % 256) 5 then 255 else 0) bytes }
+    ensures { result ≡ map (λ c. if nat_le ((bit_or c 32 + (256 - 97)) % 256) 5 then 255 else 0)
+        bytes }
 {
     lanes_within(bytes | u8x16::splat(32), b'a', 5)
 }

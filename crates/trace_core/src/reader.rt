@@ -31,8 +31,8 @@ impl Model for Lines {
 }
 
 impl Lines {
-    ghost use Rattle.trace_core.specs.Reader.{Progress, Reached, Reports, entries_returned, new_progress};
-    ghost use Rattle.trace_core.specs.Reader.{device_failed, stopped_result};
+    ghost use Rattle.trace_core.specs.Reader.{Progress, Reached, Reports, entries_returned};
+    ghost use Rattle.trace_core.specs.Reader.{new_progress, device_failed, stopped_result};
 
     /// A reader of lines in a format, of which there may be at most `max_lines`. It takes one
     /// buffer of 64 KiB, whatever the limit, and fails only if there is no memory for it.

@@ -52,8 +52,8 @@ pub(crate) enum Found {
 }
 
 impl Scan {
-    ghost use Rattle.trace_core.specs.internal.Scan.{progress, left_to_limit, Reads, StepsScan, Judges};
-    ghost use Rattle.trace_core.specs.internal.Scan.{KeepsTask, BearsLine, found_in};
+    ghost use Rattle.trace_core.specs.internal.Scan.{progress, left_to_limit, Reads, StepsScan};
+    ghost use Rattle.trace_core.specs.internal.Scan.{Judges, KeepsTask, BearsLine, found_in};
     ghost use Rattle.trace_core.specs.Reader.{Advances, device_failed};
 
     /// Reads on to the next entry. Without one, the state says why.

@@ -14,9 +14,11 @@ abbrev pub system_cache_contents : SystemCache → Contents
 system_cache_contents cache = contents_of policy_of random_numbers_of cache.cache
 
 -- one reference at a cache of a system
-pub record Enters (old : SystemCache) (ref : Ref) (outcome : Outcome) (new : SystemCache) : Type 0 where
+pub record Enters (old : SystemCache) (ref : Ref) (outcome : Outcome)
+    (new : SystemCache) : Type 0 where
   pub access : Accesses (system_cache_contents old) ref outcome (system_cache_contents new)
-  pub counts : new.stats ≡ stats_after_access ref.access outcome.hit (option_map (λ slot. slot.dirty) outcome.evicted) old.stats
+  pub counts : new.stats ≡ stats_after_access ref.access outcome.hit
+      (option_map (λ slot. slot.dirty) outcome.evicted) old.stats
 
 -- one flush of it: its dirty lines are copybacks
 pub record Empties (old : SystemCache) (dirty : ℕ) (new : SystemCache) : Type 0 where

@@ -1,5 +1,6 @@
 -- The blocks behind the first ways of each set, in deep lists.
-use Rattle.std.specs.Prelude.{ℕ, ◌≡◌, ◌≤◌, ◌^◌, ◌==◌, List, [], ◌∷◌, length, map, take, All, if◌then◌else◌, slice_index_or, slice_set}
+use Rattle.std.specs.Prelude.{ℕ, ◌≡◌, ◌≤◌, ◌^◌, ◌==◌, List, [], ◌∷◌, length, map, take, All}
+use Rattle.std.specs.Prelude.{if◌then◌else◌, slice_index_or, slice_set}
 use Rattle.std.specs.List.{remove}
 use Rattle.deep_list.specs.Deep.{Deep, has_block, index_of_block}
 use Rattle.cache_core.specs.internal.Touched.{TouchedValue, Covers}
@@ -29,11 +30,16 @@ pub record IsDeepSets (capacity : ℕ) (touched : TouchedValue) (lists : List De
 
 -- a list with one block in front and without another, as far as there is room
 abbrev pub sets_after_exchange : ℕ → ℕ → ℕ → List ℕ → List ℕ
-sets_after_exchange capacity out in_front blocks = take capacity (in_front ∷ remove blocks (index_of_block out blocks))
+sets_after_exchange capacity out in_front blocks =
+    take capacity (in_front ∷ remove blocks (index_of_block out blocks))
 
 -- the lists with that of a set so exchanged
 abbrev pub sets_after_touch : DeepSetsValue → ℕ → ℕ → ℕ → DeepSetsValue
-sets_after_touch d set block given = record d { lists = slice_set d.lists set (sets_after_exchange d.capacity block given (slice_index_or d.lists set [])) }
+sets_after_touch d set block given =
+    record d {
+      lists = slice_set d.lists set (sets_after_exchange d.capacity block given
+          (slice_index_or d.lists set []));
+    }
 
 -- how the look-up of a block goes that is not among the blocks before these
 abbrev pub deep_lookup : ℕ → ℕ → List ℕ → Lookup

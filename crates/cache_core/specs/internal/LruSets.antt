@@ -1,5 +1,6 @@
 -- The sets of an LRU cache in two parts, and the lists of events that they stand for.
-use Rattle.std.specs.Prelude.{ℕ, ◌≡◌, ◌≤◌, ◌<◌, ◌-◌, ◌^◌, List, [], length, take, drop, slice_index_or, Option, Some, None, IfSome}
+use Rattle.std.specs.Prelude.{ℕ, ◌≡◌, ◌≤◌, ◌<◌, ◌-◌, ◌^◌, List, [], length, take, drop}
+use Rattle.std.specs.Prelude.{slice_index_or, Option, Some, None, IfSome}
 use Rattle.std.specs.Option.{option_map}
 use Rattle.trace_core.specs.declared.events.Event.{Event}
 use Rattle.cache_core.specs.declared.design.WriteMode.TheVariants.{Back}
@@ -22,7 +23,8 @@ near_ways e (Some far) = e - far.capacity
 abbrev pub near_geometry : GeometryValue → Option DeepSetsValue → GeometryValue
 near_geometry g far = record g { e = near_ways g.e far }
 
--- deep lists that have the blocks behind the first ones of each set, as many as the cache holds, where these were referenced
+-- deep lists that have the blocks behind the first ones of each set, as many as the cache holds,
+-- where these were referenced
 pub record IsBehind (g : GeometryValue) (w : List ℕ) (far : DeepSetsValue) : Type 0 where
   pub sets : length far.lists ≡ 2 ^ g.s
   pub blocks : (k : ℕ) → k < 2 ^ g.s →
@@ -34,9 +36,11 @@ pub record LruSetsValue : Type 0 where
   pub far : Option DeepSetsValue
 
 -- The sets of an LRU cache after a list of events: the part in front is an LRU cache of its ways.
-pub record LruSetsStandFor (g : GeometryValue) (events : List Event) (sets : LruSetsValue) : Type 0 where
+pub record LruSetsStandFor (g : GeometryValue) (events : List Event)
+    (sets : LruSetsValue) : Type 0 where
   pub some : 1 ≤ near_ways g.e sets.far
-  pub in_front : CacheStandsFor (lru_machine (near_geometry g sets.far) Back) events (lru_contents sets.near)
+  pub in_front : CacheStandsFor (lru_machine (near_geometry g sets.far) Back) events
+      (lru_contents sets.near)
   pub behind : IfSome sets.far (IsBehind g (window g events))
 
 -- the sets of some cache after some list of events

@@ -1,7 +1,8 @@
 -- What a cache holds, each set in its policy's order, and one access to it.
 -- What only helps the proofs.
-use Rattle.std.specs.Prelude.{◌≡◌, ◌≢◌, ◌<◌, ◌≤◌, ℕ, ◌+◌, ◌-◌, ◌%◌, Bool, true, false, List, [], ◌∷◌, ◌++◌, Option}
-use Rattle.std.specs.Prelude.{Some, None, if◌then◌else◌, ◌==◌, length, MatchOption, MatchBool, slice_get, slice_set, slice_index_or, remove}
+use Rattle.std.specs.Prelude.{◌≡◌, ◌≢◌, ◌<◌, ◌≤◌, ℕ, ◌+◌, ◌-◌, ◌%◌, Bool, true, false, List, []}
+use Rattle.std.specs.Prelude.{◌∷◌, ◌++◌, Option, Some, None, if◌then◌else◌, ◌==◌, length}
+use Rattle.std.specs.Prelude.{MatchOption, MatchBool, slice_get, slice_set, slice_index_or, remove}
 use Rattle.std.specs.Prelude.{position, sum_by, count_by, replicate, IsPermutation, unwrap_or}
 use Rattle.std.specs.Option.{option_map}
 use Rattle.trace_core.specs.declared.events.Ref.{Ref}
@@ -11,8 +12,8 @@ use Rattle.cache_core.specs.declared.outcome.Outcome.{Outcome}
 use Rattle.cache_core.specs.declared.design.Design.{Design}
 use Rattle.cache_core.specs.declared.design.Repl.{Repl}
 use Rattle.cache_core.specs.Geometry.{block_of, set_of}
-use Rattle.cache_core.specs.Outcomes.{outcome_of, on_hit, on_placing, on_passing, is_dirtied, is_allocated}
-use Rattle.cache_core.specs.Outcomes.{through_writes}
+use Rattle.cache_core.specs.Outcomes.{outcome_of, on_hit, on_placing, on_passing, is_dirtied}
+use Rattle.cache_core.specs.Outcomes.{is_allocated, through_writes}
 use Rattle.cache_core.specs.Rules.{Place, InFront, InPlace, Victim, Last, Drawn, rules, is_random}
 use Rattle.cache_core.specs.Order.{slots_of, dirty_slots, is_dirty}
 
@@ -27,7 +28,9 @@ hits_in_front d sets ref =
     if holds_first (block_of d.geometry ref.addr) (slots_of sets (set_of d.geometry ref.addr))
     then length (through_writes d.write ref) == 0 else false
 
--- after an access at most one more slot is dirty, the one that left counted too, and that only after a write
+-- after an access at most one more slot is dirty, the one that left counted too, and that only
+-- after a write
 abbrev pub DirtiesByWrites : List (List Slot) → Ref → Outcome → List (List Slot) → Type 0
 DirtiesByWrites old ref outcome new =
-    dirty_slots new + one_if (is_dirty outcome.evicted) ≤ dirty_slots old + one_if (is_write ref.access)
+    dirty_slots new + one_if (is_dirty outcome.evicted) ≤ dirty_slots old + one_if
+    (is_write ref.access)

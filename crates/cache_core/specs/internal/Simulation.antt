@@ -23,7 +23,8 @@ pub record SimulationCountsWithin (n : ℕ) (c : Counts) : Type 0 where
   pub evictions : c.evictions ≤ n
 
 -- the sets and the counts are those of a list of events
-pub record SimulationStandsFor (g : GeometryValue) (events : List Event) (sim : Simulation) : Type 0 where
+pub record SimulationStandsFor (g : GeometryValue) (events : List Event)
+    (sim : Simulation) : Type 0 where
   pub some : 1 ≤ g.e
   pub sets : LruSetsStandFor g events sim.sets
   pub counts : sim.counts ≡ counts g events

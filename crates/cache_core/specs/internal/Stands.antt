@@ -1,17 +1,20 @@
 -- What a cache holds, as what a machine holds after a list of events.
 -- What only helps the proofs.
-use Rattle.std.specs.Prelude.{◌≡◌, ◌≢◌, ◌<◌, ◌≤◌, ℕ, ◌+◌, List, [], ◌∷◌, ◌++◌, Some, map, length, replicate, ◌^◌}
+use Rattle.std.specs.Prelude.{◌≡◌, ◌≢◌, ◌<◌, ◌≤◌, ℕ, ◌+◌, List, [], ◌∷◌, ◌++◌, Some, map, length}
+use Rattle.std.specs.Prelude.{replicate, ◌^◌}
 use Rattle.trace_core.specs.declared.events.Ref.{Ref}
 use Rattle.trace_core.specs.declared.events.Event.{Event}
 use Rattle.trace_core.specs.declared.events.Event.TheVariants as event
 use Rattle.cache_core.specs.declared.outcome.Outcome.{Outcome}
-use Rattle.cache_core.specs.Machine.{Machine, MachineState, Line, run, slot_of, lines_of_set, step, dirty_count}
+use Rattle.cache_core.specs.Machine.{Machine, MachineState, Line, run, slot_of, lines_of_set, step}
+use Rattle.cache_core.specs.Machine.{dirty_count}
 use Rattle.cache_core.specs.Order.{Contents, Accesses, FlushesCache, slots_of}
 use Rattle.cache_core.specs.Outcomes.{outcome_of}
 use Rattle.cache_core.specs.Rules.{Place, InFront, InPlace, rules}
 use Rattle.cache_core.specs.Stands.{InOrder, Distinct}
 
--- Each set holds the slots of the machine's lines of it, in their order, and the random numbers still to come
+-- Each set holds the slots of the machine's lines of it, in their order, and the random numbers
+-- still to come
 -- are those that the machine hasn't drawn.
 pub record IsState (m : Machine) (st : MachineState) (c : Contents) : Type 0 where
   pub design : c.design ≡ m.design
@@ -20,14 +23,16 @@ pub record IsState (m : Machine) (st : MachineState) (c : Contents) : Type 0 whe
   pub count : length c.sets ≡ 2 ^ m.design.geometry.s
   pub sets : (k : ℕ) → slots_of c.sets k ≡ map slot_of (lines_of_set m.design.geometry k st.lines)
 
--- what the lines of a set keep, by where a new block goes: each block has one at most, and they are in order
+-- what the lines of a set keep, by where a new block goes: each block has one at most, and they are
+-- in order
 pub record IsGood (placed : Place) (clock : ℕ) (ls : List Line) : Type 0 where
   pub distinct : Distinct ls
   pub order : InOrder placed clock ls
 
 -- each set of the machine is good
 abbrev pub IsSoundState : Machine → MachineState → Type 0
-IsSoundState m st = (k : ℕ) → IsGood (rules m.policy).placed st.clock (lines_of_set m.design.geometry k st.lines)
+IsSoundState m st = (k : ℕ) → IsGood (rules m.policy).placed st.clock
+    (lines_of_set m.design.geometry k st.lines)
 
 -- a cache that holds what the machine holds after a list of events
 abbrev pub CacheStandsFor : Machine → List Event → Contents → Type 0
@@ -42,15 +47,20 @@ StartLaw = (m : Machine) (c : Contents) →
 -- a list of events at a cache, one after another
 abbrev pub Runs : Contents → List Event → Contents → Type 0
 Runs old [] new = new ≡ old
-Runs old (event.Reference ref ∷ events) new = (outcome : Outcome) × (half : Contents) × Accesses old ref outcome half × Runs half events new
-Runs old (event.Flush ∷ events) new = (dirty : ℕ) × (half : Contents) × FlushesCache old dirty half × Runs half events new
+Runs old (event.Reference ref ∷ events) new = (outcome : Outcome) × (half : Contents) ×
+    Accesses old ref outcome half × Runs half events new
+Runs old (event.Flush ∷ events) new = (dirty : ℕ) × (half : Contents) ×
+    FlushesCache old dirty half × Runs half events new
 
--- an access leads from a list of events to that list with the reference, and its outcome is the machine's
+-- an access leads from a list of events to that list with the reference, and its outcome is the
+-- machine's
 abbrev pub AccessLaw : Type 0
 AccessLaw =
-    (m : Machine) (events : List Event) (old : Contents) (ref : Ref) (outcome : Outcome) (new : Contents) →
+    (m : Machine) (events : List Event) (old : Contents) (ref : Ref) (outcome : Outcome)
+    (new : Contents) →
     1 ≤ m.design.geometry.e → CacheStandsFor m events old → Accesses old ref outcome new →
-    CacheStandsFor m (events ++ event.Reference ref ∷ []) new × (outcome ≡ outcome_of (step m (run m events) ref).effect)
+    CacheStandsFor m (events ++ event.Reference ref ∷ []) new ×
+    (outcome ≡ outcome_of (step m (run m events) ref).effect)
 
 -- a flush leads to that list with a flush, and returns how many blocks the machine holds dirty
 abbrev pub FlushLaw : Type 0
@@ -62,13 +72,16 @@ FlushLaw =
 -- so a list of events leads to that list with the others after it
 abbrev pub RunLaw : Type 0
 RunLaw = (m : Machine) (events more : List Event) (old new : Contents) →
-    1 ≤ m.design.geometry.e → CacheStandsFor m events old → Runs old more new → CacheStandsFor m (events ++ more) new
+    1 ≤ m.design.geometry.e → CacheStandsFor m events old → Runs old more new →
+    CacheStandsFor m (events ++ more) new
 
 -- Each set of the machine has one line at most for a block, and is in the policy's order: for LRU
 -- and FIFO the newest key first, for random way after way.
 abbrev pub OrderLaw : Type 0
-OrderLaw = (m : Machine) (events : List Event) → 1 ≤ m.design.geometry.e → IsSoundState m (run m events)
+OrderLaw = (m : Machine) (events : List Event) → 1 ≤ m.design.geometry.e →
+    IsSoundState m (run m events)
 
 -- never more than two references are sent down
 abbrev pub DownLaw : Type 0
-DownLaw = (m : Machine) (events : List Event) (ref : Ref) → length (step m (run m events) ref).effect.down ≤ 2
+DownLaw = (m : Machine) (events : List Event) (ref : Ref) →
+    length (step m (run m events) ref).effect.down ≤ 2

@@ -4,4 +4,13 @@ use Rattle.cache_core.specs.internal.SystemSteps.{SystemValue}
 
 abbrev pub system_value : Inside → SystemValue
 system_value s =
-    record { i = s.i; d = s.d; u = s.u; second = s.second; memory = s.memory; bypassed = s.bypassed; steps = s.steps }
+    record {
+      i = s.i;
+      d = s.d;
+      u = s.u;
+      second = s.second;
+      memory = s.memory;
+      bypassed =
+          s.bypassed;
+      steps = s.steps;
+    }

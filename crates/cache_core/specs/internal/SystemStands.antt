@@ -10,16 +10,20 @@ use Rattle.cache_core.specs.Plans.{PlannedCaches, IsPlan}
 use Rattle.cache_core.specs.internal.Stands.{CacheStandsFor}
 use Rattle.cache_core.specs.internal.CacheSteps.{system_cache_contents}
 use Rattle.cache_core.specs.Systems.{machine_of, events_for, below, system_run}
-use Rattle.cache_core.specs.internal.SystemSteps.{SystemValue, IsNewSystem, StepsSystem, FlushesSystem, stats_of}
+use Rattle.cache_core.specs.internal.SystemSteps.{SystemValue, IsNewSystem, StepsSystem}
+use Rattle.cache_core.specs.internal.SystemSteps.{FlushesSystem, stats_of}
 
 -- a cache of a system stands for the events that come to it
-abbrev pub PlannedCacheStandsFor : ℕ → Option PlannedCache → List Event → Option SystemCache → Type 0
+abbrev pub PlannedCacheStandsFor : ℕ → Option PlannedCache → List Event →
+    Option SystemCache → Type 0
 PlannedCacheStandsFor seed None events cache = cache ≡ None
 PlannedCacheStandsFor seed (Some planned) events cache =
-    (there : SystemCache) × (cache ≡ Some there) × CacheStandsFor (machine_of seed planned) events (system_cache_contents there)
+    (there : SystemCache) × (cache ≡ Some there) × CacheStandsFor (machine_of seed planned) events
+    (system_cache_contents there)
 
 -- a system stands for a list of events
-pub record SystemStandsFor (plan : PlannedCaches) (seed : ℕ) (events : List Event) (v : SystemValue) : Type 0 where
+pub record SystemStandsFor (plan : PlannedCaches) (seed : ℕ) (events : List Event)
+    (v : SystemValue) : Type 0 where
   pub i : PlannedCacheStandsFor seed plan.i (events_for L1I events) v.i
   pub d : PlannedCacheStandsFor seed plan.d (events_for L1D events) v.d
   pub u : PlannedCacheStandsFor seed plan.u (events_for L1U events) v.u
@@ -29,14 +33,18 @@ pub record SystemStandsFor (plan : PlannedCaches) (seed : ℕ) (events : List Ev
 
 -- a new system stands for no event
 abbrev pub NewSystemLaw : Type 0
-NewSystemLaw = (plan : PlannedCaches) (seed : ℕ) (v : SystemValue) → IsNewSystem plan seed v → SystemStandsFor plan seed [] v
+NewSystemLaw = (plan : PlannedCaches) (seed : ℕ) (v : SystemValue) → IsNewSystem plan seed v →
+    SystemStandsFor plan seed [] v
 
 -- a step adds its reference to the list
 abbrev pub StepLaw : Type 0
-StepLaw = (plan : PlannedCaches) (seed : ℕ) (events : List Event) (old : SystemValue) (ref : Ref) (new : SystemValue) →
-    IsPlan plan → SystemStandsFor plan seed events old → StepsSystem old ref new → SystemStandsFor plan seed (events ++ event.Reference ref ∷ []) new
+StepLaw = (plan : PlannedCaches) (seed : ℕ) (events : List Event) (old : SystemValue) (ref : Ref)
+    (new : SystemValue) →
+    IsPlan plan → SystemStandsFor plan seed events old → StepsSystem old ref new →
+    SystemStandsFor plan seed (events ++ event.Reference ref ∷ []) new
 
 -- a flush adds itself
 abbrev pub SystemFlushLaw : Type 0
 SystemFlushLaw = (plan : PlannedCaches) (seed : ℕ) (events : List Event) (old new : SystemValue) →
-    SystemStandsFor plan seed events old → FlushesSystem old new → SystemStandsFor plan seed (events ++ event.Flush ∷ []) new
+    SystemStandsFor plan seed events old → FlushesSystem old new →
+    SystemStandsFor plan seed (events ++ event.Flush ∷ []) new

@@ -1,7 +1,7 @@
 -- One step of a system, over what it holds.
 -- What only helps the proofs.
-use Rattle.std.specs.Prelude.{◌≡◌, ◌≤◌, ℕ, ◌+◌, ◌*◌, ◌^◌, Bool, false, List, [], ◌∷◌, Option, Some, None, if◌then◌else◌}
-use Rattle.std.specs.Prelude.{MatchOption, MatchBool, is_some, is_none}
+use Rattle.std.specs.Prelude.{◌≡◌, ◌≤◌, ℕ, ◌+◌, ◌*◌, ◌^◌, Bool, false, List, [], ◌∷◌, Option, Some}
+use Rattle.std.specs.Prelude.{None, if◌then◌else◌, MatchOption, MatchBool, is_some, is_none}
 use Rattle.trace_core.specs.declared.events.Ref.{Ref}
 use Rattle.trace_core.specs.Events.{is_fetch, is_write, one_if}
 use Rattle.cache_core.specs.declared.outcome.Outcome.{Outcome}
@@ -26,7 +26,8 @@ present_refs (Some ref ∷ xs) = ref ∷ present_refs xs
 
 -- the memory's counts after a reference arrives at it
 abbrev pub memory_after : Memory → Ref → Memory
-memory_after memory ref = if is_write ref.access then record memory { writes = memory.writes + 1 } else record memory { reads = memory.reads + 1 }
+memory_after memory ref = if is_write ref.access then record memory { writes = memory.writes + 1 }
+    else record memory { reads = memory.reads + 1 }
 
 -- the same after a list
 abbrev pub memory_after_all : Memory → List Ref → Memory
@@ -37,23 +38,28 @@ memory_after_all memory (ref ∷ refs) = memory_after_all (memory_after memory r
 abbrev pub Descends : Ref → Option SystemCache → Memory → Option SystemCache → Memory → Type 0
 Descends ref None memory second after = (second ≡ None) × (after ≡ memory_after memory ref)
 Descends ref (Some cache) memory second after =
-    (outcome : Outcome) × (next : SystemCache) × Enters cache ref outcome next × (second ≡ Some next) × (after ≡ memory_after_all memory (present_refs outcome.down))
+    (outcome : Outcome) × (next : SystemCache) × Enters cache ref outcome next ×
+    (second ≡ Some next) × (after ≡ memory_after_all memory (present_refs outcome.down))
 
 -- references arrive one after another
-abbrev pub AllDescend : List Ref → Option SystemCache → Memory → Option SystemCache → Memory → Type 0
+abbrev pub AllDescend : List Ref → Option SystemCache → Memory → Option SystemCache →
+    Memory → Type 0
 AllDescend [] second memory lower after = (lower ≡ second) × (after ≡ memory)
 AllDescend (ref ∷ refs) second memory lower after =
-    (mid : Option SystemCache) × (half : Memory) × Descends ref second memory mid half × AllDescend refs mid half lower after
+    (mid : Option SystemCache) × (half : Memory) × Descends ref second memory mid half ×
+    AllDescend refs mid half lower after
 
 -- no reference
 abbrev pub nothing_down : List (Option Ref)
 nothing_down = None ∷ None ∷ []
 
 -- what a first-level cache does with a reference, and what it sends down; none if it isn't there
-abbrev pub AccessesFirst : Option SystemCache → Ref → Option (List (Option Ref)) → Option SystemCache → Type 0
+abbrev pub AccessesFirst : Option SystemCache → Ref → Option (List (Option Ref)) →
+    Option SystemCache → Type 0
 AccessesFirst cache ref None next = (cache ≡ None) × (next ≡ None)
 AccessesFirst cache ref (Some down) next =
-    (old : SystemCache) × (new : SystemCache) × (outcome : Outcome) × (cache ≡ Some old) × (next ≡ Some new) × (down ≡ outcome.down)
+    (old : SystemCache) × (new : SystemCache) × (outcome : Outcome) × (cache ≡ Some old) ×
+    (next ≡ Some new) × (down ≡ outcome.down)
     × Enters old ref outcome new
 
 -- whether a first-level cache is there, hits in front at a reference, and sends nothing down
@@ -80,21 +86,26 @@ pub record SystemValue : Type 0 where
   pub steps : ℕ
 
 -- The unified cache is accessed, and the others stay.
-abbrev pub AccessesUnified : Option SystemCache → Option SystemCache → Option SystemCache → Ref → Option (List (Option Ref)) →
+abbrev pub AccessesUnified : Option SystemCache → Option SystemCache → Option SystemCache → Ref →
+    Option (List (Option Ref)) →
     Option SystemCache → Option SystemCache → Option SystemCache → Type 0
 AccessesUnified i d u ref down i' d' u' = AccessesFirst u ref down u' × (i' ≡ i) × (d' ≡ d)
 
 -- The cache for fetches is accessed at a fetch, and the one for data otherwise; the others stay.
-abbrev pub AccessesSplit : Bool → Option SystemCache → Option SystemCache → Option SystemCache → Ref → Option (List (Option Ref)) →
+abbrev pub AccessesSplit : Bool → Option SystemCache → Option SystemCache → Option SystemCache →
+    Ref → Option (List (Option Ref)) →
     Option SystemCache → Option SystemCache → Option SystemCache → Type 0
 AccessesSplit fetch i d u ref down i' d' u' =
-    MatchBool fetch (AccessesFirst i ref down i' × (d' ≡ d) × (u' ≡ u)) (AccessesFirst d ref down d' × (i' ≡ i) × (u' ≡ u))
+    MatchBool fetch (AccessesFirst i ref down i' × (d' ≡ d) × (u' ≡ u))
+    (AccessesFirst d ref down d' × (i' ≡ i) × (u' ≡ u))
 
 -- Which cache is accessed: a unified one if there is one, else the one for fetches or for data.
-abbrev pub AccessesFirstLevel : Option SystemCache → Option SystemCache → Option SystemCache → Ref → Option (List (Option Ref)) →
+abbrev pub AccessesFirstLevel : Option SystemCache → Option SystemCache → Option SystemCache → Ref →
+    Option (List (Option Ref)) →
     Option SystemCache → Option SystemCache → Option SystemCache → Type 0
 AccessesFirstLevel i d u ref down i' d' u' =
-    MatchBool (is_some u) (AccessesUnified i d u ref down i' d' u') (AccessesSplit (is_fetch ref.access) i d u ref down i' d' u')
+    MatchBool (is_some u) (AccessesUnified i d u ref down i' d' u')
+    (AccessesSplit (is_fetch ref.access) i d u ref down i' d' u')
 
 -- the copybacks of a cache
 abbrev pub copybacks_of : Option SystemCache → ℕ
@@ -119,18 +130,22 @@ accesses_of (Some cache) = accesses cache.stats
 abbrev pub memory_accesses : Memory → ℕ
 memory_accesses memory = memory.reads + memory.writes
 
--- What a system keeps: it made at most 2^41 steps, two for each line of the longest trace; a step is counted at one first-level cache, or
--- as bypassed; it sends at most two references to the second level, and four to memory, to which each copyback comes, too.
+-- What a system keeps: it made at most 2^41 steps, two for each line of the longest trace; a step
+-- is counted at one first-level cache, or
+-- as bypassed; it sends at most two references to the second level, and four to memory, to which
+-- each copyback comes, too.
 pub record IsSystem (v : SystemValue) : Type 0 where
   pub steps : v.steps ≤ 2 ^ 41
   pub first : accesses_of v.i + accesses_of v.d + accesses_of v.u + v.bypassed ≤ v.steps
   pub second : accesses_of v.second ≤ 2 * v.steps
-  pub memory : memory_accesses v.memory ≤ 4 * v.steps + copybacks_of v.i + copybacks_of v.d + copybacks_of v.u + copybacks_of v.second
+  pub memory : memory_accesses v.memory ≤ 4 * v.steps + copybacks_of v.i + copybacks_of
+      v.d + copybacks_of v.u + copybacks_of v.second
 
 -- a cache of a system is emptied; none has no dirty line
 abbrev pub EmptiesCache : Option SystemCache → ℕ → Option SystemCache → Type 0
 EmptiesCache None dirty new = (new ≡ None) × (dirty ≡ 0)
-EmptiesCache (Some old) dirty new = (next : SystemCache) × (new ≡ Some next) × Empties old dirty next
+EmptiesCache (Some old) dirty new = (next : SystemCache) × (new ≡ Some next) ×
+    Empties old dirty next
 
 -- one flush of a system: each dirty line is a memory write
 pub record FlushesSystem (old new : SystemValue) : Type 0 where
@@ -142,7 +157,10 @@ pub record FlushesSystem (old new : SystemValue) : Type 0 where
   pub d : EmptiesCache old.d dirty_d new.d
   pub u : EmptiesCache old.u dirty_u new.u
   pub second : EmptiesCache old.second dirty_second new.second
-  pub memory : new.memory ≡ record old.memory { writes = old.memory.writes + (dirty_i + dirty_d + dirty_u + dirty_second) }
+  pub memory : new.memory ≡ record old.memory {
+    writes =
+        old.memory.writes + (dirty_i + dirty_d + dirty_u + dirty_second);
+  }
   pub bypassed : new.bypassed ≡ old.bypassed
   pub steps : new.steps ≡ old.steps + 1
 
@@ -174,7 +192,8 @@ pub record IsNewSystemCache (seed : ℕ) (planned : PlannedCache) (cache : Syste
 -- a new cache of a system exactly if the plan has one
 abbrev pub IsNewCache : ℕ → Option PlannedCache → Option SystemCache → Type 0
 IsNewCache seed None cache = cache ≡ None
-IsNewCache seed (Some planned) cache = (new : SystemCache) × (cache ≡ Some new) × IsNewSystemCache seed planned new
+IsNewCache seed (Some planned) cache = (new : SystemCache) × (cache ≡ Some new) ×
+    IsNewSystemCache seed planned new
 
 -- a new system: new caches, and nothing counted
 pub record IsNewSystem (plan : PlannedCaches) (seed : ℕ) (v : SystemValue) : Type 0 where

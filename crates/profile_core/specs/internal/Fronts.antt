@@ -1,6 +1,9 @@
--- References that find their block in front of its set's list. They change no list, and a front in one profile is a front in
--- each that refines it (Hill and Smith 1989: set refinement), so they can be counted together, later.
-use Rattle.std.specs.Prelude.{ℕ, ◌≡◌, ◌≤◌, ◌+◌, ◌-◌, ◌^◌, ◌==◌, true, length, ◌&&◌, ◌||◌, nat_le, Bool, if◌then◌else◌, slice_set, slice_index}
+-- References that find their block in front of its set's list. They change no list, and a front in
+-- one profile is a front in
+-- each that refines it (Hill and Smith 1989: set refinement), so they can be counted together,
+-- later.
+use Rattle.std.specs.Prelude.{ℕ, ◌≡◌, ◌≤◌, ◌+◌, ◌-◌, ◌^◌, ◌==◌, true, length, ◌&&◌, ◌||◌, nat_le}
+use Rattle.std.specs.Prelude.{Bool, if◌then◌else◌, slice_set, slice_index}
 use Rattle.cache_core.specs.Geometry.{GeometryValue, block_of, set_of_block}
 use Rattle.profile_core.specs.internal.Moves.{is_front}
 use Rattle.profile_core.specs.internal.State.{ProfileState, list_of, fed_of, after_reference}
@@ -15,9 +18,13 @@ after_unless_front v x = if is_front_of v x then v else after_reference v x
 
 -- after n references that found their block in front
 abbrev pub after_fronts : ℕ → ProfileState → ProfileState
-after_fronts n v = record v { distances = slice_set v.distances 0 (slice_index v.distances 0 + n); probes = v.probes + n }
+after_fronts n v = record v {
+  distances = slice_set v.distances 0 (slice_index v.distances 0 + n);
+  probes = v.probes + n;
+}
 
--- a profile that was fed all of n references but some that found their block in front, once these are counted
+-- a profile that was fed all of n references but some that found their block in front, once these
+-- are counted
 abbrev pub profile_with_fronts : ℕ → ProfileState → ProfileState
 profile_with_fronts n v = after_fronts (n - fed_of v) v
 
@@ -27,7 +34,8 @@ is_refined g h = g.b == h.b && nat_le g.s h.s || g.s == 0 && nat_le g.b h.b
 
 -- a front in one profile is a front in another
 abbrev pub Leads : ProfileState → ProfileState → Type 0
-Leads v w = (addr : ℕ) → is_front_of v (block_of v.geometry addr) ≡ true → is_front_of w (block_of w.geometry addr) ≡ true
+Leads v w = (addr : ℕ) → is_front_of v (block_of v.geometry addr) ≡ true →
+    is_front_of w (block_of w.geometry addr) ≡ true
 
 -- the lengths of what a profile holds
 pub record IsFit (v : ProfileState) : Type 0 where

@@ -1,5 +1,6 @@
 -- The lists of all sets, each in two parts: the first blocks, and those behind them.
-use Rattle.std.specs.Prelude.{ℕ, if◌then◌else◌, ◌≡◌, ◌≢◌, ◌≤◌, ◌-◌, nat_lt, slice_index, ◌<◌, ◌+◌, ◌*◌, ◌^◌, ◌⊎◌, List, [], ◌∷◌, ◌++◌, length, slice_index_or}
+use Rattle.std.specs.Prelude.{ℕ, if◌then◌else◌, ◌≡◌, ◌≢◌, ◌≤◌, ◌-◌, nat_lt, slice_index, ◌<◌, ◌+◌}
+use Rattle.std.specs.Prelude.{◌*◌, ◌^◌, ◌⊎◌, List, [], ◌∷◌, ◌++◌, length, slice_index_or}
 use Rattle.deep_list.specs.Deep.{Deep, IsOnce}
 use Rattle.profile_core.specs.declared.recency.Touch.{Touch}
 use Rattle.profile_core.specs.declared.recency.Touch.TheVariants.{Behind, New}
@@ -34,11 +35,13 @@ rest_touch_of n x ys = if is_in x ys then Behind (n + index_of x ys) else New (n
 abbrev pub in_row_of : ℕ → ℕ → List ℕ → InRow
 in_row_of w x xs =
     if is_in x xs then Settled (touch_of x xs)
-    else (if nat_lt (length xs) w then Settled (touch_of x xs) else Full (length xs) (slice_index xs (w - 1)))
+    else (if nat_lt (length xs) w then Settled (touch_of x xs) else Full (length xs)
+    (slice_index xs (w - 1)))
 
 -- what is known of the lists of all sets
 pub record IsStacked (near : Lists) (beyond : ℕ) (far : List Deep) : Type 0 where
-  pub sets : ((beyond ≡ 0) × (length far ≡ 0)) ⊎ ((1 ≤ beyond) × (length far ≡ length near.lists) × (2 ≤ near.depth))
+  pub sets : ((beyond ≡ 0) × (length far ≡ 0)) ⊎ ((1 ≤ beyond) × (length far ≡ length near.lists) ×
+      (2 ≤ near.depth))
   pub small : near.depth + beyond ≤ 2 ^ 22
   pub all_small : length near.lists * (near.depth + beyond) ≤ 2 ^ 22
   pub caps : (k : ℕ) → k < length far → (slice_index_or far k nothing).cap ≡ beyond

@@ -1,6 +1,7 @@
 -- What a profile holds, and how a reference and a flush change it.
-use Rattle.std.specs.Prelude.{ℕ, ◌≡◌, ◌≤◌, ◌<◌, ◌+◌, ◌-◌, ◌*◌, ◌^◌, false, min, if◌then◌else◌, List, [], ◌∷◌, length, take}
-use Rattle.std.specs.Prelude.{drop, sum, sum_by, replicate, slice_set, slice_index, slice_index_or}
+use Rattle.std.specs.Prelude.{ℕ, ◌≡◌, ◌≤◌, ◌<◌, ◌+◌, ◌-◌, ◌*◌, ◌^◌, false, min, if◌then◌else◌, List}
+use Rattle.std.specs.Prelude.{[], ◌∷◌, length, take, drop, sum, sum_by, replicate, slice_set}
+use Rattle.std.specs.Prelude.{slice_index, slice_index_or}
 use Rattle.trace_core.specs.declared.events.Event.{Event}
 use Rattle.trace_core.specs.declared.events.Event.TheVariants as event
 use Rattle.cache_core.specs.declared.outcome.Counts.{Counts}
@@ -8,8 +9,10 @@ use Rattle.cache_core.specs.Geometry.{GeometryValue, block_of, set_of_block}
 use Rattle.profile_core.specs.internal.Slab.{Lists}
 use Rattle.profile_core.specs.internal.Moves.{index_of, is_in, is_front, move_to_front}
 
--- for each set a list of at most geometry.e blocks, the most recent first; how many references found their block at
--- each stack distance, its index in that list; how many did not find it in a list of each length; and the comparisons made
+-- for each set a list of at most geometry.e blocks, the most recent first; how many references
+-- found their block at
+-- each stack distance, its index in that list; how many did not find it in a list of each length;
+-- and the comparisons made
 pub record ProfileState : Type 0 where
   pub geometry : GeometryValue
   pub lists : List (List ℕ)
@@ -40,7 +43,8 @@ abbrev pub referenced_in : ProfileState → ℕ → List ℕ → ProfileState
 referenced_in v x xs = record v {
   lists = slice_set v.lists (set_of_block v.geometry x) (take v.geometry.e (move_to_front x xs));
   distances = if is_in x xs then one_more_at v.distances (index_of x xs) else v.distances;
-  misses_by_occupancy = if is_in x xs then v.misses_by_occupancy else one_more_at v.misses_by_occupancy (length xs);
+  misses_by_occupancy = if is_in x xs then v.misses_by_occupancy else one_more_at
+      v.misses_by_occupancy (length xs);
   probes = v.probes + min (index_of x xs + 1) (length xs);
 }
 
@@ -65,7 +69,8 @@ fed_of v = sum v.distances + sum v.misses_by_occupancy
 abbrev pub held_of : ProfileState → ℕ
 held_of v = sum_by length v.lists
 
--- the counts of an LRU cache of e lines per set: a reference found at a distance below e hits a cache of e lines, and
+-- the counts of an LRU cache of e lines per set: a reference found at a distance below e hits a
+-- cache of e lines, and
 -- any other misses (Mattson 1970); a miss evicts if e blocks or more had been seen
 abbrev pub counts_at : ProfileState → ℕ → Counts
 counts_at v e = record {
@@ -83,28 +88,38 @@ pub record HitSumsState : Type 0 where
 
 -- the sums of a profile's histograms up to an associativity
 abbrev pub hit_sums_at : ProfileState → ℕ → HitSumsState
-hit_sums_at v e = record { ways = e; hits = sum (take e v.distances); free_misses = sum (take e v.misses_by_occupancy); fed = fed_of v }
+hit_sums_at v e = record {
+  ways = e;
+  hits = sum (take e v.distances);
+  free_misses =
+      sum (take e v.misses_by_occupancy);
+  fed = fed_of v;
+}
 
 -- the sum of a histogram's numbers, each times its index, counted from n
 unfoldable pub weighed : ℕ → List ℕ → ℕ
 weighed n [] = 0
 weighed n (x ∷ xs) = x * n + weighed (n + 1) xs
 
--- the comparisons of the references that were not found in front: d + 1 if a block was found at distance d, and n
+-- the comparisons of the references that were not found in front: d + 1 if a block was found at
+-- distance d, and n
 -- if it was not found in a list of n blocks
 abbrev pub compared_behind : List ℕ → List ℕ → ℕ
 compared_behind behind missed = weighed 1 behind + weighed 0 missed
 
--- the numbers for all distances: a reference found in front made one comparison, so there were as many as are left
+-- the numbers for all distances: a reference found in front made one comparison, so there were as
+-- many as are left
 abbrev pub distances_of : ℕ → List ℕ → List ℕ → List ℕ
 distances_of probes behind missed = slice_set behind 0 (probes - compared_behind behind missed)
 
--- the most references that a profile may be fed: two for each line of the longest trace, which has 2^40
+-- the most references that a profile may be fed: two for each line of the longest trace, which has
+-- 2^40
 abbrev pub most_references : ℕ
 most_references = 2 ^ 41
 
 -- what is true of the fields of every profile: none found in front is counted by `behind`
-pub record IsSound (g : GeometryValue) (lists : Lists) (behind missed : List ℕ) (probes : ℕ) : Type 0 where
+pub record IsSound (g : GeometryValue) (lists : Lists) (behind missed : List ℕ)
+    (probes : ℕ) : Type 0 where
   pub depth : lists.depth ≡ g.e
   pub set_count : length lists.lists ≡ 2 ^ g.s
   pub short : (k : ℕ) → length (slice_index_or lists.lists k []) ≤ g.e
@@ -115,7 +130,8 @@ pub record IsSound (g : GeometryValue) (lists : Lists) (behind missed : List ℕ
   pub fed : sum (distances_of probes behind missed) + sum missed ≤ most_references
   pub compared : probes ≤ (sum (distances_of probes behind missed) + sum missed) * g.e
 
--- a profile that may be fed one reference more: to block x of set k, in whose list it is not the front
+-- a profile that may be fed one reference more: to block x of set k, in whose list it is not the
+-- front
 pub record IsNext (v : ProfileState) (k x : ℕ) : Type 0 where
   pub few : fed_of v < most_references
   pub of_set : k ≡ set_of_block v.geometry x

@@ -1,9 +1,11 @@
--- Where a profile finds a block in front, the next that refine it do so too. So a reference is not fed to them, and is counted later.
+-- Where a profile finds a block in front, the next that refine it do so too. So a reference is not
+-- fed to them, and is counted later.
 use Rattle.std.specs.Prelude.{◌≡◌, ⊤, ℕ, ◌≤◌, true, not, List, [], ◌∷◌, length, take, map}
 use Rattle.std.specs.List.{AllByRecursion, position_or_len}
 use Rattle.cache_core.specs.Geometry.{GeometryValue, IsGeometry, block_of}
 use Rattle.profile_core.specs.internal.State.{empty, fed_of}
-use Rattle.profile_core.specs.internal.Fronts.{after_unless_front, profile_with_fronts, is_refined, IsFit, Leads}
+use Rattle.profile_core.specs.internal.Fronts.{after_unless_front, profile_with_fronts, is_refined}
+use Rattle.profile_core.specs.internal.Fronts.{IsFit, Leads}
 use Rattle.sweep_core.specs.declared.profiles.PairProfile.{PairProfile}
 
 -- how many of the first of some profiles refine a geometry
@@ -18,12 +20,15 @@ linked (x ∷ xs) = record x { implied = implied_by x.profile.geometry xs } ∷ 
 -- as many of the next as each says refine it
 abbrev pub IsLinked : List PairProfile → Type 0
 IsLinked [] = ⊤
-IsLinked (x ∷ xs) = (x.implied ≤ length xs) × AllByRecursion (λ y. is_refined x.profile.geometry y.profile.geometry ≡ true) (take x.implied xs) × IsLinked xs
+IsLinked (x ∷ xs) = (x.implied ≤ length xs) ×
+    AllByRecursion (λ y. is_refined x.profile.geometry y.profile.geometry ≡ true)
+    (take x.implied xs) × IsLinked xs
 
 -- what is in front in a profile is so in as many of the next as it says
 abbrev pub AreLed : List PairProfile → Type 0
 AreLed [] = ⊤
-AreLed (x ∷ xs) = (x.implied ≤ length xs) × AllByRecursion (λ y. Leads x.profile y.profile) (take x.implied xs) × AreLed xs
+AreLed (x ∷ xs) = (x.implied ≤ length xs) × AllByRecursion (λ y. Leads x.profile y.profile)
+    (take x.implied xs) × AreLed xs
 
 -- a profile to which nothing was fed
 pub record IsFresh (x : PairProfile) : Type 0 where
@@ -32,9 +37,13 @@ pub record IsFresh (x : PairProfile) : Type 0 where
 
 -- the profile of a pair after a reference to an address, unless it finds its block in front
 abbrev pub pair_unless_front : ℕ → PairProfile → PairProfile
-pair_unless_front addr x = record x { profile = after_unless_front x.profile (block_of x.profile.geometry addr) }
+pair_unless_front addr x = record x {
+  profile =
+      after_unless_front x.profile (block_of x.profile.geometry addr);
+}
 
--- profiles that were fed all of n references but some that found their block in front, once these are counted
+-- profiles that were fed all of n references but some that found their block in front, once these
+-- are counted
 abbrev pub pair_with_fronts : ℕ → PairProfile → PairProfile
 pair_with_fronts n x = record x { profile = profile_with_fronts n x.profile }
 

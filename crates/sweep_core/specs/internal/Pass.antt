@@ -25,7 +25,10 @@ use Rattle.sweep_core.specs.internal.Runs.{rows_of_profile}
 
 -- the profile of a pair after a reference to an address
 abbrev pub pair_after_reference : ℕ → PairProfile → PairProfile
-pair_after_reference addr x = record x { profile = after_reference x.profile (block_of x.profile.geometry addr) }
+pair_after_reference addr x = record x {
+  profile =
+      after_reference x.profile (block_of x.profile.geometry addr);
+}
 
 -- the profile of a pair after a flush
 abbrev pub pair_after_flush : PairProfile → PairProfile
@@ -43,15 +46,18 @@ kept_events kind refs = map event.Reference (filter (λ r. is_kept kind r.access
 abbrev pub profiles_after : List Event → List PairProfile → List PairProfile
 profiles_after es xs = map (pair_after_events es) xs
 
--- a profile was made for the rows of its pair, within the limits and as deep as the greatest associativity of the pair in all,
+-- a profile was made for the rows of its pair, within the limits and as deep as the greatest
+-- associativity of the pair in all,
 -- and was fed some events
 pub record WasFed (all : List Config) (es : List Event) (x : PairProfile) : Type 0 where
   pub some : 1 ≤ x.rows
   pub sound : IsGeometry (geometry_of_pair all (pair_of x.first))
   pub is : x.profile ≡ fold after_event (empty (geometry_of_pair all (pair_of x.first))) es
 
--- The profiles of a sweep after some events: one for each pair that has a row, and their rows are those of the sweep, in order.
-pub record SweepStandsFor (r : Request) (es : List Event) (profiles : List PairProfile) : Type 0 where
+-- The profiles of a sweep after some events: one for each pair that has a row, and their rows are
+-- those of the sweep, in order.
+pub record SweepStandsFor (r : Request) (es : List Event)
+    (profiles : List PairProfile) : Type 0 where
   pub space : space_fault r.space ≡ None
   pub pairs : map (λ x. pair_of x.first) profiles ≡ pairs (rows_of r)
   pub rows : flat_map (rows_of_profile r.space.powers) profiles ≡ rows_of r
@@ -63,6 +69,7 @@ state_after (Ok done) = state.Ended
 state_after (Err fault) = state.Failed fault
 
 -- entries were read of a source, and what they give a cache was fed to each profile
-abbrev pub Feeds : Kind → Format → ℕ → SourceView → SourceView → Progress → List PairProfile → List PairProfile → Type 0
+abbrev pub Feeds : Kind → Format → ℕ → SourceView → SourceView → Progress → List PairProfile →
+    List PairProfile → Type 0
 Feeds kind format limit start now p old new =
     HasRead format limit start now p (λ es. new ≡ profiles_after (flat_map (events_of kind) es) old)

@@ -1,6 +1,7 @@
--- The rows of a pair: configurations of one block size and set count, whose associativities follow one another.
-use Rattle.std.specs.Prelude.{◌≡◌, ℕ, zero, suc, ◌+◌, ◌*◌, ◌^◌, ◌≤◌, if◌then◌else◌, Bool, false, List, [], ◌∷◌, ◌++◌}
-use Rattle.std.specs.Prelude.{Option, None, Some, IfSome, map, flat_map}
+-- The rows of a pair: configurations of one block size and set count, whose associativities follow
+-- one another.
+use Rattle.std.specs.Prelude.{◌≡◌, ℕ, zero, suc, ◌+◌, ◌*◌, ◌^◌, ◌≤◌, if◌then◌else◌, Bool, false}
+use Rattle.std.specs.Prelude.{List, [], ◌∷◌, ◌++◌, Option, None, Some, IfSome, map, flat_map}
 use Rattle.std.specs.List.{AllByRecursion}
 use Rattle.cache_core.specs.declared.outcome.Counts.{Counts}
 use Rattle.profile_core.specs.internal.State.{ProfileState, counts_at, hit_sums_at}
@@ -10,7 +11,8 @@ use Rattle.sweep_core.specs.declared.rows.PairWalk.{PairWalk}
 use Rattle.sweep_core.specs.Space.{HasSize, most_ways}
 use Rattle.sweep_core.specs.Work.{pair_of, has_pair}
 
--- the associativity after another: the next number, or if powers of two alone count, the next of these
+-- the associativity after another: the next number, or if powers of two alone count, the next of
+-- these
 abbrev pub next_ways : Bool → ℕ → ℕ
 next_ways powers ways = if powers then ways * 2 else ways + 1
 
@@ -28,7 +30,8 @@ abbrev pub rows_of_profile : Bool → PairProfile → List Config
 rows_of_profile powers x = run_of powers x.first x.rows
 
 -- Some rows are a run of one pair, at least one, and then others, none of that pair.
-pub record BeginsWith (powers : Bool) (rows : List Config) (run : Config × ℕ) (left : List Config) : Type 0 where
+pub record BeginsWith (powers : Bool) (rows : List Config) (run : Config × ℕ)
+    (left : List Config) : Type 0 where
   pub some : 1 ≤ run.1
   pub whole : rows ≡ run_of powers run.0 run.1 ++ left
   pub apart : AllByRecursion (λ d. has_pair (pair_of d) run.0 ≡ false) left
@@ -57,7 +60,8 @@ pub record ServesRows (powers : Bool) (x : PairProfile) : Type 0 where
   pub some : 1 ≤ x.rows
   pub rows : AllByRecursion (Serves x.profile) (rows_of_profile powers x)
 
--- a walk over the rows of a pair serves those that are left, from the associativity to which its sums came
+-- a walk over the rows of a pair serves those that are left, from the associativity to which its
+-- sums came
 pub record IsWalk (powers : Bool) (w : PairWalk) : Type 0 where
   pub summed : w.sums ≡ hit_sums_at w.profile.now w.sums.ways
   pub rising : w.sums.ways ≤ w.next.assoc
@@ -66,9 +70,11 @@ pub record IsWalk (powers : Bool) (w : PairWalk) : Type 0 where
 -- the rows that are left: those of a pair that is walked, and then those of other pairs
 abbrev pub rows_to_come : Bool → Option PairWalk → List PairProfile → List (Config × Counts)
 rows_to_come powers None later = counted_profiles powers later
-rows_to_come powers (Some w) later = counted_run powers w.profile.now w.next w.left ++ counted_profiles powers later
+rows_to_come powers (Some w) later = counted_run powers w.profile.now w.next w.left ++
+    counted_profiles powers later
 
 -- they can be had
-pub record MayCome (powers : Bool) (pair : Option PairWalk) (later : List PairProfile) : Type 0 where
+pub record MayCome (powers : Bool) (pair : Option PairWalk)
+    (later : List PairProfile) : Type 0 where
   pub walks : IfSome pair (λ w. (1 ≤ w.left) × IsWalk powers w)
   pub serve : AllByRecursion (ServesRows powers) later

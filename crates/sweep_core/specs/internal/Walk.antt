@@ -1,5 +1,7 @@
--- How the configurations of a space are walked: the pairs of block size and set count one after another, and of each its associativities.
-use Rattle.std.specs.Prelude.{ℕ, ◌≡◌, ◌-◌, ◌*◌, ◌/◌, ◌%◌, ◌^◌, ◌<◌, ◌≤◌, ◌&&◌, Bool, true, Option, List, map, filter, flat_map}
+-- How the configurations of a space are walked: the pairs of block size and set count one after
+-- another, and of each its associativities.
+use Rattle.std.specs.Prelude.{ℕ, ◌≡◌, ◌-◌, ◌*◌, ◌/◌, ◌%◌, ◌^◌, ◌<◌, ◌≤◌, ◌&&◌, Bool, true, Option}
+use Rattle.std.specs.Prelude.{List, map, filter, flat_map}
 use Rattle.std.specs.List.{range_with_len}
 use Rattle.sweep_core.specs.declared.space.Config.{Config}
 use Rattle.sweep_core.specs.declared.request.Request.{Request}
@@ -16,11 +18,13 @@ pair_at k = (2 ^ (k / 21), 2 ^ (k % 21))
 
 -- the configurations of a space that are of a pair and greater than a triple, in order
 unfoldable pub rows_of_pair : Ranges → Option Config → ℕ × ℕ → List Config
-rows_of_pair space after p = filter (λ c. is_valid space c && is_after after c) (map (config p.0 p.1) (numbers space.assoc))
+rows_of_pair space after p = filter (λ c. is_valid space c && is_after after c)
+    (map (config p.0 p.1) (numbers space.assoc))
 
 -- those of all pairs from an index on
 unfoldable pub rows_from : Ranges → Option Config → ℕ → List Config
-rows_from space after k = flat_map (λ i. rows_of_pair space after (pair_at i)) (range_with_len k (441 - k))
+rows_from space after k = flat_map (λ i. rows_of_pair space after (pair_at i))
+    (range_with_len k (441 - k))
 
 -- the rows that a request may still write: so many at most, of the pairs from an index on
 abbrev pub rows_left : Request → ℕ → Option ℕ → List Config
@@ -33,7 +37,8 @@ pub record HasDepth (space : Ranges) (c : Config) (depth : ℕ) : Type 0 where
   pub greatest : (e : ℕ) → is_valid space (record c { assoc = e }) ≡ true → e ≤ depth
 
 -- these are the configurations of a pair that are greater than a triple
-pub record HasRows (space : Ranges) (after : Option Config) (p : ℕ × ℕ) (rows : PairRows) : Type 0 where
+pub record HasRows (space : Ranges) (after : Option Config) (p : ℕ × ℕ)
+    (rows : PairRows) : Type 0 where
   pub deep : HasDepth space rows.first rows.depth
   pub some : 1 ≤ rows.count
   pub first : rows.first ≡ config p.0 p.1 rows.first.assoc
@@ -48,7 +53,8 @@ IsAllowed powers e = powers ≡ true → is_power e ≡ true
 abbrev pub NoWays : ℕ → ℕ → Bool → Type 0
 NoWays lowest most powers = (e : ℕ) → lowest ≤ e → e ≤ most → IsAllowed powers e → ⊥
 
--- the associativities between two numbers: from the first that is allowed on, as many as follow one another up to the greatest number
+-- the associativities between two numbers: from the first that is allowed on, as many as follow one
+-- another up to the greatest number
 pub record AreWays (lowest most : ℕ) (powers : Bool) (ways : Ways) : Type 0 where
   pub some : 1 ≤ ways.count
   pub from : lowest ≤ ways.first

@@ -1,7 +1,8 @@
 -- What contracts see of the devices for tests.
 use Rattle.std.specs.Prelude.{ℕ, List}
 
--- A tape: the rest of its text, the most bytes that a call gives, which call fails (0: none), and how many calls were made and how
+-- A tape: the rest of its text, the most bytes that a call gives, which call fails (0: none), and
+-- how many calls were made and how
 -- many failed, both up to 2^64 - 1.
 pub record TapeState : Type 0 where
   pub rest : List ℕ
@@ -10,7 +11,8 @@ pub record TapeState : Type 0 where
   pub calls : ℕ
   pub failures : ℕ
 
--- An array that is written to: the bytes that it holds, the most that a call takes, its calls as those of a tape, and how many of
+-- An array that is written to: the bytes that it holds, the most that a call takes, its calls as
+-- those of a tape, and how many of
 -- them were flushes, up to 2^64 - 1.
 pub record ArrayState : Type 0 where
   pub bytes : List ℕ

@@ -9,4 +9,5 @@ returns-then-has_only_digits c =
     (sym c.has_only_digits.ensures ∙ c.if-has_only_digits.true)
 
 pub returns-else-has_only_digits : goal.returns-else-has_only_digits
-returns-else-has_only_digits c = not_digits c.args.text.now (sym c.has_only_digits.ensures ∙ c.if-has_only_digits.false)
+returns-else-has_only_digits c = not_digits c.args.text.now (sym c.has_only_digits.ensures ∙
+    c.if-has_only_digits.false)

@@ -4,4 +4,5 @@ use Rattle.cache_core.proofs.SlabFlush.{Emptying}
 use Rattle.cache_core.proofs.cache.empty_listed.Given as goal
 
 abbrev pub invariant-loop-number : goal.invariant-loop-number
-invariant-loop-number l = Emptying l.ways l.slots l.initial.filled (drop l.number-index l.listed) l.filled l.dirty
+invariant-loop-number l = Emptying l.ways l.slots l.initial.filled (drop l.number-index l.listed)
+    l.filled l.dirty

@@ -9,6 +9,7 @@ pub returns-clause-addresses : goal.returns-clause-addresses
 returns-clause-addresses g c = λ b fit.
     touched_fits b _ c.if-dirty.slots c.args.at _ (omega arith) c.touch.ensures.order
     (elim c.if-dirty.branch [
-      | then-dirty w ↦ subst (Addressable b) (sym w.slots-is) (marked_fits b true c.args.slots.now c.args.at c.requires fit)
+      | then-dirty w ↦ subst (Addressable b) (sym w.slots-is)
+          (marked_fits b true c.args.slots.now c.args.at c.requires fit)
       | else-dirty w ↦ subst (Addressable b) (sym w.slots-is) fit
     ])

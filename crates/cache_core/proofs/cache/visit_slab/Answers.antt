@@ -10,19 +10,29 @@ pub visit-count-requires-clause-addresses : goal.visit-count-requires-clause-add
 visit-count-requires-clause-addresses g c = grind (arith, slab_read, length-sets_of)
 
 written : (g : Over) (c : goal.After-add_grown g) →
-    IsWritten c.args.design c.set_of-number.result c.visit-count.result.1 c.e-ways.result c.visit-count.new.set
-written g c = record { ways_are = c.e-ways.ensures.value; within = c.set_of-number.ensures.within; long = omega arith; few = c.visit-count.ensures.within }
+    IsWritten c.args.design c.set_of-number.result c.visit-count.result.1 c.e-ways.result
+    c.visit-count.new.set
+written g c = record {
+  ways_are = c.e-ways.ensures.value;
+  within =
+      c.set_of-number.ensures.within;
+  long = omega arith;
+  few = c.visit-count.ensures.within;
+}
 
 pub returns-clause-slab : goal.returns-clause-slab
-returns-clause-slab g c = slab_kept c.args.design _ _ _ _ _ _ c.requires.slab (written g c) c.visit-count.ensures.addresses
+returns-clause-slab g c = slab_kept c.args.design _ _ _ _ _ _ c.requires.slab (written g c)
+    c.visit-count.ensures.addresses
 
 pub returns-clause-access : goal.returns-clause-access
 returns-clause-access g c =
-    slab_access c.args.design _ _ _ _ _ _ c.requires.slab (written g c) _ _ _ _ _ _ c.set_of-number.ensures.value c.visit-count.ensures.policy
+    slab_access c.args.design _ _ _ _ _ _ c.requires.slab (written g c) _ _ _ _ _ _
+    c.set_of-number.ensures.value c.visit-count.ensures.policy
     c.visit-count.ensures.visit
 
 pub returns-clause-dirty : goal.returns-clause-dirty
-returns-clause-dirty g c = slab_dirty c.args.design _ _ _ _ _ _ c.requires.slab (written g c) _ _ _ _ _ c.visit-count.ensures.visit
+returns-clause-dirty g c = slab_dirty c.args.design _ _ _ _ _ _ c.requires.slab (written g c) _ _ _
+    _ _ c.visit-count.ensures.visit
 
 pub returns-clause-touched : goal.returns-clause-touched
 returns-clause-touched g c = grind (arith, covers_change)

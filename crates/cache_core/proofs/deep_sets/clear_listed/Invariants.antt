@@ -1,4 +1,5 @@
--- The sets that are still to come are all that have a block; a list that was emptied has no other change.
+-- The sets that are still to come are all that have a block; a list that was emptied has no other
+-- change.
 use Rattle.std.proofs.Common.{◌≡◌, drop, map}
 use Rattle.cache_core.specs.internal.DeepSets.{blocks_in, cleared_sets}
 use Rattle.cache_core.specs.internal.Touched.{ListsFilled}

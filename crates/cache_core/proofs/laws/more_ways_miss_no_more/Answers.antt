@@ -14,4 +14,5 @@ pub returns-clause-evictions : goal.returns-clause-evictions
 returns-clause-evictions c = fewer-evictions
 
 pub returns-clause-doubled : goal.returns-clause-doubled
-returns-clause-doubled c e b events = fewer-misses (geometry_value 0 e b) (e * 2) events (omega arith)
+returns-clause-doubled c e b events = fewer-misses (geometry_value 0 e b) (e * 2) events
+    (omega arith)

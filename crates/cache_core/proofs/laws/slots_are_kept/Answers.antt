@@ -6,4 +6,5 @@ pub returns-clause-touch : goal.returns-clause-touch
 returns-clause-touch c = lawful_touch
 
 pub returns-clause-place : goal.returns-clause-place
-returns-clause-place c = λ policy number capacity old slot gone new some t. lawful_place policy number 0 capacity old slot gone new some t
+returns-clause-place c = λ policy number capacity old slot gone new some t. lawful_place policy
+    number 0 capacity old slot gone new some t

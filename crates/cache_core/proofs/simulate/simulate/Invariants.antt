@@ -6,6 +6,7 @@ use Rattle.cache_core.proofs.simulate.simulate.Given as goal
 
 abbrev pub invariant-loop-reference : goal.invariant-loop-reference
 invariant-loop-reference l = record {
-  simulates : SimulationStandsFor l.geometry (map event.Reference (take l.reference-index l.refs)) l.simulation;
+  simulates : SimulationStandsFor l.geometry (map event.Reference (take l.reference-index l.refs))
+      l.simulation;
   few : SimulationCountsWithin l.reference-index l.simulation.counts;
 }

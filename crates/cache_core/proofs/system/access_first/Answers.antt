@@ -9,5 +9,7 @@ use Rattle.cache_core.proofs.system.access_first.Goals as goal
 pub returns-in-Some-clause-seen : goal.returns-in-Some-clause-seen
 returns-in-Some-clause-seen g c = λ seed planned events good stands.
     let s = subst (PlannedCacheStandsFor seed planned events) c.in-Some.is stands in
-    subst (λ (xs : List Arrival). Saw g.O.Observer.has_seen c.args.observer.now xs c.access.new.observer)
-    (entered seed c.args.name planned events _ _ _ _ good s c.access.ensures.value).seen c.access.ensures.seen
+    subst (λ (xs : List Arrival). Saw g.O.Observer.has_seen c.args.observer.now xs
+    c.access.new.observer)
+    (entered seed c.args.name planned events _ _ _ _ good s c.access.ensures.value).seen
+    c.access.ensures.seen

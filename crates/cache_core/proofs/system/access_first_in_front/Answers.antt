@@ -8,7 +8,8 @@ use Rattle.cache_core.specs.Outcomes.{hit_in_front}
 use Rattle.cache_core.specs.internal.SystemSteps.{AccessesFirst, nothing_down}
 use Rattle.cache_core.proofs.system.access_first_in_front.Goals as goal
 
-held : (b : Bool) (cache : Option SystemCache) (old new : SystemCache) (ref : Ref) → cache ≡ Some old →
+held : (b : Bool) (cache : Option SystemCache) (old new : SystemCache) (ref : Ref) →
+    cache ≡ Some old →
     MatchBool b (Enters old ref hit_in_front new) (new ≡ old) →
     MatchBool b (AccessesFirst cache ref (Some nothing_down) (Some new)) (Some new ≡ cache)
 held true cache old new ref is e = (old, new, hit_in_front, is, refl, refl, e)

@@ -10,26 +10,38 @@ use Rattle.cache_core.proofs.system.descend_all.Goals.{in-Some, in_default}
 
 pub returns-in-Some-next-clause-seen : goal.returns-in-Some-next-clause-seen
 returns-in-Some-next-clause-seen g c = λ seed planned events good stands.
-    let Seen = λ (xs : List Arrival). Saw g.O.Observer.has_seen c.args.observer.now xs c.descend-in-Some-next.new.observer in
+    let Seen = λ (xs : List Arrival). Saw g.O.Observer.has_seen c.args.observer.now xs
+    c.descend-in-Some-next.new.observer in
     elim c.match-first.branch [
       | in-Some w ↦
           let more = events ++ event.Reference w.in-Some.reference ∷ [] in
           let s =
-          descended seed planned events w.in-Some.reference c.args.second.now c.args.memory.now w.descend.new.second w.descend.new.memory good stands
+          descended seed planned events w.in-Some.reference c.args.second.now c.args.memory.now
+          w.descend.new.second w.descend.new.memory good stands
           w.descend.ensures.value in
-          let two = c.descend-in-Some-next.ensures.seen seed planned more good (subst (PlannedCacheStandsFor seed planned more) (sym w.second-is) s) in
-          let both = saw_both g.O.Observer.has_seen (w.descend.ensures.seen seed planned events good stands)
-          (subst (λ o. Saw g.O.Observer.has_seen o (arrivals_below seed planned more c.in-Some-next.reference) c.descend-in-Some-next.new.observer)
+          let two = c.descend-in-Some-next.ensures.seen seed planned more good
+          (subst (PlannedCacheStandsFor seed planned more) (sym w.second-is) s) in
+          let both = saw_both g.O.Observer.has_seen
+          (w.descend.ensures.seen seed planned events good stands)
+          (subst (λ o. Saw g.O.Observer.has_seen o
+          (arrivals_below seed planned more c.in-Some-next.reference)
+          c.descend-in-Some-next.new.observer)
           w.observer-is two) in
-          subst Seen (ap (λ (xs : List Arrival). arrivals_below seed planned events w.in-Some.reference ++ xs) (sym (append-nil _))
+          subst Seen (ap (λ (xs : List Arrival). arrivals_below seed planned events
+          w.in-Some.reference ++ xs) (sym (append-nil _))
           ∙ ap (all_arrivals_below seed planned events)
-          (sym (first_sent c.args.down w.in-Some.reference c.in-Some-next.reference (omega arith) w.in-Some.is c.in-Some-next.is))) both
+          (sym (first_sent c.args.down w.in-Some.reference c.in-Some-next.reference (omega arith)
+          w.in-Some.is c.in-Some-next.is))) both
       | in_default w ↦
-          let one = c.descend-in-Some-next.ensures.seen seed planned events good (subst (PlannedCacheStandsFor seed planned events) (sym w.second-is) stands) in
+          let one = c.descend-in-Some-next.ensures.seen seed planned events good
+          (subst (PlannedCacheStandsFor seed planned events) (sym w.second-is) stands) in
           let saw =
-          subst (λ o. Saw g.O.Observer.has_seen o (arrivals_below seed planned events c.in-Some-next.reference) c.descend-in-Some-next.new.observer)
+          subst (λ o. Saw g.O.Observer.has_seen o
+          (arrivals_below seed planned events c.in-Some-next.reference)
+          c.descend-in-Some-next.new.observer)
           w.observer-is one in
           subst Seen (sym (append-nil _)
           ∙ ap (all_arrivals_below seed planned events)
-          (sym (second_sent c.args.down c.in-Some-next.reference (omega arith) w.in_default.is c.in-Some-next.is))) saw
+          (sym (second_sent c.args.down c.in-Some-next.reference (omega arith) w.in_default.is
+          c.in-Some-next.is))) saw
     ]

@@ -7,7 +7,11 @@ use Rattle.cache_core.proofs.Observed.{emptied}
 use Rattle.cache_core.proofs.system.empty.Goals as goal
 
 pub returns-in-Some-clause-value : goal.returns-in-Some-clause-value
-returns-in-Some-clause-value g c = rw c.in-Some.is (c.flush-dirty.new.self, refl, c.flush-dirty.ensures)
+returns-in-Some-clause-value g c = rw c.in-Some.is (
+  c.flush-dirty.new.self,
+  refl,
+  c.flush-dirty.ensures,
+)
 
 pub returns-in-Some-clause-seen : goal.returns-in-Some-clause-seen
 returns-in-Some-clause-seen g c = λ seed planned events stands.

@@ -15,7 +15,8 @@ pub returns-clause-small : goal.returns-clause-small
 returns-clause-small c =
     let es = map event.Reference c.args.refs.now in
     c.counts.ensures.trace es
-    (stands_for_all c.stands_after.ensures (geometry_value 0 (c.args.e * 2) c.args.b) c.loop-reference.profile c.args.refs.now c.loop-reference.reference-index
+    (stands_for_all c.stands_after.ensures (geometry_value 0 (c.args.e * 2) c.args.b)
+    c.loop-reference.profile c.args.refs.now c.loop-reference.reference-index
     c.requires.geometry (grind arith) c.loop-reference.invariant.0)
     ∙ ap (λ g. counts (record g { e = c.args.e }) es) c.loop-reference.invariant.2
 
@@ -23,7 +24,8 @@ pub returns-clause-large : goal.returns-clause-large
 returns-clause-large c =
     let es = map event.Reference c.args.refs.now in
     c.counts-2.ensures.trace es
-    (stands_for_all c.stands_after.ensures (geometry_value 0 (c.args.e * 2) c.args.b) c.loop-reference.profile c.args.refs.now c.loop-reference.reference-index
+    (stands_for_all c.stands_after.ensures (geometry_value 0 (c.args.e * 2) c.args.b)
+    c.loop-reference.profile c.args.refs.now c.loop-reference.reference-index
     c.requires.geometry (grind arith) c.loop-reference.invariant.0)
     ∙ ap (λ g. counts (record g { e = c.args.e * 2 }) es) c.loop-reference.invariant.2
 

@@ -1,4 +1,5 @@
-use Rattle.std.proofs.Common.{ℕ, ◌≡◌, ◌∙◌, ◌++◌, ◌∷◌, [], Ok, ap, sym, refl, arith, append-nil, fold}
+use Rattle.std.proofs.Common.{ℕ, ◌≡◌, ◌∙◌, ◌++◌, ◌∷◌, [], Ok, ap, sym, refl, arith, append-nil}
+use Rattle.std.proofs.Common.{fold}
 use Rattle.trace_core.specs.Events.{events_of}
 use Rattle.trace_core.specs.Reading.{events}
 use Rattle.trace_core.specs.declared.events.Entry.{Entry}
@@ -13,9 +14,15 @@ use Rattle.callers.proofs.pages.pages_touched.Goals as goal
 pub loop-profile-init : goal.loop-profile-init
 loop-profile-init g c = (
   [],
-  rw c.in_ok-lines.ensures (c.begun_reader_has_read_nothing.ensures c.args.format MAX_LINES (g.S.Source.view c.args.source.now)),
+  rw c.in_ok-lines.ensures (c.begun_reader_has_read_nothing.ensures c.args.format MAX_LINES
+      (g.S.Source.view c.args.source.now)),
   c.in_ok-profile.ensures,
-  omega (arith, ap fed_of c.in_ok-profile.ensures, c.new_profile_was_fed_nothing.ensures (geometry_value 0 65536 12)),
+  omega (
+    arith,
+    ap fed_of c.in_ok-profile.ensures,
+    c.new_profile_was_fed_nothing.ensures
+        (geometry_value 0 65536 12),
+  ),
 )
 
 pub loop-profile-preserved : goal.loop-profile-preserved
@@ -25,7 +32,8 @@ loop-profile-preserved g c =
       i.0 ++ x ∷ [],
       rw (c.in_ok-entry.was ∙ ap Ok c.in-Some.is) at (c.next.ensures.reached _ _ _ i.0 i.1),
       c.feed_entry.ensures.fed ∙ ap (λ v. fold after_event v (events_of All c.in-Some.entry)) i.2
-          ∙ sym (fed_more (empty (geometry_value 0 65536 12)) i.0 x (c.events_come_entry_by_entry.ensures All i.0 x)),
+          ∙ sym (fed_more (empty (geometry_value 0 65536 12)) i.0 x
+          (c.events_come_entry_by_entry.ensures All i.0 x)),
       grind arith,
     )
 
@@ -37,8 +45,11 @@ returns g c =
     let ended = c.in_ok-entry.was ∙ ap Ok c.in_default.is in
     let reached = rw (ended, append-nil i.0) at (c.next.ensures.reached _ _ _ i.0 i.1) in
     let reports = rw ended at c.next.ensures.reports in
-    if_known start.remaining (λ text. c.held.result ≡ held pages (events c.args.format All text)) (λ text known.
+    if_known start.remaining (λ text. c.held.result ≡ held pages (events c.args.format All text))
+    (λ text known.
     let es = events c.args.format All text in
     held_at_end pages es (events_in i.0) c.loop-profile.profile c.held.result
-    (c.whole_trace_gives_its_events.ensures.events c.args.format MAX_LINES All text start _ i.0 c.next.new.self known reached reports)
-    (c.stands_after.ensures pages es (grind arith)) (c.events_keep_the_geometry.ensures (empty pages) es) i.2 c.held.ensures.trace)
+    (c.whole_trace_gives_its_events.ensures.events c.args.format MAX_LINES All text start _ i.0
+    c.next.new.self known reached reports)
+    (c.stands_after.ensures pages es (grind arith)) (c.events_keep_the_geometry.ensures
+    (empty pages) es) i.2 c.held.ensures.trace)

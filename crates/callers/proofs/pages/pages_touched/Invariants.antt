@@ -10,7 +10,8 @@ use Rattle.callers.proofs.pages.pages_touched.Given as goal
 -- the entries so far were fed
 abbrev pub invariant-loop-profile : goal.invariant-loop-profile
 invariant-loop-profile g l =
-    (xs : List (ℕ × Entry)) × Reached l.fn.format MAX_LINES (g.S.Source.view l.initial.source) (g.S.Source.view l.source) xs l.lines
+    (xs : List (ℕ × Entry)) × Reached l.fn.format MAX_LINES (g.S.Source.view l.initial.source)
+    (g.S.Source.view l.source) xs l.lines
     × (l.profile ≡ fold after_event (empty (geometry_value 0 65536 12)) (events_in xs))
     × (fed_of l.profile ≤ 2 * l.lines.lines)
 

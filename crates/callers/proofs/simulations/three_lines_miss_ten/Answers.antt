@@ -18,14 +18,23 @@ at block = record { access = Read; addr = block * 16 }
 abbrev blocks : List ℕ
 blocks = 1 ∷ 2 ∷ 3 ∷ 4 ∷ 1 ∷ 2 ∷ 5 ∷ 1 ∷ 2 ∷ 3 ∷ 4 ∷ 5 ∷ []
 
-counted : (g : GeometryValue) (trace : List Ref) → g ≡ geometry_value 0 3 4 → trace ≡ map at blocks →
-    counts_in (effects (lru_machine g Back) (map event.Reference trace)) ≡ record { hits = 2; misses = 10; evictions = 7 }
-counted g trace g_is trace_is = ap₂ (λ h t. counts_in (effects (lru_machine h Back) (map event.Reference t))) g_is trace_is
+counted : (g : GeometryValue) (trace : List Ref) → g ≡ geometry_value 0 3 4 →
+    trace ≡ map at blocks →
+    counts_in (effects (lru_machine g Back) (map event.Reference trace)) ≡ record {
+      hits =
+          2;
+      misses = 10;
+      evictions = 7;
+    }
+counted g trace g_is trace_is =
+    ap₂ (λ h t. counts_in (effects (lru_machine h Back) (map event.Reference t))) g_is trace_is
 
 pub returns : goal.returns
 returns c =
-    let reads : c.read.result ∷ c.read-2.result ∷ c.read-3.result ∷ c.read-4.result ∷ c.read-5.result ∷ c.read-6.result ∷ c.read-7.result
-    ∷ c.read-8.result ∷ c.read-9.result ∷ c.read-10.result ∷ c.read-11.result ∷ c.read-12.result ∷ [] ≡ map at blocks =
+    let reads : c.read.result ∷ c.read-2.result ∷ c.read-3.result ∷ c.read-4.result ∷
+    c.read-5.result ∷ c.read-6.result ∷ c.read-7.result
+    ∷ c.read-8.result ∷ c.read-9.result ∷ c.read-10.result ∷ c.read-11.result ∷ c.read-12.result ∷
+    [] ≡ map at blocks =
     cc (
       c.read.ensures,
       c.read-2.ensures,
@@ -41,4 +50,5 @@ returns c =
       c.read-12.ensures,
     ) in
     let geometry : c.in-Some.geometry ≡ geometry_value 0 3 4 = cc c.in-Some.ensures in
-    IfOk-weaker c.simulate.result _ _ (λ x is. is ∙ counted _ _ geometry reads) c.simulate.ensures.machine
+    IfOk-weaker c.simulate.result _ _ (λ x is. is ∙ counted _ _ geometry reads)
+    c.simulate.ensures.machine

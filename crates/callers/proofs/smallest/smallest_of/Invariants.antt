@@ -10,5 +10,6 @@ use Rattle.callers.proofs.smallest.smallest_of.Given as goal
 -- the best of the rows so far
 abbrev pub invariant-loop-config : goal.invariant-loop-config
 invariant-loop-config l =
-    (seen : List (Config × Counts)) × (l.fn.rows ≡ seen ++ l.config-iterator) × IsSmallestIfAny l.most seen l.best
+    (seen : List (Config × Counts)) × (l.fn.rows ≡ seen ++ l.config-iterator) ×
+    IsSmallestIfAny l.most seen l.best
     × IfSome l.best HasSize × AllByRecursion (λ row. HasSize row.0) l.config-iterator

@@ -7,5 +7,6 @@ use Rattle.callers.proofs.spaces.all_configs.Goals as goal
 pub returns : goal.returns
 returns c = record {
   table = items_from_collect c.collect.result c.collect.ensures.ran
-      (YieldsList-from_first (λ x. x) (λ x. x) (table c.args.space.now None) c.configs.ensures.table);
+      (YieldsList-from_first (λ x. x) (λ x. x) (table c.args.space.now None)
+      c.configs.ensures.table);
 }

@@ -1,5 +1,7 @@
--- What `csim` has read, simulated and written where it stands, and so what it performs at each of its ends.
-use Rattle.std.proofs.Common.{ℕ, Ok, ◌≡◌, ◌^◌, ◌++◌, [], List, cond, length, arith, refl, sym, ap, ◌∙◌, subst}
+-- What `csim` has read, simulated and written where it stands, and so what it performs at each of
+-- its ends.
+use Rattle.std.proofs.Common.{ℕ, Ok, ◌≡◌, ◌^◌, ◌++◌, [], List, cond, length, arith, refl, sym, ap}
+use Rattle.std.proofs.Common.{◌∙◌, subst}
 use Rattle.trace_core.specs.declared.events.Kind.TheVariants.{DataOnly}
 use Rattle.trace_core.specs.declared.line.Format.TheVariants.{Lackey}
 use Rattle.trace_core.specs.declared.events.Entry.{Entry}
@@ -8,11 +10,13 @@ use Rattle.trace_core.specs.Reading.{entries}
 use Rattle.trace_core.specs.Task.{entries_of}
 use Rattle.trace_core.proofs.EntryEvents.{events_within}
 use Rattle.trace_core.proofs.Performing.{err_is, Performs-ok, Performs-trace, Performs-write}
-use Rattle.trace_core.proofs.WholeTraces.{reads-none, reads-more, reads-end, reads-fault, run-stopped, run-finished, run-unfinished, run-broken}
+use Rattle.trace_core.proofs.WholeTraces.{reads-none, reads-more, reads-end, reads-fault}
+use Rattle.trace_core.proofs.WholeTraces.{run-stopped, run-finished, run-unfinished, run-broken}
 use Rattle.trace_core.proofs.Written.{Wrote-none}
 use Rattle.cache_core.specs.Windows.{counts}
 use Rattle.cache_core.proofs.Simulating.{simulated_within, within_above}
-use Rattle.commands.specs.CsimText.{csim_task, csim_lines, csim_text, line_of, lookups_of_pair, summary}
+use Rattle.commands.specs.CsimText.{csim_task, csim_lines, csim_text, line_of, lookups_of_pair}
+use Rattle.commands.specs.CsimText.{summary}
 use Rattle.commands.proofs.CsimLemmas.{along, data_of, lines-more, simulated-more, simulated-none}
 use Rattle.commands.proofs.csim.csim.Given as given
 use Rattle.commands.proofs.csim.csim.Goals as goal
@@ -20,7 +24,8 @@ use Rattle.commands.proofs.csim.csim.Goals.{After-as_slice}
 
 pub loop-simulation-init : goal.loop-simulation-init
 loop-simulation-init g c =
-    reads-none _ c.in_ok-lines.ensures (simulated-none c.args.geometry c.args.verbose (g.K.Sink.view c.args.sink.now) _ c.in_ok-simulation.ensures)
+    reads-none _ c.in_ok-lines.ensures (simulated-none c.args.geometry c.args.verbose
+    (g.K.Sink.view c.args.sink.now) _ c.in_ok-simulation.ensures)
 
 pub step-lookups-requires : goal.step-lookups-requires
 step-lookups-requires g c =
@@ -28,10 +33,18 @@ step-lookups-requires g c =
     let es = entries_of so_far.read in
     let bears = rw c.in-Some.is at c.in_ok-entry.ensures.entry in
     within_above (length (data_of es)) (2 ^ 62) c.loop-simulation.simulation.counts
-    (omega (arith, so_far.few, events_within DataOnly es, bears.1, c.next.ensures.within, c.next.ensures.limited))
+    (omega (
+      arith,
+      so_far.few,
+      events_within DataOnly es,
+      bears.1,
+      c.next.ensures.within,
+      c.next.ensures.limited,
+    ))
     (simulated_within c.args.geometry (data_of es) c.loop-simulation.simulation so_far.holds.0)
 
-pub loop-simulation-preserved-in-Continue-branch-5 : goal.loop-simulation-preserved-in-Continue-branch-5
+pub loop-simulation-preserved-in-Continue-branch-5
+    : goal.loop-simulation-preserved-in-Continue-branch-5
 loop-simulation-preserved-in-Continue-branch-5 g c =
     let so_far = c.loop-simulation.invariant in
     let es = entries_of so_far.read in
@@ -40,7 +53,8 @@ loop-simulation-preserved-in-Continue-branch-5 g c =
     reads-more so_far c.next.ensures.reached c.next.ensures.entry c.in_ok-entry.was c.in-Some.is
     (simulated-more c.args.geometry c.args.verbose es c.in-Some.entry lookups _ _ so_far.holds
     (c.step-lookups.ensures c.args.geometry (data_of es) so_far.holds.0)
-    (subst (λ v. Wrote (g.K.Sink.view c.loop-simulation.sink) (g.K.Sink.view c.write_line.new.sink) (cond v line []))
+    (subst (λ v. Wrote (g.K.Sink.view c.loop-simulation.sink) (g.K.Sink.view c.write_line.new.sink)
+    (cond v line []))
     (sym c.if-verbose.true) c.in_ok-write_line.ensures))
 
 pub loop-simulation-preserved : goal.loop-simulation-preserved
@@ -62,7 +76,8 @@ returns-in_err-entry g c =
     let run = reads-fault so_far c.next.ensures.reached c.in_err-entry.was in
     let task = csim_task c.args.geometry c.args.verbose c.args.max_lines in
     Performs-trace c.in_err-entry.field-0.0 (err_is c.from_residual-in_err-entry.ensures.1)
-    (run-stopped {task = task} run so_far.holds.1 c.in_err-entry.field-0.0 (rw c.in_err-entry.was at c.next.ensures.reports)) (λ late. absurd cc)
+    (run-stopped {task = task} run so_far.holds.1 c.in_err-entry.field-0.0
+    (rw c.in_err-entry.was at c.next.ensures.reports)) (λ late. absurd cc)
 
 pub returns-in_err-write_line : goal.returns-in_err-write_line
 unfolding csim_task
@@ -73,21 +88,27 @@ returns-in_err-write_line g c =
     let lookups = lookups_of_pair c.step-lookups.result in
     let stands = c.step-lookups.ensures a.geometry (data_of es) so_far.holds.0 in
     Performs-write (err_is c.from_residual-in_err-write_line.ensures.1)
-    (run-broken {task = csim_task a.geometry a.verbose a.max_lines} refl (along a.geometry a.verbose a.max_lines) so_far
+    (run-broken {task = csim_task a.geometry a.verbose a.max_lines} refl
+    (along a.geometry a.verbose a.max_lines) so_far
     c.next.ensures.reached c.next.ensures.reports c.in_ok-entry.was c.in-Some.is so_far.holds.1
     (lines-more a.geometry a.verbose es c.in-Some.entry lookups stands.1)
-    (subst (λ v. WrotePart (g.K.Sink.view c.loop-simulation.sink) (g.K.Sink.view c.write_line.new.sink)
-    (cond v (line_of c.in-Some.entry lookups) [])) (sym c.if-verbose.true) c.in_err-write_line.ensures))
+    (subst (λ v. WrotePart (g.K.Sink.view c.loop-simulation.sink)
+    (g.K.Sink.view c.write_line.new.sink)
+    (cond v (line_of c.in-Some.entry lookups) [])) (sym c.if-verbose.true)
+    c.in_err-write_line.ensures))
 
 -- the lines and the summary are what has to be written
 output : (g : given.Over) (c : After-as_slice g) (text : List ℕ)
     → (let es : List Entry = entries_of c.loop-simulation.invariant.read in es ≡ entries Lackey text
-    → csim_text c.args.geometry c.args.verbose text ≡ csim_lines c.args.geometry c.args.verbose es ++ c.as_slice.result.now)
+    → csim_text c.args.geometry c.args.verbose text ≡ csim_lines c.args.geometry c.args.verbose
+    es ++ c.as_slice.result.now)
 output g c text all =
     let es = entries_of c.loop-simulation.invariant.read in
     let last = c.as_slice.ensures ∙ c.set_summary.ensures
-    ∙ ap summary (c.counts.ensures.trace c.args.geometry (data_of es) c.loop-simulation.invariant.holds.0) in
-    ap (λ xs. csim_lines c.args.geometry c.args.verbose xs ++ summary (counts c.args.geometry (data_of xs))) (sym all)
+    ∙ ap summary (c.counts.ensures.trace c.args.geometry
+    (data_of es) c.loop-simulation.invariant.holds.0) in
+    ap (λ xs. csim_lines c.args.geometry c.args.verbose xs ++
+    summary (counts c.args.geometry (data_of xs))) (sym all)
     ∙ ap (λ l. csim_lines c.args.geometry c.args.verbose es ++ l) (sym last)
 
 pub returns-in_err-write_last : goal.returns-in_err-write_last
@@ -97,8 +118,11 @@ returns-in_err-write_last g c =
     let ended = c.in_ok-entry.was ∙ ap Ok c.in_default.is in
     let task = csim_task c.args.geometry c.args.verbose c.args.max_lines in
     Performs-write (err_is c.from_residual-in_err-write_last.ensures.1)
-    (run-unfinished {task = task} (reads-end so_far c.next.ensures.reached c.in_ok-entry.was c.in_default.is) so_far.holds.1 _
-    (rw ended at c.next.ensures.reports) (output g (goal.at.returns-in_err-write_last g c).After-as_slice) c.in_err-write_last.ensures)
+    (run-unfinished {task = task} (reads-end so_far c.next.ensures.reached c.in_ok-entry.was
+    c.in_default.is) so_far.holds.1 _
+    (rw ended at c.next.ensures.reports)
+    (output g (goal.at.returns-in_err-write_last g c).After-as_slice)
+    c.in_err-write_last.ensures)
 
 pub returns : goal.returns
 unfolding csim_task
@@ -107,5 +131,7 @@ returns g c =
     let ended = c.in_ok-entry.was ∙ ap Ok c.in_default.is in
     let task = csim_task c.args.geometry c.args.verbose c.args.max_lines in
     Performs-ok tt refl
-    (run-finished {task = task} (reads-end so_far c.next.ensures.reached c.in_ok-entry.was c.in_default.is) so_far.holds.1 _
-    (rw ended at c.next.ensures.reports) (output g (goal.at.returns g c).After-as_slice) c.in_ok-write_last.ensures)
+    (run-finished {task = task} (reads-end so_far c.next.ensures.reached c.in_ok-entry.was
+    c.in_default.is) so_far.holds.1 _
+    (rw ended at c.next.ensures.reports) (output g (goal.at.returns g c).After-as_slice)
+    c.in_ok-write_last.ensures)

@@ -21,16 +21,19 @@ returns-in_err-stats g c =
     let fault = c.in_err-stats.field-0.0 in
     let run = read-from c.in_ok-lines.ensures c.stats_of_trace.ensures.stepped.1 in
     Performs-trace fault (err_is c.from_residual-in_err-stats.ensures.1)
-    (run-stopped {task = din_task a.plan a.seed a.format a.max_lines} run (Wrote-none (g.K.Sink.view a.sink.now)) fault
+    (run-stopped {task = din_task a.plan a.seed a.format a.max_lines} run
+    (Wrote-none (g.K.Sink.view a.sink.now)) fault
     c.in_err-stats.ensures.reports) (λ late. refl)
 
 -- the report of the system is what has to be written
 output : (g : given.Over) (c : After-as_slice g) (text : List ℕ)
     → entries_of c.in_ok-stats.ensures.stepped.1.read ≡ entries c.args.format text
-    → report_of (system_run c.args.plan c.args.seed (flat_map (events_of All) (entries c.args.format text))) ≡ c.as_slice.result.now
+    → report_of (system_run c.args.plan c.args.seed
+    (flat_map (events_of All) (entries c.args.format text))) ≡ c.as_slice.result.now
 output g c text all =
     let run = c.in_ok-stats.ensures.stepped in
-    let stands = run.1.holds c.args.plan c.args.seed c.in_ok-system.ensures.limits c.in_ok-system.ensures.stands in
+    let stands = run.1.holds c.args.plan c.args.seed c.in_ok-system.ensures.limits
+    c.in_ok-system.ensures.stands in
     sym (c.as_slice.ensures ∙ c.set_report.ensures ∙ ap report_of (run.2 ∙ stands.stats
     ∙ ap (λ es. system_run c.args.plan c.args.seed (flat_map (events_of All) es)) all))
 
@@ -40,8 +43,10 @@ returns-in_err-write_last g c =
     let a = c.args in
     let run = read-from c.in_ok-lines.ensures c.in_ok-stats.ensures.stepped.1 in
     Performs-write (err_is c.from_residual-in_err-write_last.ensures.1)
-    (run-unfinished {task = din_task a.plan a.seed a.format a.max_lines} run (Wrote-none (g.K.Sink.view a.sink.now)) _
-    c.in_ok-stats.ensures.reports (output g (goal.at.returns-in_err-write_last g c).After-as_slice) c.in_err-write_last.ensures)
+    (run-unfinished {task = din_task a.plan a.seed a.format a.max_lines} run
+    (Wrote-none (g.K.Sink.view a.sink.now)) _
+    c.in_ok-stats.ensures.reports (output g (goal.at.returns-in_err-write_last g c).After-as_slice)
+    c.in_err-write_last.ensures)
 
 pub returns : goal.returns
 unfolding din_task
@@ -49,5 +54,7 @@ returns g c =
     let a = c.args in
     let run = read-from c.in_ok-lines.ensures c.in_ok-stats.ensures.stepped.1 in
     Performs-ok tt refl
-    (run-finished {task = din_task a.plan a.seed a.format a.max_lines} run (Wrote-none (g.K.Sink.view a.sink.now)) _
-    c.in_ok-stats.ensures.reports (output g (goal.at.returns g c).After-as_slice) c.in_ok-write_last.ensures)
+    (run-finished {task = din_task a.plan a.seed a.format a.max_lines} run
+    (Wrote-none (g.K.Sink.view a.sink.now)) _
+    c.in_ok-stats.ensures.reports (output g (goal.at.returns g c).After-as_slice)
+    c.in_ok-write_last.ensures)

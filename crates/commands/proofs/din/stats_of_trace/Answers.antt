@@ -2,19 +2,30 @@
 use Rattle.std.proofs.Common.{◌∷◌, [], arith, length-append}
 use Rattle.std.proofs.lemmas.Result.{err_from_is_err_and}
 use Rattle.trace_core.specs.Task.{entries_of}
-use Rattle.trace_core.proofs.WholeTraces.{reads-none, reads-more, reads-end, reads-fault, holds-less}
+use Rattle.trace_core.proofs.WholeTraces.{reads-none, reads-more, reads-end, reads-fault}
+use Rattle.trace_core.proofs.WholeTraces.{holds-less}
 use Rattle.commands.proofs.DinLemmas.{steps-more}
 use Rattle.commands.proofs.din.stats_of_trace.Goals as goal
 
 pub loop-system-init : goal.loop-system-init
 loop-system-init g c =
-    reads-none (g.S.Source.view c.args.source.now) c.requires.begun (λ plan seed good fresh. fresh, omega (arith, c.requires.new))
+    reads-none (g.S.Source.view c.args.source.now) c.requires.begun (
+      λ plan seed good fresh. fresh,
+      omega (arith, c.requires.new),
+    )
 
 pub step-requires : goal.step-requires
 step-requires g c =
     let so_far = c.loop-system.invariant in
     let bears = rw c.in-Some.is at c.in_ok-entry.ensures.entry in
-    omega (arith, so_far.few, so_far.holds.1, bears.1, c.next.ensures.within, c.next.ensures.limited)
+    omega (
+      arith,
+      so_far.few,
+      so_far.holds.1,
+      bears.1,
+      c.next.ensures.within,
+      c.next.ensures.limited,
+    )
 
 pub loop-system-preserved : goal.loop-system-preserved
 loop-system-preserved g c =
@@ -33,5 +44,6 @@ returns-in_err-entry-clause-stepped g c =
 
 pub returns-clause-stepped : goal.returns-clause-stepped
 returns-clause-stepped g c =
-    let run = reads-end c.loop-system.invariant c.next.ensures.reached c.in_ok-entry.was c.in_default.is in
+    let run = reads-end c.loop-system.invariant c.next.ensures.reached c.in_ok-entry.was
+    c.in_default.is in
     (c.loop-system.system, holds-less (λ es held. held.0) run, c.stats.ensures.value)

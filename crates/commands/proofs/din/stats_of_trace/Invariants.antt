@@ -7,7 +7,8 @@ use Rattle.commands.proofs.din.stats_of_trace.Given as goal
 -- the system was stepped through the entries that were read, at most two references each
 abbrev pub invariant-loop-system : goal.invariant-loop-system
 invariant-loop-system g l =
-    Reads l.fn.lines.format l.fn.lines.limit (g.S.Source.view l.initial.source) (g.S.Source.view l.source) l.lines
+    Reads l.fn.lines.format l.fn.lines.limit (g.S.Source.view l.initial.source)
+    (g.S.Source.view l.source) l.lines
     (λ es. StepsThrough l.fn.system l.system es × (l.system.steps ≤ 2 * length es))
 
 abbrev pub decreases-loop-system : goal.decreases-loop-system

@@ -14,4 +14,6 @@ returns-in_default-clause-stands c =
     rw (one_event All c.in-Item.is c.refs_of-second.ensures c.in_default.is) c.step.ensures.stands
 
 pub returns-in-Flush-clause-stands : goal.returns-in-Flush-clause-stands
-returns-in-Flush-clause-stands c = rw c.in-Flush.is (λ plan seed events good stands. c.flush.ensures.stands plan seed events stands)
+returns-in-Flush-clause-stands c =
+    rw c.in-Flush.is (λ plan seed events good stands. c.flush.ensures.stands plan seed
+    events stands)

@@ -4,4 +4,5 @@ use Rattle.commands.proofs.execute.execute.Goals as goal
 
 pub returns-in_err-sweep-in-Sweep : goal.returns-in_err-sweep-in-Sweep
 returns-in_err-sweep-in-Sweep g c =
-    rw c.in-Sweep.is (Performs-passed_on c.in_err-sweep-in-Sweep.field-0.0 (err_is c.from_residual.ensures.1) c.in_err-sweep-in-Sweep.ensures.performs)
+    rw c.in-Sweep.is (Performs-passed_on c.in_err-sweep-in-Sweep.field-0.0
+    (err_is c.from_residual.ensures.1) c.in_err-sweep-in-Sweep.ensures.performs)

@@ -17,10 +17,12 @@ returns-in-Some c = λ plan seed events good stands.
 pub returns-in_default : goal.returns-in_default
 returns-in_default c = λ plan seed events good stands.
     let one = c.step_observed.ensures in
-    logged_one has plan seed events good stands c.clear.ensures (one_event All c.in-Item.is c.refs_of-second.ensures c.in_default.is)
+    logged_one has plan seed events good stands c.clear.ensures
+    (one_event All c.in-Item.is c.refs_of-second.ensures c.in_default.is)
     (one.stands plan seed events good stands) (one.seen plan seed events good stands)
 
 pub returns-in-Flush : goal.returns-in-Flush
 returns-in-Flush c = λ plan seed events good stands.
     logged_one has plan seed events good stands c.clear.ensures (ap (events_of All) c.in-Flush.is)
-    (c.flush_observed.ensures.stands plan seed events stands) (c.flush_observed.ensures.seen plan seed events stands)
+    (c.flush_observed.ensures.stands plan seed events stands)
+    (c.flush_observed.ensures.seen plan seed events stands)

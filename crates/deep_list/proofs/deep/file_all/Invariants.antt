@@ -4,7 +4,8 @@ use Rattle.deep_list.proofs.deep.file_all.Given as goal
 
 abbrev pub invariant-loop-slot : goal.invariant-loop-slot
 invariant-loop-slot l =
-    (l.top ≤ l.slot) × (l.slot ≤ length l.slots.live) × AreChains l.slot (length l.slots.live) l.chains
+    (l.top ≤ l.slot) × (l.slot ≤ length l.slots.live) ×
+    AreChains l.slot (length l.slots.live) l.chains
     × AreFiledFrom l.slot l.chains l.slots
 
 abbrev pub decreases-loop-slot : goal.decreases-loop-slot

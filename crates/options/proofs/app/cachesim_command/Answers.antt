@@ -9,13 +9,16 @@ use Rattle.options.proofs.app.cachesim_command.Goals as goal
 
 pub returns : goal.returns
 returns c =
-    let app : app_of c.disable_help_subcommand.result ≡ record { top = cachesim_top; subs = [] } = search rules in
+    let app : app_of c.disable_help_subcommand.result ≡ record { top = cachesim_top; subs = [] } =
+    search rules in
     let local : (out-Command c.disable_help_subcommand.result).has_globals ≡ false = search rules in
     let commands = c.in_ok-commands.ensures in
     let leaves : (App → App) = λ (a : App). with_leaves a cachesim_app.subs in
     record {
       app = IfOk-weaker c.subcommands.result _ _
-          (λ m added. (leaves_added cachesim_app.subs _ _ m commands added).0 ∙ ap leaves app) c.subcommands.ensures;
+          (λ m added. (leaves_added cachesim_app.subs _ _ m commands added).0 ∙ ap leaves app)
+          c.subcommands.ensures;
       local = IfOk-weaker c.subcommands.result _ _
-          (λ m added. (leaves_added cachesim_app.subs _ _ m commands added).1 ∙ local) c.subcommands.ensures;
+          (λ m added. (leaves_added cachesim_app.subs _ _ m commands added).1 ∙ local)
+          c.subcommands.ensures;
     }

@@ -6,4 +6,5 @@ use Rattle.options.proofs.app.din_args.Given as goal
 
 abbrev pub invariant-loop-cache : goal.invariant-loop-cache
 invariant-loop-cache l = map rule_and_global l.args.items
-    ≡ map rule_and_global l.initial.args.items ++ map own_rule (rules_of_caches (take l.cache-index l.cache-items))
+    ≡ map rule_and_global l.initial.args.items ++
+    map own_rule (rules_of_caches (take l.cache-index l.cache-items))

@@ -9,4 +9,5 @@ loop-text-preserved c =
     ap (map app_and_global) c.in_ok-push.ensures.items
     ∙ map-append app_and_global c.loop-text.commands.items (c.in_ok-leaf_command.field-0 ∷ [])
     ∙ ap₂ (λ made next. made ++ next ∷ []) c.loop-text.invariant c.in_ok-leaf_command.ensures
-    ∙ sym (map_more (λ text. own_leaf (leaf_of text)) c.args.texts.now c.loop-text.text-index _ (search rules))
+    ∙ sym (map_more (λ text. own_leaf (leaf_of text)) c.args.texts.now c.loop-text.text-index _
+    (search rules))

@@ -5,4 +5,5 @@ use Rattle.options.proofs.app.push_options.Given as goal
 
 abbrev pub invariant-loop-option : goal.invariant-loop-option
 invariant-loop-option l = map rule_and_global l.args.items
-    ≡ map rule_and_global l.fn.args.items ++ map own_rule (map (λ option. rule_of_option option.now) (take l.option-index l.options))
+    ≡ map rule_and_global l.fn.args.items ++ map own_rule (map (λ option. rule_of_option option.now)
+    (take l.option-index l.options))

@@ -8,7 +8,12 @@ returns-clause-hits c = λ v few many le. omega (arith, sum-more v.distances few
 
 pub returns-clause-misses : goal.returns-clause-misses
 returns-clause-misses c = λ v few many le.
-    omega (arith, sum-more v.distances few many le, sum-split v.distances few, sum-split v.distances many)
+    omega (
+      arith,
+      sum-more v.distances few many le,
+      sum-split v.distances few,
+      sum-split v.distances many,
+    )
 
 pub returns-clause-evictions : goal.returns-clause-evictions
 returns-clause-evictions c = λ v few many le.

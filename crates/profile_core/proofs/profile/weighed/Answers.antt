@@ -7,10 +7,14 @@ use Rattle.profile_core.proofs.profile.weighed.Goals as goal
 use Rattle.profile_core.proofs.profile.weighed.Goals.{In-loop-index}
 
 -- what was added up, with the next number
-next : (c : In-loop-index) → c.loop-index.sum + (get_or c.args.numbers.now c.loop-index.index 0 * c.loop-index.index
-    + weighed (c.loop-index.index + 1) (drop (c.loop-index.index + 1) c.args.numbers.now)) ≡ weighed 0 c.args.numbers.now
+next : (c : In-loop-index) → c.loop-index.sum + (get_or c.args.numbers.now c.loop-index.index
+    0 * c.loop-index.index
+    + weighed (c.loop-index.index + 1) (drop (c.loop-index.index + 1) c.args.numbers.now)) ≡ weighed
+    0 c.args.numbers.now
 next c =
-    ap (λ n. c.loop-index.sum + n) (sym (weighed-next c.loop-index.index c.args.numbers.now c.loop-index.index c.loop-index-test.true))
+    ap (λ n. c.loop-index.sum + n)
+    (sym (weighed-next c.loop-index.index c.args.numbers.now c.loop-index.index
+    c.loop-index-test.true))
     ∙ c.loop-index.invariant
 
 pub overflow_mul-sum : goal.overflow_mul-sum
@@ -25,4 +29,9 @@ loop-index-preserved c = omega (arith, next (goal.at.loop-index-preserved c).In-
 pub returns : goal.returns
 returns c =
     let none = drop_all c.loop-index.index c.args.numbers.now (omega arith) in
-    omega (arith, c.loop-index.invariant, ap (weighed c.loop-index.index) none, weighed-none c.loop-index.index)
+    omega (
+      arith,
+      c.loop-index.invariant,
+      ap (weighed c.loop-index.index) none,
+      weighed-none c.loop-index.index,
+    )

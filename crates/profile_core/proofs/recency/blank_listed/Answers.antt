@@ -8,4 +8,5 @@ use Rattle.profile_core.proofs.recency.blank_listed.Goals as goal
 pub returns : goal.returns
 returns c =
     let none = drop_all c.loop-set.set-index c.args.sets.now (omega arith) in
-    no_count c.loop-set.fronts (subst (λ sets. ListsFilled sets c.loop-set.fronts) none c.loop-set.invariant) ∙ ap (λ n. replicate n 0) c.loop-set.auto.fronts
+    no_count c.loop-set.fronts (subst (λ sets. ListsFilled sets c.loop-set.fronts) none
+    c.loop-set.invariant) ∙ ap (λ n. replicate n 0) c.loop-set.auto.fronts

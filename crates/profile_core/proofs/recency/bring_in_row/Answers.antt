@@ -6,11 +6,17 @@ use Rattle.profile_core.proofs.recency.bring_in_row.Goals as goal
 use Rattle.profile_core.proofs.recency.bring_in_row.Goals.{After-shift_past}
 
 -- the blocks behind the front, as the pass leaves them
-shifted : (c : After-shift_past) → IsShifted c.args.block c.replace-first.result (c.args.len.now - 1) c.args.rest.now c.shift_past.new.list
-shifted c = record { within = omega (arith, c.requires.row.fits); after_is = c.shift_past.ensures.moved }
+shifted : (c : After-shift_past) → IsShifted c.args.block c.replace-first.result
+    (c.args.len.now - 1) c.args.rest.now c.shift_past.new.list
+shifted c = record {
+  within = omega (arith, c.requires.row.fits);
+  after_is =
+      c.shift_past.ensures.moved;
+}
 
 -- the list that was brought into the row
-list_is : (c : After-shift_past) → c.replace-first.result ∷ take (c.args.len.now - 1) c.args.rest.now ≡ take c.args.len.now (c.args.front.now ∷ c.args.rest.now)
+list_is : (c : After-shift_past) → c.replace-first.result ∷ take (c.args.len.now - 1)
+    c.args.rest.now ≡ take c.args.len.now (c.args.front.now ∷ c.args.rest.now)
 list_is c =
     let one_more : suc (c.args.len.now - 1) ≡ c.args.len.now = omega (arith, c.requires.some) in
     ap (λ f. f ∷ take (c.args.len.now - 1) c.args.rest.now) c.replace-first.ensures.value
@@ -21,14 +27,21 @@ returns-in-Found-clause-moved c =
     let at = (goal.at.returns-in-Found-clause-moved c).After-shift_past in
     let one_more : suc (c.args.len.now - 1) ≡ c.args.len.now = omega (arith, c.requires.some) in
     let after = c.shift_past.new.list ++ drop (c.args.len.now - 1) c.args.rest.now in
-    subst (λ xs. IsBroughtInRow c.args.block xs c.replace-first.new.dest after c.args.len.now) (list_is at)
-    (subst (λ n. IsBroughtInRow c.args.block (c.replace-first.result ∷ take (c.args.len.now - 1) c.args.rest.now) c.replace-first.new.dest after n) one_more
-    (brought_found (shifted at) c.replace-first.new.dest c.in-Found.distance c.replace-first.ensures.after c.requires.row.small c.in-Found.ensures.shifted))
+    subst (λ xs. IsBroughtInRow c.args.block xs c.replace-first.new.dest after c.args.len.now)
+    (list_is at)
+    (subst (λ n. IsBroughtInRow c.args.block (c.replace-first.result ∷ take (c.args.len.now - 1)
+    c.args.rest.now) c.replace-first.new.dest after n) one_more
+    (brought_found (shifted at) c.replace-first.new.dest c.in-Found.distance
+    c.replace-first.ensures.after c.requires.row.small c.in-Found.ensures.shifted))
 
 pub returns-then-held-rest-clause-moved : goal.returns-then-held-rest-clause-moved
 returns-then-held-rest-clause-moved c =
     let at = (goal.at.returns-then-held-rest-clause-moved c).After-shift_past in
-    let after = set (c.shift_past.new.list ++ drop (c.args.len.now - 1) c.args.rest.now) (c.args.len.now - 1) c.in-Out.last in
-    subst (λ xs. IsBroughtInRow c.args.block xs c.replace-first.new.dest after (c.args.len.now + 1)) (list_is at)
-    (brought_grown (shifted at) c.replace-first.new.dest c.in-Out.last (c.args.len.now + 1) c.replace-first.ensures.after c.requires.row.small
-    (omega (arith, c.if-held-rest.true, c.requires.some)) (omega (arith, c.requires.some)) c.in-Out.ensures.shifted)
+    let after = set (c.shift_past.new.list ++ drop (c.args.len.now - 1) c.args.rest.now)
+    (c.args.len.now - 1) c.in-Out.last in
+    subst (λ xs. IsBroughtInRow c.args.block xs c.replace-first.new.dest after (c.args.len.now + 1))
+    (list_is at)
+    (brought_grown (shifted at) c.replace-first.new.dest c.in-Out.last (c.args.len.now + 1)
+    c.replace-first.ensures.after c.requires.row.small
+    (omega (arith, c.if-held-rest.true, c.requires.some)) (omega (arith, c.requires.some))
+    c.in-Out.ensures.shifted)

@@ -1,5 +1,6 @@
 -- One list more is emptied.
-use Rattle.std.proofs.Common.{◌≡◌, ◌++◌, ◌<◌, ◌∙◌, length, take, drop, map, set, get_or, ap, sym, arith}
+use Rattle.std.proofs.Common.{◌≡◌, ◌++◌, ◌<◌, ◌∙◌, length, take, drop, map, set, get_or, ap, sym}
+use Rattle.std.proofs.Common.{arith}
 use Rattle.std.proofs.lemmas.List.Edits.{map_over_more}
 use Rattle.profile_core.specs.internal.Stacks.{empty_deep}
 use Rattle.profile_core.proofs.stacks.clear_all.Goals as goal
@@ -8,4 +9,5 @@ pub loop-list-preserved : goal.loop-list-preserved
 loop-list-preserved c =
     let i = c.loop-list.list-index in
     ap (set c.loop-list.far i) (c.clear.ensures ∙ ap empty_deep (sym c.list-item.is))
-    ∙ map_over_more empty_deep c.args.far.now c.loop-list.far i c.list-item.result (omega (arith, c.loop-list-test.true)) c.loop-list.invariant c.list-item.is
+    ∙ map_over_more empty_deep c.args.far.now c.loop-list.far i c.list-item.result
+    (omega (arith, c.loop-list-test.true)) c.loop-list.invariant c.list-item.is

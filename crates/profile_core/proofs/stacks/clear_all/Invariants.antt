@@ -3,4 +3,5 @@ use Rattle.profile_core.specs.internal.Stacks.{empty_deep}
 use Rattle.profile_core.proofs.stacks.clear_all.Given as goal
 
 abbrev pub invariant-loop-list : goal.invariant-loop-list
-invariant-loop-list l = l.far ≡ map empty_deep (take l.list-index l.initial.far) ++ drop l.list-index l.initial.far
+invariant-loop-list l = l.far ≡ map empty_deep (take l.list-index l.initial.far) ++
+    drop l.list-index l.initial.far

@@ -10,7 +10,8 @@ pub returns-clause-bytes : goal.returns-clause-bytes
 returns-clause-bytes c space d sound valid = bytes-are space d valid
 
 pub returns-clause-tested : goal.returns-clause-tested
-returns-clause-tested c space d sound valid = geometry-tested space d (space-limited space sound) valid
+returns-clause-tested c space d sound valid =
+    geometry-tested space d (space-limited space sound) valid
 
 pub returns-clause-fits : goal.returns-clause-fits
 returns-clause-fits c space d sound valid = size-fits space d (space-limited space sound) valid

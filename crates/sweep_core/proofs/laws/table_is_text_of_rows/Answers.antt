@@ -7,4 +7,5 @@ use Rattle.sweep_core.proofs.laws.table_is_text_of_rows.Goals as goal
 
 pub returns : goal.returns
 unfolding sweep_text
-returns c = λ r text. ap (λ l. header_of r.after ++ l) (sym (csv-counted (events r.format r.kind text) (rows_of r)))
+returns c = λ r text. ap (λ l. header_of r.after ++ l)
+    (sym (csv-counted (events r.format r.kind text) (rows_of r)))

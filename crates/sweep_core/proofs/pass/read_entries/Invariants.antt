@@ -1,4 +1,5 @@
--- What was read was fed, but for references that a profile finds in front, and each line that is read brings the
+-- What was read was fed, but for references that a profile finds in front, and each line that is
+-- read brings the
 -- end nearer.
 use Rattle.std.proofs.Common.{◌≡◌, ◌-◌, ◌*◌, ◌≤◌, length}
 use Rattle.std.specs.List.{flat_map}
@@ -12,8 +13,10 @@ use Rattle.sweep_core.proofs.pass.read_entries.Given as goal
 -- the entries that were read were fed, at most two references each
 abbrev pub invariant-loop-entry : goal.invariant-loop-entry
 invariant-loop-entry g l =
-    Reads l.fn.lines.format l.fn.lines.limit (g.S.Source.view l.initial.source) (g.S.Source.view l.source) l.lines
-    (λ es. (profiles_with_fronts l.fed l.profiles ≡ profiles_after (flat_map (events_of l.kind) es) l.fn.profiles)
+    Reads l.fn.lines.format l.fn.lines.limit (g.S.Source.view l.initial.source)
+    (g.S.Source.view l.source) l.lines
+    (λ es. (profiles_with_fronts l.fed l.profiles ≡ profiles_after (flat_map (events_of l.kind) es)
+    l.fn.profiles)
     × FedAtMost l.fed l.profiles × (l.fed ≤ 2 * length es))
     × (l.lines.lines ≤ MAX_LINES)
 

@@ -7,4 +7,5 @@ use Rattle.sweep_core.proofs.profiles.implied_by.Given as goal
 abbrev pub invariant-loop-other : goal.invariant-loop-other
 invariant-loop-other l =
     (l.count ≡ l.other-index)
-    × ((k : ℕ) (d : PairProfile) → k < l.other-index → is_refined l.profile.geometry (get_or l.others k d).profile.geometry ≡ true)
+    × ((k : ℕ) (d : PairProfile) → k < l.other-index →
+    is_refined l.profile.geometry (get_or l.others k d).profile.geometry ≡ true)

@@ -6,8 +6,10 @@ use Rattle.sweep_core.proofs.profiles.link.Goals as goal
 pub loop-at-preserved : goal.loop-at-preserved
 loop-at-preserved c =
     let now = c.loop-at.profiles in let i = c.loop-at.at in
-    link-next c.args.profiles.now now i c.implied_by-implied.result c.index-profiles-at.result c.loop-at.invariant (omega arith)
-    (rest-implied now i c.implied_by-implied.result c.index-all-at.result c.index-profiles-at.result (omega arith) c.index-all-at.is
+    link-next c.args.profiles.now now i c.implied_by-implied.result c.index-profiles-at.result
+    c.loop-at.invariant (omega arith)
+    (rest-implied now i c.implied_by-implied.result c.index-all-at.result c.index-profiles-at.result
+    (omega arith) c.index-all-at.is
     c.implied_by-implied.ensures)
 
 pub returns : goal.returns

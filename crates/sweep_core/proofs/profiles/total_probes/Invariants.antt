@@ -4,4 +4,5 @@ use Rattle.std.specs.Prelude.{sum_by}
 use Rattle.sweep_core.proofs.profiles.total_probes.Given as goal
 
 abbrev pub invariant-loop-pair : goal.invariant-loop-pair
-invariant-loop-pair l = (l.total ≡ sum_by (λ x. x.profile.probes) (take l.pair-index l.profiles)) × (l.total ≤ l.pair-index * 2 ^ 64)
+invariant-loop-pair l = (l.total ≡ sum_by (λ x. x.profile.probes) (take l.pair-index l.profiles)) ×
+    (l.total ≤ l.pair-index * 2 ^ 64)

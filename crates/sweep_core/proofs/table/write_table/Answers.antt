@@ -1,7 +1,8 @@
 -- The header and the rows are written, and then the sink is flushed.
 use Rattle.std.proofs.Common.{subst}
 use Rattle.std.proofs.lemmas.Result.{err_from_is_err_and}
-use Rattle.trace_core.proofs.Written.{Wrote-more, WrotePart-more, WrotePart-after, WroteLastPart-unflushed, WritesLast-flushes}
+use Rattle.trace_core.proofs.Written.{Wrote-more, WrotePart-more, WrotePart-after}
+use Rattle.trace_core.proofs.Written.{WroteLastPart-unflushed, WritesLast-flushes}
 use Rattle.sweep_core.specs.SweepText.{csv_rows}
 use Rattle.sweep_core.proofs.table.write_table.Goals as goal
 
@@ -13,11 +14,14 @@ returns-in_err-write_all g c =
 
 pub returns-in_err-write_rows : goal.returns-in_err-write_rows
 returns-in_err-write_rows g c =
-    let p = err_from_is_err_and c.from_residual-in_err-write_rows.result c.from_residual-in_err-write_rows.ensures.1 in
+    let p = err_from_is_err_and c.from_residual-in_err-write_rows.result
+    c.from_residual-in_err-write_rows.ensures.1 in
     let header = rw c.header.ensures at c.in_ok-write_all.ensures in
-    rw p.1 (WroteLastPart-unflushed (WrotePart-after header (rw c.pairs.ensures.rows at c.in_err-write_rows.ensures)))
+    rw p.1 (WroteLastPart-unflushed
+    (WrotePart-after header (rw c.pairs.ensures.rows at c.in_err-write_rows.ensures)))
 
 pub returns : goal.returns
 returns g c =
     let header = rw c.header.ensures at c.in_ok-write_all.ensures in
-    WritesLast-flushes c.flush.result (Wrote-more header (rw c.pairs.ensures.rows at c.in_ok-write_rows.ensures)) c.flush.ensures
+    WritesLast-flushes c.flush.result
+    (Wrote-more header (rw c.pairs.ensures.rows at c.in_ok-write_rows.ensures)) c.flush.ensures

@@ -4,4 +4,5 @@ use Rattle.trace_core.proofs.laws.cut_reader_has_read_what_was_delivered.Goals a
 
 pub returns : goal.returns
 returns c = λ format limit text rest start now xs p line reported left run failed.
-    let cut = Reached-cut format limit text rest start now xs p line reported left run failed in (run.bytes, cut.0, cut.1)
+    let cut = Reached-cut format limit text rest start now xs p line reported left run failed in
+    (run.bytes, cut.0, cut.1)

@@ -6,4 +6,5 @@ use Rattle.trace_core.proofs.laws.failed_reader_met_the_first_fault.Goals as goa
 
 pub returns : goal.returns
 returns c = λ format limit text start now xs p x reported run failed own.
-    Reached-fault format limit text start now xs p x reported run failed (ap device_failed (sym failed) ∙ own)
+    Reached-fault format limit text start now xs p x reported run failed
+    (ap device_failed (sym failed) ∙ own)

@@ -10,4 +10,5 @@ pub returns-clause-entries : goal.returns-clause-entries
 returns-clause-entries c = λ format limit text none. read-entries format limit 0 (lines text) none
 
 pub returns-clause-events : goal.returns-clause-events
-returns-clause-events c = λ format limit kind text none. ap (flat_map (events_of kind)) (read-entries format limit 0 (lines text) none)
+returns-clause-events c = λ format limit kind text none. ap (flat_map (events_of kind))
+    (read-entries format limit 0 (lines text) none)

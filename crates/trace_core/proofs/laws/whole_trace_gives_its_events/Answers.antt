@@ -12,9 +12,11 @@ returns-clause-faultless c = λ format limit text start now given reader known r
 
 pub returns-clause-entries : goal.returns-clause-entries
 returns-clause-entries c = λ format limit text start now given reader known reached ended.
-    entries-reading format limit text given (Reached-end format limit text start now given reader known reached ended)
+    entries-reading format limit text given (Reached-end format limit text start now given reader
+    known reached ended)
 
 pub returns-clause-events : goal.returns-clause-events
 returns-clause-events c = λ format limit kind text start now given reader known reached ended.
     ap (flat_map (events_of kind))
-    (entries-reading format limit text given (Reached-end format limit text start now given reader known reached ended))
+    (entries-reading format limit text given (Reached-end format limit text start now given reader
+    known reached ended))

@@ -1,4 +1,5 @@
--- The digits are written from the last one on: what is left of the number stands in front of those that are there.
+-- The digits are written from the last one on: what is left of the number stands in front of those
+-- that are there.
 use Rattle.std.proofs.Common.{◌≡◌, ◌^◌, ◌<◌, ◌≤◌, length, drop, false}
 use Rattle.std.specs.Fmt.{digits}
 use Rattle.trace_core.proofs.Hexadecimal.{digits_before}

@@ -5,7 +5,8 @@ use Rattle.cache_core.proofs.TouchedSets.{covers_none}
 use Rattle.cache_core.proofs.cache.Cache.new.Goals as goal
 use Rattle.cache_core.proofs.cache.Cache.new.Given.{Over}
 
-none_filled : (g : Over) (c : goal.In_ok-touched g) → c.in_ok-filled.filled.items ≡ replicate (2 ^ c.args.geometry.s) 0
+none_filled : (g : Over) (c : goal.In_ok-touched g) → c.in_ok-filled.filled.items ≡ replicate
+    (2 ^ c.args.geometry.s) 0
 none_filled g c = c.in_ok-filled.ensures ∙ ap (λ n. replicate n 0) c.sets.ensures
 
 pub invariant_of-result : goal.invariant_of-result
@@ -16,4 +17,5 @@ invariant_of-result g c =
     )
 
 pub returns-clause-empty : goal.returns-clause-empty
-returns-clause-empty g c = rw (none_filled g c) (sets_of-empty c.args.geometry.e _ c.in_ok-slots.slots.items)
+returns-clause-empty g c = rw (none_filled g c)
+    (sets_of-empty c.args.geometry.e _ c.in_ok-slots.slots.items)

@@ -8,16 +8,26 @@ use Rattle.cache_core.proofs.deep_sets.DeepSets.clear.Goals as goal
 use Rattle.cache_core.proofs.deep_sets.DeepSets.clear.Goals.{After-clear}
 
 cleared : (c : After-clear) →
-    take c.self.inside.lists.len (c.clear_lists.new.lists ++ drop (length c.clear_lists.new.lists) c.self.inside.lists.items)
+    take c.self.inside.lists.len (c.clear_lists.new.lists ++ drop (length c.clear_lists.new.lists)
+    c.self.inside.lists.items)
     ≡ map cleared_sets c.self.inside.lists.items
 cleared c =
     let long : length c.clear_lists.new.lists ≡ c.self.inside.lists.len =
-    omega (arith, ap length c.clear_lists.ensures, length-map c.deref_mut.result.now cleared_sets, c.deref_mut.ensures.len) in
-    all_written c.clear_lists.new.lists (drop (length c.clear_lists.new.lists) c.self.inside.lists.items) c.self.inside.lists.len long
+    omega (
+      arith,
+      ap length c.clear_lists.ensures,
+      length-map c.deref_mut.result.now cleared_sets,
+      c.deref_mut.ensures.len,
+    ) in
+    all_written c.clear_lists.new.lists
+    (drop (length c.clear_lists.new.lists) c.self.inside.lists.items)
+    c.self.inside.lists.len long
     ∙ c.clear_lists.ensures ∙ ap (map cleared_sets) c.deref_mut.ensures.value
 
 pub invariant_of-self : goal.invariant_of-self
-invariant_of-self c = rw (cleared c, c.clear.ensures) (emptied_kept c.self.inside.capacity c.self.inside.touched c.self.inside.lists.items c.self.invariant)
+invariant_of-self c = rw (cleared c, c.clear.ensures)
+    (emptied_kept c.self.inside.capacity c.self.inside.touched c.self.inside.lists.items
+    c.self.invariant)
 
 pub returns : goal.returns
 returns c =

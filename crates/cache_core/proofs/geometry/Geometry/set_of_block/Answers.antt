@@ -4,4 +4,8 @@ use Rattle.std.proofs.lemmas.Nat.{and_mask}
 use Rattle.cache_core.proofs.geometry.Geometry.set_of_block.Goals as goal
 
 pub returns-clause-value : goal.returns-clause-value
-returns-clause-value c = rw (c.self.invariant.1, and_mask c.args.block c.self.inside.s, ← c.self.view_is) refl
+returns-clause-value c = rw (
+  c.self.invariant.1,
+  and_mask c.args.block c.self.inside.s,
+  ← c.self.view_is,
+) refl

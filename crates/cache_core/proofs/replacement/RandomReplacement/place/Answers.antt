@@ -8,12 +8,15 @@ use Rattle.cache_core.proofs.RandomNumberLemmas.{random_number-first, random_num
 use Rattle.cache_core.proofs.replacement.RandomReplacement.place.Goals as goal
 
 drawn : (c : goal.After-gone-1) → c.next_word.result ≡ random_number c.args.self.now 0
-drawn c = ap (λ (p : ℕ × Lcg). p.0) c.next_word.ensures ∙ ap (λ g. (pcg32 g).0) c.self.view_is ∙ sym (random_number-first c.args.self.now)
+drawn c = ap (λ (p : ℕ × Lcg). p.0) c.next_word.ensures ∙ ap (λ g. (pcg32 g).0) c.self.view_is ∙
+    sym (random_number-first c.args.self.now)
 
 pub returns-clause-order : goal.returns-clause-order
 returns-clause-order c =
-    exchange_full c.args.set.now c.args.filled c.next_word.result _ c.args.new _ (omega arith) c.requires.some (drawn c)
+    exchange_full c.args.set.now c.args.filled c.next_word.result _ c.args.new _ (omega arith)
+    c.requires.some (drawn c)
 
 pub returns-clause-words : goal.returns-clause-words
 returns-clause-words c =
-    random_number-rest c.args.self.now c.next_word.new.self (ap (λ (p : ℕ × Lcg). p.1) c.next_word.ensures ∙ ap (λ g. (pcg32 g).1) c.self.view_is)
+    random_number-rest c.args.self.now c.next_word.new.self
+    (ap (λ (p : ℕ × Lcg). p.1) c.next_word.ensures ∙ ap (λ g. (pcg32 g).1) c.self.view_is)

@@ -5,4 +5,9 @@ use Rattle.cache_core.proofs.simulation.Simulation.flush.Goals as goal
 
 pub returns-clause-stands : goal.returns-clause-stands
 returns-clause-stands c = λ g events h.
-    record { some = h.some; sets = c.flush.ensures g events h.sets; counts = h.counts ∙ sym (counts-flush g events) }
+    record {
+      some = h.some;
+      sets = c.flush.ensures g events h.sets;
+      counts =
+          h.counts ∙ sym (counts-flush g events);
+    }

@@ -8,4 +8,9 @@ pub returns : goal.returns
 unfolding counts occurrences_after
 returns c =
     let h = c.in_ok-sets.ensures in
-    record { some = omega (arith, h.some, near_few c.args.geometry.e c.in_ok-sets.sets.far); sets = h; counts = refl }
+    record {
+      some = omega (arith, h.some, near_few c.args.geometry.e c.in_ok-sets.sets.far);
+      sets =
+          h;
+      counts = refl;
+    }

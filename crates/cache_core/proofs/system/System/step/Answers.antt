@@ -4,7 +4,8 @@ use Rattle.cache_core.specs.internal.SystemSteps.{nothing_down}
 use Rattle.cache_core.proofs.SystemLaw.{step_law}
 use Rattle.cache_core.proofs.system.System.step.Goals as goal
 
-pub returns-then-access_first_level_in_front-clause-stands : goal.returns-then-access_first_level_in_front-clause-stands
+pub returns-then-access_first_level_in_front-clause-stands
+    : goal.returns-then-access_first_level_in_front-clause-stands
 returns-then-access_first_level_in_front-clause-stands c = λ plan seed events good stands.
     step_law plan seed events _ c.args.reference _ good stands (rw (← c.self.view_is) record {
       down = Some nothing_down;

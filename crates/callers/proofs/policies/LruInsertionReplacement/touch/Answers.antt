@@ -4,4 +4,5 @@ use Rattle.cache_core.specs.declared.design.Repl.TheVariants.{Lru}
 use Rattle.callers.proofs.policies.LruInsertionReplacement.touch.Goals as goal
 
 pub returns-clause-order : goal.returns-clause-order
-returns-clause-order c = c.slots_are_kept.ensures.touch (Some Lru) c.args.set.now c.args.at _ c.requires c.touch.ensures.order
+returns-clause-order c = c.slots_are_kept.ensures.touch (Some Lru) c.args.set.now c.args.at _
+    c.requires c.touch.ensures.order

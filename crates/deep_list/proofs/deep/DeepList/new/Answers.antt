@@ -1,4 +1,5 @@
-use Rattle.std.proofs.Common.{◌≡◌, ◌+◌, ◌*◌, ◌/◌, ◌<◌, ◌≤◌, ◌^◌, ◌∙◌, [], length, sym, ap, List, ℕ, arith, subst}
+use Rattle.std.proofs.Common.{◌≡◌, ◌+◌, ◌*◌, ◌/◌, ◌<◌, ◌≤◌, ◌^◌, ◌∙◌, [], length, sym, ap, List, ℕ}
+use Rattle.std.proofs.Common.{arith, subst}
 use Rattle.std.specs.Prelude.{replicate}
 use Rattle.std.proofs.lemmas.List.{length-replicate}
 use Rattle.deep_list.specs.Deep.{Deep}
@@ -10,9 +11,12 @@ invariant_of-result c =
     let n : ℕ = c.args.cap + c.args.cap / 2 + 1 in
     let slots = c.in_ok-new.ensures {u = tt} in
     let chains = c.in_ok-new-2.ensures {u = tt} in
-    none_deep c.args.cap n c.in_ok-new.field-0 (ap (λ v. length v.blocks) slots ∙ length-replicate {A = ℕ} n 0)
-    (ap (λ v. v.live) slots) c.in_ok-new-2.field-0 c.requires.some (omega arith) (omega (arith, c.requires.small))
-    (chains_none n (c.args.cap / 2 + 1) c.in_ok-new-2.field-0 (omega arith) (omega (arith, c.requires.small)) (ap (λ v. v.heads) chains)
+    none_deep c.args.cap n c.in_ok-new.field-0 (ap (λ v. length v.blocks) slots ∙
+    length-replicate {A = ℕ} n 0)
+    (ap (λ v. v.live) slots) c.in_ok-new-2.field-0 c.requires.some (omega arith)
+    (omega (arith, c.requires.small))
+    (chains_none n (c.args.cap / 2 + 1) c.in_ok-new-2.field-0 (omega arith)
+    (omega (arith, c.requires.small)) (ap (λ v. v.heads) chains)
     (ap (λ v. v.next) chains))
 
 pub returns : goal.returns
@@ -21,5 +25,6 @@ returns c =
     let slots = c.in_ok-new.ensures {u = tt} in
     let made : List ℕ → Deep = λ xs. record { cap = c.args.cap; blocks = xs } in
     ap made
-    (none_kept c.args.cap n c.in_ok-new.field-0 (ap (λ v. length v.blocks) slots ∙ length-replicate {A = ℕ} n 0)
+    (none_kept c.args.cap n c.in_ok-new.field-0 (ap (λ v. length v.blocks) slots ∙
+    length-replicate {A = ℕ} n 0)
     (ap (λ v. v.live) slots))

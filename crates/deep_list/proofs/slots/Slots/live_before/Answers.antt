@@ -1,4 +1,5 @@
-use Rattle.std.proofs.Common.{◌≡◌, ◌+◌, ◌-◌, ◌*◌, ◌/◌, ◌<◌, ◌≤◌, ◌^◌, ◌∙◌, ap, sym, subst, sum, take, drop, arith, length, ℕ, List}
+use Rattle.std.proofs.Common.{◌≡◌, ◌+◌, ◌-◌, ◌*◌, ◌/◌, ◌<◌, ◌≤◌, ◌^◌, ◌∙◌, ap, sym, subst, sum}
+use Rattle.std.proofs.Common.{take, drop, arith, length, ℕ, List}
 use Rattle.std.proofs.lemmas.List.{drop-take}
 use Rattle.std.proofs.lemmas.List.Sums.{sum_by-take-drop}
 use Rattle.deep_list.proofs.SlotLemmas.{live_before, sum_small, at_chunk, part_small}
@@ -6,7 +7,8 @@ use Rattle.deep_list.proofs.slots.Slots.live_before.Goals as goal
 
 pub total-before-requires : goal.total-before-requires
 total-before-requires c =
-    let lt : c.args.slot < length c.self.inside.live.items = omega (arith, c.requires, ap (λ v. length v.live) c.self.view_is) in
+    let lt : c.args.slot < length c.self.inside.live.items =
+    omega (arith, c.requires, ap (λ v. length v.live) c.self.view_is) in
     let i = c.self.invariant in
     omega (
       arith,
@@ -20,18 +22,21 @@ total_flags-within-requires c =
     omega (
       arith,
       part_small c.self.invariant c.args.slot,
-      ap (λ xs. sum (take (c.args.slot - c.args.slot / 256 * 256) (drop (c.args.slot / 256 * 256) xs))) c.deref-2.ensures.value,
+      ap (λ xs. sum (take (c.args.slot - c.args.slot / 256 * 256)
+          (drop (c.args.slot / 256 * 256) xs))) c.deref-2.ensures.value,
     )
 
 pub returns : goal.returns
 returns c =
-    let lt : c.args.slot < length c.self.inside.live.items = omega (arith, c.requires, ap (λ v. length v.live) c.self.view_is) in
+    let lt : c.args.slot < length c.self.inside.live.items =
+    omega (arith, c.requires, ap (λ v. length v.live) c.self.view_is) in
     omega (
       arith,
       live_before c.self.invariant c.args.slot lt,
       c.total-before.ensures,
       c.total_flags-within.ensures,
       ap (λ xs. sum (take (c.args.slot / 256) xs)) c.deref.ensures.value,
-      ap (λ xs. sum (take (c.args.slot - c.args.slot / 256 * 256) (drop (c.args.slot / 256 * 256) xs))) c.deref-2.ensures.value,
+      ap (λ xs. sum (take (c.args.slot - c.args.slot / 256 * 256)
+          (drop (c.args.slot / 256 * 256) xs))) c.deref-2.ensures.value,
       ap (λ v. sum (take c.args.slot v.live)) c.self.view_is,
     )

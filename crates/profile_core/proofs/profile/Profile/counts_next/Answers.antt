@@ -1,19 +1,24 @@
 -- The next counts of a sums: the step that the code takes, and what it leaves.
 use Rattle.std.proofs.Common.{◌-◌, ◌≤◌, ◌^◌, ◌∙◌, ap, sum, take, drop, arith}
 use Rattle.profile_core.specs.internal.State.{fed_of}
-use Rattle.profile_core.proofs.HitSums.{IsStep, step_of, part-le, hits_after, free_after, within, counts_after}
+use Rattle.profile_core.proofs.HitSums.{IsStep, step_of, part-le, hits_after, free_after, within}
+use Rattle.profile_core.proofs.HitSums.{counts_after}
 use Rattle.profile_core.proofs.Counting.{counts_are}
 use Rattle.profile_core.proofs.profile.Profile.counts_next.Goals as goal
 use Rattle.profile_core.proofs.profile.Profile.counts_next.Goals.{After-total-free}
 
 -- the step that the code takes
-step : (c : After-total-free) → IsStep c.args.self.now c.sums.inside.ways c.args.e c.sums.inside.hits c.sums.inside.free_misses c.sums.inside.fed
+step : (c : After-total-free) → IsStep c.args.self.now c.sums.inside.ways c.args.e
+    c.sums.inside.hits c.sums.inside.free_misses c.sums.inside.fed
     c.hits_between-hits.result c.total-free.result
 step c =
     let from = c.sums.inside.ways in
-    step_of c.args.self.now c.args.sums.now from c.args.e c.sums.inside.hits c.sums.inside.free_misses c.sums.inside.fed c.hits_between-hits.result
-    c.total-free.result c.sums.view_is c.requires.of_this c.requires.rising c.hits_between-hits.ensures
-    (c.total-free.ensures ∙ ap (λ ns. sum (take (c.args.e - from) (drop from ns))) (c.deref.ensures.value ∙ ap (λ v. v.misses_by_occupancy) c.self.view_is))
+    step_of c.args.self.now c.args.sums.now from c.args.e c.sums.inside.hits
+    c.sums.inside.free_misses c.sums.inside.fed c.hits_between-hits.result
+    c.total-free.result c.sums.view_is c.requires.of_this c.requires.rising
+    c.hits_between-hits.ensures
+    (c.total-free.ensures ∙ ap (λ ns. sum (take (c.args.e - from) (drop from ns)))
+    (c.deref.ensures.value ∙ ap (λ v. v.misses_by_occupancy) c.self.view_is))
 
 -- all sums are within the references fed, which are few
 few : (c : After-total-free) → c.sums.inside.fed ≤ 2 ^ 41
@@ -23,28 +28,38 @@ pub total-free-requires : goal.total-free-requires
 total-free-requires c =
     omega (
       arith,
-      part-le c.deref.result.now c.self.inside.misses_by_occupancy.items (c.args.e - c.sums.inside.ways) c.sums.inside.ways c.deref.ensures.value,
+      part-le c.deref.result.now c.self.inside.misses_by_occupancy.items
+          (c.args.e - c.sums.inside.ways) c.sums.inside.ways c.deref.ensures.value,
       c.self.invariant.fed,
     )
 
 pub overflow_add-sums : goal.overflow_add-sums
-overflow_add-sums c = let at = (goal.at.overflow_add-sums c).After-total-free in omega (arith, within (step at), few at)
+overflow_add-sums c = let at = (goal.at.overflow_add-sums c).After-total-free in
+    omega (arith, within (step at), few at)
 
 pub overflow_add-sums-2 : goal.overflow_add-sums-2
-overflow_add-sums-2 c = let at = (goal.at.overflow_add-sums-2 c).After-total-free in omega (arith, within (step at), few at)
+overflow_add-sums-2 c = let at = (goal.at.overflow_add-sums-2 c).After-total-free in
+    omega (arith, within (step at), few at)
 
 pub overflow_sub-misses : goal.overflow_sub-misses
-overflow_sub-misses c = omega (arith, within (step (goal.at.overflow_sub-misses c).After-total-free))
+overflow_sub-misses c = omega (
+  arith,
+  within (step (goal.at.overflow_sub-misses c).After-total-free),
+)
 
 pub overflow_sub-result : goal.overflow_sub-result
-overflow_sub-result c = omega (arith, within (step (goal.at.overflow_sub-result c).After-total-free))
+overflow_sub-result c = omega (
+  arith,
+  within (step (goal.at.overflow_sub-result c).After-total-free),
+)
 
 pub returns-clause-value : goal.returns-clause-value
 returns-clause-value c = counts_after (step (goal.at.returns-clause-value c).After-total-free)
 
 pub returns-clause-trace : goal.returns-clause-trace
 returns-clause-trace c = λ es h.
-    counts_after (step (goal.at.returns-clause-trace c).After-total-free) ∙ counts_are es c.args.self.now c.args.e h c.requires.within
+    counts_after (step (goal.at.returns-clause-trace c).After-total-free) ∙
+    counts_are es c.args.self.now c.args.e h c.requires.within
 
 pub returns-clause-sums : goal.returns-clause-sums
 returns-clause-sums c =

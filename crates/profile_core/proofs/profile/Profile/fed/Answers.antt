@@ -6,10 +6,17 @@ use Rattle.profile_core.proofs.profile.Profile.fed.Goals as goal
 use Rattle.profile_core.proofs.profile.Profile.fed.Goals.{After-total}
 
 all_fed : (c : After-total) → c.hits.result + c.total.result ≡ fed_of c.args.self.now
-all_fed c = omega (arith, c.hits.ensures, c.total.ensures, ap sum c.deref.ensures.value, ap (λ v. sum v.misses_by_occupancy) c.self.view_is)
+all_fed c = omega (
+  arith,
+  c.hits.ensures,
+  c.total.ensures,
+  ap sum c.deref.ensures.value,
+  ap (λ v. sum v.misses_by_occupancy) c.self.view_is,
+)
 
 pub returns-clause-value : goal.returns-clause-value
 returns-clause-value c = all_fed c
 
 pub returns-clause-trace : goal.returns-clause-trace
-returns-clause-trace c = λ es h. all_fed (goal.at.returns-clause-trace c).After-total ∙ fed_is es c.args.self.now h
+returns-clause-trace c = λ es h. all_fed (goal.at.returns-clause-trace c).After-total ∙
+    fed_is es c.args.self.now h

@@ -7,13 +7,23 @@ use Rattle.profile_core.proofs.Fed.{IsMoved, distance_fits, distance_few, found_
 use Rattle.profile_core.proofs.profile.Profile.feed_behind.Goals as goal
 use Rattle.profile_core.proofs.profile.Profile.feed_behind.Goals.{After-bring_second}
 
-moved : (c : After-bring_second) → IsMoved c.self.inside.geometry c.self.inside.lists c.bring_second.new.self c.self.inside.behind.items
-    c.self.inside.misses_by_occupancy.items c.self.inside.probes c.args.block c.args.set c.args.self.now
-moved c = record { sound = c.self.invariant; view_is = c.self.view_is; next = c.requires; moved = c.bring_second.ensures }
+moved : (c : After-bring_second) → IsMoved c.self.inside.geometry c.self.inside.lists
+    c.bring_second.new.self c.self.inside.behind.items
+    c.self.inside.misses_by_occupancy.items c.self.inside.probes c.args.block c.args.set
+    c.args.self.now
+moved c = record {
+  sound = c.self.invariant;
+  view_is = c.self.view_is;
+  next = c.requires;
+  moved =
+      c.bring_second.ensures;
+}
 
-found : (c : After-bring_second) → FoundAt c.args.block 1 (get_or c.self.inside.lists.lists c.args.set [])
+found : (c : After-bring_second) →
+    FoundAt c.args.block 1 (get_or c.self.inside.lists.lists c.args.set [])
 found c =
-    found_second c.args.block _ (ap (λ v. is_front c.args.block (list_of v c.args.set)) c.self.view_is ∙ c.requires.behind)
+    found_second c.args.block _ (ap (λ v. is_front c.args.block (list_of v c.args.set))
+    c.self.view_is ∙ c.requires.behind)
     (sym c.is_second.ensures ∙ c.if-is_second.true)
 
 pub index_mut-requires : goal.index_mut-requires

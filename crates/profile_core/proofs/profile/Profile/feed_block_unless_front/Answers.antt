@@ -9,22 +9,29 @@ use Rattle.profile_core.proofs.profile.Profile.feed_block_unless_front.Goals.{Af
 -- whether it is found in front, as the state sees it
 front : (c : After-is_front) → c.is_front.result ≡ is_front_of c.args.self.now c.args.block
 front c =
-    c.is_front.ensures ∙ ap (λ k. is_front c.args.block (get_or c.self.inside.lists.lists k [])) c.set_of_block-set.ensures.value
+    c.is_front.ensures ∙ ap (λ k. is_front c.args.block (get_or c.self.inside.lists.lists k []))
+    c.set_of_block-set.ensures.value
     ∙ ap (λ v. is_front_of v c.args.block) c.self.view_is
 
 pub returns-then-is_front-clause-front : goal.returns-then-is_front-clause-front
-returns-then-is_front-clause-front c = sym c.if-is_front.true ∙ front (goal.at.returns-then-is_front-clause-front c).After-is_front
+returns-then-is_front-clause-front c = sym c.if-is_front.true ∙
+    front (goal.at.returns-then-is_front-clause-front c).After-is_front
 
 pub returns-then-is_front-clause-step : goal.returns-then-is_front-clause-step
 returns-then-is_front-clause-step c =
     let v = c.args.self.now in let x = c.args.block in
-    sym (ap (λ b. cond b v (after_reference v x)) (sym (front (goal.at.returns-then-is_front-clause-step c).After-is_front) ∙ c.if-is_front.true))
+    sym (ap (λ b. cond b v (after_reference v x))
+    (sym (front (goal.at.returns-then-is_front-clause-step c).After-is_front) ∙
+    c.if-is_front.true))
 
 pub returns-else-is_front-clause-front : goal.returns-else-is_front-clause-front
-returns-else-is_front-clause-front c = sym c.if-is_front.false ∙ front (goal.at.returns-else-is_front-clause-front c).After-is_front
+returns-else-is_front-clause-front c = sym c.if-is_front.false ∙
+    front (goal.at.returns-else-is_front-clause-front c).After-is_front
 
 pub returns-else-is_front-clause-step : goal.returns-else-is_front-clause-step
 returns-else-is_front-clause-step c =
     let v = c.args.self.now in let x = c.args.block in
     c.feed_behind.ensures
-    ∙ sym (ap (λ b. cond b v (after_reference v x)) (sym (front (goal.at.returns-else-is_front-clause-step c).After-is_front) ∙ c.if-is_front.false))
+    ∙ sym (ap (λ b. cond b v (after_reference v x))
+    (sym (front (goal.at.returns-else-is_front-clause-step c).After-is_front) ∙
+    c.if-is_front.false))

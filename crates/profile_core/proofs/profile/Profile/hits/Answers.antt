@@ -7,16 +7,26 @@ use Rattle.profile_core.proofs.profile.Profile.hits.Goals as goal
 use Rattle.profile_core.proofs.profile.Profile.hits.Goals.{After-self}
 
 -- what the histograms tell of the comparisons
-told : (c : After-self) → weighed 0 c.self.inside.behind.items + sum c.self.inside.behind.items + weighed 0 c.self.inside.misses_by_occupancy.items
+told : (c : After-self) → weighed 0 c.self.inside.behind.items + sum
+    c.self.inside.behind.items + weighed 0 c.self.inside.misses_by_occupancy.items
     ≤ c.self.inside.probes
 told c = omega (arith, c.self.invariant.told, weighed-more 0 c.self.inside.behind.items)
 
 pub weighed-requires : goal.weighed-requires
-weighed-requires c = omega (arith, told (goal.at.weighed-requires c).After-self, ap (weighed 0) c.deref.ensures.value)
+weighed-requires c = omega (
+  arith,
+  told (goal.at.weighed-requires c).After-self,
+  ap (weighed 0) c.deref.ensures.value,
+)
 
 pub overflow_sub-result : goal.overflow_sub-result
 overflow_sub-result c =
-    omega (arith, told (goal.at.overflow_sub-result c).After-self, c.weighed.ensures ∙ ap (weighed 0) c.deref.ensures.value)
+    omega (
+      arith,
+      told (goal.at.overflow_sub-result c).After-self,
+      c.weighed.ensures ∙
+          ap (weighed 0) c.deref.ensures.value,
+    )
 
 pub overflow_sub-result-2 : goal.overflow_sub-result-2
 overflow_sub-result-2 c =
@@ -30,5 +40,14 @@ returns c =
     let behind = c.weighed.ensures ∙ ap (weighed 0) c.deref.ensures.value in
     let missed = c.weighed-2.ensures ∙ ap (weighed 0) c.deref-2.ensures.value in
     let more = weighed-more 0 rows.behind.items in
-    let all = sum-distances rows.probes rows.behind.items rows.misses_by_occupancy.items c.self.invariant.none_in_front in
-    omega (arith, behind, missed, more, all, c.self.invariant.told, ap (λ v. sum v.distances) c.self.view_is)
+    let all = sum-distances rows.probes rows.behind.items rows.misses_by_occupancy.items
+    c.self.invariant.none_in_front in
+    omega (
+      arith,
+      behind,
+      missed,
+      more,
+      all,
+      c.self.invariant.told,
+      ap (λ v. sum v.distances) c.self.view_is,
+    )

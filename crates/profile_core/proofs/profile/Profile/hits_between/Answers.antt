@@ -1,4 +1,5 @@
--- The numbers of a part of the distances: all hits without those further away, or those of the histogram.
+-- The numbers of a part of the distances: all hits without those further away, or those of the
+-- histogram.
 use Rattle.std.proofs.Common.{◌≡◌, ◌+◌, ◌-◌, ◌∙◌, length, sum, take, drop, sym, ap, arith}
 use Rattle.profile_core.specs.internal.State.{distances_of, compared_behind}
 use Rattle.profile_core.proofs.Feeding.{sum-distances}
@@ -6,22 +7,29 @@ use Rattle.profile_core.proofs.HitSums.{part-le, drop-later, sum-rest}
 use Rattle.profile_core.proofs.profile.Profile.hits_between.Goals as goal
 use Rattle.profile_core.proofs.profile.Profile.hits_between.Goals.{After-self, After-total}
 
-distances : (c : After-self) → distances_of c.self.inside.probes c.self.inside.behind.items c.self.inside.misses_by_occupancy.items ≡ c.args.self.now.distances
+distances : (c : After-self) → distances_of c.self.inside.probes c.self.inside.behind.items
+    c.self.inside.misses_by_occupancy.items ≡ c.args.self.now.distances
 distances c = ap (λ v. v.distances) c.self.view_is
 
-all : (c : After-self) → sum (distances_of c.self.inside.probes c.self.inside.behind.items c.self.inside.misses_by_occupancy.items)
-    ≡ c.self.inside.probes - compared_behind c.self.inside.behind.items c.self.inside.misses_by_occupancy.items + sum c.self.inside.behind.items
-all c = sum-distances c.self.inside.probes c.self.inside.behind.items c.self.inside.misses_by_occupancy.items c.self.invariant.none_in_front
+all : (c : After-self) → sum (distances_of c.self.inside.probes c.self.inside.behind.items
+    c.self.inside.misses_by_occupancy.items)
+    ≡ c.self.inside.probes - compared_behind c.self.inside.behind.items
+    c.self.inside.misses_by_occupancy.items + sum c.self.inside.behind.items
+all c = sum-distances c.self.inside.probes c.self.inside.behind.items
+    c.self.inside.misses_by_occupancy.items c.self.invariant.none_in_front
 
 -- the hits at a distance below `to`, and the others
-split : (c : After-total) → sum (take c.args.to c.args.self.now.distances) + c.total.result ≡ c.hits.result
+split : (c : After-total) → sum
+    (take c.args.to c.args.self.now.distances) + c.total.result ≡ c.hits.result
 split c =
     let rows = c.self.inside in
-    let far = c.total.ensures ∙ ap (λ ns. sum (take (length ns - c.args.to) (drop c.args.to ns))) c.deref.ensures.value in
+    let far = c.total.ensures ∙ ap (λ ns. sum (take (length ns - c.args.to) (drop c.args.to ns)))
+    c.deref.ensures.value in
     let is = ap (λ v. v.distances) c.self.view_is in
     omega (
       arith,
-      sum-rest rows.behind.items (rows.probes - compared_behind rows.behind.items rows.misses_by_occupancy.items) c.args.to c.requires.some,
+      sum-rest rows.behind.items (rows.probes - compared_behind rows.behind.items
+          rows.misses_by_occupancy.items) c.args.to c.requires.some,
       far,
       ap (λ ds. sum (take c.args.to ds)) is,
       ap sum is,
@@ -45,7 +53,8 @@ pub total-requires-else-from-eq0 : goal.total-requires-else-from-eq0
 total-requires-else-from-eq0 c =
     omega (
       arith,
-      part-le c.deref-else-from-eq0.result.now c.self.inside.behind.items (c.args.to - c.args.from) c.args.from c.deref-else-from-eq0.ensures.value,
+      part-le c.deref-else-from-eq0.result.now c.self.inside.behind.items (c.args.to - c.args.from)
+          c.args.from c.deref-else-from-eq0.ensures.value,
       c.self.invariant.fed,
       all (goal.at.total-requires-else-from-eq0 c).After-self,
     )
@@ -61,7 +70,10 @@ returns-then-from-eq0 c =
 pub returns-else-from-eq0 : goal.returns-else-from-eq0
 returns-else-from-eq0 c =
     let is = distances (goal.at.returns-else-from-eq0 c).After-self in
-    let part = ap (λ ns. sum (take (c.args.to - c.args.from) (drop c.args.from ns))) c.deref-else-from-eq0.ensures.value in
+    let part = ap (λ ns. sum (take (c.args.to - c.args.from) (drop c.args.from ns)))
+    c.deref-else-from-eq0.ensures.value in
     c.total-else-from-eq0.ensures ∙ part
-    ∙ ap (λ ns. sum (take (c.args.to - c.args.from) ns)) (sym (drop-later c.self.inside.behind.items _ c.args.from (omega (arith, c.if-from-eq0.false))))
+    ∙ ap (λ ns. sum (take (c.args.to - c.args.from) ns))
+    (sym (drop-later c.self.inside.behind.items _ c.args.from
+    (omega (arith, c.if-from-eq0.false))))
     ∙ ap (λ ds. sum (take (c.args.to - c.args.from) (drop c.args.from ds))) is

@@ -1,5 +1,6 @@
 -- The numbers of a new profile are all 0.
-use Rattle.std.proofs.Common.{rules, ◌≡◌, ◌+◌, ◌*◌, ◌^◌, ◌%◌, [], ◌∙◌, ℕ, Bool, true, false, cond, Some, None, sym, ap, arith}
+use Rattle.std.proofs.Common.{rules, ◌≡◌, ◌+◌, ◌*◌, ◌^◌, ◌%◌, [], ◌∙◌, ℕ, Bool, true, false, cond}
+use Rattle.std.proofs.Common.{Some, None, sym, ap, arith}
 use Rattle.std.specs.Prelude.{replicate}
 use Rattle.cache_core.specs.Geometry.{GeometryValue, geometry_value, geometry_of}
 use Rattle.profile_core.proofs.Feeding.{new_sound}
@@ -9,7 +10,8 @@ some_of : {A : Type 0} (b : Bool) (x y : A) → Some x ≡ cond b (Some y) None 
 some_of true x y is = cc
 some_of false x y is = absurd (cc)
 
-geometry_is : (g : GeometryValue) (s e b : ℕ) → Some g ≡ geometry_of s e b → g ≡ geometry_value s e b
+geometry_is : (g : GeometryValue) (s e b : ℕ) → Some g ≡ geometry_of s e b →
+    g ≡ geometry_value s e b
 geometry_is g s e b is = some_of _ g (geometry_value s e b) is
 
 pub invariant_of-result : goal.invariant_of-result
@@ -18,8 +20,11 @@ invariant_of-result c =
     let lists = c.in_ok-new.ensures in
     let ways = ap (λ g. g.e) is in
     let small : (1 * 2 ^ c.args.s) % 2 ^ 64 ≡ 2 ^ c.args.s = search rules in
-    new_sound c.in-Some.geometry c.in_ok-new.field-0 c.in_ok-vec.field-0.items c.in_ok-vec-2.field-0.items
+    new_sound c.in-Some.geometry c.in_ok-new.field-0 c.in_ok-vec.field-0.items
+    c.in_ok-vec-2.field-0.items
     (ap (λ l. l.depth) lists ∙ sym ways)
     (ap (λ l. l.lists) lists ∙ ap (λ n. replicate n []) (small ∙ ap (λ g. 2 ^ g.s) (sym is)))
-    (omega (arith, ways, c.requires.some)) (c.in_ok-vec.ensures.items_if_clones_equal (λ y e. e) ∙ ap (λ n. replicate n 0) (sym ways))
-    (c.in_ok-vec-2.ensures.items_if_clones_equal (λ y e. e) ∙ ap (λ n. replicate (n + 1) 0) (sym ways))
+    (omega (arith, ways, c.requires.some)) (c.in_ok-vec.ensures.items_if_clones_equal (λ y e. e) ∙
+    ap (λ n. replicate n 0) (sym ways))
+    (c.in_ok-vec-2.ensures.items_if_clones_equal (λ y e. e) ∙
+    ap (λ n. replicate (n + 1) 0) (sym ways))

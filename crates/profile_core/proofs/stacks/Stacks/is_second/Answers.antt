@@ -6,10 +6,21 @@ use Rattle.profile_core.proofs.stacks.Stacks.is_second.Goals as goal
 
 pub is_second-requires : goal.is_second-requires
 is_second-requires c =
-    omega (arith, c.requires, ap (λ v. length v.lists) c.self.view_is, length-joined c.self.inside.near.lists c.self.inside.far.items)
+    omega (
+      arith,
+      c.requires,
+      ap (λ v. length v.lists) c.self.view_is,
+      length-joined c.self.inside.near.lists c.self.inside.far.items,
+    )
 
 pub returns : goal.returns
 returns c =
     let lt : c.args.set < length c.self.inside.near.lists =
-    omega (arith, c.requires, ap (λ v. length v.lists) c.self.view_is, length-joined c.self.inside.near.lists c.self.inside.far.items) in
-    c.is_second.ensures ∙ second_is c.self.invariant c.args.block c.args.set lt ∙ ap (λ v. is_second c.args.block (get_or v.lists c.args.set [])) c.self.view_is
+    omega (
+      arith,
+      c.requires,
+      ap (λ v. length v.lists) c.self.view_is,
+      length-joined c.self.inside.near.lists c.self.inside.far.items,
+    ) in
+    c.is_second.ensures ∙ second_is c.self.invariant c.args.block c.args.set lt ∙
+    ap (λ v. is_second c.args.block (get_or v.lists c.args.set [])) c.self.view_is

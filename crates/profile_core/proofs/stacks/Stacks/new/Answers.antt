@@ -1,5 +1,6 @@
 -- Empty lists, in rows alone or with more behind them.
-use Rattle.std.proofs.Common.{◌≡◌, ◌+◌, ◌-◌, ◌*◌, ◌<◌, ◌≤◌, ◌^◌, ◌∙◌, ℕ, List, [], length, refl, sym, ap, arith, subst}
+use Rattle.std.proofs.Common.{◌≡◌, ◌+◌, ◌-◌, ◌*◌, ◌<◌, ◌≤◌, ◌^◌, ◌∙◌, ℕ, List, [], length, refl}
+use Rattle.std.proofs.Common.{sym, ap, arith, subst}
 use Rattle.std.specs.Prelude.{replicate}
 use Rattle.profile_core.specs.internal.Slab.{Lists}
 use Rattle.profile_core.specs.internal.Stacks.{whole_lists}
@@ -7,29 +8,37 @@ use Rattle.profile_core.proofs.StackLemmas.{depth_small, stacked_new, new_lists,
 use Rattle.profile_core.proofs.stacks.Stacks.new.Goals as goal
 
 small : (sets depth : ℕ) → 256 ≤ depth → sets * depth ≤ 2 ^ 22 → sets * (64 + (depth - 64)) ≤ 2 ^ 22
-small sets depth lt le = let P : ℕ → Type 0 = λ n. sets * n ≤ 2 ^ 22 in let e : depth ≡ 64 + (depth - 64) = omega arith in subst P e le
+small sets depth lt le = let P : ℕ → Type 0 = λ n. sets * n ≤ 2 ^ 22 in
+    let e : depth ≡ 64 + (depth - 64) = omega arith in subst P e le
 
 pub far_lists-requires-clause-small : goal.far_lists-requires-clause-small
-far_lists-requires-clause-small c = omega (arith, depth_small c.args.sets c.args.depth c.requires.filled c.requires.small)
+far_lists-requires-clause-small c =
+    omega (arith, depth_small c.args.sets c.args.depth c.requires.filled c.requires.small)
 
 pub returns-then-depth-lt-DEEP : goal.returns-then-depth-lt-DEEP
 returns-then-depth-lt-DEEP c =
     let near = c.in_ok-new.field-0 in
     let made : ℕ → List (List ℕ) → Lists = λ n ls. record { depth = n; lists = ls } in
-    ap (λ ds. made (near.depth + 0) (whole_lists near.lists ds)) c.new-then-depth-lt-DEEP.ensures.items
-    ∙ ap (made (near.depth + 0)) (joined_none near.lists [] refl) ∙ ap (λ v. made (v.depth + 0) v.lists) (c.in_ok-new.ensures {u = tt})
+    ap (λ ds. made (near.depth + 0) (whole_lists near.lists ds))
+    c.new-then-depth-lt-DEEP.ensures.items
+    ∙ ap (made (near.depth + 0)) (joined_none near.lists [] refl) ∙
+    ap (λ v. made (v.depth + 0) v.lists) (c.in_ok-new.ensures {u = tt})
     ∙ ap (λ n. made n (replicate c.args.sets [])) (omega arith)
 
 pub invariant_of-result-2 : goal.invariant_of-result-2
 invariant_of-result-2 c =
-    stacked_new c.in_ok-near.near c.args.sets (c.args.depth - 64) c.in_ok-far.far.items (c.in_ok-near.ensures {u = tt}) (c.in_ok-far.ensures {u = tt})
-    c.requires.filled (small c.args.sets c.args.depth (omega (arith, c.if-depth-lt-DEEP.false)) c.requires.small)
+    stacked_new c.in_ok-near.near c.args.sets (c.args.depth - 64) c.in_ok-far.far.items
+    (c.in_ok-near.ensures {u = tt}) (c.in_ok-far.ensures {u = tt})
+    c.requires.filled (small c.args.sets c.args.depth (omega (arith, c.if-depth-lt-DEEP.false))
+    c.requires.small)
     (omega (arith, c.if-depth-lt-DEEP.false))
 
 pub returns : goal.returns
 returns c =
     let near = c.in_ok-near.ensures {u = tt} in
     let made : ℕ → List (List ℕ) → Lists = λ n ls. record { depth = n; lists = ls } in
-    ap (λ v. made (v.depth + (c.args.depth - 64)) (whole_lists c.in_ok-near.near.lists c.in_ok-far.far.items)) near
-    ∙ ap (made (64 + (c.args.depth - 64))) (new_lists c.in_ok-near.near c.args.sets (c.args.depth - 64) c.in_ok-far.far.items near (c.in_ok-far.ensures {u = tt}))
+    ap (λ v. made (v.depth + (c.args.depth - 64))
+    (whole_lists c.in_ok-near.near.lists c.in_ok-far.far.items)) near
+    ∙ ap (made (64 + (c.args.depth - 64))) (new_lists c.in_ok-near.near c.args.sets
+    (c.args.depth - 64) c.in_ok-far.far.items near (c.in_ok-far.ensures {u = tt}))
     ∙ ap (λ n. made n (replicate c.args.sets [])) (omega (arith, c.if-depth-lt-DEEP.false))

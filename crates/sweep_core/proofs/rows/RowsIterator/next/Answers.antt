@@ -3,12 +3,14 @@ use Rattle.std.proofs.Common.{◌≡◌, ◌≤◌, ◌++◌, ◌∷◌, Some, s
 use Rattle.sweep_core.specs.internal.Runs.{counted_run, counted_profiles, rows_to_come, IsWalk}
 use Rattle.sweep_core.proofs.Serving.{walk-start, walk-rows, walk-more, comes-first}
 use Rattle.sweep_core.proofs.rows.RowsIterator.next.Goals as goal
-use Rattle.sweep_core.proofs.rows.RowsIterator.next.Goals.{After-self-1, in-Some, in-None+in_ok-first-in-None}
+use Rattle.sweep_core.proofs.rows.RowsIterator.next.Goals.{After-self-1, in-Some}
+use Rattle.sweep_core.proofs.rows.RowsIterator.next.Goals.{in-None+in_ok-first-in-None}
 
 -- the walk of the pair whose row comes
 walks : (c : After-self-1) → let inside = c.match-take.self-inside in
     (1 ≤ c.match-take.pair.left) × IsWalk inside.space.now.powers c.match-take.pair
-    × (c.args.self.now ≡ rows_to_come inside.space.now.powers (Some c.match-take.pair) inside.later.now)
+    × (c.args.self.now ≡ rows_to_come inside.space.now.powers (Some c.match-take.pair)
+    inside.later.now)
 walks c =
     let was = c.self.inside in
     let powers = was.space.now.powers in
@@ -30,15 +32,19 @@ walks c =
           rw (w.self-inside-is, w.pair-is) (
             rw made.rows serve.0.some,
             walk-start serve.0 made.profile made.sums made.first made.rows,
-            sym c.self.view_is ∙ ap (λ o. rows_to_come powers o was.later.now) (sym c.take.ensures.value ∙ w.in-None.is)
+            sym c.self.view_is ∙ ap (λ o. rows_to_come powers o was.later.now)
+                (sym c.take.ensures.value ∙ w.in-None.is)
                 ∙ ap (counted_profiles powers) is
-                ∙ ap (λ l. l ++ counted_profiles powers later) (sym (walk-rows powers first w.new-pair.result made.profile made.first made.rows)),
+                ∙ ap (λ l. l ++ counted_profiles powers later)
+                (sym (walk-rows powers first w.new-pair.result made.profile
+                made.first made.rows)),
           )
     ]
 
 -- its row comes first
 steps : (c : After-self-1) → c.args.self.now
-    ≡ c.next_row-row.result ∷ rows_to_come c.match-take.self-inside.space.now.powers c.then_some-self-inside.result c.match-take.self-inside.later.now
+    ≡ c.next_row-row.result ∷ rows_to_come c.match-take.self-inside.space.now.powers
+    c.then_some-self-inside.result c.match-take.self-inside.later.now
 steps c =
     let w = walks c in
     let row = c.next_row-row.ensures in
@@ -46,7 +52,9 @@ steps c =
     let powers = c.match-take.self-inside.space.now.powers in
     comes-first powers c.args.self.now c.match-take.pair after c.match-take.self-inside.later.now
     c.next_row-row.result c.then_some-self-inside.result w.2
-    (walk-more w.1 w.0 after row.profile row.next row.left ∙ ap (λ r. r ∷ counted_run powers after.profile.now after.next after.left) (sym row.row)) c.then_some-self-inside.ensures
+    (walk-more w.1 w.0 after row.profile row.next row.left ∙
+    ap (λ r. r ∷ counted_run powers after.profile.now after.next after.left) (sym row.row))
+    c.then_some-self-inside.ensures
 
 pub returns-clause-steps : goal.returns-clause-steps
 returns-clause-steps c = steps c

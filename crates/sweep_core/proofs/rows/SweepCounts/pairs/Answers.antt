@@ -7,8 +7,10 @@ use Rattle.sweep_core.proofs.rows.SweepCounts.pairs.Goals as goal
 
 pub returns-clause-rows : goal.returns-clause-rows
 returns-clause-rows c =
-    pairs-rows c.self.inside.space.powers c.deref.result.now ∙ ap (counted_profiles c.self.inside.space.powers) c.deref.ensures.value
+    pairs-rows c.self.inside.space.powers c.deref.result.now ∙
+    ap (counted_profiles c.self.inside.space.powers) c.deref.ensures.value
     ∙ ap (λ s. s.rows) c.self.view_is
 
 pub returns-clause-sizes : goal.returns-clause-sizes
-returns-clause-sizes c = pairs-sizes c.self.inside.space.powers c.deref.result.now (subst (AllByRecursion _) (sym c.deref.ensures.value) c.self.invariant)
+returns-clause-sizes c = pairs-sizes c.self.inside.space.powers c.deref.result.now
+    (subst (AllByRecursion _) (sym c.deref.ensures.value) c.self.invariant)

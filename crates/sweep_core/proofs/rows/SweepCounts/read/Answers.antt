@@ -17,13 +17,17 @@ use Rattle.sweep_core.proofs.rows.SweepCounts.read.Goals.{After-read_trace}
 
 -- the profiles are those of what was read
 swept : (g : given.Over) (c : After-read_trace g)
-    → SweepStandsFor c.args.request.now (events_read c.args.request.now.kind c.read_trace.ensures.fed.read)
+    → SweepStandsFor c.args.request.now
+    (events_read c.args.request.now.kind c.read_trace.ensures.fed.read)
     (with_items c.in_ok-profiles.profiles c.read_trace.new.profiles).items
-swept g c = swept-after c.in_ok-profiles.ensures.stands c.deref_mut.ensures.value c.read_trace.ensures.fed (take_at _ _ _ (omega arith))
+swept g c = swept-after c.in_ok-profiles.ensures.stands c.deref_mut.ensures.value
+    c.read_trace.ensures.fed (take_at _ _ _ (omega arith))
 
 -- what was read, up to a state
-abbrev run : (g : given.Over) (c : After-read_trace g) (state : ReaderState) → c.read_trace.new.lines.state ≡ state
-    → ReadsTo c.args.request.now.format c.args.request.now.max_lines (g.S.Source.view c.args.source.now) (g.S.Source.view c.read_trace.new.source) state
+abbrev run : (g : given.Over) (c : After-read_trace g) (state : ReaderState) →
+    c.read_trace.new.lines.state ≡ state
+    → ReadsTo c.args.request.now.format c.args.request.now.max_lines
+    (g.S.Source.view c.args.source.now) (g.S.Source.view c.read_trace.new.source) state
 run g c state is = record {
   read = c.read_trace.ensures.fed.read;
   at = c.read_trace.new.lines;
@@ -33,24 +37,34 @@ run g c state is = record {
 
 pub read_trace-requires-clause-fresh : goal.read_trace-requires-clause-fresh
 read_trace-requires-clause-fresh g c =
-    subst (Each IsFresh) (sym c.deref_mut.ensures.value) (fresh-sweep c.args.request.now c.in_ok-profiles.profiles.items c.in_ok-profiles.ensures.stands.fed)
+    subst (Each IsFresh) (sym c.deref_mut.ensures.value)
+    (fresh-sweep c.args.request.now c.in_ok-profiles.profiles.items
+    c.in_ok-profiles.ensures.stands.fed)
 
 pub read_trace-requires-clause-linked : goal.read_trace-requires-clause-linked
-read_trace-requires-clause-linked g c = subst IsLinked (sym c.deref_mut.ensures.value) c.in_ok-profiles.ensures.linked
+read_trace-requires-clause-linked g c =
+    subst IsLinked (sym c.deref_mut.ensures.value) c.in_ok-profiles.ensures.linked
 
 pub invariant_of-result : goal.invariant_of-result
-invariant_of-result g c = swept-serve c.args.request.now _ _ (swept g (goal.at.invariant_of-result g c).After-read_trace)
+invariant_of-result g c = swept-serve c.args.request.now _ _
+    (swept g (goal.at.invariant_of-result g c).After-read_trace)
 
 pub returns-clause-reads : goal.returns-clause-reads
 returns-clause-reads g c =
-    let after = (goal.at.returns-clause-reads g c).After-read_trace in
-    (run g after _ c.in_ok-read_trace.ensures.reports, counted-is c.args.request.now _ _ (swept g after))
+    let after = (goal.at.returns-clause-reads g c).After-read_trace in (
+      run g after _ c.in_ok-read_trace.ensures.reports,
+      counted-is c.args.request.now _ _
+          (swept g after),
+    )
 
 pub returns-clause-counts : goal.returns-clause-counts
 returns-clause-counts g c =
     let after = (goal.at.returns-clause-counts g c).After-read_trace in
-    counts-known c.args.request.now (run g after _ c.in_ok-read_trace.ensures.reports) (counted-is c.args.request.now _ _ (swept g after))
+    counts-known c.args.request.now (run g after _ c.in_ok-read_trace.ensures.reports)
+    (counted-is c.args.request.now _ _ (swept g after))
 
 pub returns-clause-faultless : goal.returns-clause-faultless
 returns-clause-faultless g c =
-    faultless-known c.args.request.now (run g (goal.at.returns-clause-faultless g c).After-read_trace _ c.in_ok-read_trace.ensures.reports)
+    faultless-known c.args.request.now
+    (run g (goal.at.returns-clause-faultless g c).After-read_trace _
+    c.in_ok-read_trace.ensures.reports)

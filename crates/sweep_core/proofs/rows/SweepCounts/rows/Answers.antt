@@ -5,4 +5,5 @@ use Rattle.sweep_core.proofs.Serving.{all-sizes}
 use Rattle.sweep_core.proofs.rows.SweepCounts.rows.Goals as goal
 
 pub returns-clause-sizes : goal.returns-clause-sizes
-returns-clause-sizes c = all-sizes c.self.inside.space.powers c.deref.result.now (subst (AllByRecursion _) (sym c.deref.ensures.value) c.self.invariant)
+returns-clause-sizes c = all-sizes c.self.inside.space.powers c.deref.result.now
+    (subst (AllByRecursion _) (sym c.deref.ensures.value) c.self.invariant)

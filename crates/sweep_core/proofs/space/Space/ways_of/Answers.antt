@@ -7,22 +7,30 @@ use Rattle.sweep_core.proofs.space.Space.ways_of.Goals as goal
 
 pub overflow_mul-pair : goal.overflow_mul-pair
 overflow_mul-pair c =
-    omega (arith, pair_fits (of_space c.self.view_is c.self.invariant c.requires.block c.requires.set c.requires.powers.0 c.requires.powers.1))
+    omega (
+      arith,
+      pair_fits (of_space c.self.view_is c.self.invariant c.requires.block
+          c.requires.set c.requires.powers.0 c.requires.powers.1),
+    )
 
 pub div_ceil-requires : goal.div_ceil-requires
-div_ceil-requires c = pair_some (of_space c.self.view_is c.self.invariant c.requires.block c.requires.set c.requires.powers.0 c.requires.powers.1)
+div_ceil-requires c = pair_some (of_space c.self.view_is c.self.invariant c.requires.block
+    c.requires.set c.requires.powers.0 c.requires.powers.1)
 
 pub nonzero_div-self-inside : goal.nonzero_div-self-inside
-nonzero_div-self-inside c = pair_some (of_space c.self.view_is c.self.invariant c.requires.block c.requires.set c.requires.powers.0 c.requires.powers.1)
+nonzero_div-self-inside c = pair_some (of_space c.self.view_is c.self.invariant c.requires.block
+    c.requires.set c.requires.powers.0 c.requires.powers.1)
 
 pub returns-clause-valid : goal.returns-clause-valid
 returns-clause-valid c e =
     subst (λ (r : Ranges). is_valid r (config c.args.bsize c.args.sets e)
     ≡ (is_in_range (c.max.result, c.min.result) e && (not r.powers || is_power e))) c.self.view_is
-    (ways-valid (of_space c.self.view_is c.self.invariant c.requires.block c.requires.set c.requires.powers.0 c.requires.powers.1) e
+    (ways-valid (of_space c.self.view_is c.self.invariant c.requires.block c.requires.set
+    c.requires.powers.0 c.requires.powers.1) e
     c.div_ceil.ensures c.max.ensures c.min-most.ensures c.min.ensures)
 
 pub returns-clause-few : goal.returns-clause-few
 returns-clause-few c =
-    let few = few_ways (of_space c.self.view_is c.self.invariant c.requires.block c.requires.set c.requires.powers.0 c.requires.powers.1) in
+    let few = few_ways (of_space c.self.view_is c.self.invariant c.requires.block c.requires.set
+    c.requires.powers.0 c.requires.powers.1) in
     omega (arith, c.min.ensures, c.min-most.ensures, few)

@@ -8,8 +8,10 @@ pub returns-clause-least : goal.returns-clause-least
 returns-clause-least c k block set =
     omega (
       arith,
-      exponent-le c.ilog2.result (k / 21) c.ilog2.ensures.power_le (omega (arith, block, pow_pos (k / 21))),
-      exponent-le c.ilog2-2.result (k % 21) c.ilog2-2.ensures.power_le (omega (arith, set, pow_pos (k % 21))),
+      exponent-le c.ilog2.result (k / 21) c.ilog2.ensures.power_le
+          (omega (arith, block, pow_pos (k / 21))),
+      exponent-le c.ilog2-2.result (k % 21) c.ilog2-2.ensures.power_le
+          (omega (arith, set, pow_pos (k % 21))),
     )
 
 pub returns-clause-greatest : goal.returns-clause-greatest

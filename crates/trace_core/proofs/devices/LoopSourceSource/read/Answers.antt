@@ -15,8 +15,11 @@ returns-clause-turned c =
     let round : drop at text ++ take at text ≡ c.args.self.now =
     elim c.if-self.branch [
       | then-self w ↦
-          let whole : length before ≡ c.self.inside.at = omega (arith, w.if-self.true, c.self.invariant.0) in
-          rw w.self-inside-is (append-nil before ∙ sym (ap (λ d. d ++ take (length before) before) (drop-length before) ∙ take-length before)
+          let whole : length before ≡ c.self.inside.at =
+          omega (arith, w.if-self.true, c.self.invariant.0) in
+          rw w.self-inside-is (append-nil before ∙
+          sym (ap (λ d. d ++ take (length before) before) (drop-length before) ∙
+          take-length before)
           ∙ ap (λ k. drop k before ++ take k before) whole ∙ c.self.view_is)
       | else-self w ↦ rw w.self-inside-is c.self.view_is
     ] in
@@ -26,5 +29,11 @@ returns-clause-turned c =
       | else-self w ↦ rw w.self-inside-is (omega (arith, w.if-self.false))
     ] in
     let inside : at + n ≤ length text =
-    omega (arith, from, c.min-count.ensures, length-take (length text - at) (drop at text), length-drop at text) in
+    omega (
+      arith,
+      from,
+      c.min-count.ensures,
+      length-take (length text - at) (drop at text),
+      length-drop at text,
+    ) in
     turned text at n inside ∙ ap (λ xs. drop n xs ++ take n xs) round

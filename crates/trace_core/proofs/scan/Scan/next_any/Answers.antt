@@ -8,12 +8,14 @@ loop-self-init g c = (Skips-start _ c.args.self.now, λ ne. (refl, refl))
 
 pub returns-in-Some-clause-advances : goal.returns-in-Some-clause-advances
 returns-in-Some-clause-advances g c =
-    Skips-advances (g.S.Source.view c.step.new.source) c.step.new.self c.loop-self.invariant.0 c.in-Open.is (Some c.in-Some.entry)
+    Skips-advances (g.S.Source.view c.step.new.source) c.step.new.self c.loop-self.invariant.0
+    c.in-Open.is (Some c.in-Some.entry)
     c.in-Some.ensures.advances
 
 pub loop-self-preserved : goal.loop-self-preserved
 loop-self-preserved g c = (
-  Skips-more (g.S.Source.view c.step.new.source) c.step.new.self c.loop-self.invariant.0 c.in-Open.is
+  Skips-more (g.S.Source.view c.step.new.source) c.step.new.self
+      c.loop-self.invariant.0 c.in-Open.is
       c.in_default-step.ensures.advances c.in_default-step.ensures.steps,
   λ ne. absurd (ne (ap (λ s. s.state) (sym (c.loop-self.invariant.1 ne).1) ∙ c.in-Open.is)),
 )

@@ -8,7 +8,8 @@ use Rattle.trace_core.proofs.scan.Scan.step.Goals as goal
 pub returns-then-not-is_empty-clause-advances : goal.returns-then-not-is_empty-clause-advances
 returns-then-not-is_empty-clause-advances g c =
     let s = c.args.self.now in
-    let some : 0 < length s.buffer = search (rules, tests, ap length c.as_slice-unread.ensures.value) in
+    let some : 0 < length s.buffer =
+    search (rules, tests, ap length c.as_slice-unread.ensures.value) in
     ([], Delivers-none _ _, steps-past _ s c.requires _ some (omega arith) c.stop.ensures.state)
 
 pub returns-in-Some-clause-advances : goal.returns-in-Some-clause-advances
@@ -16,9 +17,12 @@ returns-in-Some-clause-advances g c =
     let s = c.args.self.now in
     let found = c.in-Some.ensures in
     let passed = c.pass_line.ensures in
-    let some : 0 < length s.buffer = omega (arith, found.line.0.high, ap length c.as_slice-unread.ensures.value) in (
+    let some : 0 < length s.buffer =
+    omega (arith, found.line.0.high, ap length c.as_slice-unread.ensures.value) in (
       [],
       Delivers-none _ _,
-      steps-item _ s c.requires _ c.in-Some.at c.in-Some.item (progress c.pass_line.new.self) _ c.as_slice-unread.ensures.value
-          found.line found.item (omega arith) (omega (arith, some)) passed.number passed.lines passed.buffer passed.same,
+      steps-item _ s c.requires _ c.in-Some.at c.in-Some.item (progress c.pass_line.new.self) _
+          c.as_slice-unread.ensures.value
+          found.line found.item (omega arith) (omega (arith, some)) passed.number passed.lines
+          passed.buffer passed.same,
     )

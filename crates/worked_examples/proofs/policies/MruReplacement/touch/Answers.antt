@@ -5,4 +5,5 @@ use Rattle.cache_core.proofs.Lawful.{lawful_touch}
 use Rattle.worked_examples.proofs.policies.MruReplacement.touch.Goals as goal
 
 pub returns-clause-order : goal.returns-clause-order
-returns-clause-order c = lawful_touch (Some Lru) c.args.set.now c.args.at _ c.requires c.touch.ensures.order
+returns-clause-order c = lawful_touch (Some Lru) c.args.set.now c.args.at _ c.requires
+    c.touch.ensures.order
