@@ -126,7 +126,7 @@ class Shells(ToolTest):
         "cachesim din --l2-urepl ": "din|--l2-urepl|f|l|r",
         "cachesim din -l1-uw": "din|-l1-uwalloc|-l1-uwback",
         "cachesim din --l1-uw": "din|--l1-uwalloc|--l1-uwback",
-        "cachesim-plot --only ": "--only|block|curve|pareto|size",
+        "cachesim-plot --only ": "--only|block|curve|pareto|size|three-c",
         "cachesim-plot b": "b.din",
     }
     SHOW = ("cachesim() { printf '\\n'; printf '<%s>' \"$@\"; echo EN''-D; }; "
@@ -209,7 +209,7 @@ class OfTheTools(Offered):
         "best --fr": "--front",
         "trace --with ": "qemu lackey",
         "trace --kind=d --wi": "--with",
-        "plot --only ": "size block pareto curve",
+        "plot --only ": "size block pareto curve three-c",
         "pages 4 --s": "--sets --size",
         "warm 1000 t.din --kind ": "u d i",
         "to-din p": "pin",

@@ -209,7 +209,8 @@ class Din(PlotTest):
         script = self.script("t.csv", "a.svg")
         self.assertEqual(data_of(script),
                          {"size_1": [[(256, 20), (512, 10)]], "size_2": [[(256, 40), (512, 12)]]})
-        self.assertIn("'Miss ratio of l2-u by cache size'", script)
+        self.assertIn("'Local miss ratio of l2-u by cache size'", script)
+        self.assertIn("set ylabel 'local miss ratio of l2-u in per cent'", script)
         more = rows + rows.replace("64,", "32,").replace(",50,50.000,50,", ",60,60.000,60,")
         self.write("t.csv", f"{header}\n{more}")
         self.assertEqual(names_of(self.script("--across", "l2-usize", "t.csv", "a.svg")),
@@ -219,11 +220,24 @@ class Din(PlotTest):
         script = self.script("--across", "l1-dsize", "t.csv", "a.svg")
         self.assertEqual(data_of(script), {"size_1": [[(32, 60), (64, 50)]]})
         self.assertEqual(names_of(script), [])
+        self.assertIn("'Miss ratio of l1-d by cache size'", script)
         # all caches together: 32 + 256 bytes are the least
         data = self.data("--only", "pareto", "--measure", "l2-u-misses", "t.csv", "a.svg")
         self.assertEqual(data["pareto_front"], [[(288, 10), (544, 5)]])
         every = [(first + size, missed) for first in (32, 64) for size, _, missed in second]
         self.assertEqual(sorted(data["pareto_all"][0]), sorted(every))
+
+    def test_a_global_miss_ratio(self):
+        """A column that is called so is no local one, and is drawn as it stands."""
+        header = "l1-dsize,l2-usize,l1-d-references,l2-u-misses,l2-u-global-percent,bypassed"
+        self.write("t.csv", f"{header}\n64,256,100,10,10.000,0\n64,512,100,5,5.000,0\n")
+        script = self.script("--measure", "l2-u-global-percent", "t.csv", "a.svg")
+        self.assertEqual(data_of(script), {"size_1": [[(256, 10), (512, 5)]]})
+        self.assertIn("'Global miss ratio of l2-u by cache size'", script)
+        self.assertIn("set ylabel 'global miss ratio of l2-u in per cent'", script)
+        self.write("t.csv", "l2-usize,l2-u-references,l2-u-misses,l2-u-percent,bypassed\n"
+                   "64,100,10,10.000,0\n")
+        self.assertIn("'Miss ratio by cache size'", self.script("t.csv", "a.svg"))
 
     def test_refused(self):
         rows = din_rows({(64, "l"): (100,)})

@@ -47,6 +47,15 @@ class LooksTest(PlotTest):
         self.write_din()
         self.sort = base.TOP / "docs/pictures/sort.csv"
 
+    def look(self, *arguments, width, dark=False):
+        """What a browser shows of a page."""
+        self.good(self.plot(*arguments, "a.html"))
+        self.write("look.html", (self.folder / "a.html").read_text().replace("</body>", LOOK))
+        self.write("frame.html", FRAME % width)
+        options = ["--window-size=1400,1600", *["--blink-settings=preferredColorScheme=0"] * dark]
+        look = re.search('data-look="([^"]*)"', self.browsed("frame.html", *options))[1]
+        return json.loads(look.replace("&quot;", '"'))
+
 
 class Script(LooksTest):
     def test_mono(self):
@@ -180,15 +189,6 @@ class Drawn(LooksTest):
 
 @needs("python3-plotly", "chromium")
 class Page(LooksTest):
-    def look(self, *arguments, width, dark=False):
-        """What a browser shows of a page."""
-        self.good(self.plot(*arguments, "a.html"))
-        self.write("look.html", (self.folder / "a.html").read_text().replace("</body>", LOOK))
-        self.write("frame.html", FRAME % width)
-        options = ["--window-size=1400,1600", *["--blink-settings=preferredColorScheme=0"] * dark]
-        look = re.search('data-look="([^"]*)"', self.browsed("frame.html", *options))[1]
-        return json.loads(look.replace("&quot;", '"'))
-
     def test_narrow_and_wide(self):
         for width, dark, *colours in ((400, True, "24, 26, 27", "92, 179, 236", "228, 228, 228"),
                                       (1280, False, "255, 255, 255", "0, 114, 178", "34, 34, 34")):

@@ -1,6 +1,6 @@
 """The best caches of a table, of those that `best` is asked for."""
 
-from lib import table, table_din, tool
+from lib import costs, table, table_din, tool
 
 
 def by_measure(row):
@@ -19,7 +19,7 @@ def smallest_below(asked, rows, is_count):
     if not good:
         size = "" if asked.up_to is None else f" of at most {asked.up_to} bytes"
         unit, least = " per cent" * is_count, float(min(row.share for row in rows))
-        most = f"at most {float(asked.below):.6g}{unit} {asked.measure or 'misses'}"
+        most = f"at most {float(asked.below):.6g}{unit} {costs.column_of(asked)}"
         tool.fail(f"{asked.table}: no cache{size} has {most}; the least is {least:.6g}")
     return smallest(good)
 
@@ -48,8 +48,7 @@ def number_text(value):
 
 def of_sweep(asked, lines, name):
     """The lines of the answer for a table of a sweep."""
-    measure = asked.measure or "misses"
-    rows = table.read_table(lines, name, measure)
+    measure, rows = costs.column_of(asked), costs.rows_of(asked, lines, name)
     if len({row.references for row in rows}) > 1:
         raise table.BadTable(f"{asked.table}: rows of several traces: they count different numbers"
                              " of references")
@@ -63,6 +62,7 @@ def of_sweep(asked, lines, name):
 
 def of_din(asked, lines, name):
     """The same for a table of din."""
+    costs.refuse_din(asked)
     given = table_din.read_table(lines, name, asked.measure)
     spread = ["runs", "deviation", "least", "greatest"] if given.has_seeds else []
     percents = ["percent"] * (asked.below is not None and given.is_count)

@@ -1,5 +1,5 @@
 """The pictures of tools/plot: what they are called, and how files of them end."""
 
-NAMES = ("size", "block", "pareto", "curve")
+NAMES = ("size", "block", "pareto", "curve", "three-c")
 MOST_LINES = 7
 KINDS = (".png", ".svg", ".pdf")

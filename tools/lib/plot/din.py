@@ -13,6 +13,9 @@ from lib.tool import fail
 ACROSS = {"size": "cache size in bytes", "sets": "sets", "bsize": "block size in bytes",
           "assoc": "ways"}
 
+# in a column's name: misses by the references to the first level
+GLOBAL = "-global"
+
 
 def varied(table):
     """The options of which there are several values."""
@@ -47,6 +50,14 @@ def chosen_measure(columns, across):
     return ratio if ratio in columns else usual_measure(columns)
 
 
+def kind_of_ratio(own, caches):
+    """Whether a miss ratio of a second level is by the references to this level or to the first."""
+    if own.endswith(GLOBAL):
+        return "global "
+    is_second = own.startswith("l2-") and any(one.startswith("l1-") for one in caches)
+    return "local " * is_second
+
+
 def measure_of(table):
     """How the measure is called."""
     columns = [*table.options, "size", table.measure]
@@ -57,8 +68,10 @@ def measure_of(table):
         name = f"{own[2].replace('-', ' ')} of {own[1]}" if own else table.measure.replace("-", " ")
         return Measure(name, name[0].upper() + name[1:], about, False)
     own = table.measure.removesuffix("-percent")
-    of = f" of {own}" if len({cache(option) for option in table.options}) > 1 else ""
-    return Measure(f"miss ratio{of} in per cent", f"Miss ratio{of}", about)
+    caches = {cache(option) for option in table.options}
+    of = f" of {own}" if len(caches) > 1 else ""
+    name = f"{kind_of_ratio(own, caches)}miss ratio{of.removesuffix(GLOBAL)}"
+    return Measure(f"{name} in per cent", f"{name[0].upper()}{name[1:]}", about)
 
 
 def value_text(option, value, has_caches):

@@ -4,13 +4,14 @@ import os
 import shutil
 import tempfile
 
-from lib import table, table_din
+from lib import costs, table_din
 from lib.plot import canvas as plot_canvas
 from lib.plot import din as plot_din
 from lib.plot import gnuplot as plot_gnuplot
 from lib.plot import page as plot_page
 from lib.plot import sweep as plot_sweep
 from lib.plot import tables as plot_tables
+from lib.plot import three_c as plot_three_c
 from lib.tool import fail, faults_of, write_lines
 
 
@@ -55,10 +56,11 @@ def of_several(asked, given):
     if len({table_din.is_din(lines) for lines, _ in given}) > 1:
         fail("tables of sweeps and of din have no picture in common")
     if table_din.is_din(given[0][0]):
+        costs.refuse_din(asked)
         drawn, measure = plot_tables.of_dins(asked, given)
     else:
         column = column_of(asked)
-        read = [rows_of(file, *each, column) for file, each in zip(asked.tables, given)]
+        read = [rows_of(asked, file, *each) for file, each in zip(asked.tables, given)]
         tables = map(plot_tables.Rows, asked.tables, plot_tables.names_of(asked.tables), read)
         drawn, measure = plot_tables.of_sweeps(asked, [*tables], plot_sweep.measure_of(column))
     counts = f"{len(given)} tables"
@@ -69,27 +71,41 @@ def column_of(asked):
     """The column of a sweep's table that is drawn."""
     if asked.across:
         fail(f"{asked.table}: --across is for a table of din")
-    return asked.measure or "misses"
+    return costs.column_of(asked)
 
 
-def rows_of(file, lines, name, column):
-    rows = table.read_table(lines, name, column)
+def rows_of(asked, file, lines, name):
+    rows = costs.rows_of(asked, lines, name)
     plot_sweep.judge(rows, file)
     return rows
 
 
 def of_sweep(asked, lines, name):
     """The pictures of a sweep's table, their measure, and a function for the page."""
+    if asked.only == plot_three_c.NAME:
+        return of_three_c(asked, lines, name)
     column = column_of(asked)
-    rows, measure = rows_of(asked.table, lines, name, column), plot_sweep.measure_of(column)
+    rows, measure = rows_of(asked, asked.table, lines, name), plot_sweep.measure_of(column)
     if not rows[0].references:
         asked.title = f"{asked.title} (no references)".strip()
     drawn = plot_sweep.drawn(asked, rows, measure)
     return drawn, measure, lambda: plot_page.of_sweep(drawn, rows, measure, asked.title, asked.mono)
 
 
+def of_three_c(asked, lines, name):
+    """The same for the picture of the three C's."""
+    if column_of(asked) != "misses":
+        fail("--only three-c draws misses by their kinds, and no other measure")
+    caches = plot_three_c.caches_of(asked.table, lines, name)
+    drawn, choices = plot_three_c.drawn(asked, caches)
+    measure, counts = plot_three_c.MEASURE, plot_page.counts_of([kinds.row for kinds in caches])
+    return [drawn], measure, lambda: plot_page.page([drawn], measure, asked.title, counts,
+                                                    asked.mono, lambda _: choices)
+
+
 def of_din(asked, lines, name):
     """The same for a table of din."""
+    costs.refuse_din(asked)
     columns, given = lines[0].strip().split(","), table_din.read_table(lines, name)
     across = plot_din.across_of(asked, given.options, plot_din.varied(given), asked.table)
     column = asked.measure or plot_din.chosen_measure(columns, across)

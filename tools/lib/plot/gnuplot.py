@@ -156,7 +156,8 @@ def of_lines(picture, up, place, canvas):
     """The data of a picture of lines, its legend, and the command that plots it."""
     data, plots = legend_of_lines(picture, place, canvas), []
     for number, line in enumerate(picture.lines):
-        name, drawn = f"{picture.name}_{number + 1}", looks(number, canvas)
+        name = f"{'stack' if picture.is_stack else picture.name}_{number + 1}"
+        drawn = looks(number, canvas)
         spread = bars(f"{name}_ends", line, up)
         data += block(name, line.runs, up) + spread
         marks = f" pointtype {MARKS[number]} pointsize {canvas.mark:.3g}"
@@ -175,6 +176,20 @@ def of_lines(picture, up, place, canvas):
         else:
             plots.append(f"${name} with {style}{drawn}{marks} {titled}")
     return data + plot(plots)
+
+
+def of_stack(picture, up, place, canvas):
+    """The data of a stack, its legend, and the command that plots its areas and their edges."""
+    data, areas, edges = legend_of_lines(picture, place, canvas), [], []
+    edge = f"linewidth {0.5 * canvas.stroke:.3g} linecolor rgb '{pictures.BLACK}' notitle"
+    colours = pictures.fills(picture.lines, canvas.is_mono)
+    for number, (line, colour) in enumerate(zip(picture.lines, colours), 1):
+        data += block(f"stack_{number}", line.runs, up)
+        border = f"border linecolor rgb '{pictures.BLACK}'"
+        fill = f"fillstyle solid 1 {border} linecolor rgb '{colour}'"
+        areas.append(f"$stack_{number} with filledcurves y1=0 {fill} title {quoted(line.name)}")
+        edges.append(f"$stack_{number} with lines {edge}")
+    return data + plot(areas + edges)
 
 
 def labelled(front, across, up, area, canvas):
@@ -284,8 +299,11 @@ def script(drawn, canvas, title, measure):
             where = canvas.at(canvas.width / 2, canvas.height - 1)
             lines += [f"set label {quoted(title[:canvas.width])} at screen {where} center"]
         lines += axes(picture, across, up, place, canvas, measure.up)
-        lines += (of_front(picture, across, up, place, canvas) if picture.cloud
-                  else of_lines(picture, up, place, canvas))
+        if picture.cloud:
+            lines += of_front(picture, across, up, place, canvas)
+        else:
+            made = of_stack if picture.is_stack and not canvas.is_text else of_lines
+            lines += made(picture, up, place, canvas)
     return "\n".join(lines + ["unset multiplot"] * (not canvas.is_text)) + "\n"
 
 

@@ -15,7 +15,7 @@ DASHES = ("solid", "dash", "dot", "dashdot", "longdash", "longdashdot", "8px,3px
 MOST_POINTS = 4000
 # what may be chosen for a picture: its word, its name after the page's '#', and the choices' texts
 BLOCK_SIZE = ("Block size", "bsize", pictures.bytes_text)
-MENUS = {"size": BLOCK_SIZE, "curve": BLOCK_SIZE,
+MENUS = {"size": BLOCK_SIZE, "curve": BLOCK_SIZE, "three-c": BLOCK_SIZE,
          "block": ("Associativity", "ways", pictures.ways_text)}
 FONT = "system-ui, 'DejaVu Sans', Verdana, sans-serif"
 # in a page of at most so many pixels a legend is above its picture, and ticks are few
@@ -126,6 +126,15 @@ def of_lines(picture, up, about, mono):
     return traces
 
 
+def of_stack(picture, up, about, mono):
+    """The same for a stack, in which later areas lie on earlier ones."""
+    edge = {"line": {"color": pictures.BLACK, "width": 1},
+            "marker": {"color": pictures.BLACK, "size": 4}}
+    return [{**points(line.runs[0], up, about), "mode": "lines+markers", "name": line.name,
+             "fill": "tozeroy", "fillcolor": colour, **edge}
+            for line, colour in zip(picture.lines, pictures.fills(picture.lines, mono))]
+
+
 def of_front(picture, across, up, about, mono):
     """The same for the Pareto front. Of very many caches those close together are shown as one."""
     front, cloud, named = picture.lines[0].runs[0], picture.cloud, "all caches"
@@ -181,8 +190,10 @@ def figure(picture, up, measure, mono):
         "showlegend": any(line.name for line in picture.lines),
         "uirevision": "as it was",
     }
-    data = (of_front(picture, many, up, measure.about, mono) if picture.cloud
-            else of_lines(picture, up, measure.about, mono))
+    if picture.cloud:
+        data = of_front(picture, many, up, measure.about, mono)
+    else:
+        data = (of_stack if picture.is_stack else of_lines)(picture, up, measure.about, mono)
     return {"title": picture.title, "above": bool(picture.cloud), "few": ticks(few),
             "many": ticks(many), "data": data, "layout": layout}
 
@@ -232,9 +243,14 @@ const darkColours = {as_script(DARK)};
 """
 
 
+def counts_of(rows):
+    """What a page says of a sweep's table."""
+    return f"{len(rows):,} cache{'s' * (len(rows) > 1)}, {rows[0].references:,} references"
+
+
 def of_sweep(drawn, rows, measure, title, mono):
     """The page for a table of a sweep."""
-    counts = f"{len(rows):,} cache{'s' * (len(rows) > 1)}, {rows[0].references:,} references"
+    counts = counts_of(rows)
     return page(drawn, measure, title, counts, mono,
                 lambda picture: plot_sweep.choices(picture, rows, measure))
 

@@ -1,6 +1,7 @@
 """What tools/plot draws, by gnuplot and in a browser alike: lines, points, their axes and ticks."""
 
 import math
+import re
 from typing import NamedTuple
 
 from lib.plot import MOST_LINES
@@ -8,6 +9,10 @@ from lib.tool import size_text
 
 # of Okabe and Ito, but for a pale yellow: all people can tell them apart, also the colour-blind
 COLOURS = ("#0072b2", "#d55e00", "#009e73", "#cc79a7", "#e69f00", "#56b4e9", "#000000")
+UNIT = re.compile(r" in (per cent|bytes|cycles \(AMAT\))$")
+# areas of a stack, above the two lowest: shades that differ in lightness too
+STACK = ("#feedde", "#fdbe85", "#fd8d3c", "#d94701", "#8c2d04", "#6baed6", "#08306b")
+GREYS = ("#f4f4f4", "#dcdcdc", "#c0c0c0", "#a2a2a2", "#848484", "#606060", "#202020")
 PALE, FRONT, BLACK = "#bbbbbb", "#d55e00", "#000000"
 
 
@@ -29,12 +34,14 @@ class Line(NamedTuple):
 
 
 class Measure(NamedTuple):
-    """The vertical axis: its name there and above pictures, what points tell, if it is per cent."""
+    """The vertical axis: its name there and above pictures, what points tell, if it is per cent,
+    and whether it must begin at 0."""
 
     up: str = "miss ratio in per cent"
     name: str = "Miss ratio"
     about: str = ""
     is_percent: bool = True
+    is_linear: bool = False
 
     @property
     def heading(self):
@@ -46,14 +53,15 @@ class Measure(NamedTuple):
         """The title of the Pareto front."""
         if self.name == "Miss ratio":
             return "The smallest caches that miss least"
-        return f"The smallest caches with the least {self.up.removesuffix(' in per cent')}"
+        return f"The smallest caches with the least {UNIT.sub('', self.up)}"
 
 
 class Picture(NamedTuple):
     """A picture of some caches. `fixed` is the block size, or the ways, that all its caches have.
     The picture of a Pareto front has one line, the front, above a cloud of all caches, and says
     what their labels are; those of several tables have a line for each, and no cloud. A curve is a
-    line without marks."""
+    line without marks. In a stack all below a line is filled, and later lines lie on earlier ones.
+    """
 
     name: str
     fixed: int
@@ -65,6 +73,7 @@ class Picture(NamedTuple):
     labels: str = ""
     is_curve: bool = False
     is_front: bool = False
+    is_stack: bool = False
 
     @property
     def points(self):
@@ -185,9 +194,16 @@ def value_axis(points, measure, closest):
     values = [value for point in points for value in (point.y, *point.ends)]
     above = [value for value in values if value]
     most = 100 if measure.is_percent and max(values) <= 100 else math.inf
-    if above and min(values) >= 0 and max(above) >= 5 * min(above):
+    is_wide = bool(above) and min(values) >= 0 and max(above) >= 5 * min(above)
+    if is_wide and not measure.is_linear:
         return log_axis(values, closest, most)
     return linear_axis(min(values), max(values), 1.5 * closest, most)
+
+
+def fills(lines, mono):
+    """The colours of a stack's areas; the two lowest are always the same."""
+    colours = GREYS if mono else STACK
+    return [*colours[:len(lines) - 2], *colours[-2:]]
 
 
 def size_axis(sizes, closest):

@@ -2,6 +2,7 @@
 
 import html
 
+from lib.costs import ACCESS_TIME, TRAFFIC
 from lib.plot import pictures
 from lib.plot.pictures import Line, Measure, Picture, Point, bytes_text, handful, short, ways_text
 from lib.table import COUNTS, pareto
@@ -10,6 +11,9 @@ from lib.tool import fail
 ABOUT = ("%{customdata[3]:,} bytes: block %{customdata[0]:,}, sets %{customdata[1]:,}, "
          "ways %{customdata[2]:,}<br>"
          "hits %{customdata[4]:,}, misses %{customdata[5]:,}, evictions %{customdata[6]:,}<br>")
+# what is made of misses and block size, above pictures and with its unit
+NAMES = {ACCESS_TIME: "Access time"}
+UNITS = {ACCESS_TIME: "access time in cycles (AMAT)", TRAFFIC: "traffic in bytes"}
 MANY = 32  # from so many points on a curve has no marks
 MOST_CHOICES = 64  # of a menu of a page
 
@@ -29,8 +33,8 @@ def measure_of(column):
     """How the measure is called. It is drawn in per cent of the references where it counts some."""
     if column == "misses":
         return Measure(about=ABOUT + "miss ratio %{customdata[7]:.4~g} %<extra></extra>")
-    name, is_count = column[:1].upper() + column[1:], column in COUNTS
-    up = f"{column} in per cent of references" if is_count else column
+    name, is_count = NAMES.get(column) or column[:1].upper() + column[1:], column in COUNTS
+    up = f"{column} in per cent of references" if is_count else UNITS.get(column, column)
     value = f"%{{customdata[7]:{'.4' if is_count else '.10'}~g}}"
     return Measure(up, name, f"{ABOUT}{html.escape(up)}: {value}<extra></extra>", is_count)
 

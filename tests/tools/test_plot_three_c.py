@@ -1,0 +1,134 @@
+"""The stacked picture of the three C's."""
+
+import json
+import re
+
+import base
+from base import needs
+from lib import table
+from test_plot import data_of
+from test_plot_looks import LooksTest
+
+HEAD = f"{table.HEADER},compulsory,capacity,conflict\n"
+# of 1,000 references: misses of 1 and of 2 ways; at 128 bytes 1 way misses less than one set
+ROWS = ("64,1,2,128,400,600,598,50,550,0\n", "64,2,1,128,450,550,548,50,550,-50\n",
+        "64,2,2,256,700,300,296,50,150,100\n", "64,4,1,256,620,380,376,50,150,180\n",
+        "64,1,3,192,700,300,297,50,250,0\n")
+FAR = "64,4,2,512,950,50,42,50,,\n"
+
+
+class Script(LooksTest):
+    def setUp(self):
+        super().setUp()
+        self.write("t.csv", HEAD + "".join(ROWS))
+
+    def test_data(self):
+        """From the top 1 way, 2 ways, capacity above compulsory, and compulsory misses."""
+        script = self.script("--only", "three-c", "t.csv", "a.svg")
+        self.assertEqual(data_of(script), {
+            "stack_1": [[(128, 55), (256, 38)]], "stack_2": [[(128, 60), (256, 30)]],
+            "stack_3": [[(128, 60), (256, 20)]], "stack_4": [[(128, 5), (256, 5)]]})
+        areas = re.findall(r"\$(\w+) with filledcurves y1=0 .* title '(.*)'", script)
+        self.assertEqual(areas, [("stack_1", "conflict, 1 way"), ("stack_2", "conflict, 2 ways"),
+                                 ("stack_3", "capacity"), ("stack_4", "compulsory")])
+        edges = re.findall(r"\$(\w+) with lines", script)
+        self.assertEqual(edges, [name for name, _ in areas])
+        self.assertLess(script.index("y1=0 "), script.index(" with lines"))
+        self.assertIn("unset logscale y\nset yrange [0:63]\n", script)
+        title = "Compulsory, capacity and conflict misses by cache size: blocks of 64 bytes"
+        self.assertIn(f"'{title}'", script)
+
+    def test_mono(self):
+        """Greys, each darker than the one above it."""
+        script = self.script("--only", "three-c", "--mono", "t.csv", "a.svg")
+        greys = re.findall("filledcurves .* linecolor rgb '#(..)(..)(..)' title", script)
+        self.assertTrue(all(len(set(grey)) == 1 for grey in greys), greys)
+        self.assertEqual(len(greys), 4)
+        self.assertEqual(greys, sorted(greys, reverse=True))
+
+    def test_many_ways(self):
+        """At most five of them, in even steps of their powers of two."""
+        rows = "".join(f"16,{sets},{ways},{16 * sets * ways},{1000 - 9 * ways},{9 * ways},1,5,4,"
+                       f"{9 * ways - 9}\n" for sets in (1, 2) for ways in range(1, 65))
+        self.write("t.csv", HEAD + rows)
+        script = self.script("--only", "three-c", "t.csv", "a.svg")
+        names = re.findall("with filledcurves .* title '(.*)'", script)
+        ways = [int(name.split()[1]) for name in names if name.startswith("conflict, ")]
+        self.assertEqual((ways, names[4:]), ([1, 4, 16, 64], ["capacity", "compulsory"]))
+
+    def test_block_sizes(self):
+        other = "".join(re.sub("^64,(.),(.),(...)", lambda found: f"16,{found[1]},{found[2]},"
+                               f"{16 * int(found[1]) * int(found[2])}", row) for row in ROWS)
+        self.write("t.csv", HEAD + "".join(ROWS) + other)
+        self.assertIn("blocks of 64 bytes'", self.script("--only", "three-c", "t.csv", "a.svg"))
+        script = self.script("--only", "three-c", "--bsize", "16", "t.csv", "a.svg")
+        self.assertEqual(data_of(script)["stack_1"], [[(32, 55), (64, 38)]])
+
+    def test_unknown_kinds(self):
+        """A cache of which they are empty is left out, which is told."""
+        self.write("t.csv", HEAD + "".join(ROWS) + FAR)
+        ran = self.plot("--script", "--only", "three-c", "t.csv", "a.svg")
+        told = "plot: t.csv: 1 of 6 caches have no capacity, and are left out\n"
+        self.assertEqual((ran.returncode, ran.stderr.decode()), (0, told))
+        self.assertEqual(data_of(ran.stdout.decode())["stack_4"], [[(128, 5), (256, 5)]])
+
+    def test_refused(self):
+        self.write("one.csv", HEAD + ROWS[0] + ROWS[1])
+        for words, fault in (
+            ("eight.csv", "eight.csv: no column capacity; there are bsize, "),
+            ("one.csv", "one.csv: a picture of the three C's is of caches of several sizes\n"),
+            ("--bsize 32 t.csv", "t.csv: no cache has the block size 32; there are 64\n"),
+            ("--measure hits t.csv", "--only three-c draws misses by their kinds, and no other "),
+            ("--miss-cost 9 t.csv", "--only three-c draws misses by their kinds, and no other "),
+            ("t.csv t.csv", "several tables have the pictures size, curve, pareto, and not three"),
+            ("din.csv", "din.csv: a table of din has the pictures size and pareto\n"),
+        ):
+            ran = self.plot("--only", "three-c", *words.split(), "a.svg", env=self.no_gnuplot())
+            self.refused(ran, 1, f"plot: {fault}")
+
+
+@needs("gnuplot-nox")
+class Drawn(LooksTest):
+    def test_a_real_table(self):
+        """Each format, and as text lines with letters. The misses of one way are the table's."""
+        words = "--bsize 16-32 --sets 1-64 --assoc 1-4 --size 64-1k".split()
+        text = self.good(self.run_tool("three-c", base.EXAMPLES / "sort.din", *words))
+        self.write("t.csv", text)
+        for out in ("a.png", "a.svg", "a.pdf"):
+            for more in ([], ["--mono", "--size", "3.3in"]):
+                self.assertEqual(self.good(self.plot("--only", "three-c", *more, "t.csv", out)), "")
+        drawn = self.good(self.plot("--only", "three-c", "t.csv", "-"))
+        for name in ("***A*** conflict, 1 way", "$$$C$$$ conflict, 4 ways", "capacity",
+                     "compulsory"):
+            self.assertIn(name, drawn)
+        rows = [line.split(",") for line in text.splitlines()[1:]]
+        wanted = [(int(row[3]), 100 * int(row[5]) / 5846) for row in rows
+                  if (row[0], row[2]) == ("32", "1")]
+        data = self.data("--only", "three-c", "--bsize", "32", "t.csv", "a.svg")
+        for one, other in zip(data["stack_1"][0], sorted(wanted), strict=True):
+            self.assertEqual(one[0], other[0])
+            self.assertAlmostEqual(one[1], other[1], places=6)
+
+
+@needs("python3-plotly", "chromium")
+class Page(LooksTest):
+    def test_page(self):
+        """The areas lie on each other from the top, and a point tells what it is."""
+        self.write("t.csv", HEAD + "".join(ROWS))
+        for width, dark in (400, True), (1280, False):
+            look = self.look("--only", "three-c", "t.csv", width=width, dark=dark)
+            self.assertEqual(look["found"], [])
+            self.assertLessEqual(look["wide"], look["width"])
+        page = (self.folder / "a.html").read_text()
+        figures = json.loads(re.search("(?m)^const figures = (.*);$", page)[1])
+        data = figures["three-c"]["64"]["data"]
+        self.assertEqual([area["name"] for area in data],
+                         ["conflict, 1 way", "conflict, 2 ways", "capacity", "compulsory"])
+        self.assertEqual([area["y"] for area in data], [[55, 38], [60, 30], [60, 20], [5, 5]])
+        self.assertEqual({area["fill"] for area in data}, {"tozeroy"})
+        self.assertEqual(len({area["fillcolor"] for area in data}), 4)
+        texts = [area["customdata"][1][1] for area in data]
+        self.assertEqual(texts, ["1 way: misses 380, of these conflict 180: 38 %",
+                                 "2 ways: misses 300, of these conflict 100: 30 %",
+                                 "fully associative: misses 200, of these capacity 150: 20 %",
+                                 "compulsory misses 50: 5 %"])

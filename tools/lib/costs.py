@@ -1,0 +1,81 @@
+"""What the misses of a sweep's caches cost, which the block size has a part in."""
+
+import fractions
+import re
+from typing import NamedTuple
+
+from lib import table, tool
+
+TRAFFIC, ACCESS_TIME = "traffic", "AMAT"
+NUMBER = "([0-9]{1,9}(?:[.][0-9]{1,9})?)"
+HIT = 1  # cycles of a hit
+
+
+class MissCost(NamedTuple):
+    """The cycles that a miss takes: those of each, and more for each byte of its block."""
+
+    fixed: fractions.Fraction
+    of_byte: fractions.Fraction
+
+    def of_block(self, bsize):
+        return self.fixed + self.of_byte * bsize
+
+
+def miss_cost(text):
+    """What A, A+B or A+B/N says: A cycles, and B for each byte of the block, or each N bytes."""
+    match = re.fullmatch(rf"{NUMBER}(?:[+]{NUMBER}(?:/0*([1-9][0-9]{{0,8}}))?)?", text)
+    if not match:
+        raise tool.no_argument(f"{text!r} is no cost such as 100, 80+0.125 or 80+2/16")
+    fixed, more, bytes_of_it = (fractions.Fraction(part or 0) for part in match.groups())
+    return MissCost(fixed, more / (bytes_of_it or 1))
+
+
+def add_to(parser):
+    """The option that asks for the access time."""
+    parser.add_argument("--miss-cost", metavar="A+B/N", type=miss_cost, help="for a table of a "
+                        "sweep, compare the average memory access time (AMAT) instead of misses: 1 "
+                        "cycle, and for a miss A cycles and B for each N bytes of its block; for "
+                        "example 80+2/16, or 100 whatever the block")
+
+
+def access_time(row, cost):
+    """The cycles of a reference in the mean: those of a hit, and what misses add."""
+    return HIT + fractions.Fraction(row.misses, max(1, row.references)) * cost.of_block(row.bsize)
+
+
+def columns_of(lines):
+    return lines[0].rstrip("\r\n").split(",") if lines else []
+
+
+def column_of(asked):
+    """The name of what is asked for."""
+    return ACCESS_TIME if asked.miss_cost else asked.measure or "misses"
+
+
+def rows_of(asked, lines, name):
+    """The rows of a sweep's table with what is asked for. A column named so comes before what would
+    be made of the block size and the misses."""
+    column = column_of(asked)
+    if asked.miss_cost:
+        def made(row):
+            return access_time(row, asked.miss_cost)
+    elif column == TRAFFIC and TRAFFIC not in columns_of(lines):
+        def made(row):
+            return fractions.Fraction(row.bsize * row.misses)
+    else:
+        return table.read_table(lines, name, column)
+    return [row._replace(value=made(row), is_count=False)
+            for row in table.read_table(lines, name)]
+
+
+def judge(asked):
+    """Refuses two measures at once."""
+    if asked.miss_cost and asked.measure:
+        tool.misused("--miss-cost is not allowed with --measure")
+
+
+def refuse_din(asked):
+    """The block sizes of a table of din are those of several caches."""
+    if asked.miss_cost:
+        tool.fail(f"{asked.table}: --miss-cost is for a table of a sweep; a table of din wants a "
+                  "column of its own, named by --measure")

@@ -1,0 +1,92 @@
+"""The stacked picture of the three C's by cache size, as Hennessy and Patterson draw it, of a table
+of `three-c`."""
+
+from typing import NamedTuple
+
+from lib import table
+from lib.plot import pictures
+from lib.plot import sweep as plot_sweep
+from lib.plot.pictures import Line, Measure, Picture, Point, bytes_text, handful, ways_text
+from lib.tool import fail
+
+NAME = "three-c"
+MOST_WAYS = len(pictures.STACK) - 2
+MEASURE = Measure(about="%{customdata[0]:,} bytes<br>%{customdata[1]}<extra></extra>",
+                  is_linear=True)
+
+
+class Kinds(NamedTuple):
+    """A cache with the numbers of its misses of two kinds; the other misses are conflict ones."""
+
+    row: table.Row
+    compulsory: int
+    capacity: int
+
+    @property
+    def unshared(self):
+        """The misses of a fully associative cache."""
+        return self.compulsory + self.capacity
+
+
+def caches_of(file, lines, name):
+    """The caches of a table whose kinds of misses are known."""
+    rows = table.read_table(lines, name, "capacity")
+    plot_sweep.judge(rows, file)
+    first = {row.cache: row.value for row in table.read_table(lines, name, "compulsory")}
+    return [Kinds(row, first[row.cache], row.value) for row in rows]
+
+
+def point(kinds, misses, text):
+    """The upper end of a kind at a cache's size."""
+    share = float(100 * misses / max(1, kinds.row.references))
+    return Point(kinds.row.size, share, (kinds.row.size, f"{text}: {share:.4g} %"))
+
+
+def of_ways(kinds):
+    misses = kinds.row.misses
+    text = (f"{ways_text(kinds.row.assoc)}: misses {misses:,}, of these conflict "
+            f"{int(misses - kinds.unshared):,}")
+    return point(kinds, misses, text)
+
+
+def of_capacity(kinds):
+    text = f"fully associative: misses {int(kinds.unshared):,}, of these capacity "
+    return point(kinds, kinds.unshared, f"{text}{int(kinds.capacity):,}")
+
+
+def of_compulsory(kinds):
+    return point(kinds, kinds.compulsory, f"compulsory misses {int(kinds.compulsory):,}")
+
+
+def shown_ways(caches):
+    """The associativities that are drawn: powers of two, which have sizes in common, if any."""
+    ways = {kinds.row.assoc for kinds in caches}
+    return handful({count for count in ways if count & (count - 1) == 0} or ways, MOST_WAYS)
+
+
+def by_size(caches, bsize):
+    """The picture at one block size: from the top the misses of 1 way, of 2 ways and so on, and
+    those of a fully associative cache, which are capacity and compulsory ones."""
+    caches = [kinds for kinds in caches if kinds.row.bsize == bsize]
+    ways = shown_ways(caches)
+    caches = sorted(kinds for kinds in caches if kinds.row.assoc in ways)
+    by_place = {kinds.row.size: kinds for kinds in caches}
+    sizes = [by_place[size] for size in sorted(by_place)]
+    lines = []
+    for count in ways:
+        some = sorted((kinds.row.size, kinds) for kinds in caches if kinds.row.assoc == count)
+        lines.append(Line(f"conflict, {ways_text(count)}", [[of_ways(kinds) for _, kinds in some]]))
+    lines += [Line("capacity", [[*map(of_capacity, sizes)]]),
+              Line("compulsory", [[*map(of_compulsory, sizes)]])]
+    title = f"Compulsory, capacity and conflict misses by cache size: blocks of {bytes_text(bsize)}"
+    return Picture(NAME, bsize, title, "cache size in bytes", "", lines, is_stack=True)
+
+
+def drawn(asked, caches):
+    """The picture of the block size that is asked for, and those of all that may be chosen."""
+    blocks = sorted({kinds.row.bsize for kinds in caches})
+    bsize = plot_sweep.fixed(blocks, asked.bsize, 64, asked.table, "the block size")
+    found = {size: by_size(caches, size) for size in blocks}
+    if not plot_sweep.is_broad(found[bsize]):
+        fail(f"{asked.table}: a picture of the three C's is of caches of several sizes")
+    return found[bsize], found
