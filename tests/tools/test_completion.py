@@ -188,7 +188,7 @@ class Shells(ToolTest):
 OF_DIN = "--seed " + " ".join(f"-{name} --{name}" for name in ONE_OR_TWO)
 # options of tools, from their help
 OF_TOOLS = {
-    "best": "-h --help --up-to --within --below --rows --front --measure",
+    "best": "-h --help --up-to --within --below --rows --front --measure --miss-cost",
     "trace": "-h --help -o --output --program-output --from --to --during --kind --skip --count "
     "--with --libraries --any-version --map",
     "to-din": "-h --help",

@@ -23,6 +23,7 @@ NARROW = 640
 # in the dark each colour of a picture has another
 DARK = {"#0072b2": "#5cb3ec", "#d55e00": "#ff8a3d", "#009e73": "#2fd0a2", "#cc79a7": "#eba3cb",
         "#e69f00": "#ffc14a", "#56b4e9": "#a9d9f7", "#000000": "#ffffff", "#bbbbbb": "#6a6a6a"}
+EDGE = "#222222"  # of areas, in the dark too, where white is not seen on the palest
 # Whatever plotly might ask for, the browser must not fetch it.
 POLICY = ("default-src 'none'; script-src 'unsafe-inline'; style-src 'unsafe-inline'; "
           "img-src data: blob:")
@@ -128,8 +129,7 @@ def of_lines(picture, up, about, mono):
 
 def of_stack(picture, up, about, mono):
     """The same for a stack, in which later areas lie on earlier ones."""
-    edge = {"line": {"color": pictures.BLACK, "width": 1},
-            "marker": {"color": pictures.BLACK, "size": 4}}
+    edge = {"line": {"color": EDGE, "width": 1}, "marker": {"color": EDGE, "size": 4}}
     return [{**points(line.runs[0], up, about), "mode": "lines+markers", "name": line.name,
              "fill": "tozeroy", "fillcolor": colour, **edge}
             for line, colour in zip(picture.lines, pictures.fills(picture.lines, mono))]
