@@ -23,7 +23,7 @@ NARROW = 640
 # in the dark each colour of a picture has another
 DARK = {"#0072b2": "#5cb3ec", "#d55e00": "#ff8a3d", "#009e73": "#2fd0a2", "#cc79a7": "#eba3cb",
         "#e69f00": "#ffc14a", "#56b4e9": "#a9d9f7", "#000000": "#ffffff", "#bbbbbb": "#6a6a6a"}
-EDGE = "#222222"  # of areas, in the dark too, where white is not seen on the palest
+EDGE = "#222222"  # of areas; also in the dark, since white is not seen on the palest
 # Whatever plotly might ask for, the browser must not fetch it.
 POLICY = ("default-src 'none'; script-src 'unsafe-inline'; style-src 'unsafe-inline'; "
           "img-src data: blob:")
