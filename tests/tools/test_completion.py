@@ -201,7 +201,7 @@ OF_TOOLS = {
     **dict.fromkeys(("pages", "three-c", "warm"), f"-h --help {OF_SWEEP}"),
     "sweep-parallel": f"-h --help --resume {OF_SWEEP}",
 }
-FORMATS = "pin champsim memtrace drmemtrace execlog spike gem5 lackey addresses"
+FORMATS = "pin champsim dinero memtrace drmemtrace execlog spike gem5 lackey addresses"
 
 
 class OfTheTools(Offered):

@@ -47,8 +47,8 @@ EXPECTED = {
     "pin-values.txt": COPY_DATA,
     "memtrace-x86.txt": COPY_DATA,
     "spike.txt": COPY_RISCV,
-    **dict.fromkeys(("champsim.bin", "drmemtrace.txt", "execlog.txt", "gem5.txt", "lackey.txt",
-                     "memtrace-simple.txt"), COPY),
+    **dict.fromkeys(("champsim.bin", "dinero.txt", "drmemtrace.txt", "execlog.txt", "gem5.txt",
+                     "lackey.txt", "memtrace-simple.txt"), COPY),
 }
 
 # Lines of a format, with their accesses behind '=>'. ' ..' goes on with the line before.
@@ -59,6 +59,14 @@ GOOD = {
 ffffffffffffffff => 0 ffffffffffffffff
 0000000000000000 => 0 0
 # a comment =>""",
+    "dinero": r"""
+r 0x7ffd1230 8 => 0 7ffd1230
+  w 7FFD1230 0X10 => 1 7ffd1230
+i\t00401000\tf what follows => 2 401000
+r ffffffffffffffff 0 => 0 ffffffffffffffff
+m 7ffd1230 4 =>
+c 0x7ffd1230 40 =>
+v 0 0 =>""".replace(r"\t", "\t"),
     "drmemtrace": r"""
            5           1: T3264604 ifetch       3 byte(s) @ 0x00007f8b5d1a8090 48 89 e7
  ..   mov    %rsp, %rdi => 2 7f8b5d1a8090
@@ -144,6 +152,8 @@ NOT_HEXADECIMAL = ("", "0x", "0xg", "0x10000000000000000", "0x4g", "-1")
 # Lines that are none of a format. {} stands for each of the above.
 BAD = {
     "addresses": "{}|7ffd1230 8|7ffd1230,",
+    "dinero": "r {} 8|w 0x10 {}|i 0x10|r 0x10 8,|r 0x10,8|r,0x10 8|r0x10 8|rw 0x10 8|x 0x10 8"
+    "|R 0x10 8|0 0x10 8|5 0 0|m|c 0x10|v {} 0|m 0x10 x",
     "drmemtrace": "  7   2:  32 read         3 byte(s) @ {}"
     "|  7   2:  32 ifetch       3 byte(s) @ 0x401000,"
     "|  7   2:  32 ifetch       x byte(s) @ 0x401000|  7   2:  32 ifetched     3 byte(s) @ 0x401000"
@@ -259,6 +269,11 @@ class Formats(ToDin):
             bad = third[:at] + b"\2" + third[at + 1:]
             self.faulty("champsim", "record 3: not a record of ChampSim", stdin=whole + bad)
 
+    def test_dinero_label(self):
+        """NUL, which ends the list of the labels in C, is none."""
+        told = "line 1: not a line of Dinero IV's extended din format: ? 0x10 8"
+        self.faulty("dinero", told, stdin=b"\0 0x10 8\n")
+
     def test_lackey_as_the_program_reads_it(self):
         for name in ("transpose.lackey", "blocks.lackey", "formats/lackey.txt"):
             din = self.run_tool("to-din", "lackey", EXAMPLES / name).stdout
@@ -344,7 +359,7 @@ class Faults(ToDin):
     def test_a_pipe_without_pipefail_gives_no_table(self):
         self.write("cut.gz", gzip.compress((SAMPLES / "pin.txt").read_bytes() * 999)[:-99])
         for words in ("pin", "pin cut.gz", "pin missing", "pin missing.xz", "pin .", "", "pin a b",
-                      "dinero", "dinero cut.gz"):
+                      "valgrind", "valgrind cut.gz"):
             pipe = f"{TOOLS}/to-din {words} | {PROGRAM} sweep {' '.join(SPACE)}"
             ran = self.run_command("bash", "-c", pipe, stdin=b"0x401000:\n")
             self.refused(ran, 1, "to-din: ", "cachesim: line ", ": bad label")
@@ -364,7 +379,7 @@ class Faults(ToDin):
         see = "; 'to-din --help' explains the arguments\n"
         for words in ("", "pin a b"):
             self.faulty(words, "one file", see, status=2)
-        self.faulty("dinero", "to-din: dinero is no format", see, status=2)
+        self.faulty("valgrind", "to-din: valgrind is no format", see, status=2)
         for name in ("missing", "missing.gz"):
             self.faulty(f"pin {name}", f"{name} can't be read")
         self.faulty("pin .", "line 1: read failed: Is a directory")

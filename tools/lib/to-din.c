@@ -162,6 +162,19 @@ static bool champsim(struct line record) {
     return true;
 }
 
+// r 0x7ffd1230 8
+static bool dinero(struct line line) {
+    uint64_t at, size;
+    blanks(&line);
+    char kind = *line.at++;
+    if (!memchr("rwimcv", kind, 6) || !blanks(&line) || !address(&line, &at) || !blanks(&line) ||
+        !address(&line, &size) || !word_ended(&line)) return false;
+    if (kind == 'r') put(READ, at);
+    if (kind == 'w') put(WRITE, at);
+    if (kind == 'i') put(FETCH, at);
+    return true;
+}
+
 // what stands before an entry: '  7   2:  3264604 ', '  7: T3264604 ' or 'T3264604 '
 static bool drmemtrace_thread(struct line *line) {
     if (is_digit(*line->at)) {
@@ -359,6 +372,7 @@ static const struct format {
     {"addresses", "addresses", addresses},
     {"addresses --decimal", "decimal addresses", decimal_addresses},
     {"champsim", "ChampSim", champsim},
+    {"dinero", "Dinero IV's extended din format", dinero},
     {"drmemtrace", "drmemtrace's tool view", drmemtrace},
     {"execlog", "execlog", execlog},
     {"gem5", "decode_packet_trace.py", gem5},
