@@ -1,7 +1,5 @@
 """What the tools that filter `cachesim log` share: their arguments, and the log in pieces."""
 
-import contextlib
-import fcntl
 import os
 import re
 import sys
@@ -56,8 +54,7 @@ class Logging(processes.Process):
 
     def __init__(self, program, options, stdin):
         self.pipe, write = os.pipe()
-        with contextlib.suppress(OSError):  # less room will do
-            fcntl.fcntl(write, fcntl.F_SETPIPE_SZ, ROOM)
+        processes.widen(write, ROOM)
         super().__init__([program, "log", *options], stdin=stdin, stdout=write)
         os.close(write)
 

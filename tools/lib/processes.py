@@ -2,6 +2,7 @@
 it."""
 
 import contextlib
+import fcntl
 import os
 import signal
 
@@ -12,6 +13,7 @@ from lib.streams import keep_places
 TOLD = 1 << 18  # the bytes of its messages that are looked at
 UNPACKERS = {".gz": ("gzip", "gzip"), ".xz": ("xz", "xz-utils"), ".zst": ("zstd", "zstd")}
 PR_SET_CHILD_SUBREAPER = 36
+F_SETPIPE_SZ = 1031  # in fcntl from Python 3.10 on
 
 
 class Fault(Exception):
@@ -31,6 +33,12 @@ def start(command, stdin=0, stdout=1, stderr=2, path=None, env=None, **given):
     ends = [(os.POSIX_SPAWN_DUP2, *end) for end in zip((stdin, stdout, stderr), range(3))]
     return os.posix_spawnp(path or command[0], command, env or os.environ, file_actions=ends,
                            **given)
+
+
+def widen(pipe, size):
+    """Gives a pipe room for so many bytes; less will do."""
+    with contextlib.suppress(OSError):
+        fcntl.fcntl(pipe, F_SETPIPE_SZ, size)
 
 
 def end_text(code):

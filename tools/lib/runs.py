@@ -2,14 +2,13 @@
 references: a pipe is read once and handed to all, and a file must not change meanwhile."""
 
 import contextlib
-import fcntl
 import os
 import select
 import signal
 import stat
 
 from lib import tool
-from lib.processes import Fault, Group, Process, is_packed, uninterrupted
+from lib.processes import Fault, Group, Process, is_packed, uninterrupted, widen
 
 PIECE = 1 << 18  # the bytes that are read at once
 ROOM = 1 << 20  # the bytes that may wait for a run, so that it may fall behind for a while
@@ -27,8 +26,7 @@ class Run(Process):
             read = file
             if file is None:
                 read, self.pipe = os.pipe()
-                with contextlib.suppress(OSError):  # less room will do
-                    fcntl.fcntl(read, fcntl.F_SETPIPE_SZ, ROOM)
+                widen(read, ROOM)
             super().__init__(command, stdin=read)
             os.close(read)
         self.name, self.is_awk = place, command[0] == "awk"

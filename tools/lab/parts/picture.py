@@ -6,6 +6,10 @@ from typing import NamedTuple, Optional
 ACCESSES = ("read", "write", "fetch")
 
 
+def is_power_of_two(number):
+    return number > 0 and number & (number - 1) == 0
+
+
 class Cache(NamedTuple):
     """A cache, and its options for `cachesim log`."""
 
@@ -34,7 +38,7 @@ class Cache(NamedTuple):
 
     def is_possible(self):
         """Whether blocks and sets are powers of two, and a set has a line."""
-        return self.ways > 0 and self.block.bit_count() == self.sets.bit_count() == 1
+        return self.ways > 0 and is_power_of_two(self.block) and is_power_of_two(self.sets)
 
     def options(self):
         given = {"sets": self.sets, "bsize": self.block, "assoc": self.ways}

@@ -77,7 +77,7 @@ class Student:
         seconds = self.few_seconds if flags and self.slow_runs else self.seconds
         output, messages = self.folder / "output", self.folder / "messages"
         trace = os.path.join("traces", os.path.basename(case.trace))
-        with tempfile.TemporaryDirectory(dir=self.folder, ignore_cleanup_errors=True) as room:
+        with temporary_folder(dir=self.folder) as room:
             os.mkdir(os.path.join(room, "traces"))
             shutil.copyfile(case.trace, os.path.join(room, trace))
             before = ["stdbuf", "-oL"] if by_line else [] if is_filled else UNFILLED
@@ -249,6 +249,20 @@ def last_line(path):
     return tail_of(path).rstrip().rpartition(b"\n")[2]
 
 
+@contextlib.contextmanager
+def temporary_folder(**given):
+    """The path of a folder that is removed at the end; what can't be removed there stays. Python
+    3.10 has an option for this."""
+    folder = tempfile.TemporaryDirectory(**given)
+    try:
+        yield folder.name
+    finally:
+        try:
+            folder.cleanup()
+        except OSError:
+            shutil.rmtree(folder.name, ignore_errors=True)
+
+
 def in_private_folder(work):
     """What some work returns in a folder that is removed at its end, also by a signal. It may write
     to standard output."""
@@ -257,7 +271,7 @@ def in_private_folder(work):
     stop_at_signals()
     try:
         prefix = f"cachesim-{tool.NAME}."
-        with tempfile.TemporaryDirectory(prefix=prefix, ignore_cleanup_errors=True) as folder:
+        with temporary_folder(prefix=prefix) as folder:
             return work(pathlib.Path(folder))
     except OSError as fault:
         if isinstance(fault, BrokenPipeError):
