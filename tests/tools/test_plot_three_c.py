@@ -29,13 +29,13 @@ class Script(LooksTest):
             "stack_1": [[(128, 55), (256, 38)]], "stack_2": [[(128, 60), (256, 30)]],
             "stack_3": [[(128, 60), (256, 20)]], "stack_4": [[(128, 5), (256, 5)]]})
         areas = re.findall(r"\$(\w+) with filledcurves y1=0 .* title '(.*)'", script)
-        self.assertEqual(areas, [("stack_1", "conflict, 1 way"), ("stack_2", "conflict, 2 ways"),
+        self.assertEqual(areas, [("stack_1", "1 way"), ("stack_2", "2 ways"),
                                  ("stack_3", "capacity"), ("stack_4", "compulsory")])
         edges = re.findall(r"\$(\w+) with lines", script)
         self.assertEqual(edges, [name for name, _ in areas])
         self.assertLess(script.index("y1=0 "), script.index(" with lines"))
         self.assertIn("unset logscale y\nset yrange [0:63]\n", script)
-        title = "Compulsory, capacity and conflict misses by cache size: blocks of 64 bytes"
+        title = "The three C''s by cache size: conflict misses of 1 to 2 ways, blocks of 64 bytes"
         self.assertIn(f"'{title}'", script)
 
     def test_mono(self):
@@ -53,7 +53,7 @@ class Script(LooksTest):
         self.write("t.csv", HEAD + rows)
         script = self.script("--only", "three-c", "t.csv", "a.svg")
         names = re.findall("with filledcurves .* title '(.*)'", script)
-        ways = [int(name.split()[1]) for name in names if name.startswith("conflict, ")]
+        ways = [int(name.split()[0]) for name in names if "way" in name]
         self.assertEqual((ways, names[4:]), ([1, 4, 16, 64], ["capacity", "compulsory"]))
 
     def test_block_sizes(self):
@@ -98,7 +98,7 @@ class Drawn(LooksTest):
             for more in ([], ["--mono", "--size", "3.3in"]):
                 self.assertEqual(self.good(self.plot("--only", "three-c", *more, "t.csv", out)), "")
         drawn = self.good(self.plot("--only", "three-c", "t.csv", "-"))
-        for name in ("***A*** conflict, 1 way", "$$$C$$$ conflict, 4 ways", "capacity",
+        for name in ("***A*** 1 way", "$$$C$$$ 4 ways", "capacity",
                      "compulsory"):
             self.assertIn(name, drawn)
         rows = [line.split(",") for line in text.splitlines()[1:]]
@@ -123,7 +123,7 @@ class Page(LooksTest):
         figures = json.loads(re.search("(?m)^const figures = (.*);$", page)[1])
         data = figures["three-c"]["64"]["data"]
         self.assertEqual([area["name"] for area in data],
-                         ["conflict, 1 way", "conflict, 2 ways", "capacity", "compulsory"])
+                         ["1 way", "2 ways", "capacity", "compulsory"])
         self.assertEqual([area["y"] for area in data], [[55, 38], [60, 30], [60, 20], [5, 5]])
         self.assertEqual({area["fill"] for area in data}, {"tozeroy"})
         self.assertEqual(len({area["fillcolor"] for area in data}), 4)

@@ -44,7 +44,7 @@ def title_of(picture, columns):
 
 def legend_columns(picture, canvas):
     """How many names of a legend above a picture stand side by side, and in how many lines."""
-    sample = 9 if canvas.is_text else 10 if canvas.is_mono else 8
+    sample = 9 if canvas.is_text else 6 if picture.is_stack else 10 if canvas.is_mono else 8
     broadest = max(len(line.name) for line in picture.lines) + sample
     beside = max(1, int((canvas.columns - (8 if canvas.is_text else 10)) / broadest))
     return beside, math.ceil(len(picture.lines) / beside) + bool(picture.legend)
@@ -189,6 +189,7 @@ def of_stack(picture, up, place, canvas):
         fill = f"fillstyle solid 1 {border} linecolor rgb '{colour}'"
         areas.append(f"$stack_{number} with filledcurves y1=0 {fill} title {quoted(line.name)}")
         edges.append(f"$stack_{number} with lines {edge}")
+    data.append("set key samplen 1.5")
     return data + plot(areas + edges)
 
 

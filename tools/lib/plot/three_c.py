@@ -75,10 +75,12 @@ def by_size(caches, bsize):
     lines = []
     for count in ways:
         some = sorted((kinds.row.size, kinds) for kinds in caches if kinds.row.assoc == count)
-        lines.append(Line(f"conflict, {ways_text(count)}", [[of_ways(kinds) for _, kinds in some]]))
+        lines.append(Line(ways_text(count), [[of_ways(kinds) for _, kinds in some]]))
     lines += [Line("capacity", [[*map(of_capacity, sizes)]]),
               Line("compulsory", [[*map(of_compulsory, sizes)]])]
-    title = f"Compulsory, capacity and conflict misses by cache size: blocks of {bytes_text(bsize)}"
+    least = f"{min(ways)} to " * (len(ways) > 1)
+    title = (f"The three C's by cache size: conflict misses of {least}{ways_text(max(ways))}, "
+             f"blocks of {bytes_text(bsize)}")
     return Picture(NAME, bsize, title, "cache size in bytes", "", lines, is_stack=True)
 
 
