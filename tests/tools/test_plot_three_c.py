@@ -105,7 +105,8 @@ class Drawn(LooksTest):
         wanted = [(int(row[3]), 100 * int(row[5]) / 5846) for row in rows
                   if (row[0], row[2]) == ("32", "1")]
         data = self.data("--only", "three-c", "--bsize", "32", "t.csv", "a.svg")
-        for one, other in zip(data["stack_1"][0], sorted(wanted), strict=True):
+        self.assertEqual(len(data["stack_1"][0]), len(wanted))
+        for one, other in zip(data["stack_1"][0], sorted(wanted)):
             self.assertEqual(one[0], other[0])
             self.assertAlmostEqual(one[1], other[1], places=6)
 
