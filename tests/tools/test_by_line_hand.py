@@ -223,9 +223,9 @@ class Sources(Hand):
         self.assertEqual(out.read_text().splitlines(), [
             "# callgrind format", "version: 1", "creator: by-line of cachesim", "positions: line",
             "events: References Misses Compulsory Capacity", "summary: 6 3 3 0", "",
-            f"fl={self.folder}/inlined.c", "fn=main", "3 2 1 1 0", "7 2 1 1 0", "",
-            "fl=???", "fn=(no fetch before it)", "0 1 1 1 0", "",
-            "fl=???", "fn=?", "0 1 0 0 0", "", "totals: 6 3 3 0"])
+            f"ob={given[3]}", f"fl={self.folder}/inlined.c", "fn=main", "3 2 1 1 0", "7 2 1 1 0",
+            "", "ob=???", "fl=???", "fn=(no fetch before it)", "0 1 1 1 0", "",
+            "ob=???", "fl=???", "fn=?", "0 1 0 0 0", "", "totals: 6 3 3 0"])
         ran = self.run_command("callgrind_annotate", "--auto=yes", "--threshold=100", "out")
         lines = [line for line in self.good(ran).splitlines() if "numbers[at] = at;" in line]
         self.assertEqual(re.findall(r"(\d+) *(?:\([^)]*\))?", lines[-1])[:4], ["2", "1", "1", "0"])

@@ -8,7 +8,8 @@ import os
 import re
 from typing import NamedTuple
 
-from lib import processes, tool
+from lib import tool
+from lib.by_line.binutils import debug_file, demangled, line_finder, output_of
 
 PAGE = 4096
 ANY_TEXT = {"encoding": "utf-8", "errors": "surrogateescape"}
@@ -19,10 +20,8 @@ SOURCE = re.compile(r"0+ a (.*)")
 THREAD_LOCAL = re.compile(r" *\d+: ([0-9a-f]+) +(\w+) TLS ")
 # what compilers add to the name of a function of which they make parts or special versions
 PART = re.compile(r"( ?\(?\.(cold|constprop|isra|llvm|lto_priv|part)[.\d]*\)?| \[clone [^]]*\])+$")
-# of programs for other machines the prefix of their binutils
-PREFIXES = {40: "arm-linux-gnueabihf", 183: "aarch64-linux-gnu", 243: "riscv64-linux-gnu"}
-# LLVM's is asked for lines, since that of binutils 2.40 takes one file for another in DWARF 5
-LLVM = "llvm-addr2line"
+# the unit of a crate's code that rustc has for a source file
+UNIT = re.compile(r"\.\w+-cgu\.\d+$")
 # where Valgrind and Linux put the stack on x86-64, for a trace without a map
 STACKS = [(0x1FFE000000, 0x2000000000), (0x7FF000000000, 0x800000000000)]
 
@@ -35,47 +34,40 @@ class Range(NamedTuple):
     name: str
 
 
-class Frame(NamedTuple):
-    """A function and a line of its source file; the file is None where it isn't known."""
+class Symbol(NamedTuple):
+    """What has a name in a program; the letter of nm for its kind; and the source file of what only
+    this file knows, else nothing."""
 
-    function: str
-    file: str
-    line: int
-
-
-@functools.cache
-def prefix_of(path):
-    """The prefix of the binutils for an ELF file; none for this machine's."""
-    try:
-        with open(path, "rb") as file:
-            machine = int.from_bytes(file.read(20)[18:], "little")
-    except OSError:
-        return ""
-    prefix = PREFIXES.get(machine, "")
-    return "" if prefix.split("-")[0] == os.uname().machine else prefix
+    place: Range
+    kind: str
+    source: str
 
 
-def is_elf(path):
-    """Whether a file can be read and begins as an ELF file does."""
-    try:
-        with open(path, "rb") as file:
-            return file.read(4) == b"\x7fELF"
-    except OSError:
-        return False
+class Function(NamedTuple):
+    """A function. Its file is None where there are no lines; then `source` is the name of the file,
+    if the symbols of the program have it. Code without a function has a name in brackets; outside
+    of all programs, the program is None."""
+
+    name: str
+    program: str = None
+    file: str = None
+    source: str = ""
+    is_one: bool = True
 
 
-def output_of(command, path, *options, text=None):
-    """What a command of binutils or LLVM, with options of which the last may take the path, writes
-    of an ELF file; nothing of another. Without its answer a table would look whole, so the tool
-    ends where it fails."""
-    if not is_elf(path):
-        return ""
-    prefix = "" if command == LLVM else prefix_of(path)
-    package = "llvm" if command == LLVM else f"binutils-{prefix}".rstrip("-")
-    words = [f"{prefix}-{command}" if prefix else command, *options, path]
-    text = None if text is None else text.encode()
-    said = processes.output_of(words, package, text, path, {**os.environ, "LC_ALL": "C"})
-    return said.decode(errors="replace")
+class Line(NamedTuple):
+    """A line of a source file, which is None where it isn't known."""
+
+    file: str = None
+    number: int = 0
+
+
+class Code(NamedTuple):
+    """The function that has an instruction; the line in it, and then those of functions that are
+    inlined there."""
+
+    function: Function
+    lines: list
 
 
 @functools.cache
@@ -83,12 +75,6 @@ def segments_of(path):
     """Of each loaded segment of an ELF file its offset, its address and its size in memory."""
     found = map(SEGMENT.match, output_of("readelf", path, "-lW", "--").splitlines())
     return [tuple(int(number, 16) for number in each.groups()) for each in found if each]
-
-
-@functools.cache
-def line_finder():
-    """The command that tells the lines of addresses."""
-    return LLVM if tool.which(LLVM) else "addr2line"
 
 
 class Loaded:
@@ -104,70 +90,101 @@ class Loaded:
         return any(region.start <= address < region.end for region in self.regions)
 
     @functools.cached_property
+    def paths(self):
+        """The files that have its names: its own, and that of its debug information."""
+        apart = debug_file(self.path)
+        return [apart, self.path] if apart else [self.path]
+
+    @functools.cached_property
     def thread_local(self):
         """Where nm has threads' variables, which are elsewhere: the address and size it tells."""
-        rows = map(THREAD_LOCAL.match, output_of("readelf", self.path, "-sW", "--").splitlines())
+        lines = [line for path in self.paths
+                 for line in output_of("readelf", path, "-sW", "--").splitlines()]
+        rows = map(THREAD_LOCAL.match, lines)
         return {(int(one[1], 16) + self.base, int(one[2], 0)) for one in rows if one}
+
+    def read_symbols(self, path, which):
+        """What nm tells of all that has a name and a size."""
+        source = ""
+        for line in output_of("nm", path, which, "--defined-only", "--").splitlines():
+            if (symbol := SYMBOL.match(line)) and int(symbol[2], 16):
+                start, size = int(symbol[1], 16) + self.base, int(symbol[2], 16)
+                place = Range(start, start + size, symbol[4].partition("@")[0])
+                yield Symbol(place, symbol[3], source if symbol[3].islower() else "")
+            elif begins := SOURCE.match(line):
+                source = UNIT.sub("", begins[1])
 
     @functools.cached_property
     def symbols(self):
-        """All that has a name and a size, by address, with the letter of nm before the name, and
-        the name of its source file where only this file knows the name."""
+        """All that has a name and a size, by address; where it has several names, those of other
+        files come last."""
+        named = [(path, "-apS") for path in self.paths] + [(self.path, "-DS")]
         found = {}
-        for which in ("-apSC", "-DSC"):
-            source = ""
-            for line in output_of("nm", self.path, which, "--defined-only", "--").splitlines():
-                if (symbol := SYMBOL.match(line)) and int(symbol[2], 16):
-                    start, size = int(symbol[1], 16) + self.base, int(symbol[2], 16)
-                    place = Range(start, start + size, symbol[3] + symbol[4].partition("@")[0])
-                    found.setdefault(place, source if symbol[3].islower() else "")
-                elif begins := SOURCE.match(line):
-                    source = begins[1]
-        return dict(sorted(found.items()))
+        for symbol in (symbol for words in named for symbol in self.read_symbols(*words)):
+            found.setdefault((symbol.place, symbol.kind), symbol)
+        ordered = sorted(found.values(), key=lambda one: (
+            one.place.start, one.place.end, one.kind.isupper(), one.place.name))
+        names = demangled([symbol.place.name for symbol in ordered], self.path)
+        return [symbol._replace(place=symbol.place._replace(name=name))
+                for symbol, name in zip(ordered, names)]
 
     def objects(self):
         """The global and static variables, and the source file of each static one."""
-        return [(symbol._replace(name=symbol.name[1:]), source)
-                for symbol, source in self.symbols.items() if symbol.name[0] in "bBdDrRuVvgGsS"
-                and (symbol.start, symbol.end - symbol.start) not in self.thread_local]
+        return [(place, source) for place, kind, source in self.symbols if kind in "bBdDrRuVvgGsS"
+                and (place.start, place.end - place.start) not in self.thread_local]
 
     @functools.cached_property
     def functions(self):
-        return [symbol._replace(name=PART.sub("", symbol.name[1:])) for symbol in self.symbols
-                if symbol.name[0] in "tTwWi"]
+        return [symbol._replace(place=symbol.place._replace(name=PART.sub("", symbol.place.name)))
+                for symbol in self.symbols if symbol.kind in "tTwWi"]
 
-    def function_at(self, address):
-        at = bisect.bisect(self.functions, (address, float("inf"))) - 1
-        is_in = at >= 0 and address < self.functions[at].end
-        return self.functions[at].name if is_in else f"({self.name})"
+    @functools.cached_property
+    def places(self):
+        return [symbol.place for symbol in self.functions]
 
-    def frames(self, addresses):
-        """Of each address its frames: that of its function first, then those inlined there."""
-        asked = "".join(f"{address - self.base:x}\n" for address in addresses)
-        output = output_of(line_finder(), self.path, "-a", "-i", "-f", "-C", "-e", text=asked)
+    def symbol_at(self, address):
+        """The symbol of the function that has an address, or None."""
+        at = bisect.bisect(self.places, (address, float("inf"))) - 1
+        return self.functions[at] if at >= 0 and address < self.places[at].end else None
+
+    def lines_of(self, addresses):
+        """Of each address its lines, the outermost first, each with the name of its function."""
+        asked = "".join(f"{address - self.base:x}\n" for address in sorted(addresses))
+        output = output_of(line_finder(), self.paths[0], "-a", "-i", "-f", "-C", "-e", text=asked)
         lines = output.splitlines()
         found, current = {}, None
         for at, line in enumerate(lines):
             if line.startswith("0x"):
                 current, begins = found.setdefault(int(line, 16) + self.base, []), at + 1
             elif current is not None and (at - begins) % 2:
-                current.insert(0, self.frame(lines[at - 1], line))
-        unknown = {address: [Frame(self.function_at(address), None, 0)] for address in addresses
-                   if not found.get(address)}
-        named = {address: frames for address, frames in found.items() if frames}
-        for address, frames in named.items():
+                current.insert(0, (lines[at - 1], self.line_of(line)))
+        return {address: found.get(address) or [("??", Line())] for address in addresses}
+
+    def code(self, addresses):
+        """Of each address its function and lines."""
+        symbols = {address: self.symbol_at(address) for address in addresses}
+        starts = {symbol.place.start for symbol in symbols.values() if symbol}
+        lines = self.lines_of({*addresses, *starts})
+        found = {}
+        for address, symbol in symbols.items():
             # where something is inlined, the command has another name for the function
-            symbol = self.function_at(address)
-            if symbol != f"({self.name})" or frames[0].function == "??" or not frames[0].file:
-                frames[0] = frames[0]._replace(function=symbol)
-        return {**named, **unknown}
+            name, line = lines[symbol.place.start if symbol else address][0]
+            if symbol:
+                source = "" if line.file else symbol.source
+                function = Function(symbol.place.name, self.path, line.file, source)
+            elif name != "??" and line.file:
+                function = Function(name, self.path, line.file)
+            else:
+                function = Function(f"({self.name})", self.path, is_one=False)
+            found[address] = Code(function, [line for _, line in lines[address]])
+        return found
 
     @staticmethod
-    def frame(function, place):
+    def line_of(place):
         file, _, line = re.sub(r" \(discriminator.*", "", place).rpartition(":")
         if line.isdigit() and int(line) > 0 and file != "??":
-            return Frame(function, os.path.normpath(file), int(line))
-        return Frame(function, None, 0)
+            return Line(os.path.normpath(file), int(line))
+        return Line()
 
 
 class Layout:
@@ -242,11 +259,12 @@ class Layout:
             at = max(at, region.end)
         return [one for one in answer if one.start < one.end]
 
-    def frames(self, addresses):
-        """Of each address its frames."""
+    def code(self, addresses):
+        """Of each address its function and lines."""
         found = {}
         for file in self.files:
             own = [address for address in addresses if address not in found and file.has(address)]
             if own:
-                found.update(file.frames(own))
-        return {address: found.get(address) or [Frame("?", None, 0)] for address in addresses}
+                found.update(file.code(own))
+        nowhere = Code(Function("?"), [Line()])
+        return {address: found.get(address, nowhere) for address in addresses}

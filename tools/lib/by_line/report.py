@@ -1,31 +1,35 @@
 """The tables of by-line, with the names of what was counted."""
 
 from lib import streams, tool
-from lib.by_line import elf
+from lib.by_line import binutils, elf
 
 import collections
 import csv
 import io
+import os
 from typing import NamedTuple
 
 COUNTS = ("references", "misses", "compulsory", "capacity", "conflict")
 MOST_INLINED = 8
-NO_FETCH = elf.Frame("(no fetch before it)", None, 0)
+NO_FETCH = elf.Code(elf.Function("(no fetch before it)", is_one=False), [elf.Line()])
 
 
 class Cell(NamedTuple):
     """What was counted for an instruction and an object."""
 
-    frames: list
+    code: elf.Code
     object: str
     counts: list
 
 
 class Names:
-    """How lines are called: by the file's name, and as much of its path as tells it from others."""
+    """How lines and functions are called: by the file's name, and as much of its path as tells it
+    from others; of functions of one name each has that of its file behind it, or of its program."""
 
     def __init__(self, cells):
-        paths = {frame.file for cell in cells for frame in cell.frames if frame.file}
+        functions = {cell.code.function for cell in cells}
+        paths = {line.file for cell in cells for line in cell.code.lines if line.file}
+        paths |= {function.file for function in functions if function.file}
         self.names, parts = {}, 0
         while paths:
             parts += 1
@@ -33,9 +37,27 @@ class Names:
             often = collections.Counter(names.values())
             self.names.update((path, name) for path, name in names.items() if often[name] == 1)
             paths = {path for path in paths if path not in self.names}
+        self.functions = {function: function.name for function in functions}
+        for tell_apart in (self.with_file, self.with_program):
+            often = collections.Counter(self.functions.values())
+            self.functions.update((function, tell_apart(function))
+                                  for function, name in self.functions.items()
+                                  if often[name] > 1 and function.is_one)
 
-    def line(self, frame):
-        return f"{self.names[frame.file]}:{frame.line}"
+    def with_file(self, function):
+        file = self.names[function.file] if function.file else function.source
+        return f"{function.name} ({file})" if file else self.with_program(function)
+
+    def with_program(self, function):
+        file = self.names[function.file] if function.file else function.source
+        program = os.path.basename(function.program)
+        return f"{function.name} ({file} of {program})" if file else f"{function.name} ({program})"
+
+    def function(self, code):
+        return self.functions[code.function]
+
+    def line(self, line):
+        return f"{self.names[line.file]}:{line.number}"
 
     @staticmethod
     def cut(lines):
@@ -45,11 +67,12 @@ class Names:
 
     def columns(self, cell, by):
         """What tells a row from others, in its columns."""
-        outer, *others = cell.frames
-        line = outer.function if outer.function.startswith("(") else f"({outer.function})"
+        outer, *others = cell.code.lines
+        function = self.function(cell.code)
+        line = f"({function})" if cell.code.function.is_one else function
         line = self.line(outer) if outer.file else line
-        inlined = [self.line(frame) if frame.file else "?" for frame in others]
-        texts = {"line": [line, " ".join(self.cut(inlined))], "function": [outer.function],
+        inlined = [self.line(line) if line.file else "?" for line in others]
+        texts = {"line": [line, " ".join(self.cut(inlined))], "function": [function],
                  "object": [cell.object]}
         return tuple(text for key in by for text in texts[key])
 
@@ -65,11 +88,11 @@ def read_counts(text, objects, layout):
     if not rows or rows.pop() != ["end"]:
         tool.fail("the references can't be counted")
     counted = [row for row in rows if row[0] == "cell"]
-    frames = layout.frames(sorted({int(row[1], 16) for row in counted if row[1] != "-"}))
+    codes = layout.code(sorted({int(row[1], 16) for row in counted if row[1] != "-"}))
     cells = []
     for _, address, number, *numbers in counted:
         references, misses, compulsory, capacity = map(int, numbers)
-        own = [NO_FETCH] if address == "-" else frames[int(address, 16)]
+        own = NO_FETCH if address == "-" else codes[int(address, 16)]
         counts = [references, misses, compulsory, capacity, misses - compulsory - capacity]
         cells.append(Cell(own, objects[int(number)], counts))
     pairs = [(cells[int(row[1])], cells[int(row[2])], int(row[3]))
@@ -113,22 +136,25 @@ def table_of_evictions(asked, cells, pairs):
 def in_callgrind_format(asked, cells):
     """The counts by function and innermost line, without conflict misses, which may be below 0."""
     used = COUNTS[:3 if asked.only_compulsory else 4]
-    files = {cell.frames[0].function: cell.frames[0].file for cell in cells if cell.frames[0].file}
-    rows = []
+    names, rows = Names(cells), []
+    often = collections.Counter((function.file, function.name) for function in names.functions)
     for cell in cells:
-        function = cell.frames[0].function
-        inner = next((frame for frame in reversed(cell.frames) if frame.file), NO_FETCH)
-        key = files.get(function, "???"), function, inner.file or "???", inner.line
+        function, inner = cell.code.function, [line for line in cell.code.lines if line.file]
+        is_alone = often[function.file, function.name] == 1
+        name = function.name if is_alone else names.function(cell.code)
+        line = inner[-1] if inner else elf.Line()
+        program = os.path.abspath(function.program) if function.program else "???"
+        key = program, function.file or "???", name, line.file or "???", line.number
         rows.append((key, cell.counts[:len(used)]))
     totals = " ".join(str(sum(counts[at] for _, counts in rows)) for at in range(len(used)))
     yield from ("# callgrind format", "version: 1", "creator: by-line of cachesim",
                 "positions: line", f"events: {' '.join(map(str.capitalize, used))}",
                 f"summary: {totals}")
     last, present = None, None
-    for (file, function, inner, line), counts in sorted(sums(rows).items()):
-        if (file, function) != last:
-            yield from ("", f"fl={file}", f"fn={function}")
-            last, present = (file, function), file
+    for (program, file, function, inner, line), counts in sorted(sums(rows).items()):
+        if (program, file, function) != last:
+            yield from ("", f"ob={program}", f"fl={file}", f"fn={function}")
+            last, present = (program, file, function), file
         if inner != present:
             yield f"{'fe' if inner == file else 'fi'}={inner}"
             present = inner
@@ -150,9 +176,9 @@ def warn_of_lines(cells):
     """Warns of lines that may be wrong: behind the end of their file, and of another finder."""
     files = collections.defaultdict(collections.Counter)
     for cell in cells:
-        for file, line in {(frame.file, frame.line) for frame in cell.frames if frame.file}:
+        for file, line in {line for line in cell.code.lines if line.file}:
             files[file][line] += cell.counts[0]
-    if files and elf.line_finder() != elf.LLVM:
+    if files and binutils.line_finder() != binutils.LLVM:
         tool.warn("llvm-addr2line is missing: apt-get install llvm; addr2line may name a wrong file"
                   " for code of headers")
     for path, lines in sorted(files.items()):

@@ -1,0 +1,103 @@
+"""What binutils and LLVM tell of an ELF file, and the file of its debug information."""
+
+import functools
+import os
+import re
+import zlib
+
+from lib import processes, tool
+
+# of programs for other machines the prefix of their binutils
+PREFIXES = {40: "arm-linux-gnueabihf", 183: "aarch64-linux-gnu", 243: "riscv64-linux-gnu"}
+# LLVM's is asked for lines, since that of binutils 2.40 takes one file for another in DWARF 5
+LLVM = "llvm-addr2line"
+DEBUG_FOLDER = "/usr/lib/debug"
+LINK = re.compile(r"\.gnu_debuglink .*\n\s*Separate debug info file: (.*)\n\s*CRC value: 0x(\w+)")
+BUILD_ID = re.compile(r"Build ID: (\w\w)(\w+)")
+# a name before what ThinLTO adds to it, with which demanglers do not know Rust's names
+THIN_LTO = re.compile(r"\.llvm\.\d+")
+
+
+@functools.cache
+def prefix_of(path):
+    """The prefix of the binutils for an ELF file; none for this machine's."""
+    try:
+        with open(path, "rb") as file:
+            machine = int.from_bytes(file.read(20)[18:], "little")
+    except OSError:
+        return ""
+    prefix = PREFIXES.get(machine, "")
+    return "" if prefix.split("-")[0] == os.uname().machine else prefix
+
+
+def is_elf(path):
+    """Whether a file can be read and begins as an ELF file does."""
+    try:
+        with open(path, "rb") as file:
+            return file.read(4) == b"\x7fELF"
+    except OSError:
+        return False
+
+
+def run(words, package, of, text=None):
+    """What a command writes. Without its answer a table would look whole, so the tool ends where
+    it fails."""
+    text = None if text is None else text.encode(errors="surrogateescape")
+    said = processes.output_of(words, package, text, of, {**os.environ, "LC_ALL": "C"})
+    return said.decode(errors="replace")
+
+
+def output_of(command, path, *options, text=None):
+    """What a command of binutils or LLVM, with options of which the last may take the path, writes
+    of an ELF file; nothing of another."""
+    if not is_elf(path):
+        return ""
+    prefix = "" if command == LLVM else prefix_of(path)
+    package = "llvm" if command == LLVM else f"binutils-{prefix}".rstrip("-")
+    return run([f"{prefix}-{command}" if prefix else command, *options, path], package, path, text)
+
+
+@functools.cache
+def line_finder():
+    """The command that tells the lines of addresses."""
+    return LLVM if tool.which(LLVM) else "addr2line"
+
+
+def demangled(names, path):
+    """The names of a program's symbols as its source has them, those of Rust without a hash."""
+    lines = "".join(f"{THIN_LTO.sub('', name)}\n" for name in names)
+    return run(["c++filt", "-i"], "binutils", path, lines).split("\n")[:-1] if names else []
+
+
+def checksum_of(path):
+    """That by which a program names the file of its debug information."""
+    found = 0
+    with open(path, "rb") as file:
+        while piece := file.read(1 << 20):
+            found = zlib.crc32(piece, found)
+    return found
+
+
+def build_id(path):
+    found = BUILD_ID.search(output_of("readelf", path, "-n", "--"))
+    return found.groups() if found else None
+
+
+@functools.cache
+def debug_file(path):
+    """The file with the names and lines of a stripped program, or None: that of its build ID, or
+    the one that it names, where GDB looks for it; a file of another build is passed over."""
+    identity = build_id(path)
+    if identity:
+        found = "{}/.build-id/{}/{}.debug".format(DEBUG_FOLDER, *identity)
+        if is_elf(found) and build_id(found) == identity:
+            return found
+    link = LINK.search(output_of("readelf", path, "-wk", "--"))
+    folder = os.path.dirname(os.path.realpath(path))
+    for place in (folder, f"{folder}/.debug", f"{DEBUG_FOLDER}{folder}") if link else ():
+        found = os.path.join(place, link[1])
+        if is_elf(found) and not os.path.samefile(found, path):
+            if checksum_of(found) == int(link[2], 16):
+                return found
+            tool.warn(f"{found} is of another build of {path}")
+    return None
