@@ -9,7 +9,6 @@ import base
 from base import cache
 from test_by_line import ByLineTest
 
-from lib import tool
 from lib.by_line import binutils
 
 CACHE = cache(16, 16)
@@ -238,11 +237,18 @@ class Rust(Names):
                 wanted = {"own::TABLE": 1, "own::inner::TABLE": 1}
                 self.assertEqual(self.objects(tables), wanted)
 
-    def test_name_after_the_optimizer_of_links(self):
-        """Which adds a number to it."""
-        names = ["_ZN3std2rt10lang_start28_$u7b$$u7b$closure$u7d$$u7d$17hc820094044b0496fE",
-                 "_RNvCsf2l3VMgRzbd_3own3set", "plain"]
-        wanted = ["std::rt::lang_start::{{closure}}", "own::set", "plain"]
-        for number in ("", ".llvm.4295446079832805675"):
-            found = binutils.demangled([f"{name}{number}" for name in names], tool.HERE)
-            self.assertEqual(found, wanted)
+    @base.needs("gcc")
+    def test_after_an_optimizer_that_adds_a_number(self):
+        """As ThinLTO does: here to names that an assembler has."""
+        names = ("_ZN3std2rt10lang_start28_$u7b$$u7b$closure$u7d$$u7d$17hc820094044b0496fE",
+                 "_RNvCsf2l3VMgRzbd_3own3set", "_ZN3own5TABLE17h029105707c695135E", "_own.llvm.1x")
+        names = [f"{name}.llvm.4295446079832805675" for name in names]
+        places = ".text", ".text", ".data", ".data"
+        self.write("own.s", "".join(
+            f'.section {place}\n.size "{name}", 4\n.globl "{name}"\n"{name}": .zero 4\n'
+            for name, place in zip(names, places)))
+        self.compiled("-nostdlib", "-Wl,--entry=0", "own.s")
+        found = [self.places(re.escape(name))[0] for name in names]
+        wanted = {"std::rt::lang_start::{{closure}}": 1, "own::set": 2}
+        self.assertEqual(self.counted(found[:2]), wanted)
+        self.assertEqual(self.objects(found[2:]), {"own::TABLE": 1, "_own.llvm.1x": 1})

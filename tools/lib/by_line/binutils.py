@@ -14,8 +14,8 @@ LLVM = "llvm-addr2line"
 DEBUG_FOLDER = "/usr/lib/debug"
 LINK = re.compile(r"\.gnu_debuglink .*\n\s*Separate debug info file: (.*)\n\s*CRC value: 0x(\w+)")
 BUILD_ID = re.compile(r"Build ID: (\w\w)(\w+)")
-# a name before what ThinLTO adds to it, with which demanglers do not know Rust's names
-THIN_LTO = re.compile(r"\.llvm\.\d+")
+# what ThinLTO adds to a name, with which nm leaves Rust's names as they are
+THIN_LTO = re.compile(r"\.llvm\.\d+(?=\.|$)")
 
 
 @functools.cache
@@ -63,10 +63,14 @@ def line_finder():
     return LLVM if tool.which(LLVM) else "addr2line"
 
 
-def demangled(names, path):
-    """The names of a program's symbols as its source has them, those of Rust without a hash."""
-    lines = "".join(f"{THIN_LTO.sub('', name)}\n" for name in names)
-    return run(["c++filt", "-i"], "binutils", path, lines).split("\n")[:-1] if names else []
+def mended(names, path):
+    """The names that nm has of a program's symbols, those of Rust after ThinLTO as of others."""
+    left = [name for name in names if name.startswith("_") and THIN_LTO.search(name)]
+    if not left:
+        return names
+    lines = "".join(f"{THIN_LTO.sub('', name)}\n" for name in left)
+    told = dict(zip(left, run(["c++filt", "-i"], "binutils", path, lines).splitlines()))
+    return [told.get(name, name) for name in names]
 
 
 def checksum_of(path):

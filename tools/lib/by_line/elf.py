@@ -9,7 +9,7 @@ import re
 from typing import NamedTuple
 
 from lib import tool
-from lib.by_line.binutils import debug_file, demangled, line_finder, output_of
+from lib.by_line.binutils import debug_file, line_finder, mended, output_of
 
 PAGE = 4096
 ANY_TEXT = {"encoding": "utf-8", "errors": "surrogateescape"}
@@ -118,13 +118,13 @@ class Loaded:
     def symbols(self):
         """All that has a name and a size, by address; where it has several names, those of other
         files come last."""
-        named = [(path, "-apS") for path in self.paths] + [(self.path, "-DS")]
+        named = [(path, "-apSC") for path in self.paths] + [(self.path, "-DSC")]
         found = {}
         for symbol in (symbol for words in named for symbol in self.read_symbols(*words)):
             found.setdefault((symbol.place, symbol.kind), symbol)
         ordered = sorted(found.values(), key=lambda one: (
             one.place.start, one.place.end, one.kind.isupper(), one.place.name))
-        names = demangled([symbol.place.name for symbol in ordered], self.path)
+        names = mended([symbol.place.name for symbol in ordered], self.path)
         return [symbol._replace(place=symbol.place._replace(name=name))
                 for symbol, name in zip(ordered, names)]
 
