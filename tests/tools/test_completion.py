@@ -199,7 +199,7 @@ OF_TOOLS = {
     f"{OF_DIN}",
     "second-level": f"-h --help --format {OF_DIN}",
     **dict.fromkeys(("pages", "three-c", "warm"), f"-h --help {OF_SWEEP}"),
-    "sweep-parallel": f"-h --help --resume {OF_SWEEP}",
+    "sweep-parallel": f"-h --help --resume --pages {OF_SWEEP}",
 }
 FORMATS = "pin champsim dinero memtrace drmemtrace execlog spike gem5 lackey addresses"
 
