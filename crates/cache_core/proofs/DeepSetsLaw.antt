@@ -8,13 +8,13 @@ use Rattle.std.proofs.lemmas.List.{nil_from_length, drop_all, take_at}
 use Rattle.std.proofs.lemmas.List.Elements.{All-set, All-get_or, All-replicate, All-map}
 use Rattle.std.proofs.Math.Seq.{map-set_same}
 use Rattle.deep_list.specs.Deep.{Deep, index_of_block}
-use Rattle.deep_list.specs.Deep.{sets_after_exchange as exchanged_list}
+use Rattle.deep_list.specs.Deep.{list_after_exchange as exchanged_list}
 use Rattle.cache_core.specs.internal.DeepSets.{IsDeepSets, blocks_in, cleared_sets}
 use Rattle.cache_core.specs.internal.DeepSets.{sets_after_exchange}
 use Rattle.cache_core.specs.internal.Touched.{TouchedValue, Covers, ListsFilled, after_count}
 use Rattle.cache_core.specs.internal.Touched.{no_sets}
 use Rattle.cache_core.proofs.TouchedSets.{covers_change, covers_none, no_count, next_listed}
-use Rattle.cache_core.proofs.TouchedSets.{cleared_sets as emptied_count}
+use Rattle.cache_core.proofs.TouchedSets.{emptied as emptied_count}
 
 -- no list
 abbrev pub nothing : Deep
