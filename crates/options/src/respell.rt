@@ -44,7 +44,7 @@ fn push_arguments(
     takes_dinero: bool,
 ) -> Result<(), AllocError>
     ensures { OnOk result (map string_bytes list.new.items ≡ map string_bytes list.old.items
-        ++ map (spelling_of is_dinero_command) (map string_bytes arguments.now)) }
+        ++ map (spelling_of takes_dinero) (map string_bytes arguments.now)) }
 {
     for argument in arguments {
         list.push(respell_argument(alloc, argument.as_str(), takes_dinero)?)?;
@@ -54,7 +54,7 @@ fn push_arguments(
 
 /// An argument, as an option of Dinero's or as it is.
 fn respell_argument(alloc: Global, argument: &str, takes_dinero: bool) -> Result<String, AllocError>
-    ensures { IfOk result (λ s. string_bytes s ≡ spelling_of is_dinero_command argument.now) }
+    ensures { IfOk result (λ s. string_bytes s ≡ spelling_of takes_dinero argument.now) }
 {
     if takes_dinero && is_dinero_option(argument) {
         format!(in alloc; "-{argument}")
