@@ -51,10 +51,11 @@ fn rows_come_in_the_order_of_the_table(rt: HostRuntime) -> Result<(), Fail> {
 fn a_fault_of_the_trace_gives_no_rows(rt: HostRuntime) -> Result<(), Fail> {
     let both = request(2, (1, 2), (16, 64))?;
     let mut source = TapeSource::new(b"0 10\n0 g\n", 7, 0);
-    let fault = match SweepCounts::read(rt.alloc(), &both, &mut source) {
+    let found = match SweepCounts::read(rt.alloc(), &both, &mut source) {
         Ok(_) => None,
-        Err(fault) => Some(fault),
+        Err(found) => Some(found),
     };
-    assert!(&rt; fault == Some(SweepFault::Trace(TraceFault::Line(2, LineFault::Address))));
+    let fault = LineFault::Address;
+    assert!(&rt; found == Some(SweepFault::Trace(TraceFault::Line { line: 2, fault })));
     Ok(())
 }
