@@ -45,7 +45,8 @@ def compiled(name):
 def make(target):
     """Has make do its work. What it says is shown where it fails."""
     tool.needs("make", "make")
-    env = {name: os.environ[name] for name in os.environ if name not in ("MAKEFLAGS", "MFLAGS")}
+    of_make = "MAKEFLAGS", "MFLAGS", "MAKELEVEL"  # of a make that runs the tool
+    env = {name: os.environ[name] for name in os.environ if name not in of_make}
     with Group() as group:
         words = ["make", "-s", "-C", tool.HERE, target]
         maker = group.start(Make, words, env=env, setpgroup=0)
