@@ -5,6 +5,7 @@ ghost use Rattle.trace_core.specs.Device.{Writes};
 ghost use Rattle.commands.specs.CsimText.{letter_of, lookup_text, item_line, line_of};
 ghost use Rattle.commands.specs.CsimText.{lookups_of_pair, summary};
 
+use crate::text::push_word;
 use cache_core::{Counts, Lookup};
 use trace_core::text::{DECIMAL, HEXADECIMAL, Text};
 use trace_core::{DeviceFault, Entry, Item, Op, Sink, write_all};
@@ -21,6 +22,7 @@ const LINE: usize = 2 + HEXADECIMAL + 1 + DECIMAL + 2 * LOOKUP + 1;
 pub(crate) const SUMMARY: usize = (5 + 8 + 11) + 3 * DECIMAL + 1;
 
 /// Writes the line of an entry whose references had these lookups.
+#[inline(always)]
 pub(crate) fn write_line<K: Sink>(
     text: &mut Text<SUMMARY>,
     entry: Entry,
@@ -39,16 +41,17 @@ pub(crate) fn set_summary(text: &mut Text<SUMMARY>, counts: Counts)
     ensures { text.new ≡ summary counts }
 {
     text.clear();
-    text.push(b"hits:");
+    push_word(text, *b"hits:");
     text.push_decimal(counts.hits);
-    text.push(b" misses:");
+    push_word(text, *b" misses:");
     text.push_decimal(counts.misses);
-    text.push(b" evictions:");
+    push_word(text, *b" evictions:");
     text.push_decimal(counts.evictions);
-    text.push(b"\n");
+    push_word(text, *b"\n");
 }
 
 /// Makes a text the line of an entry whose references had these lookups.
+#[inline(always)]
 fn set_line(text: &mut Text<SUMMARY>, entry: Entry, lookups: (Option<Lookup>, Option<Lookup>))
     ensures { text.new ≡ line_of entry (lookups_of_pair lookups) }
 {
@@ -59,6 +62,7 @@ fn set_line(text: &mut Text<SUMMARY>, entry: Entry, lookups: (Option<Lookup>, Op
 }
 
 /// Adds the line of an item whose references had these lookups.
+#[inline(always)]
 fn push_item(text: &mut Text<SUMMARY>, item: Item, lookups: (Option<Lookup>, Option<Lookup>))
     requires { length text.old + LINE ≤ SUMMARY }
     ensures { text.new ≡ text.old ++ item_line (letter_of item.op) item (lookups_of_pair lookups) }
@@ -66,16 +70,17 @@ fn push_item(text: &mut Text<SUMMARY>, item: Item, lookups: (Option<Lookup>, Opt
     let Some(letter) = letter(item.op) else {
         return;
     };
-    text.push(&[letter, b' ']);
+    push_word(text, [letter, b' ']);
     text.push_hexadecimal(item.addr);
-    text.push(b",");
+    push_word(text, *b",");
     text.push_decimal(item.size as u64);
     push_lookup(text, lookups.0);
     push_lookup(text, lookups.1);
-    text.push(b"\n");
+    push_word(text, *b"\n");
 }
 
 /// The letter of an item's line. A fetch has no line.
+#[inline(always)]
 fn letter(op: Op) -> Option<u8>
     ensures { result ≡ letter_of op }
 {
@@ -88,23 +93,16 @@ fn letter(op: Op) -> Option<u8>
 }
 
 /// Adds the text of a lookup, if there is one.
+#[inline(always)]
 fn push_lookup(text: &mut Text<SUMMARY>, lookup: Option<Lookup>)
     requires { length text.old + LOOKUP ≤ SUMMARY }
     ensures value { text.new ≡ text.old ++ flat_map lookup_text (option_to_list lookup) }
     ensures short { length text.new ≤ length text.old + LOOKUP }
 {
-    if let Some(lookup) = lookup {
-        text.push(lookup_text(lookup));
-    }
-}
-
-/// What a line says of a lookup, each word after a space.
-fn lookup_text(lookup: Lookup) -> &'static [u8]
-    ensures { result.now ≡ lookup_text lookup }
-{
     match lookup {
-        Lookup::Hit => b" hit",
-        Lookup::Miss => b" miss",
-        Lookup::MissEviction => b" miss eviction",
+        Some(Lookup::Hit) => push_word(text, *b" hit"),
+        Some(Lookup::Miss) => push_word(text, *b" miss"),
+        Some(Lookup::MissEviction) => push_word(text, *b" miss eviction"),
+        None => {}
     }
 }

@@ -1,8 +1,7 @@
 -- Hexadecimal digits, written from the last one to the first.
-use Rattle.std.proofs.Common.{◌≡◌, ℕ, zero, suc, ◌+◌, ◌-◌, ◌/◌, ◌%◌, ◌^◌, ◌<◌, ◌≤◌, Bool, false}
-use Rattle.std.proofs.Common.{true, cond, eqb, List, [], ◌∷◌, sym, ap, ◌∙◌, subst, arith}
-use Rattle.std.proofs.Math.Nat.{add-suc, pow-suc}
-use Rattle.std.proofs.lemmas.Nat.{div_below}
+use Rattle.std.proofs.Common.{◌≡◌, ℕ, zero, suc, ◌+◌, ◌-◌, ◌/◌, ◌%◌, ◌≤◌, Bool, false}
+use Rattle.std.proofs.Common.{true, cond, eqb, List, [], ◌∷◌, sym, ap, ◌∙◌, arith}
+use Rattle.std.proofs.Math.Nat.{add-suc}
 use Rattle.std.specs.Fmt.{digits, digits_onto, digit_glyph}
 
 -- the digits of n before some digits, where at most 48 + most of them come
@@ -37,14 +36,3 @@ digits_more (suc most) n acc some more =
     let less : most ≡ suc most - 1 = omega arith in
     one_step most n acc ∙ ap (after_one most n acc) more ∙
     ap (λ k. digits_before k (n / 16) (digit_glyph false (n % 16) ∷ acc)) less
-
-pub sixteenth_fits : (most n : ℕ) → 1 ≤ most → n < 16 ^ most → n / 16 < 16 ^ (most - 1)
-sixteenth_fits zero n some fits = absurd (omega arith)
-sixteenth_fits (suc most) n some fits =
-    let less : most ≡ suc most - 1 = omega arith in
-    subst (λ (k : ℕ). n / 16 < 16 ^ k) less (div_below n 16 (16 ^ most) (omega arith)
-    (subst (λ (m : ℕ). n < m) (pow-suc 16 most) fits))
-
-pub digits_left : (most n : ℕ) → n < 16 ^ most → (n ≡ 0 → ⊥) → 1 ≤ most
-digits_left zero n fits some = absurd (some (omega (arith, fits)))
-digits_left (suc most) n fits some = omega arith

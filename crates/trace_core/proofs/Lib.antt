@@ -21,3 +21,4 @@ pub mod EntryEvents
 pub mod WholeTraces
 pub mod Judging
 pub mod Hexadecimal
+pub mod HexadecimalDigits

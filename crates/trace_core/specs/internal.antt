@@ -1,3 +1,4 @@
 pub mod FastLine
 pub mod Devices
 pub mod Scan
+pub mod HexadecimalDigits

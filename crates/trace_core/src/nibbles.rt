@@ -1,9 +1,11 @@
 //! Sixteen bytes at once, as hexadecimal digits.
 ghost use Rattle.std.specs.Prelude.{◌≡◌, ℕ, ◌+◌, ◌-◌, ◌%◌, true, map, nat_le, length, slice_index};
-ghost use Rattle.std.specs.Prelude.{if◌then◌else◌, bit_or};
+ghost use Rattle.std.specs.Prelude.{if◌then◌else◌, bit_or, false};
 ghost use Rattle.std.specs.Char.{digit_value, is_digit};
 ghost use Rattle.std.specs.Int.Digits.{number_from_digits, AllBelowBase};
 ghost use Rattle.std.specs.Simd.Lanes.{mask_l};
+ghost use Rattle.std.specs.Fmt.{digit_glyph};
+ghost use Rattle.trace_core.specs.internal.HexadecimalDigits.{nibbles, hexadecimal_digits};
 
 use std::simd::prelude::*;
 
@@ -55,4 +57,35 @@ fn lanes_within(bytes: u8x16, first: u8, more: u8) -> u8x16
     (bytes - u8x16::splat(first))
         .simd_le(u8x16::splat(more))
         .select(u8x16::splat(255), u8x16::splat(0))
+}
+
+/// The sixteen hexadecimal digits of a number in lower case, leading zeros too.
+#[inline(always)]
+pub(crate) fn sixteen_digits(number: u64) -> u8x16
+    ensures { result ≡ hexadecimal_digits 16 number }
+{
+    digits_of(nibbles_of(number))
+}
+
+/// The values of these digits.
+#[inline(always)]
+fn nibbles_of(number: u64) -> u8x16
+    ensures { result ≡ nibbles 16 number }
+{
+    let bytes = u64x2::from_array([number, 0])
+        .to_le_bytes()
+        .extract::<0, 8>();
+    let bytes = bytes.reverse().cast::<u16>();
+    let pairs = (bytes >> u16x8::splat(4)) + ((bytes & u16x8::splat(15)) << u16x8::splat(8));
+    pairs.to_le_bytes()
+}
+
+/// The digits of these values.
+#[inline(always)]
+fn digits_of(values: u8x16) -> u8x16
+    requires lanes { length values ≡ 16 }
+    requires below { AllBelowBase 16 values }
+    ensures { result ≡ map (digit_glyph false) values }
+{
+    u8x16::from_array(*b"0123456789abcdef").swizzle_dyn(values)
 }

@@ -1,10 +1,12 @@
 //! A text that is put together in a buffer of fixed size.
-ghost use Rattle.std.specs.Prelude.{◌≡◌, ◌<◌, ◌≤◌, drop, false};
-ghost use Rattle.std.specs.Fmt.{digit_glyph};
+ghost use Rattle.std.specs.Prelude.{◌≡◌, ◌<◌, ◌≤◌, ◌^◌};
 ghost use Rattle.trace_core.specs.Text.{hexadecimal};
+ghost use Rattle.trace_core.specs.internal.HexadecimalDigits.{hexadecimal_digits};
 
+use crate::nibbles::sixteen_digits;
 use itoa::Buffer;
 use std::marker::Model;
+use std::simd::prelude::*;
 
 /// The most digits of a number in decimal.
 pub const DECIMAL: usize = 20;
@@ -30,7 +32,7 @@ impl<const CAPACITY: usize> Model for Text<CAPACITY> {
 }
 
 impl<const CAPACITY: usize> Text<CAPACITY> {
-    ghost use Rattle.std.specs.Prelude.{◌≡◌, ◌+◌, ◌≤◌, ◌++◌, [], length, decimal};
+    ghost use Rattle.std.specs.Prelude.{◌≡◌, ◌+◌, ◌≤◌, ◌++◌, [], length, take, decimal};
 
     /// An empty text.
     pub fn new() -> Self
@@ -57,7 +59,7 @@ impl<const CAPACITY: usize> Text<CAPACITY> {
     }
 
     /// Adds bytes.
-    #[inline]
+    #[inline(always)]
     pub fn push(&mut self, piece: &[u8])
         requires { length self.old + length piece.now ≤ CAPACITY }
         ensures { self.new ≡ self.old ++ piece.now }
@@ -69,7 +71,23 @@ impl<const CAPACITY: usize> Text<CAPACITY> {
     }
 
     /// Adds a number in decimal digits.
+    #[inline(always)]
     pub fn push_decimal(&mut self, number: u64)
+        requires { length self.old + DECIMAL ≤ CAPACITY }
+        ensures value { self.new ≡ self.old ++ decimal number }
+        ensures short { length self.new ≤ length self.old + DECIMAL }
+    {
+        if number < 10 {
+            self.push(&[b'0' + number as u8]);
+        } else {
+            self.push_long_decimal(number);
+        }
+    }
+
+    /// The same, however many digits it has. It stands apart, so that the path of the many numbers
+    /// of one digit stays short.
+    #[inline(never)]
+    fn push_long_decimal(&mut self, number: u64)
         requires { length self.old + DECIMAL ≤ CAPACITY }
         ensures value { self.new ≡ self.old ++ decimal number }
         ensures short { length self.new ≤ length self.old + DECIMAL }
@@ -78,44 +96,44 @@ impl<const CAPACITY: usize> Text<CAPACITY> {
         self.push(buffer.format(number).as_bytes());
     }
 
-    /// Adds a number in lower-case hexadecimal digits.
+    /// Adds a number in lower-case hexadecimal digits. Its digits are moved to the front of
+    /// sixteen,
+    /// which are then made and stored all at once, so no branch depends on how many they are.
+    #[inline(always)]
     pub fn push_hexadecimal(&mut self, number: u64)
         requires { length self.old + HEXADECIMAL ≤ CAPACITY }
         ensures value { self.new ≡ self.old ++ hexadecimal number }
         ensures short { length self.new ≤ length self.old + HEXADECIMAL }
     {
-        let mut digits = [0; HEXADECIMAL];
-        let start = write_hexadecimal(number, &mut digits);
-        self.push(&digits[start..]);
+        let count = hexadecimal_len(number);
+        let digits = sixteen_digits(number << (64 - 4 * count));
+        self.push_front(digits, count);
+    }
+
+    /// Adds the first of sixteen bytes, as many as `count` says. All are stored, and those behind
+    /// them are no part of the text.
+    #[inline(always)]
+    fn push_front(&mut self, bytes: u8x16, count: usize)
+        requires lanes { length bytes ≡ 16 }
+        requires within { count ≤ 16 }
+        requires room { length self.old + 16 ≤ CAPACITY }
+        ensures value { self.new ≡ self.old ++ take count bytes }
+        ensures len { length self.new ≡ length self.old + count }
+    {
+        let longer = self.len + count;
+        let room = &mut self.bytes[..];
+        bytes.copy_to_slice(&mut room[self.len..]);
+        self.len = longer;
     }
 }
 
-/// Writes the digits of a number, without leading zeros, at the end of a buffer, and returns where
-/// they start.
-fn write_hexadecimal(number: u64, digits: &mut [u8; HEXADECIMAL]) -> usize
-    ensures within { result ≤ 16 }
-    ensures value { drop result digits.new ≡ hexadecimal number }
+/// How many hexadecimal digits a number has.
+#[inline(always)]
+fn hexadecimal_len(number: u64) -> usize
+    ensures some { 1 ≤ result }
+    ensures most { result ≤ 16 }
+    ensures fits { number < 16 ^ result }
+    ensures value { hexadecimal_digits result number ≡ hexadecimal number }
 {
-    let mut start = 16;
-    let mut rest = number;
-    loop {
-        start -= 1;
-        digits[start] = lower_case_digit((rest % 16) as u8);
-        rest /= 16;
-        if rest == 0 {
-            return start;
-        }
-    }
-}
-
-/// A hexadecimal digit in lower case.
-fn lower_case_digit(value: u8) -> u8
-    requires { value < 16 }
-    ensures { result ≡ digit_glyph false value }
-{
-    if value < 10 {
-        b'0' + value
-    } else {
-        b'a' + (value - 10)
-    }
+    16 - number.max(1).leading_zeros() as usize / 4
 }
