@@ -1,14 +1,16 @@
 -- Lines of the usual form, and their meaning.
 use Rattle.std.proofs.Common.{◌≡◌, ℕ, zero, suc, ◌<◌, ◌==◌, ◌&&◌, ◌||◌, ◌+◌, ◌-◌, ◌≤◌, Bool, true}
 use Rattle.std.proofs.Common.{false, List, [], ◌∷◌, ◌++◌, length, take, drop, get_or, refl, sym, ap}
-use Rattle.std.proofs.Common.{◌∙◌, arith, rules, tests, append_assoc}
+use Rattle.std.proofs.Common.{◌∙◌, arith, rules, tests, append_assoc, subst}
 use Rattle.std.specs.Prelude.{None, Some, Ok, nat_lt, nat_le}
 use Rattle.std.specs.List.{position_or_len, before_first, after_first, list_all}
 use Rattle.std.specs.Char.{is_digit}
 use Rattle.std.proofs.lemmas.Bool.{and_parts, false≢true, eqb-true}
 use Rattle.trace_core.proofs.Steps.{line-split, line-before}
-use Rattle.std.proofs.lemmas.List.{length-take-le, length-append, get_or_append_left}
+use Rattle.std.proofs.lemmas.List.{length-take-le, length-append, get_or_append_left, get_or-drop}
+use Rattle.std.proofs.lemmas.List.{length-drop}
 use Rattle.std.proofs.Math.Seq.{get_or-append_seam, take-append_seam, drop-append-add}
+use Rattle.std.proofs.Math.Seq.{drop-append_seam}
 use Rattle.trace_core.specs.Fields.{is_blank, is_trailing, without_trailing, fields, ends_field}
 use Rattle.trace_core.specs.Fields.{number_written, without_0x}
 use Rattle.trace_core.specs.Line.{meaning, din_op, entry_of_label, lackey_op, is_comma, is_message}
@@ -375,12 +377,29 @@ line-end f text rest item at begun end =
           begun.means (take k rest) end.ends,
     )
 
--- a line that ends where the rest begins
-pub ends-here : (text rest : List ℕ) (at : ℕ) → 1 ≤ length rest → get_or rest 0 0 ≡ 10 →
-    at ≡ length text - length rest → EndsLine text rest at
-ends-here text rest at some byte place = record {
-  after = 0;
-  line_feed = search (rules, tests);
-  ends = refl;
-  place = omega (arith, place);
-}
+-- a line that ends where its last field does
+pub ends-here : (text : List ℕ) (at : ℕ) → at < length text → get_or text at 0 ≡ 10 →
+    EndsLine text (drop at text) at
+ends-here text at within byte =
+    let long : length (drop at text) ≡ length text - at = length-drop at text in
+    let zero : at + 0 ≡ at = omega arith in
+    let front : get_or (drop at text) 0 0 ≡ 10 = get_or-drop at text 0 0 ∙
+    ap (λ k. get_or text k 0) zero ∙ byte in
+    record {
+      after = 0;
+      line_feed = search (rules, tests);
+      ends = refl;
+      place = omega (arith, long);
+    }
+
+-- the rest of a text stands in it from where it begins
+pub begins-at : (f : Format) (text rest : List ℕ) (item : Item) (at : ℕ) →
+    BeginsLine f text rest item → at ≡ length text - length rest →
+    BeginsLine f text (drop at text) item
+begins-at f text rest item at begun place =
+    let long : at ≡ length begun.front =
+    omega (arith, place, ap length begun.splits, length-append begun.front rest) in
+    let same : drop at text ≡ rest =
+    ap (λ k. drop k text) long ∙ ap (drop (length begun.front)) begun.splits ∙
+    drop-append_seam begun.front rest in
+    subst (λ r. BeginsLine f text r item) (sym same) begun

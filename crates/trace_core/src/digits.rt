@@ -7,19 +7,21 @@ ghost use Rattle.trace_core.specs.Fields.{WritesNumber, number_written};
 use crate::nibbles::{digit_mask, digit_values, number_of};
 use std::simd::prelude::*;
 
-/// The number that 1 to 16 hexadecimal digits in front write, and what follows them.
+/// The number that 1 to 16 hexadecimal digits in front write, what follows them, and how many they
+/// are.
 #[inline(always)]
-pub(crate) fn split_hexadecimal(text: &[u8]) -> Option<(u64, &[u8])>
+pub(crate) fn split_hexadecimal(text: &[u8]) -> Option<(u64, &[u8], usize)>
     ensures parts { IfSome result (λ parts. (digits : List ℕ) × (text.now ≡ digits ++ parts.1.now)
         × (number_written 16 16 digits ≡ Some parts.0)) }
-    ensures near { IfSome result (λ parts. length text.now ≤ length parts.1.now + 16) }
+    ensures many { IfSome result (λ parts. (length text.now ≡ length parts.1.now + parts.2)
+        × (parts.2 ≤ 16)) }
 {
     let (value, len) = read_hexadecimal(text);
     if len == 0 {
         return None;
     }
     let (_, rest) = text.split_at(len);
-    Some((value, rest))
+    Some((value, rest, len))
 }
 
 /// The number that 1 to `most` digits in front write, and what follows them.

@@ -76,6 +76,10 @@ impl Kind {
     }
 }
 
+/// The accesses of the first references, in the order of the operations. A table, since the
+/// operations of a trace come in no order that a processor predicts.
+static FIRST_ACCESSES: [Access; 4] = [Access::Fetch, Access::Read, Access::Write, Access::Read];
+
 /// The references of an item: a modify reads and then writes.
 #[inline(always)]
 pub fn refs_of(item: Item) -> (Ref, Option<Ref>)
@@ -83,10 +87,9 @@ pub fn refs_of(item: Item) -> (Ref, Option<Ref>)
 {
     let addr = item.addr;
     let at = |access| Ref { access, addr };
+    let first = at(FIRST_ACCESSES[item.op as usize]);
     match item.op {
-        Op::Fetch => (at(Access::Fetch), None),
-        Op::Load => (at(Access::Read), None),
-        Op::Store => (at(Access::Write), None),
-        Op::Modify => (at(Access::Read), Some(at(Access::Write))),
+        Op::Modify => (first, Some(at(Access::Write))),
+        _ => (first, None),
     }
 }

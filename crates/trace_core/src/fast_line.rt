@@ -3,11 +3,11 @@
 //!
 //! This way is for speed alone. A reader that never took it would meet each contract, and read most
 //! traces several times slower: only `tests/limits` sees that.
-ghost use Rattle.std.specs.Prelude.{◌^◌, ◌<◌, ◌≡◌, ℕ, ◌≤◌, List, ◌++◌, true, Ok, Some, IfSome};
-ghost use Rattle.std.specs.Prelude.{take, length, ◌+◌};
+ghost use Rattle.std.specs.Prelude.{◌≡◌, ℕ, ◌≤◌, List, ◌++◌, true, Ok, Some, IfSome};
+ghost use Rattle.std.specs.Prelude.{take, drop, length, ◌+◌, MatchOption};
 ghost use Rattle.std.specs.List.{list_all};
 ghost use Rattle.memchr.specs.Find.{IsFirstByte, is_byte};
-ghost use Rattle.trace_core.specs.Fields.{is_blank, number_written};
+ghost use Rattle.trace_core.specs.Fields.{is_blank, number_written, without_0x};
 ghost use Rattle.trace_core.specs.Line.{meaning};
 ghost use Rattle.trace_core.specs.internal.FastLine.{BeginsLine, BeginsLabel, EndsLine};
 ghost use Rattle.trace_core.specs.declared.events.Entry.TheVariants as entry;
@@ -15,7 +15,7 @@ ghost use Rattle.trace_core.specs.declared.events.Entry.TheVariants as entry;
 use crate::digits::{split_hexadecimal, split_number};
 use crate::events::{Entry, Item, Op};
 use crate::limits::MAX_LINE;
-use crate::line::{Format, din_op, lackey_op, without_0x};
+use crate::line::{Format, din_op, lackey_op};
 use memchr::memchr;
 
 /// How many bytes a text must have for the plain form. One test of it stands for those of each
@@ -36,11 +36,11 @@ pub(crate) fn read_plain_line(format: Format, text: &[u8]) -> Option<(Item, usiz
         return None;
     }
     let (label, fields) = split_plain_label(format, text)?;
-    let (item, rest) = read_item(format, label, fields)?;
-    let end = match rest {
-        [b'\n', ..] => text.len() - rest.len(),
-        _ => late_end(text, rest)?,
-    };
+    let (item, at) = read_item(format, text, label, fields)?;
+    if text[at] == b'\n' {
+        return Some((item, at));
+    }
+    let end = late_end(text, at)?;
     Some((item, end))
 }
 
@@ -54,91 +54,123 @@ pub(crate) fn read_spaced_line(format: Format, text: &[u8]) -> Option<(Item, usi
         meaning format (take found.1 text.now) ≡ Ok (Some (Entry.Item found.0))) }
 {
     let (label, fields) = split_label(text)?;
-    let (item, rest) = read_item(format, label, fields)?;
-    let len = text.len() - rest.len();
-    let end = match rest {
-        [b'\n', ..] if len <= MAX_LINE => len,
-        _ => late_end(text, rest)?,
-    };
+    let (item, at) = read_item(format, text, label, fields)?;
+    if at <= MAX_LINE && at < text.len() && text[at] == b'\n' {
+        return Some((item, at));
+    }
+    let end = late_end(text, at)?;
     Some((item, end))
 }
 
 /// The index of a line's LF in its text, if it comes after a CR, or after a blank and a comment.
-/// `rest` is the text behind the last field that matters.
+/// The last field that matters ends at `at`.
 #[inline(never)]
-fn late_end(text: &[u8], rest: &[u8]) -> Option<usize>
-    requires { length rest.now ≤ length text.now }
-    ensures line { IfSome result (λ end. EndsLine text.now rest.now end) }
+fn late_end(text: &[u8], at: usize) -> Option<usize>
+    requires { at ≤ length text.now }
+    ensures line { IfSome result (λ end. EndsLine text.now (drop at text.now) end) }
     ensures short { IfSome result (λ end. end ≤ MAX_LINE) }
 {
+    let (_, rest) = text.split_at(at);
     let after = match rest {
         [b'\r', b'\n', ..] => 1,
         [b' ' | b'\t', ..] => memchr(b'\n', rest)?,
         _ => return None,
     };
-    let end = text.len() - rest.len() + after;
+    let end = at + after;
     if end > MAX_LINE {
         return None;
     }
     Some(end)
 }
 
-/// The item of a line with this label, if a field ends where the returned rest begins.
+/// The item of a text that begins with this label, and where its last field ends, if a field ends
+/// there. The other fields are in `rest`, the end of the text.
 #[inline(always)]
-fn read_item(format: Format, label: u8, rest: &[u8]) -> Option<(Item, &[u8])>
-    ensures begins { IfSome result (λ found. (text : List ℕ) → BeginsLabel text rest.now label →
-        BeginsLine format text found.1.now found.0) }
-    ensures near { IfSome result (λ found. length rest.now ≤ length found.1.now + 26) }
+fn read_item(format: Format, text: &[u8], label: u8, rest: &[u8]) -> Option<(Item, usize)>
+    requires begun { BeginsLabel text.now rest.now label }
+    requires within { length rest.now ≤ length text.now }
+    ensures begins { IfSome result (λ found.
+        BeginsLine format text.now (drop found.1 text.now) found.0) }
+    ensures near { IfSome result (λ found. (found.1 ≤ length text.now)
+        × (found.1 + length rest.now ≤ length text.now + 26)) }
 {
     match format {
-        Format::Din => read_din_item(label, rest),
-        Format::Lackey => read_lackey_item(label, rest),
+        Format::Din => read_din_item(text, label, rest),
+        Format::Lackey => read_lackey_item(text, label, rest),
     }
 }
 
 /// The item of a din line: an address follows the label.
 #[inline(always)]
-fn read_din_item(label: u8, rest: &[u8]) -> Option<(Item, &[u8])>
-    ensures begins { IfSome result (λ found. (text : List ℕ) → BeginsLabel text rest.now label →
-        BeginsLine Format.Din text found.1.now found.0) }
-    ensures near { IfSome result (λ found. length rest.now ≤ length found.1.now + 26) }
+fn read_din_item(text: &[u8], label: u8, rest: &[u8]) -> Option<(Item, usize)>
+    requires begun { BeginsLabel text.now rest.now label }
+    requires within { length rest.now ≤ length text.now }
+    ensures begins { IfSome result (λ found.
+        BeginsLine Format.Din text.now (drop found.1 text.now) found.0) }
+    ensures near { IfSome result (λ found. (found.1 ≤ length text.now)
+        × (found.1 + length rest.now ≤ length text.now + 26)) }
 {
     let op = din_op(label)?;
-    let (addr, rest) = split_hexadecimal(without_0x(rest))?;
-    Some((Item { op, addr, size: 0 }, rest))
+    // Each way has an end of its own, so that it is a sum of few terms.
+    if let Some(digits) = split_0x(rest) {
+        let (addr, _, len) = split_hexadecimal(digits)?;
+        return Some((Item { op, addr, size: 0 }, text.len() - digits.len() + len));
+    }
+    let (addr, _, len) = split_hexadecimal(rest)?;
+    Some((Item { op, addr, size: 0 }, text.len() - rest.len() + len))
+}
+
+/// The text after a `0x` or `0X` in front, if it has one.
+#[inline(always)]
+fn split_0x(text: &[u8]) -> Option<&[u8]>
+    ensures value { MatchOption result (without_0x text.now ≡ text.now)
+        (λ digits. without_0x text.now ≡ digits.now) }
+    ensures near { IfSome result (λ digits. (length text.now ≤ length digits.now + 2)
+        × (length digits.now ≤ length text.now)) }
+{
+    match text {
+        [b'0', b'x' | b'X', digits @ ..] => Some(digits),
+        _ => None,
+    }
 }
 
 /// The item of a lackey line: an address, a comma and a size follow the label.
 #[inline(always)]
-fn read_lackey_item(label: u8, rest: &[u8]) -> Option<(Item, &[u8])>
-    ensures begins { IfSome result (λ found. (text : List ℕ) → BeginsLabel text rest.now label →
-        BeginsLine Format.Lackey text found.1.now found.0) }
-    ensures near { IfSome result (λ found. length rest.now ≤ length found.1.now + 26) }
+fn read_lackey_item(text: &[u8], label: u8, rest: &[u8]) -> Option<(Item, usize)>
+    requires begun { BeginsLabel text.now rest.now label }
+    requires within { length rest.now ≤ length text.now }
+    ensures begins { IfSome result (λ found.
+        BeginsLine Format.Lackey text.now (drop found.1 text.now) found.0) }
+    ensures near { IfSome result (λ found. (found.1 ≤ length text.now)
+        × (found.1 + length rest.now ≤ length text.now + 26)) }
 {
     let op = lackey_op(label)?;
-    let (addr, rest) = split_hexadecimal(rest)?;
-    let [b',', rest @ ..] = rest else {
+    let (addr, after, len) = split_hexadecimal(rest)?;
+    let [b',', decimals @ ..] = after else {
         return None;
     };
-    let (size, rest) = split_size(rest)?;
+    if let Some((size, _)) = split_one_digit(decimals) {
+        return Some((Item { op, addr, size }, text.len() - rest.len() + len + 2));
+    }
+    let (size, rest) = split_number(10, 9, decimals)?;
     let size = size as u32;
-    Some((Item { op, addr, size }, rest))
+    Some((Item { op, addr, size }, text.len() - rest.len()))
 }
 
-/// The size of a lackey line, and what follows it. Most sizes have one digit, and end the line.
+/// A size of one digit that ends its line, and what follows it. Most sizes of a lackey trace do.
 #[inline(always)]
-fn split_size(text: &[u8]) -> Option<(u64, &[u8])>
+fn split_one_digit(text: &[u8]) -> Option<(u32, &[u8])>
     ensures parts { IfSome result (λ parts. (digits : List ℕ) × (text.now ≡ digits ++ parts.1.now)
         × (number_written 10 9 digits ≡ Some parts.0)) }
-    ensures bound { IfSome result (λ parts. parts.0 < 10 ^ 9) }
-    ensures near { IfSome result (λ parts. length text.now ≤ length parts.1.now + 9) }
+    ensures near { IfSome result (λ parts. length text.now ≡ length parts.1.now + 1) }
 {
-    if let [digit @ b'0'..=b'9', rest @ ..] = text {
-        if let [b'\n', ..] = rest {
-            return Some(((*digit - b'0') as u64, rest));
-        }
+    match text {
+        [digit @ b'0'..=b'9', rest @ ..] => match rest {
+            [b'\n', ..] => Some(((*digit - b'0') as u32, rest)),
+            _ => None,
+        },
+        _ => None,
     }
-    split_number(10, 9, text)
 }
 
 /// A label with the blanks beside it that tracers write, and what comes after them.

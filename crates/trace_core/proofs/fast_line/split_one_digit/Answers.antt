@@ -6,7 +6,7 @@ use Rattle.std.specs.Str.Parse.{digits_value}
 use Rattle.trace_core.specs.Fields.{number_written}
 use Rattle.trace_core.proofs.Fronts.{one-front}
 use Rattle.trace_core.proofs.Numbers.{number_written-some}
-use Rattle.trace_core.proofs.fast_line.split_size.Goals as goal
+use Rattle.trace_core.proofs.fast_line.split_one_digit.Goals as goal
 
 value : (d : ℕ) → 48 ≤ d → d ≤ 57 → digit_value d ≡ d - 48
 value d low high =
