@@ -21,8 +21,8 @@ use Rattle.cache_core.specs.Order.{Moves, Touches, TakesIn, Inserts, Exchanges, 
 use Rattle.cache_core.specs.Order.{victim_at, with_dirty_at}
 use Rattle.cache_core.specs.Rules.{Place, Victim, rules}
 
--- a prefix that ends at an index, turned right by one, brings the slot there to the front
-pub to_front : (s : List Slot) (at : ℕ) (r : List Slot) (d : Slot) → at < length s →
+-- a prefix that ends at an index, turned right by one, brings what is there to the front
+pub to_front : {X : Type 0} (s : List X) (at : ℕ) (r : List X) (d : X) → at < length s →
     r ≡ drop (length (take (at + 1) s) - 1) (take (at + 1) s) ++ take (length (take (at + 1) s) - 1)
     (take (at + 1) s) →
     r ++ drop (at + 1) s ≡ get_or s at d ∷ remove s at
@@ -36,11 +36,18 @@ to_front s at r d h e =
     let b = take_at (take at s) (get_or s at d ∷ []) at l in
     rw (e', a, b, add-one) refl
 
-pub remove_split : (xs : List Slot) (x : Slot) (ys : List Slot) (n : ℕ) → length xs ≡ n →
+pub remove_split : {X : Type 0} (xs : List X) (x : X) (ys : List X) (n : ℕ) → length xs ≡ n →
     remove (xs ++ x ∷ ys) n ≡ xs ++ ys
 remove_split [] x ys n e = rw (sym e) refl
 remove_split (z ∷ xs) x ys n e =
     rw (sym e) (ap (λ s. z ∷ s) (remove_split xs x ys (length xs) refl))
+
+pub set_removed : {X : Type 0} (s : List X) (i : ℕ) (y : X) → i < length s →
+    remove (set s i y) i ≡ remove s i
+set_removed s i y h = cc (
+  set_split s i y h,
+  remove_split (take i s) y (drop (suc i) s) i (omega (arith, h, length-take i s)),
+)
 
 -- a slot put in front of the first n, where the last one leaves if these are all
 pub new_in_front : (s : List Slot) (n last : ℕ) (new d : Slot) (r : List Slot) → n ≤ length s →
@@ -56,11 +63,7 @@ new_in_front s n last new d r h some l e =
     within = omega (arith, l)
 
     split : remove (set s last new) last ≡ remove s last
-    split = cc (
-      set_split s last new within,
-      remove_split (take last s) new (drop (suc last) s) last
-          (omega (arith, within, length-take last s)),
-    )
+    split = set_removed s last new within
 
     whole : r ++ drop (last + 1) (set s last new) ≡ new ∷ remove s last
     whole = cc (

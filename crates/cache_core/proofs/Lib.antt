@@ -32,6 +32,8 @@ pub mod Exponents
 pub mod GeometryLaw
 pub mod Counters
 pub mod SystemPushes
+pub mod FingerprintsLaw
+pub mod FingerprintLemmas
 pub mod FirstLevelLaw
 pub mod LowerLaw
 pub mod SystemLaw

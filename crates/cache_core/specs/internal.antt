@@ -1,5 +1,6 @@
 pub mod Order
 pub mod Slab
+pub mod Fingerprints
 pub mod Touched
 pub mod Stands
 pub mod DeepSets

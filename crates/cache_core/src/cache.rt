@@ -9,7 +9,10 @@ ghost use Rattle.cache_core.specs.Outcomes.{hit_in_front, is_allocated, through_
 ghost use Rattle.cache_core.specs.Outcomes.{block_load_access};
 ghost use Rattle.cache_core.specs.Order.{Touches, Visits, position_of, Accesses, FlushesCache};
 ghost use Rattle.cache_core.specs.Order.{with_dirty_at, dirty_slots};
-ghost use Rattle.cache_core.specs.internal.Order.{DirtiesByWrites};
+ghost use Rattle.cache_core.specs.Geometry.{block_of, set_of};
+ghost use Rattle.cache_core.specs.Order.{slots_of};
+ghost use Rattle.cache_core.specs.internal.Order.{DirtiesByWrites, HoldsPlaced, NoneBefore};
+ghost use Rattle.cache_core.specs.internal.Order.{HoldsAt};
 ghost use Rattle.cache_core.specs.internal.Order.{hits_in_front};
 ghost use Rattle.cache_core.specs.Slab.{Addressable, IsCacheSlab, sets_of};
 ghost use Rattle.cache_core.specs.internal.Slab.{slab_contents};
@@ -104,6 +107,33 @@ impl<P: Replacement> Cache<P> {
         ensures victim { IfSome result.evicted
             (λ slot. slot.block * 2 ^ self.old.design.geometry.b < 2 ^ 64) }
     {
+        let at = find_in_slab(self.design, &self.slots, &self.filled, reference);
+        let (outcome, _) = visit_slab(
+            self.design,
+            &mut self.policy,
+            &mut self.slots,
+            &mut self.filled,
+            &mut self.touched,
+            reference,
+            at,
+        );
+        outcome
+    }
+
+    /// The same access, by a caller that has found the index of its block in its set. Also returns
+    /// the index of the slot that it placed, if it placed one.
+    #[inline(always)]
+    pub(crate) fn access_at(&mut self, reference: Ref, at: Option<usize>) -> (Outcome, usize)
+        requires { at ≡ position_of (block_of self.old.design.geometry reference.addr)
+            (slots_of self.old.sets (set_of self.old.design.geometry reference.addr)) }
+        ensures step { Accesses (contents_of P.policy P.words self.old) reference result.0
+            (contents_of P.policy P.words self.new) }
+        ensures dirty { DirtiesByWrites self.old.sets reference result.0 self.new.sets }
+        ensures victim { IfSome result.0.evicted
+            (λ slot. slot.block * 2 ^ self.old.design.geometry.b < 2 ^ 64) }
+        ensures placed { HoldsPlaced (block_of self.old.design.geometry reference.addr) result.0
+            result.1 (slots_of self.new.sets (set_of self.old.design.geometry reference.addr)) }
+    {
         visit_slab(
             self.design,
             &mut self.policy,
@@ -111,6 +141,7 @@ impl<P: Replacement> Cache<P> {
             &mut self.filled,
             &mut self.touched,
             reference,
+            at,
         )
     }
 
@@ -129,6 +160,16 @@ impl<P: Replacement> Cache<P> {
         ensures kept { result ≡ None → self.new ≡ self.old }
     {
         visit_front(self.design, &mut self.slots, &self.filled, reference)
+    }
+
+    /// The filled slots of a set.
+    #[inline(always)]
+    pub(crate) fn slots(&self, set: usize) -> &[Slot]
+        requires { set < 2 ^ self.now.design.geometry.s }
+        ensures slots { result.now ≡ slots_of self.now.sets set }
+        ensures within { length result.now ≤ self.now.design.geometry.e }
+    {
+        segment(self.design, &self.slots, &self.filled, set)
     }
 
     /// Its geometry.
@@ -150,7 +191,35 @@ impl<P: Replacement> Cache<P> {
     }
 }
 
-/// One access, in the slab of all sets. A set that gets its first block is listed.
+/// The filled slots of a set, in the slab of all sets.
+#[inline(always)]
+fn segment<'a>(design: Design, slots: &'a [Slot], filled: &[u32], set: usize) -> &'a [Slot]
+    requires slab { IsCacheSlab design slots.now filled.now }
+    requires set { set < 2 ^ design.geometry.s }
+    ensures slots { result.now ≡ slots_of (sets_of design.geometry.e slots.now filled.now) set }
+    ensures within { length result.now ≤ design.geometry.e }
+{
+    let start = set * design.geometry.e() as usize;
+    let held = filled[set] as usize;
+    &slots[start..start + held]
+}
+
+/// The index of a reference's block in its set, if it is there.
+#[inline(always)]
+fn find_in_slab(design: Design, slots: &[Slot], filled: &[u32], reference: Ref) -> Option<usize>
+    requires { IsCacheSlab design slots.now filled.now }
+    ensures { result ≡ position_of (block_of design.geometry reference.addr)
+        (slots_of (sets_of design.geometry.e slots.now filled.now)
+        (set_of design.geometry reference.addr)) }
+{
+    let set = design.geometry.set_of(reference.addr) as usize;
+    let block = design.geometry.block_of(reference.addr);
+    find_block(segment(design, slots, filled, set), block)
+}
+
+/// One access, in the slab of all sets, where the index of its block in its set is known. A set
+/// that gets its first block is listed. Also returns the index of the slot that is placed, if one
+/// is.
 #[inline(always)]
 fn visit_slab<P: Replacement>(
     design: Design,
@@ -159,29 +228,36 @@ fn visit_slab<P: Replacement>(
     filled: &mut [u32],
     touched: &mut TouchedSets,
     reference: Ref,
-) -> Outcome
+    at: Option<usize>,
+) -> (Outcome, usize)
     requires slab { IsCacheSlab design slots.old filled.old }
     requires touched { Covers touched.old filled.old }
+    requires at { at ≡ position_of (block_of design.geometry reference.addr)
+        (slots_of (sets_of design.geometry.e slots.old filled.old)
+        (set_of design.geometry reference.addr)) }
     ensures touched { Covers touched.new filled.new }
     ensures slab { IsCacheSlab design slots.new filled.new }
     ensures access { Accesses
         (slab_contents design (P.policy policy.old) (P.words policy.old) slots.old filled.old)
-        reference result
+        reference result.0
         (slab_contents design (P.policy policy.new) (P.words policy.new) slots.new filled.new) }
     ensures dirty { DirtiesByWrites
-        (sets_of design.geometry.e slots.old filled.old) reference result
+        (sets_of design.geometry.e slots.old filled.old) reference result.0
         (sets_of design.geometry.e slots.new filled.new) }
-    ensures victim { IfSome result.evicted (λ slot. slot.block * 2 ^ design.geometry.b < 2 ^ 64) }
+    ensures victim { IfSome result.0.evicted (λ slot. slot.block * 2 ^ design.geometry.b < 2 ^ 64) }
+    ensures placed { HoldsPlaced (block_of design.geometry reference.addr) result.0 result.1
+        (slots_of (sets_of design.geometry.e slots.new filled.new)
+        (set_of design.geometry reference.addr)) }
 {
     let ways = design.geometry.e() as usize;
     let number = design.geometry.set_of(reference.addr) as usize;
     let start = number * ways;
     let set = &mut slots[start..start + ways];
     let before = filled[number];
-    let (outcome, count) = visit(design, policy, set, before as usize, reference);
+    let (outcome, count, way) = visit(design, policy, set, before as usize, reference, at);
     filled[number] = count as u32;
     touched.add_grown(number, before, count as u32);
-    outcome
+    (outcome, way)
 }
 
 /// One access to the first slot of its set, in the slab of all sets, if its block is there and it
@@ -239,7 +315,8 @@ fn mark_front(slots: &mut [Slot], dirty: bool)
     }
 }
 
-/// One access, in the slots of its set. Also returns how many of them are filled then.
+/// One access, in the slots of its set, where the index of its block is known. Also returns how
+/// many of them are filled then, and the index of the slot that is placed, if one is.
 #[inline(always)]
 fn visit<P: Replacement>(
     design: Design,
@@ -247,7 +324,9 @@ fn visit<P: Replacement>(
     set: &mut [Slot],
     filled: usize,
     reference: Ref,
-) -> (Outcome, usize)
+    at: Option<usize>,
+) -> (Outcome, usize, usize)
+    requires at { at ≡ position_of (block_of design.geometry reference.addr) (take filled set.old) }
     requires filled { filled ≤ length set.old }
     requires ways { length set.old ≡ design.geometry.e }
     requires some { 1 ≤ design.geometry.e }
@@ -259,27 +338,67 @@ fn visit<P: Replacement>(
     ensures addresses { Addressable design.geometry.b (take result.1 set.new) }
     ensures victim { IfSome result.0.evicted
         (λ slot. slot.block * 2 ^ design.geometry.b < 2 ^ 64) }
+    ensures placed { HoldsPlaced (block_of design.geometry reference.addr) result.0 result.2
+        (take result.1 set.new) }
 {
     let block = design.geometry.block_of(reference.addr);
     let dirty = dirties_line(design.write, reference.access);
-    if let Some(at) = find_block(&set[..filled], block) {
+    if let Some(at) = at {
         use_slot(policy, &mut set[..filled], at, dirty);
-        return (hit_outcome(design.write, reference), filled);
+        return (hit_outcome(design.write, reference), filled, at);
     }
     if !allocates_line(design.allocate, reference.access) {
-        return (passing_outcome(reference), filled);
+        return (passing_outcome(reference), filled, 0);
     }
-    let (_, evicted) = policy.place(set, filled, Slot { block, dirty });
+    let (way, evicted) = policy.place(set, filled, Slot { block, dirty });
     let outcome = placing_outcome(design, reference, block, evicted);
-    (outcome, (filled + 1).min(set.len()))
+    (outcome, (filled + 1).min(set.len()), way)
 }
 
-/// The index of a block among the slots, if it is there.
+/// The index of a block among the slots, if it is there. It goes four slots at a time, since a
+/// compiler doesn't unroll a search.
 #[inline(always)]
 fn find_block(slots: &[Slot], block: u64) -> Option<usize>
     ensures { result ≡ position_of block slots.now }
 {
-    slots.iter().position(|slot| slot.block == block)
+    let mut at = 0;
+    while slots.len() - at >= 4 {
+        let others = others_of_four(slots, at, block);
+        if others < 4 {
+            return Some(at + others);
+        }
+        at += 4;
+    }
+    while at < slots.len() {
+        if slots[at].block == block {
+            return Some(at);
+        }
+        at += 1;
+    }
+    None
+}
+
+/// How many of the four slots from an index on come before the first that holds a block.
+#[inline(always)]
+fn others_of_four(slots: &[Slot], at: usize, block: u64) -> usize
+    requires { at + 4 ≤ length slots.now }
+    ensures most { result ≤ 4 }
+    ensures others { NoneBefore block slots.now at → NoneBefore block slots.now (at + result) }
+    ensures found { result < 4 → HoldsAt block slots.now (at + result) }
+{
+    if slots[at].block == block {
+        return 0;
+    }
+    if slots[at + 1].block == block {
+        return 1;
+    }
+    if slots[at + 2].block == block {
+        return 2;
+    }
+    if slots[at + 3].block == block {
+        return 3;
+    }
+    4
 }
 
 /// Uses the slot at an index, and marks it dirty if it is to be.

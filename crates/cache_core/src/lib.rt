@@ -6,6 +6,8 @@ pub mod arrival;
 pub mod cache;
 mod deep_sets;
 pub mod design;
+mod fingerprinted;
+mod fingerprints;
 pub mod geometry;
 pub mod laws;
 mod lru_sets;

@@ -1,12 +1,14 @@
 //! A system of caches.
 ghost use Rattle.std.specs.Prelude.{◌≡◌, ◌≤◌, ◌<◌, ◌+◌, ◌^◌, ℕ, List, length, ◌∷◌, [], IfOk};
-ghost use Rattle.std.specs.Prelude.{Option, ◌++◌, Some, MatchBool};
+ghost use Rattle.std.specs.Prelude.{Option, ◌++◌, Some, None, true, MatchBool};
 ghost use Rattle.cache_core.specs.internal.SystemSteps.{present_refs, memory_after_all, Descends};
 ghost use Rattle.cache_core.specs.internal.SystemSteps.{AllDescend, AccessesFirst};
 ghost use Rattle.cache_core.specs.internal.SystemSteps.{AccessesFirstLevel, EmptiesCache};
 ghost use Rattle.cache_core.specs.internal.SystemSteps.{accesses_of, memory_accesses, stats_held};
 ghost use Rattle.cache_core.specs.internal.SystemSteps.{IsNewCache, nothing_down};
 ghost use Rattle.cache_core.specs.internal.SystemSteps.{first_hits_in_front, level_hits_in_front};
+ghost use Rattle.cache_core.specs.internal.SystemSteps.{first_name};
+ghost use Rattle.cache_core.specs.declared.arrival.Arrival.TheVariants.{Cache};
 ghost use Rattle.cache_core.specs.internal.SystemStands.{PlannedCacheStandsFor};
 ghost use Rattle.cache_core.specs.Arrivals.{Saw, cache_arrivals, arrivals_below};
 ghost use Rattle.cache_core.specs.Arrivals.{all_arrivals_below, at_memory, first_arrivals, flushes};
@@ -124,12 +126,41 @@ impl System {
             SystemStandsFor plan seed (events ++ event.Reference reference ∷ []) self.new }
         ensures steps { self.new.steps ≡ self.old.steps + 1 }
     {
-        self.step_observed(reference, &mut Nobody);
+        self.step_seen(reference, &mut Nobody);
     }
 
     /// The same step; an observer sees each arrival.
     #[inline(always)]
     pub fn step_observed<O: Observer>(&mut self, reference: Ref, observer: &mut O)
+        requires steps { self.old.steps < MAX_STEPS }
+        requires room { MAX_ARRIVALS ≤ O.room observer.old }
+        ensures stands { (plan : PlannedCaches) (seed : ℕ) (events : List Event) → IsPlan plan →
+            SystemStandsFor plan seed events self.old →
+            SystemStandsFor plan seed (events ++ event.Reference reference ∷ []) self.new }
+        ensures steps { self.new.steps ≡ self.old.steps + 1 }
+        ensures seen { (plan : PlannedCaches) (seed : ℕ) (events : List Event) → IsPlan plan →
+            SystemStandsFor plan seed events self.old →
+            Saw O.has_seen observer.old (arrivals_of plan seed events (event.Reference reference))
+            observer.new }
+        ensures room { O.room observer.old ≤ O.room observer.new + MAX_ARRIVALS }
+    {
+        let cache = first_name(&self.u, reference);
+        if access_first_level_in_front(&mut self.i, &mut self.d, &mut self.u, reference) {
+            self.steps += 1;
+            observer.see(Arrival::Cache {
+                cache,
+                reference,
+                hit: true,
+                victim: None,
+            });
+        } else {
+            self.step_seen(reference, observer);
+        }
+    }
+
+    /// The same step, whatever it comes to, as `step_further`.
+    #[inline(never)]
+    fn step_seen<O: Observer>(&mut self, reference: Ref, observer: &mut O)
         requires steps { self.old.steps < MAX_STEPS }
         requires room { MAX_ARRIVALS ≤ O.room observer.old }
         ensures stands { (plan : PlannedCaches) (seed : ℕ) (events : List Event) → IsPlan plan →
@@ -294,11 +325,29 @@ fn access_first_in_front(cache: &mut Option<SystemCache>, reference: Ref) -> boo
         (AccessesFirst cache.old reference (Some nothing_down) cache.new)
         (cache.new ≡ cache.old) }
     ensures answers { result ≡ first_hits_in_front cache.old reference }
+    ensures seen { result ≡ true → (seed : ℕ) (name : CacheName) (planned : Option PlannedCache)
+        (events : List Event) → IsPlannedCache planned →
+        PlannedCacheStandsFor seed planned events cache.old →
+        cache_arrivals seed name planned events reference ≡ Cache name reference true None ∷ [] }
 {
     match cache {
         Some(cache) => cache.access_in_front(reference),
         None => false,
     }
+}
+
+/// The name of the first-level cache that takes a reference, if it is there.
+#[inline(always)]
+fn first_name(u: &Option<SystemCache>, reference: Ref) -> CacheName
+    ensures { result ≡ first_name u.now reference }
+{
+    if u.is_some() {
+        return CacheName::L1U;
+    }
+    if reference.access == Access::Fetch {
+        return CacheName::L1I;
+    }
+    CacheName::L1D
 }
 
 /// The same at the first level.
@@ -314,6 +363,12 @@ fn access_first_level_in_front(
         (AccessesFirstLevel i.old d.old u.old reference (Some nothing_down) i.new d.new u.new)
         ((i.new ≡ i.old) × (d.new ≡ d.old) × (u.new ≡ u.old)) }
     ensures answers { result ≡ level_hits_in_front i.old d.old u.old reference }
+    ensures seen { result ≡ true → (plan : PlannedCaches) (seed : ℕ) (events : List Event) →
+        IsPlan plan → PlannedCacheStandsFor seed plan.i (events_for L1I events) i.old →
+        PlannedCacheStandsFor seed plan.d (events_for L1D events) d.old →
+        PlannedCacheStandsFor seed plan.u (events_for L1U events) u.old →
+        first_arrivals plan seed events reference
+        ≡ Cache (first_name u.old reference) reference true None ∷ [] }
 {
     if u.is_some() {
         return access_first_in_front(u, reference);

@@ -9,8 +9,8 @@ ghost use Rattle.cache_core.specs.internal.SystemCaches.{policy_of, random_numbe
 ghost use Rattle.cache_core.specs.Systems.{random_numbers_for};
 
 use crate::arrival::{Observer, arrival_at};
-use crate::cache::Cache;
 use crate::design::Repl;
+use crate::fingerprinted::FingerprintedCache;
 use crate::outcome::{Outcome, Slot};
 use crate::plan::{CacheName, PlannedCache};
 use crate::replacement::{Fifo, Lru, Random, Replacement};
@@ -54,10 +54,23 @@ impl Replacement for ChosenPolicy {
 /// and each copyback and each dirty line by a write.
 #[derive(Drop)]
 pub(crate) struct SystemCache {
-    pub(crate) cache: Cache<ChosenPolicy>,
+    pub(crate) cache: FingerprintedCache,
     pub(crate) stats: CacheStats,
     ghost counted: { IsCounted stats },
     ghost written: { stats.copybacks + dirty_slots cache.sets ≤ stats.writes },
+}
+
+impl ChosenPolicy {
+    /// Its name.
+    pub(crate) fn name(&self) -> Repl
+        ensures { policy_of self.now ≡ Some result }
+    {
+        match self {
+            ChosenPolicy::Lru(_) => Repl::Lru,
+            ChosenPolicy::Fifo(_) => Repl::Fifo,
+            ChosenPolicy::Random(_) => Repl::Random,
+        }
+    }
 }
 
 /// The policy that is named, with a generator of this seed.
@@ -82,7 +95,7 @@ impl SystemCache {
     {
         let PlannedCache { design, policy } = planned;
         let policy = chosen_policy(policy, seed);
-        let cache = Cache::new(
+        let cache = FingerprintedCache::new(
             alloc,
             design.geometry,
             policy,

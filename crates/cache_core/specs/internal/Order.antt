@@ -34,3 +34,18 @@ abbrev pub DirtiesByWrites : List (List Slot) → Ref → Outcome → List (List
 DirtiesByWrites old ref outcome new =
     dirty_slots new + one_if (is_dirty outcome.evicted) ≤ dirty_slots old + one_if
     (is_write ref.access)
+
+-- if a slot was placed, that at an index holds its block
+abbrev pub HoldsPlaced : ℕ → Outcome → ℕ → List Slot → Type 0
+HoldsPlaced block outcome way slots = outcome.placed ≡ true →
+    option_map (λ slot. slot.block) (slice_get slots way) ≡ Some block
+
+-- no slot before an index holds a block
+abbrev pub NoneBefore : ℕ → List Slot → ℕ → Type 0
+NoneBefore block slots at = (k : ℕ) (d : Slot) → k < at → k < length slots →
+    (slice_index_or slots k d).block == block ≡ false
+
+-- whether the slot at an index holds a block
+abbrev pub HoldsAt : ℕ → List Slot → ℕ → Type 0
+HoldsAt block slots at =
+    (slice_index_or slots at (record { block = 0; dirty = false })).block ≡ block

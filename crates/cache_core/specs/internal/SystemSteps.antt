@@ -11,6 +11,8 @@ use Rattle.cache_core.specs.declared.system_cache.SystemCache.{SystemCache}
 use Rattle.cache_core.specs.declared.system.Memory.{Memory}
 use Rattle.cache_core.specs.internal.Order.{hits_in_front}
 use Rattle.cache_core.specs.Systems.{random_numbers_for}
+use Rattle.cache_core.specs.declared.plan.CacheName.{CacheName}
+use Rattle.cache_core.specs.declared.plan.CacheName.TheVariants.{L1I, L1D, L1U}
 use Rattle.cache_core.specs.declared.plan.PlannedCache.{PlannedCache}
 use Rattle.cache_core.specs.Plans.{PlannedCaches}
 use Rattle.cache_core.specs.internal.Slab.{empty_sets}
@@ -66,6 +68,10 @@ AccessesFirst cache ref (Some down) next =
 abbrev pub first_hits_in_front : Option SystemCache → Ref → Bool
 first_hits_in_front None ref = false
 first_hits_in_front (Some cache) ref = hits_in_front cache.cache.design cache.cache.sets ref
+
+-- the name of the first-level cache that takes a reference, if it is there
+abbrev pub first_name : Option SystemCache → Ref → CacheName
+first_name u ref = if is_some u then L1U else if is_fetch ref.access then L1I else L1D
 
 -- whether the cache that takes a reference has its block in front, and sends nothing down
 abbrev pub level_hits_in_front :

@@ -1,13 +1,26 @@
 -- A set is read from its segment, and the segment is written back.
-use Rattle.std.proofs.Common.{arith}
+use Rattle.std.proofs.Common.{arith, ◌∙◌, ap, sym, ◌<◌, length}
+use Rattle.cache_core.specs.Geometry.{block_of, set_of}
+use Rattle.cache_core.specs.Order.{position_of}
 use Rattle.cache_core.proofs.TouchedSets.{covers_change}
 use Rattle.cache_core.proofs.Slabs.{IsWritten, slab_read, slab_kept, slab_access, length-sets_of}
+use Rattle.cache_core.proofs.Slabs.{set_read_back}
 use Rattle.cache_core.proofs.DirtyLaw.{slab_dirty}
 use Rattle.cache_core.proofs.cache.visit_slab.Goals as goal
 use Rattle.cache_core.proofs.cache.visit_slab.Given.{Over}
 
 pub visit-count-requires-clause-addresses : goal.visit-count-requires-clause-addresses
 visit-count-requires-clause-addresses g c = grind (arith, slab_read, length-sets_of)
+
+pub visit-count-requires-clause-at : goal.visit-count-requires-clause-at
+visit-count-requires-clause-at g c =
+    let lt : c.set_of-number.result < length c.args.filled.now =
+    omega (arith, c.set_of-number.ensures.within, c.requires.slab.sets) in
+    c.requires.at ∙ ap (position_of (block_of c.args.design.geometry c.args.reference.addr))
+    (sym (rw (c.e-ways.ensures.value, c.set_of-number.ensures.value)
+    (slab_read c.args.design.geometry.e c.args.filled.now
+    (set_of c.args.design.geometry c.args.reference.addr) c.args.slots.now
+    (rw (← c.set_of-number.ensures.value) lt) c.requires.slab.within)))
 
 written : (g : Over) (c : goal.After-add_grown g) →
     IsWritten c.args.design c.set_of-number.result c.visit-count.result.1 c.e-ways.result
@@ -36,3 +49,9 @@ returns-clause-dirty g c = slab_dirty c.args.design _ _ _ _ _ _ c.requires.slab 
 
 pub returns-clause-touched : goal.returns-clause-touched
 returns-clause-touched g c = grind (arith, covers_change)
+
+pub returns-clause-placed : goal.returns-clause-placed
+returns-clause-placed g c =
+    rw (set_read_back c.args.design _ _ _ _ _ _ c.requires.slab (written g c)
+    (set_of c.args.design.geometry c.args.reference.addr) c.set_of-number.ensures.value)
+    c.visit-count.ensures.placed
