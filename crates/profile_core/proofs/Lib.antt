@@ -14,4 +14,7 @@ pub mod Fronts
 pub mod Runs
 pub mod HitSums
 pub mod StackLemmas
+pub mod SlotLemmas
+pub mod SlottedLemmas
+pub mod Kept
 mod Rows

@@ -1,19 +1,18 @@
 -- Lists in two parts: the first blocks of each, and those behind them.
 use Rattle.std.proofs.Common.{◌≡◌, ◌≢◌, ℕ, zero, suc, ◌+◌, ◌-◌, ◌*◌, ◌<◌, ◌≤◌, ◌^◌, ◌⊎◌, inl, inr}
-use Rattle.std.proofs.Common.{Bool, true, false, not, cond, eqb, ltb, ◌||◌, List, [], ◌∷◌, ◌++◌}
+use Rattle.std.proofs.Common.{Bool, true, false, cond, eqb, ltb, ◌||◌, List, [], ◌∷◌, ◌++◌}
 use Rattle.std.proofs.Common.{length, take, drop, get_or, set, refl, sym, ◌∙◌, ap, subst, arith}
-use Rattle.std.proofs.Common.{add-one, append-nil, length-append, length-set, length-take}
-use Rattle.std.proofs.Common.{length-drop, get_or-set_same, get_or-set_other, eq-eqb}
+use Rattle.std.proofs.Common.{append-nil, length-append, length-set, length-take}
+use Rattle.std.proofs.Common.{length-drop, get_or-set_same, get_or-set_other}
 use Rattle.std.specs.Prelude.{replicate, map}
 use Rattle.std.proofs.Math.Nat.{suc-mul, mul-le-mul_right}
-use Rattle.std.specs.List.{remove, list_any, sum_by}
-use Rattle.std.proofs.lemmas.Bool.{ltb-true, ltb-false, ne_eqb, eqb-true, false≢true, cases_eq}
-use Rattle.std.proofs.lemmas.Bool.{cases_lt}
+use Rattle.std.specs.List.{remove, sum_by}
+use Rattle.std.proofs.lemmas.Bool.{ltb-true, ltb-false, eqb-true, cases_eq}
 use Rattle.std.proofs.lemmas.List.{take_all, take_at, length-take-le, take_more, nil_from_length}
-use Rattle.std.proofs.lemmas.List.{get_or_read, length-replicate, length-map, get_or_past, drop_all}
-use Rattle.std.proofs.lemmas.List.{take-append-drop, append_assoc}
+use Rattle.std.proofs.lemmas.List.{get_or_read, length-replicate, length-map}
+use Rattle.std.proofs.lemmas.List.{append_assoc}
 use Rattle.std.proofs.lemmas.List.Edits.{remove-append_left, remove-append_right}
-use Rattle.std.proofs.lemmas.List.Sums.{sum_by-cons, prefix_len-le-length}
+use Rattle.std.proofs.lemmas.List.Sums.{sum_by-cons}
 use Rattle.deep_list.specs.Deep.{Deep, IsOnce, list_after_exchange}
 use Rattle.profile_core.specs.internal.Moves.{index_of, is_in, is_front, is_second, move_to_front}
 use Rattle.profile_core.specs.internal.Moves.{touch_of}
@@ -679,6 +678,13 @@ pub two_near : {near : Lists} {beyond : ℕ} {far : List Deep} (s : IsStacked ne
     (beyond ≡ 0 → ⊥) → 2 ≤ near.depth
 two_near s some = elim s.sets [ inl none ↦ absurd (some none.0) | inr all ↦ all.2 ]
 
+pub all_near : {near : Lists} {beyond : ℕ} {far : List Deep} (s : IsStacked near beyond far) →
+    beyond ≡ 0 → whole_lists near.lists far ≡ near.lists
+all_near {near} {beyond} {far} s none = joined_none near.lists far (elim s.sets [
+  | inl both ↦ both.1
+  | inr all ↦ absurd (omega (arith, all.0, none))
+])
+
 -- where all blocks are in their rows
 pub all_stay : {near : Lists} {beyond : ℕ} {far : List Deep} (s : IsStacked near beyond far)
     (x k : ℕ) (lt : k < length near.lists) → beyond ≡ 0
@@ -689,7 +695,7 @@ all_stay s x k lt none = elim (is_or (is_in x (row_of s k))) [
 ]
 
 -- lists with no blocks
-nils : (n k : ℕ) → get_or {A = List ℕ} (replicate n []) k [] ≡ []
+pub nils : (n k : ℕ) → get_or {A = List ℕ} (replicate n []) k [] ≡ []
 nils zero k = refl
 nils (suc n) zero = refl
 nils (suc n) (suc k) = nils n k

@@ -158,6 +158,24 @@ module _ {n k held front : ℕ} {fronts slab lens : List ℕ} {lists : List (Lis
         ap (λ j. take j (x ∷ [])) (add-one n) ∙ ap (λ ys. x ∷ ys) (take-nil n));
   }
 
+  -- a list of one block, where no list has more, gets another in its place
+  pub written_alone : (x : ℕ) (fronts' : List ℕ) → fronts' ≡ set fronts k x → n ≡ 0 → 0 < held
+      → IsWritten n k held x x fronts slab lens stretch fronts' slab lens list
+  written_alone x fronts' front alone some = record {
+    fronts_are = front;
+    slab_is = sym (ap (λ ys. take (k * n) slab ++ ys) (take-append-drop n (drop (k * n) slab)) ∙
+        take-append-drop (k * n) slab);
+    lens_are = sym (ap (set lens k) t.held_is ∙ set-get_or lens k 0);
+    long = stretch_long;
+    some = some;
+    short = held_short;
+    list_is =
+        let one : held ≡ 1 = omega (arith, alone, some, held_short) in
+        let depth : n + 1 ≡ 1 = omega (arith, alone) in
+        ap (λ j. take j (x ∷ stretch)) one ∙
+        sym (ap (λ j. take j (move_to_front x list)) depth);
+  }
+
   -- a list exchanges its first two blocks
   pub written_second : (x : ℕ) (fronts' slab' : List ℕ) → fronts' ≡ set fronts k x →
       slab' ≡ set slab (k * n) front

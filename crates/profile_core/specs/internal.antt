@@ -1,6 +1,9 @@
 pub mod Fronts
 pub mod Moves
 pub mod ProfileStandsFor
+pub mod SetLists
 pub mod Slab
+pub mod Slotted
+pub mod SlottedState
 pub mod State
 pub mod Stacks

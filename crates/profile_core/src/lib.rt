@@ -5,6 +5,8 @@
 pub mod laws;
 pub mod profile;
 mod recency;
+mod set_lists;
+mod slotted;
 mod stacks;
 
 pub use profile::{MAX_REFERENCES, Profile};

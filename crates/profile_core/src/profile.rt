@@ -9,11 +9,13 @@ ghost use Rattle.profile_core.specs.internal.State.{fed_of, held_of, counts_at, 
 ghost use Rattle.profile_core.specs.internal.State.{weighed, IsNext};
 ghost use Rattle.profile_core.specs.internal.Fronts.{is_front_of, after_unless_front, after_fronts};
 ghost use Rattle.profile_core.specs.internal.Fronts.{is_refined};
-ghost use Rattle.profile_core.specs.internal.Moves.{is_second};
+ghost use Rattle.profile_core.specs.internal.Moves.{is_second, touch_of};
+ghost use Rattle.profile_core.specs.internal.SetLists.{is_slotted};
 ghost use Rattle.profile_core.specs.internal.ProfileStandsFor.{ProfileStandsFor};
 
 use crate::recency::Touch;
-use crate::stacks::{DEEP, Stacks};
+use crate::set_lists::SetLists;
+use crate::stacks::DEEP;
 use cache_core::{Counts, Geometry};
 use std::alloc::{AllocError, Global};
 use std::marker::Model;
@@ -32,7 +34,7 @@ pub const MAX_REFERENCES: u64 = 2 * MAX_LINES;
 pub struct Profile {
     geometry: Geometry,
     probes: u64,
-    lists: Stacks,
+    lists: SetLists,
     behind: Vec<u64>,
     misses_by_occupancy: Vec<u64>,
 }
@@ -81,7 +83,9 @@ impl Profile {
     /// A profile of caches of `2^s` sets of 1 to `depth` lines of `2^b` bytes. It takes all its
     /// memory here: 8 bytes for each of `depth * 2^s` blocks, 4 and a quarter for each set, and 16
     /// for each associativity and 8 more. With a depth of 256 or more it takes 22 bytes for each
-    /// block of a set but 64, and 200 more for each set. Where memory is refused, nothing is kept.
+    /// block of a set but 64, and 200 more for each set. With a depth of 12 to 16 a set takes 128
+    /// bytes of blocks, 32 of their order, 8 of its front and 8 and a half of counts, and no more
+    /// for each block. Where memory is refused, nothing is kept.
     pub fn new(alloc: Global, b: u64, s: u64, depth: u64) -> Result<Profile, AllocError>
         requires { IsGeometry (geometry_value s depth b) }
         ensures { IfOk result (λ profile. profile ≡ empty (geometry_value s depth b)) }
@@ -92,7 +96,7 @@ impl Profile {
         let depth = depth as usize;
         Ok(Profile {
             geometry,
-            lists: Stacks::new(alloc, 1 << s, depth)?,
+            lists: SetLists::new(alloc, 1 << s, depth)?,
             behind: vec![in alloc; 0; depth]?,
             misses_by_occupancy: vec![in alloc; 0; depth + 1]?,
             probes: 0,
@@ -170,12 +174,15 @@ impl Profile {
 
     /// Feeds a reference to a block that is not the front of its set's list, or not in it at all.
     /// It stands apart, so that the path of the many references that find their block in front
-    /// stays short. More than a third of the others find theirs second.
+    /// stays short. More than a third of the others find theirs second, which rows look at first.
     #[inline(never)]
     fn feed_behind(&mut self, set: usize, block: u64)
         requires { IsNext self.old set block }
         ensures { self.new ≡ after_reference self.old block }
     {
+        if self.lists.in_slots() {
+            return self.feed_slotted(set, block);
+        }
         if self.lists.is_second(set, block) {
             self.lists.bring_second(set, block);
             self.probes += 2;
@@ -185,11 +192,67 @@ impl Profile {
         }
     }
 
+    /// The same, where the lists stand in slots: all blocks behind the front are found alike.
+    /// Mostly
+    /// one look tells where a block stands or that it is new, and each of these paths is short.
+    #[inline(always)]
+    fn feed_slotted(&mut self, set: usize, block: u64)
+        requires next { IsNext self.old set block }
+        requires slots { is_slotted self.old.geometry.e ≡ true }
+        ensures { self.new ≡ after_reference self.old block }
+    {
+        match self.lists.look(set, block) {
+            Some(Touch::Behind(distance)) => self.feed_found(set, block, distance),
+            Some(Touch::New(held)) => self.feed_new(set, block, held),
+            None => self.feed_searched(set, block),
+        }
+    }
+
+    /// The same, where the block stands at a stack distance.
+    #[inline(always)]
+    fn feed_found(&mut self, set: usize, block: u64, distance: usize)
+        requires next { IsNext self.old set block }
+        requires slots { is_slotted self.old.geometry.e ≡ true }
+        requires found { Touch.Behind distance ≡ touch_of block (list_of self.old set) }
+        ensures { self.new ≡ after_reference self.old block }
+    {
+        self.lists.bring_found(set, block, distance);
+        self.probes += distance as u64 + 1;
+        self.behind[distance] += 1;
+    }
+
+    /// The same, where the block is new in a list of `held` blocks.
+    #[inline(never)]
+    fn feed_new(&mut self, set: usize, block: u64, held: usize)
+        requires next { IsNext self.old set block }
+        requires slots { is_slotted self.old.geometry.e ≡ true }
+        requires new { Touch.New held ≡ touch_of block (list_of self.old set) }
+        ensures { self.new ≡ after_reference self.old block }
+    {
+        self.lists.bring_new(set, block, held);
+        self.probes += held as u64;
+        self.misses_by_occupancy[held] += 1;
+    }
+
+    /// The same, where one look did not tell.
+    #[inline(never)]
+    fn feed_searched(&mut self, set: usize, block: u64)
+        requires next { IsNext self.old set block }
+        requires slots { is_slotted self.old.geometry.e ≡ true }
+        ensures { self.new ≡ after_reference self.old block }
+    {
+        match self.lists.search(set, block) {
+            Touch::Behind(distance) => self.feed_found(set, block, distance),
+            Touch::New(held) => self.feed_new(set, block, held),
+        }
+    }
+
     /// Feeds a reference to a block that is neither the front nor the second of its set's list, or
     /// not in it at all.
     #[inline(never)]
     fn feed_further(&mut self, set: usize, block: u64)
         requires next { IsNext self.old set block }
+        requires rows { is_slotted self.old.geometry.e ≡ false }
         requires further { is_second block (list_of self.old set) ≡ false }
         ensures { self.new ≡ after_reference self.old block }
     {
@@ -271,8 +334,8 @@ impl Profile {
     /// How many comparisons of a block with an entry of its set's list are counted: those of a walk
     /// over the list up to the block, or over all of it if the block isn't there. That is the cost
     /// of the stack algorithm, by which spaces are compared. Fewer may be made, never more: for a
-    /// reference that `count_fronts` counts one is counted and none made, and in a list of 256 ways
-    /// or more most blocks are found without a walk.
+    /// reference that `count_fronts` counts one is counted and none made, and in a list of 12 to 16
+    /// ways, or of 256 or more, most blocks are found without a walk.
     pub fn probes(&self) -> u64
         ensures value { result ≡ self.now.probes }
         ensures trace { (es : List Event) → ProfileStandsFor es self.now

@@ -138,7 +138,7 @@ impl RecencyLists {
 
     /// Begins a set's empty list with a block.
     #[inline(never)]
-    fn begin(&mut self, set: usize, block: u64)
+    pub fn begin(&mut self, set: usize, block: u64)
         requires within { set < length self.old.lists }
         requires empty { slice_index_or self.old.lists set [] ≡ [] }
         ensures { self.new ≡ lists_after_touch self.old set block }
@@ -146,6 +146,18 @@ impl RecencyLists {
         self.fronts[set] = block;
         self.lens[set] = 1;
         self.touched.add_grown(set, 0, 1);
+    }
+
+    /// Puts a block in place of the front of a set's list, where no list has more blocks than its
+    /// front.
+    #[inline(always)]
+    pub fn replace_front(&mut self, set: usize, block: u64)
+        requires within { set < length self.old.lists }
+        requires one { self.old.depth ≡ 1 }
+        requires some { 0 < length (slice_index_or self.old.lists set []) }
+        ensures { self.new ≡ lists_after_touch self.old set block }
+    {
+        self.fronts[set] = block;
     }
 
     /// The last block of a set's list, if that is as long as it may be.

@@ -2,6 +2,7 @@
 //! behind them, if lists may be long, in a list that is not walked.
 ghost use Rattle.std.specs.Prelude.{◌≡◌, ◌*◌, ◌^◌, ◌<◌, ◌≤◌, [], ◌∷◌, true, false, length};
 ghost use Rattle.std.specs.Prelude.{replicate, sum_by, map, IfOk, IsTrue, ◌↔◌, slice_index_or};
+ghost use Rattle.std.specs.Prelude.{nat_eq};
 ghost use Rattle.deep_list.specs.Deep.{list_after_exchange};
 ghost use Rattle.profile_core.specs.internal.Moves.{is_in, is_front, is_second, touch_of};
 ghost use Rattle.profile_core.specs.internal.Stacks.{rest_touch_of, in_row_of, empty_deep};
@@ -140,6 +141,22 @@ impl Stacks {
         match bring_near(&mut self.near, set, block) {
             InRow::Settled(touch) => touch,
             InRow::Full(held, last) => exchange(&mut self.far[set], held, block, last),
+        }
+    }
+
+    /// Makes a block the front of a set's list, where no list has more blocks than its front. The
+    /// caller knows whether the list was empty.
+    #[inline(always)]
+    pub fn set_front(&mut self, set: usize, block: u64, was_empty: bool)
+        requires within { set < length self.old.lists }
+        requires one { self.old.depth ≡ 1 }
+        requires known { was_empty ≡ nat_eq (length (slice_index_or self.old.lists set [])) 0 }
+        ensures { self.new ≡ lists_after_touch self.old set block }
+    {
+        if was_empty {
+            self.near.begin(set, block);
+        } else {
+            self.near.replace_front(set, block);
         }
     }
 

@@ -1,5 +1,5 @@
 -- One list more is emptied.
-use Rattle.std.proofs.Common.{◌≡◌, ◌++◌, ◌<◌, ◌∙◌, length, take, drop, map, set, get_or, ap, sym}
+use Rattle.std.proofs.Common.{◌∙◌, set, ap, sym}
 use Rattle.std.proofs.Common.{arith}
 use Rattle.std.proofs.lemmas.List.Edits.{map_over_more}
 use Rattle.profile_core.specs.internal.Stacks.{empty_deep}

@@ -1,6 +1,6 @@
 -- The last block of a row that is full.
-use Rattle.std.proofs.Common.{◌≡◌, ◌+◌, ◌-◌, ◌*◌, ◌<◌, ◌≤◌, ◌∙◌, ℕ, zero, suc, List, [], ◌∷◌}
-use Rattle.std.proofs.Common.{length, get_or, take, drop, sym, ap, arith, get_or-take, get_or-drop}
+use Rattle.std.proofs.Common.{◌≡◌, ◌+◌, ◌-◌, ◌*◌, ◌<◌, ◌∙◌, ℕ, zero, suc, List, [], ◌∷◌}
+use Rattle.std.proofs.Common.{get_or, take, drop, sym, ap, arith, get_or-take, get_or-drop}
 use Rattle.std.proofs.lemmas.List.{get_or_read}
 use Rattle.profile_core.proofs.SlabLemmas.{RowOf, within, ends, list_size, list_of_row, len_read}
 use Rattle.profile_core.proofs.recency.RecencyLists.last_of_full.Goals as goal

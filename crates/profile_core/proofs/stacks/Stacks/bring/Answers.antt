@@ -1,13 +1,12 @@
 -- A block that comes to the front of a list, from its row or from behind it, or new.
-use Rattle.std.proofs.Common.{◌≡◌, ◌+◌, ◌<◌, ◌≤◌, ◌^◌, ◌∙◌, ℕ, List, [], length, get_or, set, take}
-use Rattle.std.proofs.Common.{sym, ap, arith, false}
-use Rattle.deep_list.specs.Deep.{Deep, list_after_exchange}
-use Rattle.profile_core.specs.internal.Moves.{is_front, is_second, is_in, move_to_front, touch_of}
+use Rattle.std.proofs.Common.{◌≡◌, ◌+◌, ◌<◌, ◌∙◌, ℕ, List, [], length, get_or, set, take}
+use Rattle.std.proofs.Common.{ap, arith, false}
+use Rattle.deep_list.specs.Deep.{Deep}
+use Rattle.profile_core.specs.internal.Moves.{is_front, is_second, move_to_front, touch_of}
 use Rattle.profile_core.specs.internal.Slab.{Lists, lists_after_touch}
-use Rattle.profile_core.specs.internal.Stacks.{whole_lists, nothing, rest_touch_of}
+use Rattle.profile_core.specs.internal.Stacks.{whole_lists}
 use Rattle.profile_core.proofs.StackLemmas.{length-joined, front_is, second_is, all_stay}
 use Rattle.profile_core.proofs.StackLemmas.{none_beyond, stays_stacked, stays_lists, stays_touch}
-use Rattle.profile_core.proofs.StackLemmas.{settled_stays, settled_touch}
 use Rattle.profile_core.proofs.stacks.Stacks.bring.Goals as goal
 use Rattle.profile_core.proofs.stacks.Stacks.bring.Goals.{After-self}
 

@@ -1,6 +1,6 @@
 -- A block that comes to the front of a list, from its row or from behind it, or new.
-use Rattle.std.proofs.Common.{◌≡◌, ◌+◌, ◌<◌, ◌≤◌, ◌^◌, ◌∙◌, ℕ, List, [], length, get_or, set, take}
-use Rattle.std.proofs.Common.{sym, ap, arith, false}
+use Rattle.std.proofs.Common.{◌≡◌, ◌+◌, ◌<◌, ◌∙◌, ℕ, List, [], length, get_or, set, take}
+use Rattle.std.proofs.Common.{ap, arith, false}
 use Rattle.deep_list.specs.Deep.{Deep, list_after_exchange}
 use Rattle.profile_core.specs.internal.Moves.{is_front, is_second, is_in, move_to_front, touch_of}
 use Rattle.profile_core.specs.internal.Slab.{Lists, lists_after_touch}

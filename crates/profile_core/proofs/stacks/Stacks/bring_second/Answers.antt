@@ -1,7 +1,7 @@
 -- The second block of a list comes to the front: it stays in its row.
-use Rattle.std.proofs.Common.{◌≡◌, ◌+◌, ◌<◌, ◌∙◌, ℕ, List, inl, [], length, get_or, set, take, sym}
+use Rattle.std.proofs.Common.{◌≡◌, ◌+◌, ◌<◌, ◌∙◌, ℕ, List, inl, [], length, get_or}
 use Rattle.std.proofs.Common.{ap, arith, true}
-use Rattle.profile_core.specs.internal.Moves.{is_front, is_second, is_in, move_to_front}
+use Rattle.profile_core.specs.internal.Moves.{is_front, is_second, is_in}
 use Rattle.profile_core.specs.internal.Slab.{Lists, lists_after_touch}
 use Rattle.profile_core.specs.internal.Stacks.{whole_lists}
 use Rattle.profile_core.proofs.StackLemmas.{length-joined, front_is, second_is, second_in}

@@ -1,8 +1,7 @@
 -- The blocks in the rows and those behind them.
-use Rattle.std.proofs.Common.{◌≡◌, ◌+◌, ◌*◌, ◌<◌, ◌≤◌, ◌^◌, ◌∙◌, ℕ, length, ap, arith, sym, subst}
+use Rattle.std.proofs.Common.{◌+◌, ◌*◌, ◌≤◌, length, ap, arith}
 use Rattle.std.specs.List.{sum_by}
 use Rattle.deep_list.specs.Deep.{Deep}
-use Rattle.profile_core.specs.internal.Slab.{Lists}
 use Rattle.profile_core.proofs.StackLemmas.{length-joined, sum-joined, far_few, far_held}
 use Rattle.profile_core.proofs.stacks.Stacks.held.Goals as goal
 use Rattle.profile_core.proofs.stacks.Stacks.held.Goals.{After-deref, After-held_by}

@@ -1,5 +1,5 @@
 -- The second of a list is that of its row.
-use Rattle.std.proofs.Common.{◌≡◌, ◌<◌, ◌∙◌, [], length, get_or, sym, ap, arith}
+use Rattle.std.proofs.Common.{◌<◌, ◌∙◌, [], length, get_or, ap, arith}
 use Rattle.profile_core.specs.internal.Moves.{is_second}
 use Rattle.profile_core.proofs.StackLemmas.{length-joined, second_is}
 use Rattle.profile_core.proofs.stacks.Stacks.is_second.Goals as goal

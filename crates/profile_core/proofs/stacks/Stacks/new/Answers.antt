@@ -1,6 +1,6 @@
 -- Empty lists, in rows alone or with more behind them.
-use Rattle.std.proofs.Common.{◌≡◌, ◌+◌, ◌-◌, ◌*◌, ◌<◌, ◌≤◌, ◌^◌, ◌∙◌, ℕ, List, [], length, refl}
-use Rattle.std.proofs.Common.{sym, ap, arith, subst}
+use Rattle.std.proofs.Common.{◌≡◌, ◌+◌, ◌-◌, ◌*◌, ◌≤◌, ◌^◌, ◌∙◌, ℕ, List, [], refl}
+use Rattle.std.proofs.Common.{ap, arith, subst}
 use Rattle.std.specs.Prelude.{replicate}
 use Rattle.profile_core.specs.internal.Slab.{Lists}
 use Rattle.profile_core.specs.internal.Stacks.{whole_lists}

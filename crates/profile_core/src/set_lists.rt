@@ -1,0 +1,270 @@
+//! A recency list for each set, the most recent block first: in rows, or, where a vector has a lane
+//! for each block of a list and blocks are many enough that it costs more to move them, in slots.
+ghost use Rattle.std.specs.Prelude.{◌≡◌, ◌*◌, ◌^◌, ◌<◌, ◌≤◌, [], true, false, length, IfOk};
+ghost use Rattle.std.specs.Prelude.{IfSome, is_some, option_map, replicate, sum_by, IsTrue, ◌↔◌};
+ghost use Rattle.std.specs.Prelude.{slice_index_or};
+ghost use Rattle.profile_core.specs.internal.Moves.{is_front, is_second, touch_of};
+ghost use Rattle.profile_core.specs.internal.SetLists.{is_slotted, emptied};
+ghost use Rattle.profile_core.specs.internal.Slab.{lists_after_touch};
+
+use crate::recency::Touch;
+use crate::slotted::{SLOTS, SlottedLists};
+use crate::stacks::{DEEP, Stacks};
+use std::alloc::{AllocError, Global};
+use std::marker::Model;
+
+/// The least depth at which blocks stand in slots: with fewer it costs less to move them.
+const SLOTTED_FROM: usize = 12;
+
+/// The lists of all sets. Lists of 12 to 16 blocks stand in slots, and then the rows have the front
+/// of each list alone, since most references look at no more. All other lists stand in the rows.
+#[derive(Drop)]
+pub struct SetLists {
+    rows: Stacks,
+    slotted: Option<SlottedLists>,
+}
+
+impl Model for SetLists {
+    ghost use Rattle.profile_core.specs.internal.Slab.{Lists};
+    ghost use Rattle.profile_core.specs.internal.SetLists.{lists_seen, IsKept};
+
+    ghost Value = { Lists };
+
+    ghost view = { λ s. lists_seen s.rows s.slotted };
+
+    ghost invariant = { λ s. IsKept s.rows s.slotted };
+}
+
+impl SetLists {
+    /// Empty lists for a number of sets.
+    pub fn new(alloc: Global, sets: usize, depth: usize) -> Result<SetLists, AllocError>
+        requires some { 1 ≤ depth }
+        requires filled { 1 ≤ sets }
+        requires small { sets * depth ≤ 2 ^ 22 }
+        ensures { IfOk result (λ r. r ≡ record { depth = depth; lists = replicate sets [] }) }
+    {
+        if depth < SLOTTED_FROM || depth > SLOTS {
+            let rows = Stacks::new(alloc, sets, depth)?;
+            return Ok(SetLists {
+                rows,
+                slotted: None,
+            });
+        }
+        let rows = Stacks::new(alloc, sets, 1)?;
+        let slotted = SlottedLists::new(alloc, sets, depth)?;
+        Ok(SetLists {
+            rows,
+            slotted: Some(slotted),
+        })
+    }
+
+    /// Whether the lists stand in slots.
+    #[inline(always)]
+    pub fn in_slots(&self) -> bool
+        ensures { result ≡ is_slotted self.now.depth }
+    {
+        self.slotted.is_some()
+    }
+
+    /// Whether all lists stand in their rows alone, if they stand in rows.
+    #[inline(always)]
+    pub fn in_rows(&self) -> bool
+        requires { is_slotted self.now.depth ≡ false }
+        ensures { IsTrue result ↔ (self.now.depth < DEEP) }
+    {
+        self.rows.in_rows()
+    }
+
+    /// Whether a block is the front of a set's list. Only block 0 has to look at the length. A
+    /// caller that knows that the block is not block 0 says so by `past_first`, and spares the
+    /// test.
+    #[inline(always)]
+    pub fn is_front(&self, set: usize, block: u64, past_first: bool) -> bool
+        requires within { set < length self.now.lists }
+        requires known { past_first ≡ true → 0 < block }
+        ensures { result ≡ is_front block (slice_index_or self.now.lists set []) }
+    {
+        self.rows.is_front(set, block, past_first)
+    }
+
+    /// Whether a block is the second of a set's list in rows.
+    #[inline(always)]
+    pub fn is_second(&self, set: usize, block: u64) -> bool
+        requires within { set < length self.now.lists }
+        requires rows { is_slotted self.now.depth ≡ false }
+        ensures { result ≡ is_second block (slice_index_or self.now.lists set []) }
+    {
+        self.rows.is_second(set, block)
+    }
+
+    /// Brings the second block of a set's list in rows to the front.
+    #[inline(always)]
+    pub fn bring_second(&mut self, set: usize, block: u64)
+        requires within { set < length self.old.lists }
+        requires rows { is_slotted self.old.depth ≡ false }
+        requires behind { is_front block (slice_index_or self.old.lists set []) ≡ false }
+        requires second { is_second block (slice_index_or self.old.lists set []) ≡ true }
+        ensures { self.new ≡ lists_after_touch self.old set block }
+    {
+        self.rows.bring_second(set, block);
+    }
+
+    /// Brings a block that is neither the front nor the second of a set's list to the front,
+    /// wherever it is. All lists stand in their rows alone.
+    #[inline(always)]
+    pub fn bring(&mut self, set: usize, block: u64) -> Touch
+        requires within { set < length self.old.lists }
+        requires rows { is_slotted self.old.depth ≡ false }
+        requires shallow { self.old.depth < DEEP }
+        requires behind { is_front block (slice_index_or self.old.lists set []) ≡ false }
+        requires further { is_second block (slice_index_or self.old.lists set []) ≡ false }
+        ensures found { result ≡ touch_of block (slice_index_or self.old.lists set []) }
+        ensures moved { self.new ≡ lists_after_touch self.old set block }
+    {
+        self.rows.bring(set, block)
+    }
+
+    /// The same, where lists may be longer than their rows.
+    #[inline(always)]
+    pub fn bring_far(&mut self, set: usize, block: u64) -> Touch
+        requires within { set < length self.old.lists }
+        requires deep { DEEP ≤ self.old.depth }
+        requires behind { is_front block (slice_index_or self.old.lists set []) ≡ false }
+        requires further { is_second block (slice_index_or self.old.lists set []) ≡ false }
+        ensures found { result ≡ touch_of block (slice_index_or self.old.lists set []) }
+        ensures moved { self.new ≡ lists_after_touch self.old set block }
+    {
+        self.rows.bring_far(set, block)
+    }
+
+    /// Where a block of a set's list in slots stands, or that it is new, if one look tells.
+    #[inline(always)]
+    pub fn look(&self, set: usize, block: u64) -> Option<Touch>
+        requires within { set < length self.now.lists }
+        requires slots { is_slotted self.now.depth ≡ true }
+        ensures { IfSome result (λ touch.
+            touch ≡ touch_of block (slice_index_or self.now.lists set [])) }
+    {
+        look_in(&self.slotted, set, block)
+    }
+
+    /// The same, by a look at one block after another.
+    pub fn search(&self, set: usize, block: u64) -> Touch
+        requires within { set < length self.now.lists }
+        requires slots { is_slotted self.now.depth ≡ true }
+        ensures { result ≡ touch_of block (slice_index_or self.now.lists set []) }
+    {
+        search_in(&self.slotted, set, block)
+    }
+
+    /// Brings the block at a place of a set's list in slots to the front.
+    #[inline(always)]
+    pub fn bring_found(&mut self, set: usize, block: u64, place: usize)
+        requires within { set < length self.old.lists }
+        requires slots { is_slotted self.old.depth ≡ true }
+        requires found { Touch.Behind place
+            ≡ touch_of block (slice_index_or self.old.lists set []) }
+        ensures { self.new ≡ lists_after_touch self.old set block }
+    {
+        bring_found_in(&mut self.slotted, set, block, place);
+        self.rows.set_front(set, block, false);
+    }
+
+    /// Brings a new block to the front of a set's list in slots, which has `held` blocks.
+    #[inline(always)]
+    pub fn bring_new(&mut self, set: usize, block: u64, held: usize)
+        requires within { set < length self.old.lists }
+        requires slots { is_slotted self.old.depth ≡ true }
+        requires new { Touch.New held
+            ≡ touch_of block (slice_index_or self.old.lists set []) }
+        ensures { self.new ≡ lists_after_touch self.old set block }
+    {
+        bring_new_in(&mut self.slotted, set, block, held);
+        self.rows.set_front(set, block, held == 0);
+    }
+
+    /// Empties the lists.
+    pub fn clear(&mut self)
+        ensures { self.new ≡ record self.old { lists = replicate (length self.old.lists) [] } }
+    {
+        self.rows.clear();
+        clear_slotted(&mut self.slotted);
+    }
+
+    /// How many blocks stand in the lists. It adds up the lengths of all sets.
+    pub fn held(&self) -> u64
+        ensures value { result ≡ sum_by length self.now.lists }
+        ensures at_most { result ≤ length self.now.lists * self.now.depth }
+    {
+        match &self.slotted {
+            Some(slotted) => slotted.held(),
+            None => self.rows.held(),
+        }
+    }
+}
+
+/// Where a block of a set's list in slots stands, or that it is new, if one look tells.
+#[inline(always)]
+fn look_in(slotted: &Option<SlottedLists>, set: usize, block: u64) -> Option<Touch>
+    requires some { is_some slotted.now ≡ true }
+    requires within { IfSome slotted.now (λ lists. set < length lists.lists) }
+    ensures { IfSome result (λ touch. IfSome slotted.now (λ lists.
+        touch ≡ touch_of block (slice_index_or lists.lists set []))) }
+{
+    match slotted {
+        Some(lists) => lists.look(set, block),
+        None => unreachable!(),
+    }
+}
+
+/// Brings the block at a place of a set's list in slots to the front.
+#[inline(always)]
+fn bring_found_in(slotted: &mut Option<SlottedLists>, set: usize, block: u64, place: usize)
+    requires some { is_some slotted.old ≡ true }
+    requires within { IfSome slotted.old (λ lists. set < length lists.lists) }
+    requires found { IfSome slotted.old (λ lists.
+        Touch.Behind place ≡ touch_of block (slice_index_or lists.lists set [])) }
+    ensures { slotted.new ≡ option_map (λ lists. lists_after_touch lists set block) slotted.old }
+{
+    match slotted {
+        Some(lists) => lists.bring_found(set, block, place),
+        None => unreachable!(),
+    }
+}
+
+/// Brings a new block to the front of a set's list in slots, which has `held` blocks.
+#[inline(always)]
+fn bring_new_in(slotted: &mut Option<SlottedLists>, set: usize, block: u64, held: usize)
+    requires some { is_some slotted.old ≡ true }
+    requires within { IfSome slotted.old (λ lists. set < length lists.lists) }
+    requires new { IfSome slotted.old (λ lists.
+        Touch.New held ≡ touch_of block (slice_index_or lists.lists set [])) }
+    ensures { slotted.new ≡ option_map (λ lists. lists_after_touch lists set block) slotted.old }
+{
+    match slotted {
+        Some(lists) => lists.bring_new(set, block, held),
+        None => unreachable!(),
+    }
+}
+
+/// The same, by a look at one block after another.
+fn search_in(slotted: &Option<SlottedLists>, set: usize, block: u64) -> Touch
+    requires some { is_some slotted.now ≡ true }
+    requires within { IfSome slotted.now (λ lists. set < length lists.lists) }
+    ensures { IfSome slotted.now (λ lists.
+        result ≡ touch_of block (slice_index_or lists.lists set [])) }
+{
+    match slotted {
+        Some(lists) => lists.search(set, block),
+        None => unreachable!(),
+    }
+}
+
+/// Empties the lists in slots, if there are some.
+fn clear_slotted(slotted: &mut Option<SlottedLists>)
+    ensures { slotted.new ≡ option_map emptied slotted.old }
+{
+    if let Some(lists) = slotted {
+        lists.clear();
+    }
+}
