@@ -11,6 +11,7 @@ pub mod Weighing
 pub mod Feeding
 pub mod Fed
 pub mod Fronts
+pub mod Batches
 pub mod Runs
 pub mod HitSums
 pub mod StackLemmas

@@ -8,7 +8,7 @@ ghost use Rattle.profile_core.specs.internal.State.{empty, list_of, after_refere
 ghost use Rattle.profile_core.specs.internal.State.{fed_of, held_of, counts_at, hit_sums_at};
 ghost use Rattle.profile_core.specs.internal.State.{weighed, IsNext};
 ghost use Rattle.profile_core.specs.internal.Fronts.{is_front_of, after_unless_front, after_fronts};
-ghost use Rattle.profile_core.specs.internal.Fronts.{is_refined};
+ghost use Rattle.profile_core.specs.internal.Fronts.{is_refined, after_batch, fed_of_batch};
 ghost use Rattle.profile_core.specs.internal.Moves.{is_second, touch_of};
 ghost use Rattle.profile_core.specs.internal.SetLists.{is_slotted};
 ghost use Rattle.profile_core.specs.internal.ProfileStandsFor.{ProfileStandsFor};
@@ -133,6 +133,71 @@ impl Profile {
         self.feed_block_unless_front(block, past_first)
     }
 
+    /// Feeds references by their addresses, one after the other, but for those that find their
+    /// block in front, which are left to be counted by `count_fronts`. Those that were fed come to
+    /// the front of `addrs`, in their order. Returns how many they are. A batch of some hundred
+    /// references costs less than the same references by themselves: the processor finds one
+    /// profile's lists in its caches, and foretells more branches.
+    pub fn feed_batch(&mut self, addrs: &mut [u64]) -> usize
+        requires { fed_of self.old + length addrs.old ≤ MAX_REFERENCES }
+        ensures step { self.new ≡ after_batch self.old addrs.old }
+        ensures fed { take result addrs.new ≡ fed_of_batch self.old addrs.old }
+        ensures within { result ≤ length addrs.new }
+        ensures length { length addrs.new ≡ length addrs.old }
+    {
+        if self.lists.in_slots() {
+            self.feed_batch_in(addrs, true)
+        } else {
+            self.feed_batch_in(addrs, false)
+        }
+    }
+
+    /// The same, where the caller knows whether the lists stand in slots, so that the loop need not
+    /// ask for each reference.
+    #[inline(always)]
+    fn feed_batch_in(&mut self, addrs: &mut [u64], slots: bool) -> usize
+        requires few { fed_of self.old + length addrs.old ≤ MAX_REFERENCES }
+        requires known { slots ≡ is_slotted self.old.geometry.e }
+        ensures step { self.new ≡ after_batch self.old addrs.old }
+        ensures fed { take result addrs.new ≡ fed_of_batch self.old addrs.old }
+        ensures within { result ≤ length addrs.new }
+        ensures length { length addrs.new ≡ length addrs.old }
+    {
+        let geometry = self.geometry;
+        let mut fed = 0;
+        for at in 0..addrs.len() {
+            let addr = addrs[at];
+            if !self.feed_in(geometry, addr, slots) {
+                addrs[fed] = addr;
+                fed += 1;
+            }
+        }
+        fed
+    }
+
+    /// Feeds one of them, unless it finds its block in front. Returns whether it does.
+    #[inline(always)]
+    fn feed_in(&mut self, geometry: Geometry, addr: u64, slots: bool) -> bool
+        requires same { geometry ≡ self.old.geometry }
+        requires few { fed_of self.old < MAX_REFERENCES }
+        requires known { slots ≡ is_slotted self.old.geometry.e }
+        ensures front { result ≡ is_front_of self.old (block_of self.old.geometry addr) }
+        ensures step { self.new ≡ after_unless_front self.old (block_of self.old.geometry addr) }
+        ensures more { fed_of self.new ≤ fed_of self.old + 1 }
+    {
+        let block = geometry.block_of(addr);
+        let set = geometry.set_of_block(block) as usize;
+        if self.lists.is_front(set, block, false) {
+            return true;
+        }
+        if slots {
+            self.feed_slotted(set, block);
+        } else {
+            self.feed_in_rows(set, block);
+        }
+        false
+    }
+
     /// Feeds one reference by its block, unless it finds it in front. `past_first` may say that it
     /// is not block 0.
     #[inline(always)]
@@ -174,15 +239,27 @@ impl Profile {
 
     /// Feeds a reference to a block that is not the front of its set's list, or not in it at all.
     /// It stands apart, so that the path of the many references that find their block in front
-    /// stays short. More than a third of the others find theirs second, which rows look at first.
+    /// stays short.
     #[inline(never)]
     fn feed_behind(&mut self, set: usize, block: u64)
         requires { IsNext self.old set block }
         ensures { self.new ≡ after_reference self.old block }
     {
         if self.lists.in_slots() {
-            return self.feed_slotted(set, block);
+            self.feed_slotted(set, block);
+        } else {
+            self.feed_in_rows(set, block);
         }
+    }
+
+    /// The same, where the lists stand in rows. More than a third of the blocks behind the front
+    /// are second, which is looked at first.
+    #[inline(always)]
+    fn feed_in_rows(&mut self, set: usize, block: u64)
+        requires next { IsNext self.old set block }
+        requires rows { is_slotted self.old.geometry.e ≡ false }
+        ensures { self.new ≡ after_reference self.old block }
+    {
         if self.lists.is_second(set, block) {
             self.lists.bring_second(set, block);
             self.probes += 2;
@@ -193,8 +270,8 @@ impl Profile {
     }
 
     /// The same, where the lists stand in slots: all blocks behind the front are found alike.
-    /// Mostly
-    /// one look tells where a block stands or that it is new, and each of these paths is short.
+    /// Mostly one look tells where a block stands or that it is new, and each of these paths is
+    /// short.
     #[inline(always)]
     fn feed_slotted(&mut self, set: usize, block: u64)
         requires next { IsNext self.old set block }
@@ -222,7 +299,7 @@ impl Profile {
     }
 
     /// The same, where the block is new in a list of `held` blocks.
-    #[inline(never)]
+    #[inline(always)]
     fn feed_new(&mut self, set: usize, block: u64, held: usize)
         requires next { IsNext self.old set block }
         requires slots { is_slotted self.old.geometry.e ≡ true }
@@ -249,7 +326,7 @@ impl Profile {
 
     /// Feeds a reference to a block that is neither the front nor the second of its set's list, or
     /// not in it at all.
-    #[inline(never)]
+    #[inline(always)]
     fn feed_further(&mut self, set: usize, block: u64)
         requires next { IsNext self.old set block }
         requires rows { is_slotted self.old.geometry.e ≡ false }

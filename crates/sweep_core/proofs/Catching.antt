@@ -7,7 +7,6 @@ use Rattle.std.specs.Prelude.{flat_map}
 use Rattle.std.proofs.Math.ListN.{set}
 use Rattle.std.proofs.lemmas.List.{length-map, length-drop, get_or_read, take_at, take_all}
 use Rattle.std.proofs.lemmas.List.Sums.{position_or_len_is}
-use Rattle.std.proofs.lemmas.List.Edits.{map_over_more}
 use Rattle.trace_core.specs.declared.events.Ref.{Ref}
 use Rattle.trace_core.specs.declared.events.Event.{Event}
 use Rattle.trace_core.specs.declared.events.Event.TheVariants as event
@@ -15,10 +14,9 @@ use Rattle.trace_core.specs.declared.events.Kind.{Kind}
 use Rattle.trace_core.specs.Events.{is_kept}
 use Rattle.cache_core.specs.Geometry.{GeometryValue, IsGeometry, block_of}
 use Rattle.cache_core.proofs.Lists.{cases}
-use Rattle.profile_core.specs.internal.State.{ProfileState, empty, fed_of, after_event}
-use Rattle.profile_core.specs.internal.State.{after_reference}
-use Rattle.profile_core.specs.internal.Fronts.{after_unless_front, after_fronts}
-use Rattle.profile_core.specs.internal.Fronts.{profile_with_fronts, is_front_of, is_refined, IsFit}
+use Rattle.profile_core.specs.internal.State.{empty, fed_of, after_event}
+use Rattle.profile_core.specs.internal.Fronts.{after_fronts}
+use Rattle.profile_core.specs.internal.Fronts.{profile_with_fronts, is_refined, IsFit}
 use Rattle.profile_core.specs.internal.Fronts.{Leads}
 use Rattle.profile_core.proofs.Fronts.{fronts_none, fit_of, fit_behind, leads_after, caught_more}
 use Rattle.profile_core.proofs.Fronts.{fed_more as profile-fed_more}
@@ -33,8 +31,7 @@ use Rattle.sweep_core.specs.internal.Implied.{profiles_with_fronts, FedAtMost, A
 use Rattle.sweep_core.specs.Work.{pair_of}
 use Rattle.sweep_core.specs.internal.Runs.{rows_of_profile}
 use Rattle.sweep_core.specs.SweepText.{configs_of}
-use Rattle.sweep_core.proofs.Lists.{Each-weaker}
-use Rattle.sweep_core.proofs.Passes.{all_after-nil, unreached}
+use Rattle.sweep_core.proofs.Passes.{all_after-nil}
 use Rattle.sweep_core.proofs.Sweeping.{empty-fed}
 
 -- new profiles
@@ -123,7 +120,7 @@ behind-after n es old xs fresh links caught fed = record {
 }
 
 -- one reference more
-caught-reference : (n addr : ℕ) (xs : List PairProfile) → FedAtMost n xs →
+pub caught-reference : (n addr : ℕ) (xs : List PairProfile) → FedAtMost n xs →
     Each (λ x. IsFit x.profile) xs
     → profiles_with_fronts (n + 1) (map (pair_unless_front addr) xs) ≡ map
     (pair_after_reference addr) (profiles_with_fronts n xs)
@@ -135,7 +132,7 @@ caught-reference n addr (x ∷ xs) fed fit =
     ∙ ap (λ l. pair_after_reference addr (pair_with_fronts n x) ∷ l)
     (caught-reference n addr xs fed.1 fit.1)
 
-few-reference : (n addr : ℕ) (xs : List PairProfile) → FedAtMost n xs →
+pub few-reference : (n addr : ℕ) (xs : List PairProfile) → FedAtMost n xs →
     Each (λ x. IsFit x.profile) xs
     → FedAtMost (n + 1) (map (pair_unless_front addr) xs)
 few-reference n addr [] fed fit = tt
@@ -176,84 +173,6 @@ pub few-flush : (n : ℕ) (xs : List PairProfile) → FedAtMost n xs →
     FedAtMost n (map pair_after_flush xs)
 few-flush n [] h = tt
 few-flush n (x ∷ xs) h = (h.0, few-flush n xs h.1)
-
--- The profiles that are skipped stay.
-skip-first : (f : PairProfile → PairProfile) (m : ℕ) (xs : List PairProfile) →
-    Each (λ y. f y ≡ y) (take m xs) → map f (take m xs) ++ drop m xs ≡ xs
-skip-first f zero xs h = refl
-skip-first f (suc m) [] h = refl
-skip-first f (suc m) (x ∷ xs) h = ap (λ y. y ∷ (map f (take m xs) ++ drop m xs)) h.0 ∙
-    ap (λ l. x ∷ l) (skip-first f m xs h.1)
-
-skip : (f : PairProfile → PairProfile) (i m k : ℕ) (xs : List PairProfile) → k ≡ i + m →
-    Each (λ y. f y ≡ y) (take m (drop i xs))
-    → map f (take i xs) ++ drop i xs ≡ map f (take k xs) ++ drop k xs
-skip f zero m k xs is h = sym (skip-first f m xs h) ∙ ap (λ n. map f (take n xs) ++ drop n xs) {x =
-    m} {y = k} (omega (arith, is))
-skip f (suc i) m zero xs is h = absurd (omega (arith, is))
-skip f (suc i) m (suc k) [] is h = refl
-skip f (suc i) m (suc k) (x ∷ xs) is h = ap (λ l. f x ∷ l) (skip f i m k xs (omega (arith, is)) h)
-
-led-at : (xs : List PairProfile) (i : ℕ) (d : PairProfile) → i < length xs → AreLed xs
-    → (suc i + (get_or xs i d).implied ≤ length xs) ×
-    Each (λ y. Leads (get_or xs i d).profile y.profile)
-    (take (get_or xs i d).implied (drop (suc i) xs))
-led-at [] i d inside led = absurd (omega (arith, inside))
-led-at (x ∷ xs) zero d inside led = (omega (arith, led.0), led.1)
-led-at (x ∷ xs) (suc i) d inside led =
-    let rest = led-at xs i d (omega (arith, inside)) led.2 in
-    (omega (arith, rest.0), rest.1)
-
-stays : (addr : ℕ) (x : PairProfile) →
-    is_front_of x.profile (block_of x.profile.geometry addr) ≡ true → pair_unless_front addr x ≡ x
-stays addr x front = ap (λ b. record x {
-  profile =
-      cond b x.profile (after_reference x.profile (block_of x.profile.geometry addr));
-}) front
-
--- the profiles before an index were fed a reference, where they do not find its block in front
-abbrev pub FedSoFar : ℕ → ℕ → List PairProfile → List PairProfile → Type 0
-FedSoFar addr i old now = now ≡ map (pair_unless_front addr) (take i old) ++ drop i old
-
-module _ (addr i : ℕ) (old now : List PairProfile) (x : PairProfile)
-    (so_far : FedSoFar addr i old now) (inside : i < length old) where
-  pub at-index : get_or now i x ≡ get_or old i x
-  at-index = ap (λ ys. get_or ys i x) so_far ∙ unreached (pair_unless_front addr) old i x inside
-
-  -- one of them more
-  pub fed-next : (p : ProfileState) → x ≡ get_or now i x
-      → p ≡ after_unless_front (get_or now i x).profile
-      (block_of (get_or now i x).profile.geometry addr)
-      → FedSoFar addr (i + 1) old (set now i (record (get_or now i x) { profile = p }))
-  fed-next p is fed =
-      let after = pair_unless_front addr in
-      ap (λ v. set now i (record (get_or now i x) { profile = v })) fed ∙
-      ap (λ y. set now i (after y)) (sym is)
-      ∙ map_over_more after old now i x inside so_far is
-
-  -- and those that its front implies
-  module _ (led : AreLed old) where
-    pub implied-within : i + 1 + (get_or now i x).implied ≤ length old
-    implied-within = omega (arith, (led-at old i x inside led).0, ap (λ y. y.implied) at-index)
-
-    pub skip-next : (p : ProfileState) → x ≡ get_or now i x
-        → p ≡ after_unless_front (get_or now i x).profile
-        (block_of (get_or now i x).profile.geometry addr)
-        → is_front_of (get_or now i x).profile
-        (block_of (get_or now i x).profile.geometry addr) ≡ true
-        → FedSoFar addr (i + 1 + (get_or now i x).implied) old
-        (set now i (record (get_or now i x) { profile = p }))
-    skip-next p is fed front =
-        let after = pair_unless_front addr in
-        let here = sym (ap (λ y. is_front_of y.profile (block_of y.profile.geometry addr))
-        at-index) ∙ front in
-        fed-next p is fed ∙ ap (λ n. map after (take n old) ++ drop n old) {x = i + 1} {y = suc i}
-        (omega arith)
-        ∙ skip after (suc i) (get_or old i x).implied (i + 1 + (get_or now i x).implied) old
-        (omega (arith, ap (λ y. y.implied) at-index))
-        (Each-weaker (λ y. Leads (get_or old i x).profile y.profile) (λ y. after y ≡ y)
-        (λ y leads. stays addr y (leads addr here))
-        (take (get_or old i x).implied (drop (suc i) old)) (led-at old i x inside led).1)
 
 -- The links.
 refined-each : (g : GeometryValue) (xs : List PairProfile) →

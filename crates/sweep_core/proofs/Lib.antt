@@ -16,5 +16,7 @@ pub mod Serving
 pub mod Writing
 pub mod Sweeping
 pub mod Catching
+pub mod Batching
+pub mod BatchLoops
 pub mod WorkLaws
 mod Examples

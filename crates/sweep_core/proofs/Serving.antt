@@ -10,7 +10,7 @@ use Rattle.trace_core.specs.declared.events.Event.{Event}
 use Rattle.cache_core.specs.declared.outcome.Counts.{Counts}
 use Rattle.cache_core.specs.Geometry.{geometry_value}
 use Rattle.cache_core.specs.Windows.{counts}
-use Rattle.profile_core.specs.internal.State.{ProfileState, HitSumsState, hit_sums_at, counts_at}
+use Rattle.profile_core.specs.internal.State.{ProfileState, hit_sums_at, counts_at}
 use Rattle.profile_core.proofs.Counting.{counts_are}
 use Rattle.sweep_core.specs.declared.space.Config.{Config}
 use Rattle.sweep_core.specs.declared.request.Request.{Request}
@@ -21,9 +21,9 @@ use Rattle.sweep_core.specs.SweepText.{row_counts, configs_of, rows_of}
 use Rattle.sweep_core.specs.Rows.{counted_rows}
 use Rattle.cache_core.specs.Powers.{log2}
 use Rattle.sweep_core.specs.Work.{pair_of, depth}
-use Rattle.sweep_core.specs.internal.Runs.{next_ways, run_of, rows_of_profile, counted_run}
+use Rattle.sweep_core.specs.internal.Runs.{run_of, rows_of_profile, counted_run}
 use Rattle.sweep_core.specs.internal.Runs.{counted_profiles, rows_by_pair, Serves, ServesRows}
-use Rattle.sweep_core.specs.internal.Runs.{IsWalk, rows_to_come, MayCome}
+use Rattle.sweep_core.specs.internal.Runs.{IsWalk, rows_to_come}
 use Rattle.sweep_core.specs.internal.Pass.{SweepStandsFor, WasFed}
 use Rattle.sweep_core.proofs.Lists.{Each-self, Each-both, Each-split, Each-append}
 use Rattle.sweep_core.proofs.Validity.{IsLimited, space-limited, valid_of, products}

@@ -16,7 +16,7 @@ use Rattle.trace_core.specs.declared.line.Format.{Format}
 use Rattle.trace_core.specs.declared.state.ReaderState.TheVariants as state
 use Rattle.trace_core.specs.Device.{SourceView, SinkView}
 use Rattle.trace_core.specs.Events.{events_of}
-use Rattle.trace_core.specs.Reader.{Progress, new_progress}
+use Rattle.trace_core.specs.Reader.{Progress}
 use Rattle.trace_core.specs.Task.{Performs, Finished}
 use Rattle.trace_core.proofs.Entries.{entries-reading}
 use Rattle.trace_core.proofs.Runs.{Reached-end}

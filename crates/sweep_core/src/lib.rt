@@ -1,6 +1,7 @@
 //! The sweep: every LRU write-allocate configuration of a space, with its counts over one trace.
 #![tactic(auto)]
 
+mod batch;
 pub mod laws;
 mod pass;
 mod profiles;

@@ -3,7 +3,7 @@
 -- each that refines it (Hill and Smith 1989: set refinement), so they can be counted together,
 -- later.
 use Rattle.std.specs.Prelude.{ℕ, ◌≡◌, ◌≤◌, ◌+◌, ◌-◌, ◌^◌, ◌==◌, true, length, ◌&&◌, ◌||◌, nat_le}
-use Rattle.std.specs.Prelude.{Bool, if◌then◌else◌, slice_set, slice_index}
+use Rattle.std.specs.Prelude.{Bool, if◌then◌else◌, slice_set, slice_index, List, [], ◌∷◌, fold}
 use Rattle.cache_core.specs.Geometry.{GeometryValue, block_of, set_of_block}
 use Rattle.profile_core.specs.internal.Moves.{is_front}
 use Rattle.profile_core.specs.internal.State.{ProfileState, list_of, fed_of, after_reference}
@@ -15,6 +15,17 @@ is_front_of v x = is_front x (list_of v (set_of_block v.geometry x))
 -- after a reference to a block, unless that is found in front
 abbrev pub after_unless_front : ProfileState → ℕ → ProfileState
 after_unless_front v x = if is_front_of v x then v else after_reference v x
+
+-- after references to some addresses, but for those that find their block in front
+abbrev pub after_batch : ProfileState → List ℕ → ProfileState
+after_batch v addrs = fold (λ w a. after_unless_front w (block_of w.geometry a)) v addrs
+
+-- of some addresses those whose references do not find their block in front
+abbrev pub fed_of_batch : ProfileState → List ℕ → List ℕ
+fed_of_batch v [] = []
+fed_of_batch v (a ∷ addrs) =
+    let later = fed_of_batch (after_unless_front v (block_of v.geometry a)) addrs in
+    if is_front_of v (block_of v.geometry a) then later else a ∷ later
 
 -- after n references that found their block in front
 abbrev pub after_fronts : ℕ → ProfileState → ProfileState

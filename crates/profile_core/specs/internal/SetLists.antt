@@ -1,6 +1,6 @@
 -- The lists of all sets: in rows, or in slots, with the front of each in a row of its own.
 use Rattle.std.specs.Prelude.{ℕ, Bool, true, false, ◌≡◌, ◌&&◌, nat_le, [], length, take}
-use Rattle.std.specs.Prelude.{slice_index_or, Option, Some, None, replicate, ◌==◌}
+use Rattle.std.specs.Prelude.{slice_index_or, Option, Some, None, replicate}
 use Rattle.profile_core.specs.internal.Slab.{Lists}
 
 -- whether lists of so many blocks stand in slots

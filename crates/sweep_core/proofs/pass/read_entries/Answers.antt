@@ -1,48 +1,36 @@
 -- Each entry that is read is fed, and the pass ends as the reader does.
-use Rattle.std.proofs.Common.{◌≡◌, ◌≤◌, ◌+◌, ◌*◌, ◌∷◌, ◌++◌, [], List, length, length-append, sym}
+use Rattle.std.proofs.Common.{◌≡◌, map, ◌∷◌, ◌++◌, [], length-append, sym}
 use Rattle.std.proofs.Common.{ap, ◌∙◌, subst, arith}
 use Rattle.std.specs.List.{flat_map}
 use Rattle.trace_core.specs.Events.{events_of}
 use Rattle.trace_core.specs.Task.{entries_of}
 use Rattle.trace_core.proofs.WholeTraces.{holds-less, reads-end, reads-fault, reads-more}
 use Rattle.trace_core.proofs.WholeTraces.{reads-none}
-use Rattle.sweep_core.specs.internal.Pass.{profiles_after, kept_events}
+use Rattle.sweep_core.specs.internal.Pass.{profiles_after, pair_after_flush}
 use Rattle.sweep_core.specs.internal.Implied.{profiles_with_fronts, FedAtMost}
-use Rattle.sweep_core.proofs.Passes.{all_after-nil, all_after-append, fed-both, fed-more, fed-one}
-use Rattle.sweep_core.proofs.Catching.{fresh-few, caught-none, behind-after, caught-flush}
+use Rattle.sweep_core.specs.internal.Batches.{AreWaiting, profiles_after_batch}
+use Rattle.sweep_core.proofs.Passes.{all_after-nil, fed-both, fed-more, fed-one}
+use Rattle.sweep_core.proofs.Catching.{fresh-few, caught-none, caught-flush}
 use Rattle.sweep_core.proofs.Catching.{few-flush}
+use Rattle.sweep_core.proofs.Batching.{fed-nil, waiting-none, waiting-behind}
+use Rattle.sweep_core.proofs.Batching.{waiting-few, waiting-led}
 use Rattle.sweep_core.proofs.pass.read_entries.Goals as goal
 
 pub loop-entry-init : goal.loop-entry-init
 loop-entry-init g c =
-    let xs = c.args.profiles.now in (
+    let xs = c.args.profiles.now in
+    let caught : profiles_with_fronts c.args.fed.now xs ≡ profiles_after [] xs =
+    ap (λ n. profiles_with_fronts n xs) c.requires.none ∙ caught-none xs ∙ sym (all_after-nil xs) in
+    let few = subst (λ n. FedAtMost n xs) (sym c.requires.none) (fresh-few xs c.requires.fresh) in (
       reads-none (g.S.Source.view c.args.source.now) c.requires.begun (
-        ap (λ n. profiles_with_fronts n xs) c.requires.none ∙ caught-none xs ∙
-            sym (all_after-nil xs),
-        subst (λ n. FedAtMost n xs) (sym c.requires.none) (fresh-few xs c.requires.fresh),
+        ap (λ l. profiles_with_fronts c.args.fed.now (profiles_after_batch l xs)) c.requires.empty ∙
+            ap (profiles_with_fronts c.args.fed.now) (fed-nil xs) ∙ caught,
+        subst (λ l. AreWaiting c.args.fed.now l xs) (sym c.requires.empty)
+            (waiting-none c.args.fed.now [] xs xs c.requires.fresh c.requires.linked caught few),
         omega (arith, c.requires.none),
       ),
       omega (arith, ap (λ p. p.lines) c.requires.begun),
     )
-
-pub feed_kept-requires-clause-behind : goal.feed_kept-requires-clause-behind
-feed_kept-requires-clause-behind g c =
-    let so_far = c.loop-entry.invariant.0 in
-    behind-after c.loop-entry.fed (flat_map (events_of c.args.kind) (entries_of so_far.read))
-    c.args.profiles.now
-    c.loop-entry.profiles c.requires.fresh c.requires.linked so_far.holds.0 so_far.holds.1
-
-pub feed_kept-requires-in-Some-second-clause-behind
-    : goal.feed_kept-requires-in-Some-second-clause-behind
-feed_kept-requires-in-Some-second-clause-behind g c =
-    let so_far = c.loop-entry.invariant.0 in
-    let before = flat_map (events_of c.args.kind) (entries_of so_far.read) in
-    let first = kept_events c.args.kind (c.refs_of-second.result.0 ∷ []) in
-    behind-after c.feed_kept.new.fed (before ++ first) c.args.profiles.now c.feed_kept.new.profiles
-    c.requires.fresh c.requires.linked
-    (c.feed_kept.ensures.caught ∙ ap (profiles_after first) so_far.holds.0 ∙
-    sym (all_after-append before first c.args.profiles.now))
-    c.feed_kept.ensures.behind
 
 pub loop-entry-preserved-in-Some-second : goal.loop-entry-preserved-in-Some-second
 loop-entry-preserved-in-Some-second g c =
@@ -50,15 +38,18 @@ loop-entry-preserved-in-Some-second g c =
     let es = entries_of so_far.read in
     let first = c.feed_kept.ensures in
     let second = c.feed_kept-in-Some-second.ensures in
-    let old = profiles_with_fronts c.loop-entry.fed c.loop-entry.profiles in
-    let mid = profiles_with_fronts c.feed_kept.new.fed c.feed_kept.new.profiles in
+    let old = profiles_with_fronts c.loop-entry.fed
+    (profiles_after_batch c.loop-entry.batch c.loop-entry.profiles) in
+    let mid = profiles_with_fronts c.feed_kept.new.fed
+    (profiles_after_batch c.feed_kept.new.batch c.feed_kept.new.profiles) in
     let new = profiles_with_fronts c.feed_kept-in-Some-second.new.fed
-    c.feed_kept-in-Some-second.new.profiles in
+    (profiles_after_batch c.feed_kept-in-Some-second.new.batch
+    c.feed_kept-in-Some-second.new.profiles) in
     let fed = fed-both c.args.kind old mid new c.in-Item.is c.refs_of-second.ensures
     c.in-Some-second.is first.caught second.caught in (
       reads-more so_far c.next.ensures.reached c.next.ensures.entry c.in_ok-entry.was c.in-Some.is (
         fed-more c.args.kind c.args.profiles.now old new es c.in-Some.entry so_far.holds.0 fed,
-        second.behind,
+        second.waiting,
         omega (
           arith,
           so_far.holds.2,
@@ -75,32 +66,56 @@ loop-entry-preserved-in_default-second g c =
     let so_far = c.loop-entry.invariant.0 in
     let es = entries_of so_far.read in
     let one = c.feed_kept.ensures in
-    let old = profiles_with_fronts c.loop-entry.fed c.loop-entry.profiles in
-    let new = profiles_with_fronts c.feed_kept.new.fed c.feed_kept.new.profiles in
+    let old = profiles_with_fronts c.loop-entry.fed
+    (profiles_after_batch c.loop-entry.batch c.loop-entry.profiles) in
+    let new = profiles_with_fronts c.feed_kept.new.fed
+    (profiles_after_batch c.feed_kept.new.batch c.feed_kept.new.profiles) in
     let fed = fed-one c.args.kind old new c.in-Item.is c.refs_of-second.ensures
     c.in_default-second.is one.caught in (
       reads-more so_far c.next.ensures.reached c.next.ensures.entry c.in_ok-entry.was c.in-Some.is (
         fed-more c.args.kind c.args.profiles.now old new es c.in-Some.entry so_far.holds.0 fed,
-        one.behind,
+        one.waiting,
         omega (arith, so_far.holds.2, one.more, length-append es (c.in-Some.entry ∷ [])),
       ),
       omega (arith, c.next.ensures.within, c.next.ensures.limited),
     )
 
+-- at a flush those that wait are fed first
+pub feed-requires-clause-few : goal.feed-requires-clause-few
+feed-requires-clause-few g c =
+    let so_far = c.loop-entry.invariant.0 in
+    waiting-few c.loop-entry.fed c.loop-entry.batch c.loop-entry.profiles so_far.holds.1
+    (omega (arith, so_far.holds.2, so_far.few, c.loop-entry.invariant.1))
+
+pub feed-requires-clause-led : goal.feed-requires-clause-led
+feed-requires-clause-led g c =
+    waiting-led c.loop-entry.fed c.loop-entry.batch c.loop-entry.profiles
+    c.loop-entry.invariant.0.holds.1
+
 pub loop-entry-preserved : goal.loop-entry-preserved
 loop-entry-preserved g c =
     let so_far = c.loop-entry.invariant.0 in
     let es = entries_of so_far.read in
-    let xs = c.loop-entry.profiles in
-    let fed = ap (profiles_with_fronts c.loop-entry.fed) c.flush.ensures ∙
-    caught-flush c.loop-entry.fed xs
-    ∙ ap (λ e. profiles_after (events_of c.args.kind e) (profiles_with_fronts c.loop-entry.fed xs))
-    (sym c.in-Flush.is) in (
+    let n = c.loop-entry.fed in
+    let xs = profiles_after_batch c.loop-entry.batch c.loop-entry.profiles in
+    let flushed : c.flush.new.profiles ≡ map pair_after_flush xs = c.flush.ensures ∙
+    ap (map pair_after_flush) c.feed.ensures.fed in
+    let old = profiles_with_fronts n xs in
+    let fed : profiles_with_fronts n c.flush.new.profiles
+    ≡ profiles_after (events_of c.args.kind c.in-Some.entry) old =
+    ap (profiles_with_fronts n) flushed ∙ caught-flush n xs
+    ∙ ap (λ e. profiles_after (events_of c.args.kind e) old) (sym c.in-Flush.is) in
+    let caught = fed-more c.args.kind c.args.profiles.now old
+    (profiles_with_fronts n c.flush.new.profiles) es c.in-Some.entry so_far.holds.0 fed in
+    let few = subst (FedAtMost n) (sym flushed) (few-flush n xs
+    (waiting-behind n c.loop-entry.batch c.loop-entry.profiles so_far.holds.1).fed) in (
       reads-more so_far c.next.ensures.reached c.next.ensures.entry c.in_ok-entry.was c.in-Some.is (
-        fed-more c.args.kind c.args.profiles.now (profiles_with_fronts c.loop-entry.fed xs) _ es
-            c.in-Some.entry so_far.holds.0 fed,
-        subst (FedAtMost c.loop-entry.fed) (sym c.flush.ensures)
-            (few-flush c.loop-entry.fed xs so_far.holds.1),
+        ap (λ l. profiles_with_fronts n (profiles_after_batch l c.flush.new.profiles))
+            c.feed.ensures.none ∙ ap (profiles_with_fronts n) (fed-nil c.flush.new.profiles) ∙
+            caught,
+        subst (λ l. AreWaiting n l c.flush.new.profiles) (sym c.feed.ensures.none)
+            (waiting-none n (flat_map (events_of c.args.kind) (es ++ c.in-Some.entry ∷ []))
+            c.args.profiles.now c.flush.new.profiles c.requires.fresh c.requires.linked caught few),
         omega (arith, so_far.holds.2, length-append es (c.in-Some.entry ∷ [])),
       ),
       omega (arith, c.next.ensures.within, c.next.ensures.limited),

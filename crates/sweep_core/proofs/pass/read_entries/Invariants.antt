@@ -1,23 +1,23 @@
--- What was read was fed, but for references that a profile finds in front, and each line that is
--- read brings the
--- end nearer.
+-- What was read was fed, but for references that wait or that a profile finds in front, and each
+-- line that is read brings the end nearer.
 use Rattle.std.proofs.Common.{◌≡◌, ◌-◌, ◌*◌, ◌≤◌, length}
 use Rattle.std.specs.List.{flat_map}
 use Rattle.trace_core.specs.Events.{events_of}
 use Rattle.trace_core.specs.declared.limits.TheConstants.{MAX_LINES}
 use Rattle.trace_core.proofs.WholeTraces.{Reads}
 use Rattle.sweep_core.specs.internal.Pass.{profiles_after}
-use Rattle.sweep_core.specs.internal.Implied.{FedAtMost, profiles_with_fronts}
+use Rattle.sweep_core.specs.internal.Implied.{profiles_with_fronts}
+use Rattle.sweep_core.specs.internal.Batches.{AreWaiting, profiles_after_batch}
 use Rattle.sweep_core.proofs.pass.read_entries.Given as goal
 
--- the entries that were read were fed, at most two references each
+-- the entries that were read were fed or wait, at most two references each
 abbrev pub invariant-loop-entry : goal.invariant-loop-entry
 invariant-loop-entry g l =
     Reads l.fn.lines.format l.fn.lines.limit (g.S.Source.view l.initial.source)
     (g.S.Source.view l.source) l.lines
-    (λ es. (profiles_with_fronts l.fed l.profiles ≡ profiles_after (flat_map (events_of l.kind) es)
-    l.fn.profiles)
-    × FedAtMost l.fed l.profiles × (l.fed ≤ 2 * length es))
+    (λ es. (profiles_with_fronts l.fed (profiles_after_batch l.batch l.profiles)
+    ≡ profiles_after (flat_map (events_of l.kind) es) l.fn.profiles)
+    × AreWaiting l.fed l.batch l.profiles × (l.fed ≤ 2 * length es))
     × (l.lines.lines ≤ MAX_LINES)
 
 abbrev pub decreases-loop-entry : goal.decreases-loop-entry

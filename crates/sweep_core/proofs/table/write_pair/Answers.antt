@@ -1,5 +1,5 @@
 -- The text of each row is written.
-use Rattle.std.proofs.Common.{◌∙◌, sym, subst}
+use Rattle.std.proofs.Common.{◌∙◌, subst}
 use Rattle.std.proofs.lemmas.Result.{err_from_is_err_and}
 use Rattle.trace_core.specs.Device.{Wrote, WrotePart}
 use Rattle.sweep_core.proofs.Writing.{rows-begin, rows-more, rows-failed}

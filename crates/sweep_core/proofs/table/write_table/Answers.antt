@@ -1,5 +1,4 @@
 -- The header and the rows are written, and then the sink is flushed.
-use Rattle.std.proofs.Common.{subst}
 use Rattle.std.proofs.lemmas.Result.{err_from_is_err_and}
 use Rattle.trace_core.proofs.Written.{Wrote-more, WrotePart-more, WrotePart-after}
 use Rattle.trace_core.proofs.Written.{WroteLastPart-unflushed, WritesLast-flushes}

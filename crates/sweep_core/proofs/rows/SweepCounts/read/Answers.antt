@@ -1,5 +1,5 @@
 -- The profiles were fed what was read, and have counted it.
-use Rattle.std.proofs.Common.{◌≡◌, ap, sym, ◌∙◌, subst, refl, arith}
+use Rattle.std.proofs.Common.{◌≡◌, sym, subst, arith}
 use Rattle.std.proofs.lemmas.List.{take_at}
 use Rattle.std.specs.List.{AllByRecursion as Each}
 use Rattle.std.specs.Vec.{with_items}

@@ -4,8 +4,8 @@ use Rattle.profile_core.specs.internal.Moves.{is_front}
 use Rattle.profile_core.specs.internal.State.{list_of}
 use Rattle.profile_core.proofs.Feeding.{FoundAt, found_second}
 use Rattle.profile_core.proofs.Fed.{IsMoved, distance_fits, distance_few, found_sound, found_after}
-use Rattle.profile_core.proofs.profile.Profile.feed_behind.Goals as goal
-use Rattle.profile_core.proofs.profile.Profile.feed_behind.Goals.{After-bring_second}
+use Rattle.profile_core.proofs.profile.Profile.feed_in_rows.Goals as goal
+use Rattle.profile_core.proofs.profile.Profile.feed_in_rows.Goals.{After-bring_second}
 
 moved : (c : After-bring_second) → IsMoved c.self.inside.geometry c.self.inside.lists
     c.bring_second.new.self c.self.inside.behind.items
@@ -14,7 +14,7 @@ moved : (c : After-bring_second) → IsMoved c.self.inside.geometry c.self.insid
 moved c = record {
   sound = c.self.invariant;
   view_is = c.self.view_is;
-  next = c.requires;
+  next = c.requires.next;
   moved =
       c.bring_second.ensures;
 }
@@ -23,7 +23,7 @@ found : (c : After-bring_second) →
     FoundAt c.args.block 1 (get_or c.self.inside.lists.lists c.args.set [])
 found c =
     found_second c.args.block _ (ap (λ v. is_front c.args.block (list_of v c.args.set))
-    c.self.view_is ∙ c.requires.behind)
+    c.self.view_is ∙ c.requires.next.behind)
     (sym c.is_second.ensures ∙ c.if-is_second.true)
 
 pub index_mut-requires : goal.index_mut-requires

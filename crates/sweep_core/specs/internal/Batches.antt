@@ -1,0 +1,37 @@
+-- References that are fed to profiles many at a time.
+use Rattle.std.specs.Prelude.{⊤, ℕ, ◌≤◌, ◌+◌, ◌-◌, List, [], ◌∷◌, length, take, map}
+use Rattle.std.specs.List.{AllByRecursion}
+use Rattle.profile_core.specs.internal.State.{ProfileState}
+use Rattle.profile_core.specs.internal.Fronts.{after_batch, Leads}
+use Rattle.sweep_core.specs.declared.profiles.PairProfile.{PairProfile}
+use Rattle.sweep_core.specs.internal.Implied.{AreBehind}
+
+-- the profile of a pair after references to some addresses, but for those that find their block in
+-- front
+abbrev pub pair_after_batch : List ℕ → PairProfile → PairProfile
+pair_after_batch addrs x = record x { profile = after_batch x.profile addrs }
+
+abbrev pub profiles_after_batch : List ℕ → List PairProfile → List PairProfile
+profiles_after_batch addrs xs = map (pair_after_batch addrs) xs
+
+-- a front in one profile is a front in another, whatever references both are fed
+abbrev pub AlwaysLeads : ProfileState → ProfileState → Type 0
+AlwaysLeads v w = (addrs : List ℕ) → Leads (after_batch v addrs) (after_batch w addrs)
+
+-- what is in front in a profile is so in as many of the next as it says, whatever they are fed
+abbrev pub AreAlwaysLed : List PairProfile → Type 0
+AreAlwaysLed [] = ⊤
+AreAlwaysLed (x ∷ xs) = (x.implied ≤ length xs) × AllByRecursion
+    (λ y. AlwaysLeads x.profile y.profile) (take x.implied xs) × AreAlwaysLed xs
+
+-- Profiles that may be fed all of n references but some that found their block in front, and any
+-- others then.
+abbrev pub AreAlwaysBehind : ℕ → List PairProfile → Type 0
+AreAlwaysBehind n xs =
+    (later : List ℕ) → AreBehind (n + length later) (profiles_after_batch later xs)
+
+-- Of n references the last wait, and all others were fed, but for some that found their block in
+-- front.
+pub record AreWaiting (n : ℕ) (addrs : List ℕ) (xs : List PairProfile) : Type 0 where
+  pub waiting : length addrs ≤ n
+  pub behind : AreAlwaysBehind (n - length addrs) xs
