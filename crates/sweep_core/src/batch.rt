@@ -1,46 +1,49 @@
 //! References that wait, so that each profile is fed many at a time.
 ghost use Rattle.std.specs.Prelude.{◌≡◌, ◌+◌, ◌<◌, ◌≤◌, ◌++◌, ◌∷◌, [], length, IsTrue, ◌↔◌};
+ghost use Rattle.std.specs.Prelude.{IfOk, take};
 ghost use Rattle.std.specs.List.{AllByRecursion};
 ghost use Rattle.profile_core.specs.internal.State.{fed_of};
 ghost use Rattle.sweep_core.specs.internal.Batches.{AreAlwaysLed, profiles_after_batch};
 
 use crate::profiles::PairProfile;
 use profile_core::MAX_REFERENCES;
+use std::alloc::{AllocError, Global};
 use std::marker::Model;
 
 /// How many references wait at most. With fewer, waits for memory overlap less.
 pub(crate) const BATCH: usize = 4096;
 
-/// Where flushes follow each other fast, no more wait.
-const SHORT: usize = 256;
-
-/// The addresses of references that wait to be fed: the first `len` of `addrs`.
+/// The addresses of references that wait to be fed: the first `len` of `addrs`. `led` has room for
+/// those of them that some profiles are fed and others are not.
 #[derive(Drop)]
 pub(crate) struct Batch {
-    addrs: [u64; BATCH],
+    addrs: Vec<u64>,
+    led: Vec<u64>,
     len: usize,
 }
 
 impl Model for Batch {
-    ghost use Rattle.std.specs.Prelude.{ℕ, List, take, ◌≤◌};
+    ghost use Rattle.std.specs.Prelude.{◌≡◌, ℕ, List, take, length, ◌≤◌};
     ghost use Rattle.sweep_core.specs.declared.batch.TheConstants.{BATCH};
 
     ghost Value = { List ℕ };
 
-    ghost view = { λ b. take b.len b.addrs };
+    ghost view = { λ b. take b.len b.addrs.items };
 
-    ghost invariant = { λ b. b.len ≤ BATCH };
+    ghost invariant = { λ b. (b.len ≤ BATCH) × (length b.addrs.items ≡ BATCH)
+        × (length b.led.items ≡ BATCH) };
 }
 
 impl Batch {
-    /// A batch of none.
-    pub(crate) fn new() -> Batch
-        ensures { result ≡ [] }
+    /// A batch of none. It takes all its memory here, 64 KiB.
+    pub(crate) fn new(alloc: Global) -> Result<Batch, AllocError>
+        ensures { IfOk result (λ batch. batch ≡ []) }
     {
-        Batch {
-            addrs: [0; BATCH],
+        Ok(Batch {
+            addrs: vec![in alloc; 0; BATCH]?,
+            led: vec![in alloc; 0; BATCH]?,
             len: 0,
-        }
+        })
     }
 
     /// Whether no more may wait.
@@ -71,15 +74,24 @@ impl Batch {
         ensures fed { profiles.new ≡ profiles_after_batch self.old profiles.old }
         ensures none { self.new ≡ [] }
     {
-        if self.len <= SHORT {
-            let mut led = [0; SHORT];
-            feed_each(profiles, &mut self.addrs[..self.len], &mut led);
-        } else {
-            let mut led = [0; BATCH];
-            feed_each(profiles, &mut self.addrs[..self.len], &mut led);
+        if self.len == 0 {
+            return;
         }
+        feed_first(profiles, &mut self.addrs, &mut self.led, self.len);
         self.len = 0;
     }
+}
+
+/// Feeds the first `count` of some references.
+fn feed_first(profiles: &mut [PairProfile], addrs: &mut [u64], led: &mut [u64], count: usize)
+    requires few { AllByRecursion
+        (λ x. fed_of x.profile + count ≤ MAX_REFERENCES) profiles.old }
+    requires within { count ≤ length addrs.old }
+    requires room { count ≤ length led.old }
+    requires led { AreAlwaysLed profiles.old }
+    ensures { profiles.new ≡ profiles_after_batch (take count addrs.old) profiles.old }
+{
+    feed_each(profiles, &mut addrs[..count], &mut led[..count]);
 }
 
 /// Feeds references to each profile that does not find their block in front. Where a profile finds

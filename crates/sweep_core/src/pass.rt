@@ -21,8 +21,10 @@ pub(crate) fn read_trace<S: Source>(
     kind: Kind,
     source: &mut S,
     profiles: &mut [PairProfile],
+    batch: &mut Batch,
 ) -> Result<(), TraceFault>
     requires begun { lines.old ≡ new_progress lines.old.format lines.old.limit }
+    requires empty { batch.old ≡ [] }
     requires fresh { AllByRecursion IsFresh profiles.old }
     requires linked { IsLinked profiles.old }
     ensures fed { Feeds kind lines.old.format lines.old.limit
@@ -30,8 +32,7 @@ pub(crate) fn read_trace<S: Source>(
     ensures reports { lines.new.state ≡ state_after result }
 {
     let mut fed = 0;
-    let mut batch = Batch::new();
-    let read = read_entries(lines, kind, source, profiles, &mut batch, &mut fed);
+    let read = read_entries(lines, kind, source, profiles, batch, &mut fed);
     batch.feed(profiles);
     catch_up(profiles, fed);
     read

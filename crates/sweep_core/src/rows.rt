@@ -9,6 +9,7 @@ ghost use Rattle.sweep_core.specs.Space.{HasSize};
 ghost use Rattle.sweep_core.specs.Rows.{counted_sweep, ReadsCounts};
 ghost use Rattle.sweep_core.specs.internal.Runs.{IsWalk, next_ways};
 
+use crate::batch::Batch;
 use crate::pass::read_trace;
 use crate::profiles::{PairProfile, make_profiles, total_probes};
 use crate::request::Request;
@@ -68,7 +69,8 @@ impl SweepCounts {
     {
         let mut lines = Lines::new(alloc, request.format, request.max_lines)?;
         let mut profiles = make_profiles(alloc, request)?;
-        read_trace(&mut lines, request.kind, source, &mut profiles)?;
+        let mut batch = Batch::new(alloc)?;
+        read_trace(&mut lines, request.kind, source, &mut profiles, &mut batch)?;
         Ok(SweepCounts {
             space: request.space,
             profiles,
