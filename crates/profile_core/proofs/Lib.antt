@@ -18,4 +18,5 @@ pub mod StackLemmas
 pub mod SlotLemmas
 pub mod SlottedLemmas
 pub mod Kept
+pub mod Marks
 mod Rows

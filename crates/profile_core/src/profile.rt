@@ -11,6 +11,7 @@ ghost use Rattle.profile_core.specs.internal.Fronts.{is_front_of, after_unless_f
 ghost use Rattle.profile_core.specs.internal.Fronts.{is_refined, after_batch, fed_of_batch};
 ghost use Rattle.profile_core.specs.internal.Moves.{is_second, touch_of};
 ghost use Rattle.profile_core.specs.internal.SetLists.{is_slotted};
+ghost use Rattle.profile_core.specs.internal.Slotted.{IsPassed};
 ghost use Rattle.profile_core.specs.internal.ProfileStandsFor.{ProfileStandsFor};
 
 use crate::recency::Touch;
@@ -285,6 +286,20 @@ impl Profile {
         }
     }
 
+    /// The same, where one look did not tell.
+    #[inline(never)]
+    fn feed_searched(&mut self, set: usize, block: u64)
+        requires next { IsNext self.old set block }
+        requires slots { is_slotted self.old.geometry.e ≡ true }
+        requires passed { IsPassed block (list_of self.old set) }
+        ensures { self.new ≡ after_reference self.old block }
+    {
+        match self.lists.search(set, block) {
+            Touch::Behind(distance) => self.feed_found(set, block, distance),
+            Touch::New(held) => self.feed_new(set, block, held),
+        }
+    }
+
     /// The same, where the block stands at a stack distance.
     #[inline(always)]
     fn feed_found(&mut self, set: usize, block: u64, distance: usize)
@@ -309,19 +324,6 @@ impl Profile {
         self.lists.bring_new(set, block, held);
         self.probes += held as u64;
         self.misses_by_occupancy[held] += 1;
-    }
-
-    /// The same, where one look did not tell.
-    #[inline(never)]
-    fn feed_searched(&mut self, set: usize, block: u64)
-        requires next { IsNext self.old set block }
-        requires slots { is_slotted self.old.geometry.e ≡ true }
-        ensures { self.new ≡ after_reference self.old block }
-    {
-        match self.lists.search(set, block) {
-            Touch::Behind(distance) => self.feed_found(set, block, distance),
-            Touch::New(held) => self.feed_new(set, block, held),
-        }
     }
 
     /// Feeds a reference to a block that is neither the front nor the second of its set's list, or

@@ -2,7 +2,8 @@
 //! for each block of a list and blocks are many enough that it costs more to move them, in slots.
 ghost use Rattle.std.specs.Prelude.{◌≡◌, ◌*◌, ◌^◌, ◌<◌, ◌≤◌, [], true, false, length, IfOk};
 ghost use Rattle.std.specs.Prelude.{IfSome, is_some, option_map, replicate, sum_by, IsTrue, ◌↔◌};
-ghost use Rattle.std.specs.Prelude.{slice_index_or};
+ghost use Rattle.std.specs.Prelude.{slice_index_or, MatchOption};
+ghost use Rattle.profile_core.specs.internal.Slotted.{IsPassed};
 ghost use Rattle.profile_core.specs.internal.Moves.{is_front, is_second, touch_of};
 ghost use Rattle.profile_core.specs.internal.SetLists.{is_slotted, emptied};
 ghost use Rattle.profile_core.specs.internal.Slab.{lists_after_touch};
@@ -137,21 +138,24 @@ impl SetLists {
         self.rows.bring_far(set, block)
     }
 
-    /// Where a block of a set's list in slots stands, or that it is new, if one look tells.
+    /// Where a block of a set's list in slots that is not its front stands, or that it is new, if
+    /// the first block behind the front that has its mark tells. `None` says that this is another.
     #[inline(always)]
     pub fn look(&self, set: usize, block: u64) -> Option<Touch>
         requires within { set < length self.now.lists }
         requires slots { is_slotted self.now.depth ≡ true }
-        ensures { IfSome result (λ touch.
-            touch ≡ touch_of block (slice_index_or self.now.lists set [])) }
+        requires behind { is_front block (slice_index_or self.now.lists set []) ≡ false }
+        ensures { let list = slice_index_or self.now.lists set [] in
+            MatchOption result (IsPassed block list) (λ touch. touch ≡ touch_of block list) }
     {
         look_in(&self.slotted, set, block)
     }
 
-    /// The same, by a look at one block after another.
+    /// Where it stands, or that it is new, if the first that has its mark is another.
     pub fn search(&self, set: usize, block: u64) -> Touch
         requires within { set < length self.now.lists }
         requires slots { is_slotted self.now.depth ≡ true }
+        requires passed { IsPassed block (slice_index_or self.now.lists set []) }
         ensures { result ≡ touch_of block (slice_index_or self.now.lists set []) }
     {
         search_in(&self.slotted, set, block)
@@ -203,16 +207,34 @@ impl SetLists {
     }
 }
 
-/// Where a block of a set's list in slots stands, or that it is new, if one look tells.
+/// What the first block behind the front of a set's list in slots tells that has a block's mark.
 #[inline(always)]
 fn look_in(slotted: &Option<SlottedLists>, set: usize, block: u64) -> Option<Touch>
     requires some { is_some slotted.now ≡ true }
     requires within { IfSome slotted.now (λ lists. set < length lists.lists) }
-    ensures { IfSome result (λ touch. IfSome slotted.now (λ lists.
-        touch ≡ touch_of block (slice_index_or lists.lists set []))) }
+    requires behind { IfSome slotted.now (λ lists.
+        is_front block (slice_index_or lists.lists set []) ≡ false) }
+    ensures { IfSome slotted.now (λ lists. let list = slice_index_or lists.lists set [] in
+        MatchOption result (IsPassed block list) (λ touch. touch ≡ touch_of block list)) }
 {
     match slotted {
         Some(lists) => lists.look(set, block),
+        None => unreachable!(),
+    }
+}
+
+/// Where a block of a set's list in slots stands, or that it is new, if the first that has its mark
+/// is another.
+fn search_in(slotted: &Option<SlottedLists>, set: usize, block: u64) -> Touch
+    requires some { is_some slotted.now ≡ true }
+    requires within { IfSome slotted.now (λ lists. set < length lists.lists) }
+    requires passed { IfSome slotted.now (λ lists.
+        IsPassed block (slice_index_or lists.lists set [])) }
+    ensures { IfSome slotted.now (λ lists.
+        result ≡ touch_of block (slice_index_or lists.lists set [])) }
+{
+    match slotted {
+        Some(lists) => lists.search(set, block),
         None => unreachable!(),
     }
 }
@@ -243,19 +265,6 @@ fn bring_new_in(slotted: &mut Option<SlottedLists>, set: usize, block: u64, held
 {
     match slotted {
         Some(lists) => lists.bring_new(set, block, held),
-        None => unreachable!(),
-    }
-}
-
-/// The same, by a look at one block after another.
-fn search_in(slotted: &Option<SlottedLists>, set: usize, block: u64) -> Touch
-    requires some { is_some slotted.now ≡ true }
-    requires within { IfSome slotted.now (λ lists. set < length lists.lists) }
-    ensures { IfSome slotted.now (λ lists.
-        result ≡ touch_of block (slice_index_or lists.lists set [])) }
-{
-    match slotted {
-        Some(lists) => lists.search(set, block),
         None => unreachable!(),
     }
 }

@@ -3,13 +3,13 @@
 ghost use Rattle.std.specs.Prelude.{◌≡◌, ℕ, ◌+◌, ◌*◌, ◌^◌, ◌<◌, ◌≤◌, [], ◌∷◌, length, IfOk};
 ghost use Rattle.std.specs.Prelude.{replicate};
 ghost use Rattle.std.specs.Prelude.{slice_index, slice_index_or, sum_by};
-ghost use Rattle.std.specs.Prelude.{◌==◌, take, map, false, IfSome};
+ghost use Rattle.std.specs.Prelude.{◌==◌, drop, map, false, MatchOption};
 ghost use Rattle.std.specs.Simd.Lanes.{mask_l};
-ghost use Rattle.std.specs.List.{remove, position_or_len};
-ghost use Rattle.profile_core.specs.internal.Moves.{touch_of, is_in};
+ghost use Rattle.std.specs.List.{remove};
+ghost use Rattle.profile_core.specs.internal.Moves.{touch_of, is_front, is_in};
 ghost use Rattle.profile_core.specs.internal.Slab.{lists_after_touch};
 ghost use Rattle.profile_core.specs.internal.Slotted.{mark_of, listed, IsOrder};
-ghost use Rattle.profile_core.specs.internal.Slotted.{IsBroughtInSlots};
+ghost use Rattle.profile_core.specs.internal.Slotted.{IsBroughtInSlots, IsPassed};
 
 use crate::recency::Touch;
 use cache_core::touched::TouchedSets;
@@ -82,12 +82,14 @@ impl SlottedLists {
         })
     }
 
-    /// Where a block of a set's list stands, or that it is new, if one look tells.
+    /// Where a block of a set's list that is not its front stands, or that it is new, if the first
+    /// block behind the front that has its mark tells. `None` says that this is another.
     #[inline(always)]
     pub fn look(&self, set: usize, block: u64) -> Option<Touch>
-        requires { set < length self.now.lists }
-        ensures { IfSome result (λ touch.
-            touch ≡ touch_of block (slice_index_or self.now.lists set [])) }
+        requires within { set < length self.now.lists }
+        requires behind { is_front block (slice_index_or self.now.lists set []) ≡ false }
+        ensures { let list = slice_index_or self.now.lists set [] in
+            MatchOption result (IsPassed block list) (λ touch. touch ≡ touch_of block list) }
     {
         look(
             &self.orders[set],
@@ -97,9 +99,11 @@ impl SlottedLists {
         )
     }
 
-    /// The same, by a look at one block after another.
+    /// Where it stands, or that it is new, if the first that has its mark is another. Of the others
+    /// those are compared that have it.
     pub fn search(&self, set: usize, block: u64) -> Touch
-        requires { set < length self.now.lists }
+        requires within { set < length self.now.lists }
+        requires passed { IsPassed block (slice_index_or self.now.lists set []) }
         ensures { result ≡ touch_of block (slice_index_or self.now.lists set []) }
     {
         search(
@@ -230,30 +234,31 @@ fn lanes_with(marks: &[u8; SLOTS], mark: u8) -> u64
         .to_bitmask()
 }
 
-/// The least place whose lane is a mark, or 16.
+/// The same for the lanes from a place on.
 #[inline(always)]
-fn first_marked(marks: &[u8; SLOTS], mark: u8) -> usize
-    requires { length marks.now ≡ 16 }
-    ensures { result ≡ position_or_len (λ m. m == mark) marks.now }
+fn lanes_from(marks: &[u8; SLOTS], mark: u8, place: usize) -> u64
+    requires within { place < 16 }
+    requires all { length marks.now ≡ 16 }
+    ensures { result ≡ mask_l (map (λ m. m == mark) (drop place marks.now)) }
 {
-    let same = lanes_with(marks, mark);
-    if same == 0 {
-        SLOTS
-    } else {
-        same.trailing_zeros() as usize
-    }
+    lanes_with(marks, mark) >> place
 }
 
-/// What the first place with a block's mark tells: where the block stands, or that it is new. If
-/// another block has the mark there it tells nothing.
+/// What the first place behind the front tells that has a block's mark: where the block stands, or
+/// that it is new. If another block is there, it tells nothing.
 #[inline(always)]
 fn look(order: &Order, blocks: &[u64; SLOTS], held: usize, block: u64) -> Option<Touch>
     requires order { IsOrder order.now.marks order.now.slots blocks.now held }
     requires most { held ≤ 16 }
-    ensures { IfSome result (λ touch.
-        touch ≡ touch_of block (listed order.now.slots blocks.now held)) }
+    requires behind { is_front block (listed order.now.slots blocks.now held) ≡ false }
+    ensures { let list = listed order.now.slots blocks.now held in
+        MatchOption result (IsPassed block list) (λ touch. touch ≡ touch_of block list) }
 {
-    let place = first_marked(&order.marks, mark_of(block));
+    let marked = lanes_from(&order.marks, mark_of(block), 1);
+    if marked == 0 {
+        return Some(Touch::New(held));
+    }
+    let place = 1 + marked.trailing_zeros() as usize;
     if place >= held {
         return Some(Touch::New(held));
     }
@@ -263,17 +268,36 @@ fn look(order: &Order, blocks: &[u64; SLOTS], held: usize, block: u64) -> Option
     None
 }
 
-/// Where a block stands, or that it is new, by a look at one block after another. It is seldom
-/// asked for: most blocks of a list differ in their marks.
+/// Where a block stands, or that it is new, if another is at that place. It is seldom asked for:
+/// most blocks of a list differ in their marks.
 fn search(order: &Order, blocks: &[u64; SLOTS], held: usize, block: u64) -> Touch
     requires order { IsOrder order.now.marks order.now.slots blocks.now held }
     requires most { held ≤ 16 }
+    requires passed { IsPassed block (listed order.now.slots blocks.now held) }
     ensures { result ≡ touch_of block (listed order.now.slots blocks.now held) }
 {
-    for place in 0..held {
-        if blocks[order.slots[place] as usize] == block {
-            return Touch::Behind(place);
+    let marked = lanes_from(&order.marks, mark_of(block), 1);
+    if marked == 0 {
+        return Touch::New(held);
+    }
+    let others = marked.trailing_zeros();
+    let first = 1 + others as usize;
+    if first >= held {
+        return Touch::New(held);
+    }
+    let mut place = first + 1;
+    let mut left = marked >> others >> 1;
+    while left != 0 {
+        let others = left.trailing_zeros();
+        let next = place + others as usize;
+        if next >= held {
+            return Touch::New(held);
         }
+        if blocks[order.slots[next] as usize] == block {
+            return Touch::Behind(next);
+        }
+        place = next + 1;
+        left = left >> others >> 1;
     }
     Touch::New(held)
 }

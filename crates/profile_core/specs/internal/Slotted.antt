@@ -1,7 +1,8 @@
 -- A list whose blocks stand in slots and are not moved: what changes is the order of the slots.
 use Rattle.std.specs.Prelude.{ℕ, ◌≡◌, ◌≤◌, ◌<◌, ◌*◌, ◌/◌, ◌%◌, ◌^◌, List, take, map, length}
-use Rattle.std.specs.Prelude.{slice_index}
-use Rattle.profile_core.specs.internal.Moves.{move_to_front}
+use Rattle.std.specs.Prelude.{slice_index, ◌+◌, ◌==◌, false, drop}
+use Rattle.std.specs.List.{position_or_len}
+use Rattle.profile_core.specs.internal.Moves.{is_in, move_to_front}
 
 -- a byte of a block: the highest of its product with an odd number
 unfoldable pub mark_of : ℕ → ℕ
@@ -28,3 +29,11 @@ pub record IsBroughtInSlots (depth x : ℕ) (list marks slots blocks : List ℕ)
   pub some : 0 < len
   pub fits : len ≤ depth
   pub list_is : listed slots blocks len ≡ take depth (move_to_front x list)
+
+-- the index of the first block behind the front of a list that has the mark of x, or its end
+abbrev pub first_alike : ℕ → List ℕ → ℕ
+first_alike x xs = 1 + position_or_len (λ y. mark_of y == mark_of x) (drop 1 xs)
+
+-- x is none of the blocks up to that one
+abbrev pub IsPassed : ℕ → List ℕ → Type 0
+IsPassed x xs = is_in x (take (first_alike x xs + 1) xs) ≡ false

@@ -1,48 +1,44 @@
--- A block is looked for at the first place that has its mark.
-use Rattle.std.proofs.Common.{◌≡◌, ◌<◌, ◌≤◌, ◌∙◌, ℕ, List, arith, length}
-use Rattle.std.proofs.Common.{get_or}
+-- A block is looked for at the first place behind the front that has its mark.
+use Rattle.std.proofs.Common.{◌≡◌, ◌<◌, ◌+◌, ◌∙◌, arith, ap, drop, eqb, map, take, false, subst, sym}
+use Rattle.std.specs.Simd.Lanes.{mask_l}
+use Rattle.profile_core.specs.internal.Moves.{is_in}
 use Rattle.profile_core.specs.internal.Slotted.{listed}
-use Rattle.profile_core.proofs.SlotLemmas.{length-listed, unmarked, touch_new, touch_found}
-use Rattle.profile_core.proofs.SlotLemmas.{found_at, found_nowhere, listed_at}
+use Rattle.profile_core.proofs.Marks.{CameTo, new_past, new_unmarked, found_marked, absent_behind}
+use Rattle.profile_core.proofs.Marks.{first_absent, alike_is}
 use Rattle.profile_core.proofs.slotted.look.Goals as goal
-use Rattle.profile_core.proofs.slotted.look.Goals.{After-first_marked-place}
+use Rattle.profile_core.proofs.slotted.look.Goals.{After-lanes_from-marked}
 
-list : After-first_marked-place → List ℕ
-list c = listed c.args.order.now.slots c.args.blocks.now c.args.held
+came : (c : After-lanes_from-marked) → CameTo c.args.order.now.marks c.args.order.now.slots
+    c.args.blocks.now c.args.held c.args.block 1 c.lanes_from-marked.result
+came c = record {
+  order = c.requires.order;
+  most = c.requires.most;
+  left_is = c.lanes_from-marked.ensures ∙
+      ap (λ k. mask_l (map (λ m. eqb m k) (drop 1 c.args.order.now.marks))) c.mark_of.ensures;
+  absent = first_absent c.args.block
+      (listed c.args.order.now.slots c.args.blocks.now c.args.held) c.requires.behind;
+}
 
-fits : (c : After-first_marked-place) → c.args.held ≤ length c.args.order.now.slots
-fits c = omega (arith, c.requires.order.slots_len, c.requires.most)
-
-long : (c : After-first_marked-place) → length
-    (listed c.args.order.now.slots c.args.blocks.now c.args.held) ≡ c.args.held
-long c = length-listed c.args.order.now.slots c.args.blocks.now c.args.held (fits c)
-
-before : (c : After-first_marked-place) (k : ℕ) → k < c.first_marked-place.result → k < c.args.held
-    → get_or (listed c.args.order.now.slots c.args.blocks.now c.args.held) k 0 ≡ c.args.block → ⊥
-before c k lt within e =
-    unmarked c.args.order.now.marks c.args.order.now.slots c.args.blocks.now c.args.held
-    c.mark_of.result c.args.block c.requires.order c.requires.most c.mark_of.ensures k
-    (omega (arith, c.first_marked-place.ensures)) within e
+pub returns-then-marked-eq0 : goal.returns-then-marked-eq0
+returns-then-marked-eq0 c = new_unmarked _ _ _ _ _ _ _
+    (came (goal.at.returns-then-marked-eq0 c).After-lanes_from-marked) c.if-marked-eq0.true
 
 pub returns-then-place-held : goal.returns-then-place-held
-returns-then-place-held c =
-    let at = (goal.at.returns-then-place-held c).After-first_marked-place in
-    touch_new c.args.block c.args.held _ (long at)
-    (found_nowhere c.args.block _ (λ k h e. before at k (omega (
-      arith,
-      long at,
-      c.if-place-held.true,
-    ))
-    (omega (arith, long at)) e))
+returns-then-place-held c = new_past _ _ _ _ _ _ _
+    (came (goal.at.returns-then-place-held c).After-lanes_from-marked)
+    (omega (arith, c.if-marked-eq0.false)) (omega (arith, c.if-place-held.true))
 
 pub returns-then-blocks-order : goal.returns-then-blocks-order
-returns-then-blocks-order c =
-    let at = (goal.at.returns-then-blocks-order c).After-first_marked-place in
-    let within : c.first_marked-place.result < c.args.held = omega (arith, c.if-place-held.false) in
-    let lt : c.first_marked-place.result < length
-    (listed c.args.order.now.slots c.args.blocks.now c.args.held) = omega (arith, long at) in
-    touch_found c.args.block c.first_marked-place.result _
-    (found_at c.args.block c.first_marked-place.result _ lt
-    (λ k h e. before at k h (omega arith) e)
-    (listed_at c.args.order.now.slots c.args.blocks.now c.args.held c.first_marked-place.result
-    (fits at) within ∙ c.if-blocks-order.true)) lt
+returns-then-blocks-order c = found_marked _ _ _ _ _ _ _
+    (came (goal.at.returns-then-blocks-order c).After-lanes_from-marked)
+    (omega (arith, c.if-marked-eq0.false)) (omega (arith, c.if-place-held.false))
+    c.if-blocks-order.true
+
+pub returns : goal.returns
+returns c =
+    let came = came (goal.at.returns c).After-lanes_from-marked in
+    let some : 0 < c.lanes_from-marked.result = omega (arith, c.if-marked-eq0.false) in
+    let list = listed c.args.order.now.slots c.args.blocks.now c.args.held in
+    subst (λ n. is_in c.args.block (take (n + 1) list) ≡ false)
+    (sym (alike_is _ _ _ _ _ _ came some c.if-place-held.false))
+    (absent_behind _ _ _ _ _ _ _ came some c.if-place-held.false c.if-blocks-order.false)

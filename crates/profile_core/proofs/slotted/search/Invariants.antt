@@ -1,8 +1,15 @@
-use Rattle.std.proofs.Common.{◌≡◌, take, false}
+-- What is left are the marks from a place on; no block before it is the one that is looked for.
+use Rattle.std.proofs.Common.{◌≡◌, ◌≤◌, ◌-◌, ◌==◌, take, drop, map, false}
+use Rattle.std.specs.Simd.Lanes.{mask_l}
 use Rattle.profile_core.specs.internal.Moves.{is_in}
-use Rattle.profile_core.specs.internal.Slotted.{listed}
+use Rattle.profile_core.specs.internal.Slotted.{mark_of, listed}
 use Rattle.profile_core.proofs.slotted.search.Given as goal
 
-abbrev pub invariant-loop-place : goal.invariant-loop-place
-invariant-loop-place l =
-    is_in l.block (take l.place (listed l.order.slots l.blocks l.held)) ≡ false
+abbrev pub invariant-loop-left : goal.invariant-loop-left
+invariant-loop-left l =
+    (l.left ≡ mask_l (map (λ m. m == mark_of l.block) (drop l.place l.order.marks)))
+    × (is_in l.block (take l.place (listed l.order.slots l.blocks l.held)) ≡ false)
+    × (l.place ≤ 16)
+
+abbrev pub decreases-loop-left : goal.decreases-loop-left
+decreases-loop-left l = 16 - l.place

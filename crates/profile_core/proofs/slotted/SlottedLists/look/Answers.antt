@@ -1,18 +1,18 @@
 -- What one look at a set's list tells.
 use Rattle.std.proofs.Common.{◌≡◌, ◌<◌, ◌∙◌, ℕ, List, [], length, get_or, sym, ap, arith, subst}
 use Rattle.std.proofs.lemmas.List.{get_or_default}
-use Rattle.profile_core.specs.internal.Moves.{touch_of}
-use Rattle.profile_core.specs.internal.Slotted.{listed}
+use Rattle.profile_core.specs.internal.Moves.{is_front, touch_of}
+use Rattle.profile_core.specs.internal.Slotted.{listed, IsPassed}
 use Rattle.profile_core.specs.internal.SlottedState.{no_order}
 use Rattle.profile_core.proofs.SlottedLemmas.{length-slotted, slotted_at}
-use Rattle.std.specs.Prelude.{IfSome}
+use Rattle.std.specs.Prelude.{MatchOption}
 use Rattle.profile_core.proofs.slotted.SlottedLists.look.Goals as goal
 use Rattle.profile_core.proofs.slotted.SlottedLists.look.Goals.{After-self, After-index-3}
 
 lt : (c : After-self) → c.args.set < length c.self.inside.lens.items
 lt c = omega (
   arith,
-  c.requires,
+  c.requires.within,
   ap (λ v. length v.lists) c.self.view_is,
   length-slotted c.self.inside.orders.items c.self.inside.blocks.items c.self.inside.lens.items
       c.self.invariant.orders_len c.self.invariant.blocks_len,
@@ -44,7 +44,7 @@ index-requires-3 c = omega (
 within : (c : After-index-3) → c.args.set < length c.self.inside.lens.items
 within c = omega (
   arith,
-  c.requires,
+  c.requires.within,
   ap (λ v. length v.lists) c.self.view_is,
   length-slotted c.self.inside.orders.items c.self.inside.blocks.items c.self.inside.lens.items
       c.self.invariant.orders_len c.self.invariant.blocks_len,
@@ -84,9 +84,14 @@ look-requires-clause-most c =
       c.self.invariant.most,
     )
 
+pub look-requires-clause-behind : goal.look-requires-clause-behind
+look-requires-clause-behind c =
+    let at = (goal.at.look-requires-clause-behind c).After-index-3 in
+    ap (is_front c.args.block) (list_is at) ∙ c.requires.behind
+
 pub returns : goal.returns
 returns c =
     let at = (goal.at.returns c).After-index-3 in
-    let P : List ℕ → Type 0 = λ xs. IfSome c.look.result (λ touch. touch ≡ touch_of c.args.block
-    xs) in
+    let P : List ℕ → Type 0 = λ xs. MatchOption c.look.result (IsPassed c.args.block xs)
+    (λ touch. touch ≡ touch_of c.args.block xs) in
     subst P (list_is at) c.look.ensures

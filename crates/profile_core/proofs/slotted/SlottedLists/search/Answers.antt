@@ -1,8 +1,8 @@
 -- Where a block of a set's list stands.
-use Rattle.std.proofs.Common.{◌≡◌, ◌<◌, ◌∙◌, [], length, get_or, sym, ap, arith}
+use Rattle.std.proofs.Common.{◌≡◌, ◌<◌, ◌∙◌, [], length, get_or, sym, ap, arith, subst}
 use Rattle.std.proofs.lemmas.List.{get_or_default}
 use Rattle.profile_core.specs.internal.Moves.{touch_of}
-use Rattle.profile_core.specs.internal.Slotted.{listed}
+use Rattle.profile_core.specs.internal.Slotted.{listed, IsPassed}
 use Rattle.profile_core.specs.internal.SlottedState.{no_order}
 use Rattle.profile_core.proofs.SlottedLemmas.{length-slotted, slotted_at}
 use Rattle.profile_core.proofs.slotted.SlottedLists.search.Goals as goal
@@ -11,7 +11,7 @@ use Rattle.profile_core.proofs.slotted.SlottedLists.search.Goals.{After-self, Af
 lt : (c : After-self) → c.args.set < length c.self.inside.lens.items
 lt c = omega (
   arith,
-  c.requires,
+  c.requires.within,
   ap (λ v. length v.lists) c.self.view_is,
   length-slotted c.self.inside.orders.items c.self.inside.blocks.items c.self.inside.lens.items
       c.self.invariant.orders_len c.self.invariant.blocks_len,
@@ -43,7 +43,7 @@ index-requires-3 c = omega (
 within : (c : After-index-3) → c.args.set < length c.self.inside.lens.items
 within c = omega (
   arith,
-  c.requires,
+  c.requires.within,
   ap (λ v. length v.lists) c.self.view_is,
   length-slotted c.self.inside.orders.items c.self.inside.blocks.items c.self.inside.lens.items
       c.self.invariant.orders_len c.self.invariant.blocks_len,
@@ -82,6 +82,11 @@ search-requires-clause-most c =
       c.self.invariant.fits c.args.set,
       c.self.invariant.most,
     )
+
+pub search-requires-clause-passed : goal.search-requires-clause-passed
+search-requires-clause-passed c =
+    let at = (goal.at.search-requires-clause-passed c).After-index-3 in
+    subst (IsPassed c.args.block) (sym (list_is at)) c.requires.passed
 
 pub returns : goal.returns
 returns c =
