@@ -1,7 +1,7 @@
 //! A cache of a system. Where its sets have many ways, a block is searched for by fingerprints.
 ghost use Rattle.std.specs.Prelude.{◌≡◌, ◌≤◌, ◌<◌, ◌+◌, ◌*◌, ◌^◌, ℕ, true, length, None, Some};
 ghost use Rattle.std.specs.Prelude.{IfOk, IfSome, Option, is_some, if◌then◌else◌, replicate};
-ghost use Rattle.std.specs.Prelude.{slice_index_or, []};
+ghost use Rattle.std.specs.Prelude.{slice_index_or, [], IsTrue};
 ghost use Rattle.cache_core.specs.Geometry.{IsGeometry, block_of, set_of};
 ghost use Rattle.cache_core.specs.Outcomes.{hit_in_front};
 ghost use Rattle.cache_core.specs.Order.{Accesses, FlushesCache, position_of, slots_of};
@@ -17,7 +17,7 @@ use crate::cache::Cache;
 use crate::design::{AllocMode, Repl, WriteMode};
 use crate::fingerprints::Fingerprints;
 use crate::geometry::Geometry;
-use crate::outcome::Outcome;
+use crate::outcome::{Outcome, Slot};
 use crate::system_cache::ChosenPolicy;
 use std::alloc::{AllocError, Global};
 use std::marker::Model;
@@ -169,14 +169,61 @@ fn access_by_rows(
     let block = geometry.block_of(reference.addr);
     let slots = cache.slots(set);
     let filled = slots.len();
-    let at = rows[set].find(slots, block);
+    let at = find_by(policy, &rows[set], slots, block);
     let (outcome, way) = cache.access_at(reference, at);
     let last = filled.min(geometry.e() as usize - 1);
-    follow(policy, &mut rows[set], at, outcome.placed, last, way, block);
+    follow_soon(policy, &mut rows[set], at, outcome.placed, last, way, block);
     outcome
 }
 
+/// The index of a block among the slots of a set, if it is there. Under LRU most blocks that are
+/// not in front are second, so this slot is looked at before the row.
+#[inline(always)]
+fn find_by(policy: Repl, row: &Fingerprints, slots: &[Slot], block: u64) -> Option<usize>
+    requires room { length slots.now + 16 ≤ length row.now }
+    requires same { AreFingerprints slots.now row.now }
+    ensures { result ≡ position_of block slots.now }
+{
+    if policy == Repl::Lru && is_second(slots, block) {
+        Some(1)
+    } else {
+        row.find(slots, block)
+    }
+}
+
+/// Whether a block is in the second of some slots, and not in the first.
+#[inline(always)]
+fn is_second(slots: &[Slot], block: u64) -> bool
+    ensures { IsTrue result → position_of block slots.now ≡ Some 1 }
+{
+    slots.len() > 1 && slots[0].block != block && slots[1].block == block
+}
+
 /// A row after an access that found its block at an index, or placed it in a way, or did neither.
+/// Where it found the block second under LRU, two fingerprints change places.
+#[inline(always)]
+fn follow_soon(
+    policy: Repl,
+    row: &mut Fingerprints,
+    at: Option<usize>,
+    placed: bool,
+    last: usize,
+    way: usize,
+    block: u64,
+)
+    requires at { IfSome at (λ at. at < length row.old) }
+    requires last { last < length row.old }
+    requires way { at ≡ None → placed ≡ true → way < length row.old }
+    ensures { row.new ≡ row_followed policy at placed last way (fingerprint_of block) row.old }
+{
+    if policy == Repl::Lru && at == Some(1) {
+        row.bring_second(block);
+    } else {
+        follow(policy, row, at, placed, last, way, block);
+    }
+}
+
+/// The same for any access.
 /// It stands apart, so that the path of few ways stays short.
 #[inline(never)]
 fn follow(

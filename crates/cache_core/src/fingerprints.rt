@@ -73,6 +73,16 @@ impl Fingerprints {
         bring_to_front(&mut self.row, at, fingerprint(block));
     }
 
+    /// Brings the fingerprint of the second slot to the front.
+    #[inline(always)]
+    pub(crate) fn bring_second(&mut self, block: u64)
+        requires { 1 < length self.old }
+        ensures { self.new ≡ fingerprint_of block ∷ remove self.old 1 }
+    {
+        self.row[1] = self.row[0];
+        self.row[0] = fingerprint(block);
+    }
+
     /// Puts a fingerprint in place of that at an index.
     pub(crate) fn put(&mut self, at: usize, block: u64)
         requires { at < length self.old }

@@ -8,14 +8,14 @@ use Rattle.cache_core.specs.internal.Fingerprints.{AreRows, row_followed, finger
 use Rattle.cache_core.proofs.FingerprintLemmas.{rows_follow, way_within_row}
 use Rattle.cache_core.proofs.fingerprinted.access_by_rows.Goals as goal
 
-pub follow-requires-clause-way : goal.follow-requires-clause-way
-follow-requires-clause-way c =
+pub follow_soon-requires-clause-way : goal.follow_soon-requires-clause-way
+follow_soon-requires-clause-way c =
     let block = c.block_of-block.ensures.value
     ∙ ap (λ g. block_of g c.args.reference.addr) c.geometry-geometry.ensures in
     let set = c.set_of-set.ensures.value
     ∙ ap (λ g. set_of g c.args.reference.addr) c.geometry-geometry.ensures in
     let slots = c.slots-slots.ensures.slots ∙ ap (slots_of c.args.cache.now.sets) set in
-    let found = c.find-at.ensures
+    let found = c.find_by-at.ensures
     ∙ ap (λ b. position_of b c.slots-slots.result.now) block
     ∙ ap (position_of (block_of c.args.cache.now.design.geometry c.args.reference.addr)) slots in
     let some = subst (λ (g : GeometryValue). 0 < g.e) c.geometry-geometry.ensures
@@ -27,7 +27,7 @@ follow-requires-clause-way c =
     ∙ ap (λ k. get_or c.args.rows.now k []) set in
     λ missed placed. subst (λ r. c.access_at-way.result.1 < length r) (sym row)
     (way_within_row c.args.cache.now c.access_at-way.new.self c.args.policy c.args.reference
-    c.access_at-way.result.0 c.args.rows.now c.find-at.result c.min-last.result
+    c.access_at-way.result.0 c.args.rows.now c.find_by-at.result c.min-last.result
     c.access_at-way.result.1 c.requires.policy c.requires.rows c.access_at-way.ensures.step lt some
     found c.access_at-way.ensures.placed missed placed)
 
@@ -38,7 +38,7 @@ returns-clause-rows c =
     let set = c.set_of-set.ensures.value
     ∙ ap (λ g. set_of g c.args.reference.addr) c.geometry-geometry.ensures in
     let slots = c.slots-slots.ensures.slots ∙ ap (slots_of c.args.cache.now.sets) set in
-    let found = c.find-at.ensures
+    let found = c.find_by-at.ensures
     ∙ ap (λ b. position_of b c.slots-slots.result.now) block
     ∙ ap (position_of (block_of c.args.cache.now.design.geometry c.args.reference.addr)) slots in
     let some = subst (λ (g : GeometryValue). 0 < g.e) c.geometry-geometry.ensures
@@ -53,16 +53,16 @@ returns-clause-rows c =
     let end = c.min-last.ensures ∙ ap (λ xs. min (length xs) (c.e.result - 1)) slots
     ∙ ap (λ n. min (length (slots_of c.args.cache.now.sets
     (set_of c.args.cache.now.design.geometry c.args.reference.addr))) (n - 1)) ways in
-    let follows = row_followed c.args.policy c.find-at.result
+    let follows = row_followed c.args.policy c.find_by-at.result
     c.access_at-way.result.0.placed c.min-last.result c.access_at-way.result.1 in
-    let is = c.follow.ensures
+    let is = c.follow_soon.ensures
     ∙ ap (λ b. follows (fingerprint_of b)
     (get_or c.args.rows.now c.set_of-set.result c.index-rows-set-2.result)) block
     ∙ ap (follows (fingerprint_of (block_of c.args.cache.now.design.geometry
     c.args.reference.addr))) row in
     subst (λ k. AreRows c.access_at-way.new.self.design.geometry.e c.access_at-way.new.self.sets
-    (slice_set c.args.rows.now k c.follow.new.row)) (sym set)
+    (slice_set c.args.rows.now k c.follow_soon.new.row)) (sym set)
     (rows_follow c.args.cache.now c.access_at-way.new.self c.args.policy c.args.reference
-    c.access_at-way.result.0 c.args.rows.now c.find-at.result c.min-last.result
+    c.access_at-way.result.0 c.args.rows.now c.find_by-at.result c.min-last.result
     c.access_at-way.result.1 c.requires.policy c.requires.rows c.access_at-way.ensures.step lt some
-    found c.access_at-way.ensures.placed end c.follow.new.row is)
+    found c.access_at-way.ensures.placed end c.follow_soon.new.row is)
