@@ -1,10 +1,11 @@
--- Rows whose lists are all empty: the fronts and the lengths are 0.
+-- Lists that are all empty: the fronts and the lengths are 0.
 use Rattle.std.proofs.Common.{◌≡◌, ℕ, zero, suc, ◌+◌, ◌*◌, ◌<◌, ◌≤◌, ◌^◌, List, Option}
 use Rattle.std.proofs.Common.{Some, None, length, get_or, refl, sym, subst, ap, ◌∙◌, arith}
 use Rattle.std.specs.Prelude.{All, IfSome, replicate}
 use Rattle.std.proofs.lemmas.List.{length-replicate}
 use Rattle.cache_core.specs.internal.Touched.{TouchedValue, Covers, ListsFilled, no_sets}
 use Rattle.cache_core.proofs.TouchedSets.{covers_none}
+use Rattle.profile_core.specs.internal.Rows.{RowsValue, row_for}
 use Rattle.profile_core.specs.internal.Slab.{IsListed}
 
 -- the sets that have a block are those whose fronts may not be 0
@@ -18,29 +19,31 @@ filled_fronts (Some sets) fronts lens same blank l = record {
   others = λ k unlisted. blank k (l.others k unlisted);
 }
 
-pub covers_fronts : {n : ℕ} {fronts slab lens : List ℕ} {touched : TouchedValue} →
-    IsListed n fronts slab lens touched → Covers touched fronts
-covers_fronts {n} {fronts} {slab} {lens} {touched} l =
-    filled_fronts touched.listed fronts lens l.sound.fronts_len l.sound.blank l.covers
+pub covers_fronts : {fronts : List ℕ} {rows : RowsValue} {lens : List ℕ} {touched : TouchedValue} →
+    IsListed fronts rows lens touched → Covers touched fronts
+covers_fronts {fronts} {rows} {lens} {touched} l =
+    filled_fronts touched.listed fronts lens l.fronts_len l.blank l.covers
 
-zero_at : (n k : ℕ) → get_or {A = ℕ} (replicate n 0) k 0 ≡ 0
+pub zero_at : (n k : ℕ) → get_or {A = ℕ} (replicate n 0) k 0 ≡ 0
 zero_at zero k = refl
 zero_at (suc n) zero = refl
 zero_at (suc n) (suc k) = zero_at n k
 
-pub listed_none : (n m : ℕ) (fronts slab lens : List ℕ) (before touched : TouchedValue) →
-    fronts ≡ replicate m 0 → lens ≡ replicate m 0
-    → length slab ≡ m * n → m * (n + 1) ≤ 2 ^ 22 → touched ≡ no_sets before →
-    IsListed n fronts slab lens touched
-listed_none n m fronts slab lens before touched blank none long small is =
+pub listed_none : (m : ℕ) (fronts : List ℕ) (rows : RowsValue) (lens : List ℕ)
+    (before touched : TouchedValue) → fronts ≡ replicate m 0 → lens ≡ replicate m 0 →
+    m ≤ length rows.rows → (m ≤ 4096 → length rows.rows ≤ 4096) →
+    ((k : ℕ) → k < length rows.rows → length (row_for rows k) ≡ rows.stride) →
+    m * (rows.stride + 1) ≤ 2 ^ 22 → touched ≡ no_sets before →
+    IsListed fronts rows lens touched
+listed_none m fronts rows lens before touched blank none enough few long small is =
     let count : length lens ≡ m = ap length none ∙ length-replicate m 0 in
     record {
-      sound = record {
-        fronts_len = ap length blank ∙ length-replicate m 0 ∙ sym count;
-        slab_len = long ∙ ap (λ j. j * n) (sym count);
-        small = subst (λ (j : ℕ). j * (n + 1) ≤ 2 ^ 22) (sym count) small;
-        short = λ k lt. omega (arith, ap (λ ls. get_or ls k 0) none, zero_at m k);
-        blank = λ k _. ap (λ fs. get_or fs k 0) blank ∙ zero_at m k;
-      };
+      fronts_len = ap length blank ∙ length-replicate m 0 ∙ sym count;
+      rows_len = omega (arith, count, enough);
+      few_rows = λ le. few (omega (arith, le, count));
+      long = long;
+      small = subst (λ (j : ℕ). j * (rows.stride + 1) ≤ 2 ^ 22) (sym count) small;
+      short = λ k. omega (arith, ap (λ ls. get_or ls k 0) none, zero_at m k);
+      blank = λ k _. ap (λ fs. get_or fs k 0) blank ∙ zero_at m k;
       covers = covers_none touched before.capacity m lens is none;
     }

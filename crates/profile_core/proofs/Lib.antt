@@ -4,6 +4,8 @@ pub mod Stands
 pub mod Counting
 pub mod Shifting
 pub mod Bringing
+pub mod RowLemmas
+pub mod RowGroups
 pub mod SlabLemmas
 pub mod Writing
 pub mod Emptying
@@ -19,4 +21,4 @@ pub mod SlotLemmas
 pub mod SlottedLemmas
 pub mod Kept
 pub mod Marks
-mod Rows
+mod ProfileRows

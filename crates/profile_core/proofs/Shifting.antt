@@ -9,7 +9,7 @@ use Rattle.std.proofs.lemmas.Bool.{lt-ltb, le-ltb, ne_eqb, eqb-true, false≢tru
 use Rattle.std.proofs.lemmas.List.{take_all, drop_all}
 use Rattle.std.proofs.lemmas.List.Sums.{position_or_len_is, prefix_len-le-length}
 use Rattle.cache_core.proofs.Lists.{list_any_is}
-use Rattle.profile_core.specs.declared.recency.Shifted.TheVariants.{Found, Out}
+use Rattle.profile_core.specs.declared.row.Shifted.TheVariants.{Found, Out}
 use Rattle.profile_core.specs.internal.Moves.{index_of, is_in, is_front, shifted_of}
 
 -- the list as it stands when i blocks of xs were passed, y in front: the block at i, and one step

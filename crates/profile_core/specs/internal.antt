@@ -1,6 +1,7 @@
 pub mod Fronts
 pub mod Moves
 pub mod ProfileStandsFor
+pub mod Rows
 pub mod SetLists
 pub mod Slab
 pub mod Slotted

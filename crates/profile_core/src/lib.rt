@@ -5,6 +5,8 @@
 pub mod laws;
 pub mod profile;
 mod recency;
+mod row;
+mod rows;
 mod set_lists;
 mod slotted;
 mod stacks;

@@ -15,6 +15,7 @@ ghost use Rattle.profile_core.specs.internal.Slotted.{IsPassed};
 ghost use Rattle.profile_core.specs.internal.ProfileStandsFor.{ProfileStandsFor};
 
 use crate::recency::Touch;
+use crate::rows::FEW;
 use crate::set_lists::SetLists;
 use crate::stacks::DEEP;
 use cache_core::{Counts, Geometry};
@@ -82,11 +83,13 @@ impl Model for HitSums {
 
 impl Profile {
     /// A profile of caches of `2^s` sets of 1 to `depth` lines of `2^b` bytes. It takes all its
-    /// memory here: 8 bytes for each of `depth * 2^s` blocks, 4 and a quarter for each set, and 16
-    /// for each associativity and 8 more. With a depth of 256 or more it takes 22 bytes for each
-    /// block of a set but 64, and 200 more for each set. With a depth of 12 to 16 a set takes 128
-    /// bytes of blocks, 32 of their order, 8 of its front and 8 and a half of counts, and no more
-    /// for each block. Where memory is refused, nothing is kept.
+    /// memory here: 8 bytes for each of `depth * 2^s` blocks, 4 and three quarters for each set (8,
+    /// where there are fewer), and 80 for each associativity. With more than 4,096 sets it leaves
+    /// the memory of a set's blocks but the first unwritten until the set, or one of seven
+    /// neighbours, has two. With a depth of 256 or more it takes 22 bytes for each block of a set
+    /// but 64, and 200 more for each set. With a depth of 12 to 16 a set takes 128 bytes of blocks,
+    /// 32 of their order, 8 of its front and 9 of counts, and no more for each block. Where memory
+    /// is refused, nothing is kept.
     pub fn new(alloc: Global, b: u64, s: u64, depth: u64) -> Result<Profile, AllocError>
         requires { IsGeometry (geometry_value s depth b) }
         ensures { IfOk result (λ profile. profile ≡ empty (geometry_value s depth b)) }
@@ -147,16 +150,68 @@ impl Profile {
         ensures length { length addrs.new ≡ length addrs.old }
     {
         if self.lists.in_slots() {
-            self.feed_batch_in(addrs, true)
+            self.feed_slots(addrs)
+        } else if self.has_few_sets() {
+            self.feed_ordered_rows(addrs)
         } else {
-            self.feed_batch_in(addrs, false)
+            self.feed_rows(addrs)
         }
     }
 
-    /// The same, where the caller knows whether the lists stand in slots, so that the loop need not
-    /// ask for each reference.
+    /// The same, where the lists stand in slots. Each of these loops stands apart, so that the
+    /// compiler has all registers for it.
+    #[inline(never)]
+    fn feed_slots(&mut self, addrs: &mut [u64]) -> usize
+        requires few { fed_of self.old + length addrs.old ≤ MAX_REFERENCES }
+        requires slots { is_slotted self.old.geometry.e ≡ true }
+        ensures step { self.new ≡ after_batch self.old addrs.old }
+        ensures fed { take result addrs.new ≡ fed_of_batch self.old addrs.old }
+        ensures within { result ≤ length addrs.new }
+        ensures length { length addrs.new ≡ length addrs.old }
+    {
+        self.feed_batch_in(addrs, true, false)
+    }
+
+    /// The same, where they stand in rows, and sets are few.
+    #[inline(never)]
+    fn feed_ordered_rows(&mut self, addrs: &mut [u64]) -> usize
+        requires few { fed_of self.old + length addrs.old ≤ MAX_REFERENCES }
+        requires rows { is_slotted self.old.geometry.e ≡ false }
+        requires sets { 2 ^ self.old.geometry.s ≤ FEW }
+        ensures step { self.new ≡ after_batch self.old addrs.old }
+        ensures fed { take result addrs.new ≡ fed_of_batch self.old addrs.old }
+        ensures within { result ≤ length addrs.new }
+        ensures length { length addrs.new ≡ length addrs.old }
+    {
+        self.feed_batch_in(addrs, false, true)
+    }
+
+    /// The same, where they stand in rows.
+    #[inline(never)]
+    fn feed_rows(&mut self, addrs: &mut [u64]) -> usize
+        requires few { fed_of self.old + length addrs.old ≤ MAX_REFERENCES }
+        requires rows { is_slotted self.old.geometry.e ≡ false }
+        ensures step { self.new ≡ after_batch self.old addrs.old }
+        ensures fed { take result addrs.new ≡ fed_of_batch self.old addrs.old }
+        ensures within { result ≤ length addrs.new }
+        ensures length { length addrs.new ≡ length addrs.old }
+    {
+        self.feed_batch_in(addrs, false, false)
+    }
+
+    /// Whether sets are so few that their rows are in order.
     #[inline(always)]
-    fn feed_batch_in(&mut self, addrs: &mut [u64], slots: bool) -> usize
+    fn has_few_sets(&self) -> bool
+        ensures { result ≡ true → 2 ^ self.now.geometry.s ≤ FEW }
+    {
+        self.geometry.sets() <= FEW as u64
+    }
+
+    /// The same, where the caller knows whether the lists stand in slots, and in rows whether sets
+    /// are few, so that the loop need not ask for each reference.
+    #[inline(always)]
+    fn feed_batch_in(&mut self, addrs: &mut [u64], slots: bool, few_sets: bool) -> usize
+        requires sets { few_sets ≡ true → 2 ^ self.old.geometry.s ≤ FEW }
         requires few { fed_of self.old + length addrs.old ≤ MAX_REFERENCES }
         requires known { slots ≡ is_slotted self.old.geometry.e }
         ensures step { self.new ≡ after_batch self.old addrs.old }
@@ -168,7 +223,7 @@ impl Profile {
         let mut fed = 0;
         for at in 0..addrs.len() {
             let addr = addrs[at];
-            if !self.feed_in(geometry, addr, slots) {
+            if !self.feed_in(geometry, addr, slots, few_sets) {
                 addrs[fed] = addr;
                 fed += 1;
             }
@@ -178,7 +233,8 @@ impl Profile {
 
     /// Feeds one of them, unless it finds its block in front. Returns whether it does.
     #[inline(always)]
-    fn feed_in(&mut self, geometry: Geometry, addr: u64, slots: bool) -> bool
+    fn feed_in(&mut self, geometry: Geometry, addr: u64, slots: bool, few_sets: bool) -> bool
+        requires sets { few_sets ≡ true → 2 ^ self.old.geometry.s ≤ FEW }
         requires same { geometry ≡ self.old.geometry }
         requires few { fed_of self.old < MAX_REFERENCES }
         requires known { slots ≡ is_slotted self.old.geometry.e }
@@ -194,7 +250,7 @@ impl Profile {
         if slots {
             self.feed_slotted(set, block);
         } else {
-            self.feed_in_rows(set, block);
+            self.feed_in_rows(set, block, few_sets);
         }
         false
     }
@@ -248,25 +304,28 @@ impl Profile {
     {
         if self.lists.in_slots() {
             self.feed_slotted(set, block);
+        } else if self.has_few_sets() {
+            self.feed_in_rows(set, block, true);
         } else {
-            self.feed_in_rows(set, block);
+            self.feed_in_rows(set, block, false);
         }
     }
 
     /// The same, where the lists stand in rows. More than a third of the blocks behind the front
     /// are second, which is looked at first.
     #[inline(always)]
-    fn feed_in_rows(&mut self, set: usize, block: u64)
+    fn feed_in_rows(&mut self, set: usize, block: u64, few_sets: bool)
+        requires sets { few_sets ≡ true → 2 ^ self.old.geometry.s ≤ FEW }
         requires next { IsNext self.old set block }
         requires rows { is_slotted self.old.geometry.e ≡ false }
         ensures { self.new ≡ after_reference self.old block }
     {
-        if self.lists.is_second(set, block) {
-            self.lists.bring_second(set, block);
+        if self.lists.is_second(set, block, few_sets) {
+            self.lists.bring_second(set, block, few_sets);
             self.probes += 2;
             self.behind[1] += 1;
         } else {
-            self.feed_further(set, block);
+            self.feed_further(set, block, few_sets);
         }
     }
 
@@ -329,7 +388,8 @@ impl Profile {
     /// Feeds a reference to a block that is neither the front nor the second of its set's list, or
     /// not in it at all.
     #[inline(always)]
-    fn feed_further(&mut self, set: usize, block: u64)
+    fn feed_further(&mut self, set: usize, block: u64, few_sets: bool)
+        requires sets { few_sets ≡ true → 2 ^ self.old.geometry.s ≤ FEW }
         requires next { IsNext self.old set block }
         requires rows { is_slotted self.old.geometry.e ≡ false }
         requires further { is_second block (list_of self.old set) ≡ false }
@@ -338,7 +398,7 @@ impl Profile {
         if !self.lists.in_rows() {
             return self.feed_deep(set, block);
         }
-        match self.lists.bring(set, block) {
+        match self.lists.bring(set, block, few_sets) {
             Touch::Behind(distance) => {
                 self.probes += distance as u64 + 1;
                 self.behind[distance] += 1;

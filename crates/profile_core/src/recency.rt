@@ -1,19 +1,17 @@
 //! A recency list for each set, the most recent block first: all fronts in one array, the other
-//! blocks in one slab.
+//! blocks in rows.
 
-ghost use Rattle.std.specs.Prelude.{◌≡◌, ◌*◌, ◌^◌, ◌<◌, ◌≤◌, [], ◌∷◌, true, false, nat_eq, length};
-ghost use Rattle.std.specs.Prelude.{take, slice_index, MatchOption, ◌-◌};
+ghost use Rattle.std.specs.Prelude.{◌≡◌, ◌*◌, ◌^◌, ◌<◌, ◌≤◌, [], true, false, length};
+ghost use Rattle.std.specs.Prelude.{slice_index, MatchOption, ◌-◌};
 ghost use Rattle.std.specs.Prelude.{sum_by, replicate, IfOk, slice_index_or};
-ghost use Rattle.std.specs.List.{remove};
 ghost use Rattle.cache_core.specs.internal.Touched.{Covers, ListsFilled};
-ghost use Rattle.profile_core.specs.internal.Moves.{index_of, is_front, is_second, touch_of};
-ghost use Rattle.profile_core.specs.internal.Moves.{shifted_of};
-ghost use Rattle.profile_core.specs.internal.Slab.{lists_after_touch, IsRow, IsBroughtInRow};
+ghost use Rattle.profile_core.specs.internal.Moves.{is_front, is_second, touch_of};
+ghost use Rattle.profile_core.specs.internal.Slab.{lists_after_touch};
 
+use crate::rows::{FEW, Rows};
 use cache_core::touched::TouchedSets;
 use std::alloc::{AllocError, Global};
 use std::marker::Model;
-use std::mem;
 
 /// Where a reference finds its block, if that is not the front of its set's list: behind the front,
 /// at a stack distance (its index in the list, so 1 is the second); or nowhere in a list of so many
@@ -24,22 +22,14 @@ pub enum Touch {
     New(usize),
 }
 
-/// How far a list is shifted: up to a block that stood at a stack distance, or to the end, if
-/// the last block falls out (its caller keeps it if the list may still grow).
-#[derive(Debug, Clone, Copy)]
-enum Shifted {
-    Found(usize),
-    Out(u64),
-}
-
-/// The lists of all sets. A list of `len` blocks is the first `len` entries of its row: its front,
-/// and then a stretch of `stride` entries of the slab. The front of an empty list is 0. `touched`
-/// lists the sets that have a block, while they are few, so that a flush goes to these alone.
+/// The lists of all sets. A list of `len` blocks is its front and the first `len - 1` of its set's
+/// row, which is written from the second block on: until then a set costs no row. The front of an
+/// empty list is 0. `touched` lists the sets that have a block, while they are few, so that a flush
+/// goes to these alone.
 #[derive(Drop)]
 pub struct RecencyLists {
-    stride: usize,
     fronts: Vec<u64>,
-    slab: Vec<u64>,
+    rows: Rows,
     lens: Vec<u32>,
     touched: TouchedSets,
 }
@@ -51,25 +41,24 @@ impl Model for RecencyLists {
     ghost Value = { Lists };
 
     ghost view = { λ r. record {
-      depth = r.stride + 1;
-      lists = lists_in r.stride r.fronts.items r.slab.items r.lens.items;
+      depth = r.rows.stride + 1;
+      lists = lists_in r.fronts.items r.rows.rows r.lens.items;
     } };
 
-    ghost invariant = { λ r. IsListed r.stride r.fronts.items r.slab.items r.lens.items r.touched };
+    ghost invariant = { λ r. IsListed r.fronts.items r.rows r.lens.items r.touched };
 }
 
 impl RecencyLists {
     /// Empty lists for a number of sets.
     pub fn new(alloc: Global, sets: usize, depth: usize) -> Result<RecencyLists, AllocError>
         requires some { 1 ≤ depth }
+        requires filled { 1 ≤ sets }
         requires small { sets * depth ≤ 2 ^ 22 }
         ensures { IfOk result (λ r. r ≡ record { depth = depth; lists = replicate sets [] }) }
     {
-        let stride = depth - 1;
         Ok(RecencyLists {
-            stride,
             fronts: vec![in alloc; 0; sets]?,
-            slab: vec![in alloc; 0; sets * stride]?,
+            rows: Rows::new(alloc, sets, depth - 1)?,
             lens: vec![in alloc; 0; sets]?,
             touched: TouchedSets::new(alloc, sets)?,
         })
@@ -91,31 +80,35 @@ impl RecencyLists {
         }
     }
 
-    /// Whether a block is the second of a set's list.
+    /// Whether a block is the second of a set's list. Here and below a caller says by `few` that
+    /// sets are few, which spares a look-up, or says nothing.
     #[inline(always)]
-    pub fn is_second(&self, set: usize, block: u64) -> bool
-        requires { set < length self.now.lists }
+    pub fn is_second(&self, set: usize, block: u64, few: bool) -> bool
+        requires known { few ≡ true → length self.now.lists ≤ FEW }
+        requires within { set < length self.now.lists }
         ensures { result ≡ is_second block (slice_index_or self.now.lists set []) }
     {
-        self.lens[set] > 1 && self.slab[set * self.stride] == block
+        self.lens[set] > 1 && self.rows.first(set, few) == block
     }
 
     /// Brings the second block of a set's list to the front.
     #[inline(always)]
-    pub fn bring_second(&mut self, set: usize, block: u64)
+    pub fn bring_second(&mut self, set: usize, block: u64, few: bool)
+        requires known { few ≡ true → length self.old.lists ≤ FEW }
         requires within { set < length self.old.lists }
         requires behind { is_front block (slice_index_or self.old.lists set []) ≡ false }
         requires second { is_second block (slice_index_or self.old.lists set []) ≡ true }
         ensures { self.new ≡ lists_after_touch self.old set block }
     {
-        let second = mem::replace(&mut self.fronts[set], block);
-        self.slab[set * self.stride] = second;
+        self.rows.put_first(set, self.fronts[set], few);
+        self.fronts[set] = block;
     }
 
     /// Brings a block that is neither the front nor the second of a set's list to the front,
     /// wherever it is.
     #[inline(always)]
-    pub fn bring(&mut self, set: usize, block: u64) -> Touch
+    pub fn bring(&mut self, set: usize, block: u64, few: bool) -> Touch
+        requires known { few ≡ true → length self.old.lists ≤ FEW }
         requires within { set < length self.old.lists }
         requires behind { is_front block (slice_index_or self.old.lists set []) ≡ false }
         requires further { is_second block (slice_index_or self.old.lists set []) ≡ false }
@@ -126,14 +119,8 @@ impl RecencyLists {
             self.begin(set, block);
             return Touch::New(0);
         }
-        let start = set * self.stride;
-        let end = start + self.stride;
-        bring_in_row(
-            &mut self.fronts[set],
-            &mut self.slab[start..end],
-            &mut self.lens[set],
-            block,
-        )
+        let front = &mut self.fronts[set];
+        self.rows.bring(set, front, &mut self.lens[set], block, few)
     }
 
     /// Begins a set's empty list with a block.
@@ -170,8 +157,8 @@ impl RecencyLists {
             (λ last. (length (slice_index_or self.now.lists set []) ≡ self.now.depth)
             × (last ≡ slice_index (slice_index_or self.now.lists set []) (self.now.depth - 1))) }
     {
-        if self.lens[set] as usize > self.stride {
-            Some(self.slab[set * self.stride + self.stride - 1])
+        if self.lens[set] as usize > self.rows.stride() {
+            Some(self.rows.last(set))
         } else {
             None
         }
@@ -217,82 +204,4 @@ fn blank_listed(fronts: &mut [u64], sets: &[u32])
     for set in sets {
         fronts[*set as usize] = 0;
     }
-}
-
-/// Brings a block that is neither the front nor the second of a row's list to the front of it. The
-/// list may grow by it, if its row is longer.
-#[inline(always)]
-fn bring_in_row(front: &mut u64, rest: &mut [u64], len: &mut u32, block: u64) -> Touch
-    requires some { 0 < len.old }
-    requires row { IsRow rest.old len.old }
-    requires behind { is_front block (take len.old (front.old ∷ rest.old)) ≡ false }
-    requires further { is_second block (take len.old (front.old ∷ rest.old)) ≡ false }
-    ensures found { result ≡ touch_of block (take len.old (front.old ∷ rest.old)) }
-    ensures moved { let list = take len.old (front.old ∷ rest.old) in
-        IsBroughtInRow block list front.new rest.new len.new }
-{
-    let held = *len as usize;
-    let first = mem::replace(front, block);
-    match shift_past(&mut rest[..held - 1], first, block) {
-        Shifted::Found(distance) => Touch::Behind(distance),
-        Shifted::Out(last) => {
-            if held <= rest.len() {
-                rest[held - 1] = last;
-                *len += 1;
-            }
-            Touch::New(held)
-        }
-    }
-}
-
-/// `first` and then `list` were the list of a set. Shifts it by one index into `list`, up to the
-/// index of `block`, or to the end. `block` is neither its first nor its second.
-#[inline(always)]
-fn shift_past(list: &mut [u64], first: u64, block: u64) -> Shifted
-    requires behind { is_front block (first ∷ list.old) ≡ false }
-    requires further { is_second block (first ∷ list.old) ≡ false }
-    ensures shifted { result ≡ shifted_of block (first ∷ list.old) }
-    ensures moved { list.new ≡
-        take (length list.old) (remove (first ∷ list.old) (index_of block (first ∷ list.old))) }
-{
-    let Some(front) = list.first_mut() else {
-        return Shifted::Out(first);
-    };
-    let mut carried = mem::replace(front, first);
-    let mut compared: usize = 1;
-    // Two per turn: a sweep of one set of up to 4,096 ways takes an eighth less time.
-    while compared + 1 < list.len() {
-        let found = pass(&mut list[compared], &mut carried, block);
-        compared += 1;
-        if found {
-            return Shifted::Found(compared);
-        }
-        let found = pass(&mut list[compared], &mut carried, block);
-        compared += 1;
-        if found {
-            return Shifted::Found(compared);
-        }
-    }
-    if compared == list.len() {
-        return Shifted::Out(carried);
-    }
-    let found = pass(&mut list[compared], &mut carried, block);
-    compared += 1;
-    if found {
-        Shifted::Found(compared)
-    } else {
-        Shifted::Out(carried)
-    }
-}
-
-/// Puts the carried block in an entry and carries on the one that stood there. Whether that one is
-/// `block`.
-#[inline(always)]
-fn pass(entry: &mut u64, carried: &mut u64, block: u64) -> bool
-    ensures put { entry.new ≡ carried.old }
-    ensures carried { carried.new ≡ entry.old }
-    ensures found { result ≡ nat_eq entry.old block }
-{
-    mem::swap(entry, carried);
-    *carried == block
 }

@@ -9,6 +9,7 @@ ghost use Rattle.profile_core.specs.internal.SetLists.{is_slotted, emptied};
 ghost use Rattle.profile_core.specs.internal.Slab.{lists_after_touch};
 
 use crate::recency::Touch;
+use crate::rows::FEW;
 use crate::slotted::{SLOTS, SlottedLists};
 use crate::stacks::{DEEP, Stacks};
 use std::alloc::{AllocError, Global};
@@ -88,32 +89,36 @@ impl SetLists {
         self.rows.is_front(set, block, past_first)
     }
 
-    /// Whether a block is the second of a set's list in rows.
+    /// Whether a block is the second of a set's list in rows. Here and below a caller says by `few`
+    /// that sets are few, which spares a look-up, or says nothing.
     #[inline(always)]
-    pub fn is_second(&self, set: usize, block: u64) -> bool
+    pub fn is_second(&self, set: usize, block: u64, few: bool) -> bool
+        requires known { few ≡ true → length self.now.lists ≤ FEW }
         requires within { set < length self.now.lists }
         requires rows { is_slotted self.now.depth ≡ false }
         ensures { result ≡ is_second block (slice_index_or self.now.lists set []) }
     {
-        self.rows.is_second(set, block)
+        self.rows.is_second(set, block, few)
     }
 
     /// Brings the second block of a set's list in rows to the front.
     #[inline(always)]
-    pub fn bring_second(&mut self, set: usize, block: u64)
+    pub fn bring_second(&mut self, set: usize, block: u64, few: bool)
+        requires known { few ≡ true → length self.old.lists ≤ FEW }
         requires within { set < length self.old.lists }
         requires rows { is_slotted self.old.depth ≡ false }
         requires behind { is_front block (slice_index_or self.old.lists set []) ≡ false }
         requires second { is_second block (slice_index_or self.old.lists set []) ≡ true }
         ensures { self.new ≡ lists_after_touch self.old set block }
     {
-        self.rows.bring_second(set, block);
+        self.rows.bring_second(set, block, few);
     }
 
     /// Brings a block that is neither the front nor the second of a set's list to the front,
     /// wherever it is. All lists stand in their rows alone.
     #[inline(always)]
-    pub fn bring(&mut self, set: usize, block: u64) -> Touch
+    pub fn bring(&mut self, set: usize, block: u64, few: bool) -> Touch
+        requires known { few ≡ true → length self.old.lists ≤ FEW }
         requires within { set < length self.old.lists }
         requires rows { is_slotted self.old.depth ≡ false }
         requires shallow { self.old.depth < DEEP }
@@ -122,7 +127,7 @@ impl SetLists {
         ensures found { result ≡ touch_of block (slice_index_or self.old.lists set []) }
         ensures moved { self.new ≡ lists_after_touch self.old set block }
     {
-        self.rows.bring(set, block)
+        self.rows.bring(set, block, few)
     }
 
     /// The same, where lists may be longer than their rows.

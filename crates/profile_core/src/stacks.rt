@@ -9,6 +9,7 @@ ghost use Rattle.profile_core.specs.internal.Stacks.{rest_touch_of, in_row_of, e
 ghost use Rattle.profile_core.specs.internal.Slab.{lists_after_touch};
 
 use crate::recency::{RecencyLists, Touch};
+use crate::rows::FEW;
 use deep_list::DeepList;
 use std::alloc::{AllocError, Global};
 use std::marker::Model;
@@ -96,28 +97,31 @@ impl Stacks {
 
     /// Whether a block is the second of a set's list.
     #[inline(always)]
-    pub fn is_second(&self, set: usize, block: u64) -> bool
-        requires { set < length self.now.lists }
+    pub fn is_second(&self, set: usize, block: u64, few: bool) -> bool
+        requires known { few ≡ true → length self.now.lists ≤ FEW }
+        requires within { set < length self.now.lists }
         ensures { result ≡ is_second block (slice_index_or self.now.lists set []) }
     {
-        self.near.is_second(set, block)
+        self.near.is_second(set, block, few)
     }
 
     /// Brings the second block of a set's list to the front.
     #[inline(always)]
-    pub fn bring_second(&mut self, set: usize, block: u64)
+    pub fn bring_second(&mut self, set: usize, block: u64, few: bool)
+        requires known { few ≡ true → length self.old.lists ≤ FEW }
         requires within { set < length self.old.lists }
         requires behind { is_front block (slice_index_or self.old.lists set []) ≡ false }
         requires second { is_second block (slice_index_or self.old.lists set []) ≡ true }
         ensures { self.new ≡ lists_after_touch self.old set block }
     {
-        self.near.bring_second(set, block);
+        self.near.bring_second(set, block, few);
     }
 
     /// Brings a block that is neither the front nor the second of a set's list to the front,
     /// wherever it is. All lists stand in their rows alone.
     #[inline(always)]
-    pub fn bring(&mut self, set: usize, block: u64) -> Touch
+    pub fn bring(&mut self, set: usize, block: u64, few: bool) -> Touch
+        requires known { few ≡ true → length self.old.lists ≤ FEW }
         requires within { set < length self.old.lists }
         requires shallow { self.old.depth < DEEP }
         requires behind { is_front block (slice_index_or self.old.lists set []) ≡ false }
@@ -125,7 +129,7 @@ impl Stacks {
         ensures found { result ≡ touch_of block (slice_index_or self.old.lists set []) }
         ensures moved { self.new ≡ lists_after_touch self.old set block }
     {
-        self.near.bring(set, block)
+        self.near.bring(set, block, few)
     }
 
     /// The same, where lists may be longer than their rows.
@@ -209,7 +213,7 @@ fn bring_near(near: &mut RecencyLists, set: usize, block: u64) -> InRow
     ensures moved { near.new ≡ lists_after_touch near.old set block }
 {
     let last = near.last_of_full(set);
-    match near.bring(set, block) {
+    match near.bring(set, block, false) {
         Touch::Behind(distance) => InRow::Settled(Touch::Behind(distance)),
         Touch::New(held) => match last {
             Some(last) => InRow::Full(held, last),

@@ -1,5 +1,6 @@
 -- A block is looked for at the first place behind the front that has its mark.
-use Rattle.std.proofs.Common.{◌≡◌, ◌<◌, ◌+◌, ◌∙◌, arith, ap, drop, eqb, map, take, false, subst, sym}
+use Rattle.std.proofs.Common.{◌≡◌, ◌<◌, ◌+◌, ◌∙◌, arith, ap, drop, eqb, map, take, false}
+use Rattle.std.proofs.Common.{subst, sym}
 use Rattle.std.specs.Simd.Lanes.{mask_l}
 use Rattle.profile_core.specs.internal.Moves.{is_in}
 use Rattle.profile_core.specs.internal.Slotted.{listed}

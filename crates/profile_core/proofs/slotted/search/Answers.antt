@@ -52,8 +52,7 @@ pub loop-left-init : goal.loop-left-init
 loop-left-init c =
     let begun = begun (goal.at.loop-left-init c).After-lanes_from-marked in
     let some : 0 < c.lanes_from-marked.result = omega (arith, c.if-marked-eq0.false) in
-    let list = listed c.args.order.now.slots c.args.blocks.now c.args.held in
-    (
+    let list = listed c.args.order.now.slots c.args.blocks.now c.args.held in (
       left_behind _ _ _ _ _ begun.left_is,
       subst (λ n. is_in c.args.block (take (n + 1) list) ≡ false)
           (alike_is _ _ _ _ _ _ begun some c.if-first-held.false) c.requires.passed,

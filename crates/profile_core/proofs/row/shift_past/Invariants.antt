@@ -1,6 +1,6 @@
 use Rattle.std.proofs.Common.{◌-◌, length}
 use Rattle.profile_core.proofs.Shifting.{IsPassed}
-use Rattle.profile_core.proofs.recency.shift_past.Given as goal
+use Rattle.profile_core.proofs.row.shift_past.Given as goal
 
 abbrev pub invariant-loop-compared : goal.invariant-loop-compared
 invariant-loop-compared l = IsPassed l.fn.block l.fn.first l.compared l.carried l.fn.list l.list

@@ -2,10 +2,10 @@
 use Rattle.std.proofs.Common.{◌≡◌, ◌+◌, ◌<◌, false, eqb, get_or, length, set, sym, arith}
 use Rattle.profile_core.proofs.Shifting.{IsPassed, passed_long, passed_next, found_shifted}
 use Rattle.profile_core.proofs.Shifting.{found_moved, nowhere_shifted, nowhere_moved}
-use Rattle.profile_core.proofs.recency.shift_past.Goals as goal
-use Rattle.profile_core.proofs.recency.shift_past.Goals.{After-loop-compared, After-pass-found}
-use Rattle.profile_core.proofs.recency.shift_past.Goals.{After-pass-found-in-loop-compared}
-use Rattle.profile_core.proofs.recency.shift_past.Goals.{After-pass-found-2}
+use Rattle.profile_core.proofs.row.shift_past.Goals as goal
+use Rattle.profile_core.proofs.row.shift_past.Goals.{After-loop-compared, After-pass-found}
+use Rattle.profile_core.proofs.row.shift_past.Goals.{After-pass-found-in-loop-compared}
+use Rattle.profile_core.proofs.row.shift_past.Goals.{After-pass-found-2}
 
 -- The first of two, the second, and the last of an odd number.
 pub returns-then-found-clause-shifted : goal.returns-then-found-clause-shifted

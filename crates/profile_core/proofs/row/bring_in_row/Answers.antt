@@ -2,8 +2,8 @@
 use Rattle.std.proofs.Common.{◌≡◌, ◌∙◌, ◌+◌, ◌-◌, ◌∷◌, ◌++◌, suc, take, drop, set, ap, subst, arith}
 use Rattle.profile_core.specs.internal.Slab.{IsBroughtInRow}
 use Rattle.profile_core.proofs.Bringing.{IsShifted, brought_found, brought_grown}
-use Rattle.profile_core.proofs.recency.bring_in_row.Goals as goal
-use Rattle.profile_core.proofs.recency.bring_in_row.Goals.{After-shift_past}
+use Rattle.profile_core.proofs.row.bring_in_row.Goals as goal
+use Rattle.profile_core.proofs.row.bring_in_row.Goals.{After-shift_past}
 
 -- the blocks behind the front, as the pass leaves them
 shifted : (c : After-shift_past) → IsShifted c.args.block c.replace-first.result

@@ -1,0 +1,96 @@
+//! A list in its row: its front, and the blocks behind it.
+
+ghost use Rattle.std.specs.Prelude.{◌≡◌, ◌<◌, ◌∷◌, false, nat_eq, length, take};
+ghost use Rattle.std.specs.List.{remove};
+ghost use Rattle.profile_core.specs.internal.Moves.{index_of, is_front, is_second, touch_of};
+ghost use Rattle.profile_core.specs.internal.Moves.{shifted_of};
+ghost use Rattle.profile_core.specs.internal.Slab.{IsRow, IsBroughtInRow};
+
+use crate::recency::Touch;
+use std::mem;
+
+/// How far a list is shifted: up to a block that stood at a stack distance, or to the end, if
+/// the last block falls out (its caller keeps it if the list may still grow).
+#[derive(Debug, Clone, Copy)]
+enum Shifted {
+    Found(usize),
+    Out(u64),
+}
+
+/// Brings a block that is neither the front nor the second of a row's list to the front of it. The
+/// list may grow by it, if its row is longer.
+#[inline(always)]
+pub fn bring_in_row(front: &mut u64, rest: &mut [u64], len: &mut u32, block: u64) -> Touch
+    requires some { 0 < len.old }
+    requires row { IsRow rest.old len.old }
+    requires behind { is_front block (take len.old (front.old ∷ rest.old)) ≡ false }
+    requires further { is_second block (take len.old (front.old ∷ rest.old)) ≡ false }
+    ensures found { result ≡ touch_of block (take len.old (front.old ∷ rest.old)) }
+    ensures moved { let list = take len.old (front.old ∷ rest.old) in
+        IsBroughtInRow block list front.new rest.new len.new }
+{
+    let held = *len as usize;
+    let first = mem::replace(front, block);
+    match shift_past(&mut rest[..held - 1], first, block) {
+        Shifted::Found(distance) => Touch::Behind(distance),
+        Shifted::Out(last) => {
+            if held <= rest.len() {
+                rest[held - 1] = last;
+                *len += 1;
+            }
+            Touch::New(held)
+        }
+    }
+}
+
+/// `first` and then `list` were the list of a set. Shifts it by one index into `list`, up to the
+/// index of `block`, or to the end. `block` is neither its first nor its second.
+#[inline(always)]
+fn shift_past(list: &mut [u64], first: u64, block: u64) -> Shifted
+    requires behind { is_front block (first ∷ list.old) ≡ false }
+    requires further { is_second block (first ∷ list.old) ≡ false }
+    ensures shifted { result ≡ shifted_of block (first ∷ list.old) }
+    ensures moved { list.new ≡
+        take (length list.old) (remove (first ∷ list.old) (index_of block (first ∷ list.old))) }
+{
+    let Some(front) = list.first_mut() else {
+        return Shifted::Out(first);
+    };
+    let mut carried = mem::replace(front, first);
+    let mut compared: usize = 1;
+    // Two per turn: a sweep of one set of up to 4,096 ways takes an eighth less time.
+    while compared + 1 < list.len() {
+        let found = pass(&mut list[compared], &mut carried, block);
+        compared += 1;
+        if found {
+            return Shifted::Found(compared);
+        }
+        let found = pass(&mut list[compared], &mut carried, block);
+        compared += 1;
+        if found {
+            return Shifted::Found(compared);
+        }
+    }
+    if compared == list.len() {
+        return Shifted::Out(carried);
+    }
+    let found = pass(&mut list[compared], &mut carried, block);
+    compared += 1;
+    if found {
+        Shifted::Found(compared)
+    } else {
+        Shifted::Out(carried)
+    }
+}
+
+/// Puts the carried block in an entry and carries on the one that stood there. Whether that one is
+/// `block`.
+#[inline(always)]
+fn pass(entry: &mut u64, carried: &mut u64, block: u64) -> bool
+    ensures put { entry.new ≡ carried.old }
+    ensures carried { carried.new ≡ entry.old }
+    ensures found { result ≡ nat_eq entry.old block }
+{
+    mem::swap(entry, carried);
+    *carried == block
+}
