@@ -10,7 +10,7 @@ ghost use Rattle.profile_core.specs.internal.State.{weighed, IsNext};
 ghost use Rattle.profile_core.specs.internal.Fronts.{is_front_of, after_unless_front, after_fronts};
 ghost use Rattle.profile_core.specs.internal.Fronts.{is_refined, after_batch, fed_of_batch};
 ghost use Rattle.profile_core.specs.internal.Moves.{is_second, touch_of};
-ghost use Rattle.profile_core.specs.internal.SetLists.{is_slotted};
+ghost use Rattle.profile_core.specs.internal.SetLists.{is_slotted, ArePlain};
 ghost use Rattle.profile_core.specs.internal.Slotted.{IsPassed};
 ghost use Rattle.profile_core.specs.internal.ProfileStandsFor.{ProfileStandsFor};
 
@@ -151,8 +151,8 @@ impl Profile {
     {
         if self.lists.in_slots() {
             self.feed_slots(addrs)
-        } else if self.has_few_sets() {
-            self.feed_ordered_rows(addrs)
+        } else if self.has_plain_rows() {
+            self.feed_plain_rows(addrs)
         } else {
             self.feed_rows(addrs)
         }
@@ -172,12 +172,12 @@ impl Profile {
         self.feed_batch_in(addrs, true, false)
     }
 
-    /// The same, where they stand in rows, and sets are few.
+    /// The same, where they stand in plain rows.
     #[inline(never)]
-    fn feed_ordered_rows(&mut self, addrs: &mut [u64]) -> usize
+    fn feed_plain_rows(&mut self, addrs: &mut [u64]) -> usize
         requires few { fed_of self.old + length addrs.old ≤ MAX_REFERENCES }
         requires rows { is_slotted self.old.geometry.e ≡ false }
-        requires sets { 2 ^ self.old.geometry.s ≤ FEW }
+        requires plain { ArePlain self.old.geometry }
         ensures step { self.new ≡ after_batch self.old addrs.old }
         ensures fed { take result addrs.new ≡ fed_of_batch self.old addrs.old }
         ensures within { result ≤ length addrs.new }
@@ -199,19 +199,20 @@ impl Profile {
         self.feed_batch_in(addrs, false, false)
     }
 
-    /// Whether sets are so few that their rows are in order.
+    /// Whether lists that stand in rows stand there alone, and sets are so few that their rows are
+    /// in order.
     #[inline(always)]
-    fn has_few_sets(&self) -> bool
-        ensures { result ≡ true → 2 ^ self.now.geometry.s ≤ FEW }
+    fn has_plain_rows(&self) -> bool
+        ensures { result ≡ true → ArePlain self.now.geometry }
     {
-        self.geometry.sets() <= FEW as u64
+        self.geometry.sets() <= FEW as u64 && self.geometry.e() < DEEP as u64
     }
 
-    /// The same, where the caller knows whether the lists stand in slots, and in rows whether sets
-    /// are few, so that the loop need not ask for each reference.
+    /// The same, where the caller knows whether the lists stand in slots, and whether rows are
+    /// plain, so that the loop need not ask for each reference.
     #[inline(always)]
-    fn feed_batch_in(&mut self, addrs: &mut [u64], slots: bool, few_sets: bool) -> usize
-        requires sets { few_sets ≡ true → 2 ^ self.old.geometry.s ≤ FEW }
+    fn feed_batch_in(&mut self, addrs: &mut [u64], slots: bool, plain: bool) -> usize
+        requires plain { plain ≡ true → ArePlain self.old.geometry }
         requires few { fed_of self.old + length addrs.old ≤ MAX_REFERENCES }
         requires known { slots ≡ is_slotted self.old.geometry.e }
         ensures step { self.new ≡ after_batch self.old addrs.old }
@@ -223,7 +224,7 @@ impl Profile {
         let mut fed = 0;
         for at in 0..addrs.len() {
             let addr = addrs[at];
-            if !self.feed_in(geometry, addr, slots, few_sets) {
+            if !self.feed_in(geometry, addr, slots, plain) {
                 addrs[fed] = addr;
                 fed += 1;
             }
@@ -233,8 +234,8 @@ impl Profile {
 
     /// Feeds one of them, unless it finds its block in front. Returns whether it does.
     #[inline(always)]
-    fn feed_in(&mut self, geometry: Geometry, addr: u64, slots: bool, few_sets: bool) -> bool
-        requires sets { few_sets ≡ true → 2 ^ self.old.geometry.s ≤ FEW }
+    fn feed_in(&mut self, geometry: Geometry, addr: u64, slots: bool, plain: bool) -> bool
+        requires plain { plain ≡ true → ArePlain self.old.geometry }
         requires same { geometry ≡ self.old.geometry }
         requires few { fed_of self.old < MAX_REFERENCES }
         requires known { slots ≡ is_slotted self.old.geometry.e }
@@ -250,7 +251,7 @@ impl Profile {
         if slots {
             self.feed_slotted(set, block);
         } else {
-            self.feed_in_rows(set, block, few_sets);
+            self.feed_in_rows(set, block, plain);
         }
         false
     }
@@ -304,7 +305,7 @@ impl Profile {
     {
         if self.lists.in_slots() {
             self.feed_slotted(set, block);
-        } else if self.has_few_sets() {
+        } else if self.has_plain_rows() {
             self.feed_in_rows(set, block, true);
         } else {
             self.feed_in_rows(set, block, false);
@@ -314,18 +315,18 @@ impl Profile {
     /// The same, where the lists stand in rows. More than a third of the blocks behind the front
     /// are second, which is looked at first.
     #[inline(always)]
-    fn feed_in_rows(&mut self, set: usize, block: u64, few_sets: bool)
-        requires sets { few_sets ≡ true → 2 ^ self.old.geometry.s ≤ FEW }
+    fn feed_in_rows(&mut self, set: usize, block: u64, plain: bool)
+        requires plain { plain ≡ true → ArePlain self.old.geometry }
         requires next { IsNext self.old set block }
         requires rows { is_slotted self.old.geometry.e ≡ false }
         ensures { self.new ≡ after_reference self.old block }
     {
-        if self.lists.is_second(set, block, few_sets) {
-            self.lists.bring_second(set, block, few_sets);
+        if self.lists.is_second(set, block, plain) {
+            self.lists.bring_second(set, block, plain);
             self.probes += 2;
             self.behind[1] += 1;
         } else {
-            self.feed_further(set, block, few_sets);
+            self.feed_further(set, block, plain);
         }
     }
 
@@ -388,17 +389,17 @@ impl Profile {
     /// Feeds a reference to a block that is neither the front nor the second of its set's list, or
     /// not in it at all.
     #[inline(always)]
-    fn feed_further(&mut self, set: usize, block: u64, few_sets: bool)
-        requires sets { few_sets ≡ true → 2 ^ self.old.geometry.s ≤ FEW }
+    fn feed_further(&mut self, set: usize, block: u64, plain: bool)
+        requires plain { plain ≡ true → ArePlain self.old.geometry }
         requires next { IsNext self.old set block }
         requires rows { is_slotted self.old.geometry.e ≡ false }
         requires further { is_second block (list_of self.old set) ≡ false }
         ensures { self.new ≡ after_reference self.old block }
     {
-        if !self.lists.in_rows() {
+        if !plain && !self.lists.in_rows() {
             return self.feed_deep(set, block);
         }
-        match self.lists.bring(set, block, few_sets) {
+        match self.lists.bring(set, block, plain) {
             Touch::Behind(distance) => {
                 self.probes += distance as u64 + 1;
                 self.behind[distance] += 1;

@@ -1,11 +1,19 @@
 -- The lists of all sets: in rows, or in slots, with the front of each in a row of its own.
-use Rattle.std.specs.Prelude.{ℕ, Bool, true, false, ◌≡◌, ◌&&◌, nat_le, [], length, take}
+use Rattle.std.specs.Prelude.{ℕ, Bool, true, false, ◌≡◌, ◌≤◌, ◌<◌, ◌^◌, ◌&&◌, nat_le, []}
+use Rattle.std.specs.Prelude.{length, take}
 use Rattle.std.specs.Prelude.{slice_index_or, Option, Some, None, replicate}
+use Rattle.cache_core.specs.Geometry.{GeometryValue}
+use Rattle.profile_core.specs.declared.rows.TheConstants.{FEW}
+use Rattle.profile_core.specs.declared.stacks.TheConstants.{DEEP}
 use Rattle.profile_core.specs.internal.Slab.{Lists}
 
 -- whether lists of so many blocks stand in slots
 abbrev pub is_slotted : ℕ → Bool
 is_slotted depth = nat_le 12 depth && nat_le depth 16
+
+-- whether lists that stand in rows stand there alone, with the rows of all sets in order
+abbrev pub ArePlain : GeometryValue → Type 0
+ArePlain g = (2 ^ g.s ≤ FEW) × (g.e < DEEP)
 
 -- the lists: those in slots, if there are some, else those in rows
 abbrev pub lists_seen : Lists → Option Lists → Lists

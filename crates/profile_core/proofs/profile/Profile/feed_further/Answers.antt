@@ -8,26 +8,26 @@ use Rattle.profile_core.proofs.Fed.{len_fits, len_few, nowhere_sound, nowhere_af
 use Rattle.profile_core.proofs.profile.Profile.feed_further.Goals as goal
 use Rattle.profile_core.proofs.profile.Profile.feed_further.Goals.{After-bring}
 
-moved : (c : After-bring) → IsMoved c.self.inside.geometry c.self.inside.lists c.bring.new.self
-    c.self.inside.behind.items
-    c.self.inside.misses_by_occupancy.items c.self.inside.probes c.args.block c.args.set
+moved : (c : After-bring) → IsMoved c.self-2.inside.geometry c.self-2.inside.lists c.bring.new.self
+    c.self-2.inside.behind.items
+    c.self-2.inside.misses_by_occupancy.items c.self-2.inside.probes c.args.block c.args.set
     c.args.self.now
 moved c = record {
-  sound = c.self.invariant;
-  view_is = c.self.view_is;
+  sound = c.self-2.invariant;
+  view_is = c.self-2.view_is;
   next =
       c.requires.next;
   moved = c.bring.ensures.moved;
 }
 
 found : (c : After-bring) (distance : ℕ) → Behind distance ≡ touch_of c.args.block
-    (get_or c.self.inside.lists.lists c.args.set [])
-    → FoundAt c.args.block distance (get_or c.self.inside.lists.lists c.args.set [])
+    (get_or c.self-2.inside.lists.lists c.args.set [])
+    → FoundAt c.args.block distance (get_or c.self-2.inside.lists.lists c.args.set [])
 found c distance is = found_behind c.args.block distance _ is
 
 nowhere : (c : After-bring) (held : ℕ) → New held ≡ touch_of c.args.block
-    (get_or c.self.inside.lists.lists c.args.set [])
-    → FoundNowhere c.args.block held (get_or c.self.inside.lists.lists c.args.set [])
+    (get_or c.self-2.inside.lists.lists c.args.set [])
+    → FoundNowhere c.args.block held (get_or c.self-2.inside.lists.lists c.args.set [])
 nowhere c held is = found_nowhere c.args.block held _ is
 
 pub index_mut-requires : goal.index_mut-requires
@@ -37,7 +37,7 @@ index_mut-requires c =
       arith,
       distance_fits (moved at)
           (found at c.in-Behind.distance c.in-Behind.ensures.found),
-      c.self.inside.behind.ok.0,
+      c.self-2.inside.behind.ok.0,
     )
 
 pub index_mut-requires-in-New : goal.index_mut-requires-in-New
@@ -46,20 +46,31 @@ index_mut-requires-in-New c =
     omega (
       arith,
       len_fits (moved at) (nowhere at c.in-New.held c.in-New.ensures.found),
-      c.self.inside.misses_by_occupancy.ok.0,
+      c.self-2.inside.misses_by_occupancy.ok.0,
     )
 
 -- the comparisons, by where the block was found
 pub overflow_add-self-in-Behind : goal.overflow_add-self-in-Behind
 overflow_add-self-in-Behind c =
     let at = (goal.at.overflow_add-self-in-Behind c).After-bring in
-    let few : c.self.inside.probes < 2 ^ 63 = search rules in
+    let few : c.self-2.inside.probes < 2 ^ 63 = search rules in
     omega (
       arith,
       few,
       distance_fits (moved at)
           (found at c.in-Behind.distance c.in-Behind.ensures.found),
-      c.self.inside.behind.ok.0,
+      c.self-2.inside.behind.ok.0,
+    )
+
+pub overflow_add-self-in-New : goal.overflow_add-self-in-New
+overflow_add-self-in-New c =
+    let at = (goal.at.overflow_add-self-in-New c).After-bring in
+    let few : c.self-2.inside.probes < 2 ^ 63 = search rules in
+    omega (
+      arith,
+      few,
+      len_fits (moved at) (nowhere at c.in-New.held c.in-New.ensures.found),
+      c.self-2.inside.misses_by_occupancy.ok.0,
     )
 
 pub overflow_add-index_mut : goal.overflow_add-index_mut
