@@ -408,6 +408,38 @@ empty_order = record {
   marked = λ k lt. absurd (omega arith);
 }
 
+-- the order of one block, whatever stands in the other slots
+pub first_only : (n x : ℕ) → 1 ≤ n → take n (x ∷ []) ≡ x ∷ []
+first_only zero x some = absurd (omega (arith, some))
+first_only (suc zero) x some = refl
+first_only (suc (suc n)) x some = refl
+
+put_at : (x : ℕ) (blocks : List ℕ) → length blocks ≡ 16 → get_or (set blocks 0 x) 0 0 ≡ x
+put_at x [] long = absurd (omega (arith, long))
+put_at x (y ∷ blocks) long = refl
+
+pub first_brought : (depth x : ℕ) (marks blocks : List ℕ) → 1 ≤ depth → length blocks ≡ 16 →
+    marks ≡ mark_of x ∷ replicate 15 0 →
+    IsBroughtInSlots depth x [] marks counted_slots (set blocks 0 x) 1
+first_brought depth x marks blocks some long marks_are = record {
+  order = record {
+    marks_len = ap length marks_are;
+    slots_len = refl;
+    blocks_len = length-set blocks 0 x ∙ long;
+    within = counted_within;
+    once = λ i k a b e. sym (counted_at i a) ∙ e ∙ counted_at k b;
+    marked = λ k lt.
+        (let first : 0 ≡ k = omega (arith, lt) in
+        let P : ℕ → Type 0 = λ i.
+        get_or marks i 0 ≡ mark_of (get_or (set blocks 0 x) (get_or counted_slots i 0) 0) in
+        subst P first
+        (ap (λ ms. get_or ms 0 0) marks_are ∙ sym (ap mark_of (put_at x blocks long))));
+  };
+  some = omega arith;
+  fits = some;
+  list_is = ap (λ y. y ∷ []) (put_at x blocks long) ∙ sym (first_only depth x some);
+}
+
 -- the same with another lane in front
 with_sixteen : (x : ℕ) (xs : List ℕ) (p : ℕ) → p < 16 → sel_l (map (top 7)
     (zip2 (λ a b. cond (eqb a b) 255 0) FIRST_LANE (replicate 16 255))) (replicate 16 x)

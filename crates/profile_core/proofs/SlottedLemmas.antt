@@ -1,24 +1,18 @@
 -- The lists of all sets in slots.
 use Rattle.std.proofs.Common.{◌≡◌, ℕ, zero, suc, ◌*◌, ◌<◌, ◌≤◌, ◌^◌, ◌⊎◌, inl, inr, List, []}
 use Rattle.std.proofs.Common.{◌∷◌, length, get_or, set, replicate, refl, sym, ◌∙◌, ap, subst, arith}
-use Rattle.std.proofs.Common.{◌≢◌, sum, take}
-use Rattle.std.specs.List.{sum_by}
-use Rattle.std.proofs.Common.{mul-suc, ◌/◌, Some}
+use Rattle.std.proofs.Common.{◌≢◌, take}
 use Rattle.std.proofs.lemmas.List.{ext_get_or}
 use Rattle.std.proofs.lemmas.Simd.{get_or-replicate}
 use Rattle.profile_core.specs.declared.slotted.TheConstants.{EMPTY}
 use Rattle.std.proofs.lemmas.Bool.{cases_lt}
 use Rattle.std.proofs.lemmas.List.{length-replicate}
-use Rattle.cache_core.proofs.TouchedSets.{covers_none}
-use Rattle.std.proofs.lemmas.List.{get_or-set_same, get_or-set_other, length-set, get_or_default}
-use Rattle.std.proofs.lemmas.List.Sums.{sum_by-cons, sum_by-le}
-use Rattle.cache_core.specs.internal.Touched.{no_sets}
+use Rattle.std.proofs.lemmas.List.{get_or-set_same, get_or-set_other, length-set}
 use Rattle.profile_core.specs.internal.Slotted.{IsBroughtInSlots}
-use Rattle.profile_core.proofs.SlotLemmas.{length-listed, empty_order, turned, found_brought}
+use Rattle.profile_core.proofs.SlotLemmas.{empty_order, turned, found_brought}
 use Rattle.profile_core.proofs.Feeding.{FoundAt}
 use Rattle.profile_core.specs.internal.Moves.{move_to_front}
 use Rattle.std.proofs.lemmas.List.{set-get_or}
-use Rattle.cache_core.specs.internal.Touched.{TouchedValue, Covers}
 use Rattle.profile_core.specs.declared.slotted.Order.{Order}
 use Rattle.profile_core.specs.internal.Slotted.{listed, IsOrder}
 use Rattle.profile_core.specs.internal.SlottedState.{lists_in_slots, no_order, IsSlotted}
@@ -78,11 +72,10 @@ slotted_none (suc m) (o ∷ orders) (bs ∷ blocks) a b =
 
 -- a list is brought to what it is after a reference
 pub slotted_brought : (depth k x n : ℕ) (o : Order) (bs list : List ℕ) (orders : List Order)
-    (blocks : List (List ℕ)) (lens : List ℕ) (touched touched' : TouchedValue) →
-    IsSlotted depth orders blocks lens touched → k < length lens →
-    IsBroughtInSlots depth x list o.marks o.slots bs n → Covers touched' (set lens k n) →
-    IsSlotted depth (set orders k o) (set blocks k bs) (set lens k n) touched'
-slotted_brought depth k x n o bs list orders blocks lens touched touched' s lt b covers =
+    (blocks : List (List ℕ)) (lens : List ℕ) → IsSlotted depth orders blocks lens →
+    k < length lens → IsBroughtInSlots depth x list o.marks o.slots bs n →
+    IsSlotted depth (set orders k o) (set blocks k bs) (set lens k n)
+slotted_brought depth k x n o bs list orders blocks lens s lt b =
     let in_orders : k < length orders = omega (arith, s.orders_len) in
     let in_blocks : k < length blocks = omega (arith, s.blocks_len) in
     let fits : (j : ℕ) → get_or (set lens k n) j 0 ≤ depth =
@@ -139,7 +132,6 @@ slotted_brought depth k x n o bs list orders blocks lens touched touched' s lt b
       blocks_len = length-set blocks k bs ∙ s.blocks_len ∙ sym (length-set lens k n);
       fits = fits;
       each = each;
-      covers = covers;
     }
 
 zeros_at : (n k : ℕ) → get_or {A = ℕ} (replicate n 0) k 0 ≡ 0
@@ -147,7 +139,7 @@ zeros_at zero k = refl
 zeros_at (suc n) zero = refl
 zeros_at (suc n) (suc k) = zeros_at n k
 
-unmarked_none : {marks slots blocks : List ℕ} {n : ℕ} → IsOrder marks slots blocks n →
+pub unmarked_none : {marks slots blocks : List ℕ} {n : ℕ} → IsOrder marks slots blocks n →
     IsOrder marks slots blocks 0
 unmarked_none o = record {
   marks_len = o.marks_len;
@@ -159,10 +151,9 @@ unmarked_none o = record {
 }
 
 -- a block that is found comes to the front: only its order changes
-module _ (depth k x p : ℕ) (o : Order) (orders : List Order) (blocks : List (List ℕ)) (lens :
-    List ℕ)
-    (touched : TouchedValue) (s : IsSlotted depth orders blocks lens touched)
-    (lt : k < length lens) (f : FoundAt x p (get_or (lists_in_slots orders blocks lens) k []))
+module _ (depth k x p : ℕ) (o : Order) (orders : List Order) (blocks : List (List ℕ))
+    (lens : List ℕ) (s : IsSlotted depth orders blocks lens) (lt : k < length lens)
+    (f : FoundAt x p (get_or (lists_in_slots orders blocks lens) k []))
     (marks : o.marks ≡ turned p (get_or orders k no_order).marks)
     (slots : o.slots ≡ turned p (get_or orders k no_order).slots) where
   same_blocks : set blocks k (get_or blocks k []) ≡ blocks
@@ -181,13 +172,11 @@ module _ (depth k x p : ℕ) (o : Order) (orders : List Order) (blocks : List (L
       (get_or orders k no_order).slots (get_or blocks k []) (get_or lens k 0) (s.each k lt)
       (subst (FoundAt x p) list_at f) (s.fits k) s.most)
 
-  pub turned_sound : IsSlotted depth (set orders k o) blocks lens touched
+  pub turned_sound : IsSlotted depth (set orders k o) blocks lens
   turned_sound =
-      let P : List (List ℕ) → List ℕ → Type 0 =
-      λ bs ns. IsSlotted depth (set orders k o) bs ns touched in
+      let P : List (List ℕ) → List ℕ → Type 0 = λ bs ns. IsSlotted depth (set orders k o) bs ns in
       let all = slotted_brought depth k x (get_or lens k 0) o (get_or blocks k [])
-      (get_or (lists_in_slots orders blocks lens) k []) orders blocks lens touched touched s lt
-      brought (subst (Covers touched) (sym same_lens) s.covers) in
+      (get_or (lists_in_slots orders blocks lens) k []) orders blocks lens s lt brought in
       subst (λ bs. P bs lens) same_blocks
       (subst (λ ns. P (set blocks k (get_or blocks k [])) ns) same_lens all)
 
@@ -202,67 +191,13 @@ module _ (depth k x p : ℕ) (o : Order) (orders : List Order) (blocks : List (L
       s.blocks_len lt
       ∙ ap (set (lists_in_slots orders blocks lens) k) brought.list_is
 
--- no more lists than entries
-pub few : (m d : ℕ) → 1 ≤ d → m * d ≤ 2 ^ 22 → m ≤ 2 ^ 22
-few m zero some le = absurd (omega arith)
-few m (suc d) some le = omega (arith, mul-suc m d, le)
-
--- lists of which none has a block
-pub slotted_cleared : (depth : ℕ) (orders : List Order) (blocks : List (List ℕ))
-    (lens lens' : List ℕ) (touched touched' : TouchedValue) →
-    IsSlotted depth orders blocks lens touched → lens' ≡ replicate (length lens) 0 →
-    touched' ≡ no_sets touched → IsSlotted depth orders blocks lens' touched'
-slotted_cleared depth orders blocks lens lens' touched touched' s none is =
-    let same : length lens' ≡ length lens = ap length none ∙ length-replicate (length lens) 0 in
-    let zero_at : (k : ℕ) → get_or lens' k 0 ≡ 0 =
-    λ k. ap (λ ns. get_or ns k 0) none ∙ zeros_at (length lens) k in
-    record {
-      some = s.some;
-      most = s.most;
-      small = subst (λ m. m * depth ≤ 2 ^ 22) (sym same) s.small;
-      orders_len = s.orders_len ∙ sym same;
-      blocks_len = s.blocks_len ∙ sym same;
-      fits = λ k. omega (arith, zero_at k);
-      each = λ k h. subst (λ n. IsOrder (get_or orders k no_order).marks
-          (get_or orders k no_order).slots (get_or blocks k []) n) (sym (zero_at k))
-          (unmarked_none (s.each k (omega (arith, same))));
-      covers = covers_none touched' touched.capacity (length lens) lens' is none;
-    }
-
--- as many blocks as the lengths say
-pub slotted_held : (orders : List Order) (blocks : List (List ℕ)) (lens : List ℕ) →
-    length orders ≡ length lens → length blocks ≡ length lens →
-    ((k : ℕ) → k < length lens → IsOrder (get_or orders k no_order).marks
-    (get_or orders k no_order).slots (get_or blocks k []) (get_or lens k 0)) →
-    ((k : ℕ) → get_or lens k 0 ≤ 16) →
-    sum_by length (lists_in_slots orders blocks lens) ≡ sum lens
-unfolding lists_in_slots
-slotted_held [] blocks [] a b each fits = refl
-slotted_held [] blocks (n ∷ lens) a b each fits = absurd (omega arith)
-slotted_held (o ∷ orders) [] [] a b each fits = refl
-slotted_held (o ∷ orders) [] (n ∷ lens) a b each fits = absurd (omega arith)
-slotted_held (o ∷ orders) (bs ∷ blocks) [] a b each fits = refl
-slotted_held (o ∷ orders) (bs ∷ blocks) (n ∷ lens) a b each fits =
-    let size : length (listed o.slots bs n) ≡ n =
-    length-listed o.slots bs n (omega (arith, (each 0 (omega arith)).slots_len, fits 0)) in
-    let rest : sum_by length (lists_in_slots orders blocks lens) ≡ sum lens =
-    slotted_held orders blocks lens (omega arith) (omega arith) (λ k h. each (suc k) (omega arith))
-    (λ k. fits (suc k)) in
-    sum_by-cons length (listed o.slots bs n) (lists_in_slots orders blocks lens) ∙
-    omega (arith, size, rest, sum_by-cons (λ m. m) n lens)
-
-pub slotted_sum : (depth : ℕ) (lens : List ℕ) → ((k : ℕ) → get_or lens k 0 ≤ depth) →
-    sum lens ≤ length lens * depth
-slotted_sum depth lens h = sum_by-le (λ m. m) depth lens (λ k d lt. subst (λ (m : ℕ). m ≤ depth)
-    (get_or_default lens k 0 d lt) (h k))
-
 -- empty lists
-pub slotted_new : (depth sets : ℕ) (orders : List Order) (blocks : List (List ℕ)) (lens : List ℕ)
-    (touched : TouchedValue) → 1 ≤ depth → depth ≤ 16 → sets * depth ≤ 2 ^ 22 →
-    orders ≡ replicate sets EMPTY → blocks ≡ replicate sets (replicate 16 0) →
-    lens ≡ replicate sets 0 → touched ≡ record { capacity = sets / 16; listed = Some [] } →
-    IsSlotted depth orders blocks lens touched
-slotted_new depth sets orders blocks lens touched some most small os bs ns t =
+pub slotted_new : (depth sets : ℕ) (orders : List Order) (blocks : List (List ℕ))
+    (lens : List ℕ) →
+    1 ≤ depth → depth ≤ 16 → sets * depth ≤ 2 ^ 22 → orders ≡ replicate sets EMPTY →
+    blocks ≡ replicate sets (replicate 16 0) → lens ≡ replicate sets 0 →
+    IsSlotted depth orders blocks lens
+slotted_new depth sets orders blocks lens some most small os bs ns =
     let count : length lens ≡ sets = ap length ns ∙ length-replicate sets 0 in
     let zero_at : (k : ℕ) → get_or lens k 0 ≡ 0 =
     λ k. ap (λ ms. get_or ms k 0) ns ∙ zeros_at sets k in
@@ -282,7 +217,6 @@ slotted_new depth sets orders blocks lens touched some most small os bs ns t =
         blocks_at k (omega (arith, count)),
         zero_at k,
       ) empty_order;
-      covers = covers_none touched (sets / 16) sets lens t ns;
     }
 
 -- sixteen numbers that are all copies of 0

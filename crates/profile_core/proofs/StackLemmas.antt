@@ -291,6 +291,10 @@ second-append x [] ys h = sym (ap (is_second x) (h (omega arith)))
 second-append x (y ∷ []) ys h = sym (ap (is_front x) (h (omega arith)))
 second-append x (y ∷ z ∷ xs) ys h = refl
 
+one-append : (xs ys : List ℕ) → (length xs < 2 → ys ≡ []) → take 1 xs ≡ take 1 (xs ++ ys)
+one-append [] ys h = sym (ap (take 1) (h (omega arith)))
+one-append (y ∷ xs) ys h = refl
+
 module _ {near : Lists} {beyond : ℕ} {far : List Deep} (s : IsStacked near beyond far) where
   abbrev pub row_of : ℕ → List ℕ
   row_of k = get_or near.lists k []
@@ -320,6 +324,11 @@ module _ {near : Lists} {beyond : ℕ} {far : List Deep} (s : IsStacked near bey
       (get_or (whole_lists near.lists far) k [])
   front_is x k lt = front-append x (row_of k) (rest_of far k) (rest_two k) ∙
       ap (is_front x) (sym (whole_at k lt))
+
+  pub first_is : (k : ℕ) → k < length near.lists → take 1 (row_of k) ≡ take 1
+      (get_or (whole_lists near.lists far) k [])
+  first_is k lt = one-append (row_of k) (rest_of far k) (rest_two k) ∙
+      ap (take 1) (sym (whole_at k lt))
 
   pub second_is : (x k : ℕ) → k < length near.lists → is_second x (row_of k) ≡ is_second x
       (get_or (whole_lists near.lists far) k [])

@@ -1,6 +1,6 @@
 //! A profile: one pass over references that counts for every associativity up to a depth.
 ghost use Rattle.std.specs.Prelude.{◌≡◌, ◌+◌, ◌-◌, ◌*◌, ◌^◌, ◌<◌, ◌≤◌, List, IfOk, true, false};
-ghost use Rattle.std.specs.Prelude.{length, take, drop, sum};
+ghost use Rattle.std.specs.Prelude.{[], length, take, drop, sum};
 ghost use Rattle.trace_core.specs.declared.events.Event.{Event};
 ghost use Rattle.cache_core.specs.Geometry.{IsGeometry, geometry_value, block_of, set_of_block};
 ghost use Rattle.cache_core.specs.Windows.{occurrences, counts, probes, held};
@@ -88,8 +88,8 @@ impl Profile {
     /// the memory of a set's blocks but the first unwritten until the set, or one of seven
     /// neighbours, has two. With a depth of 256 or more it takes 22 bytes for each block of a set
     /// but 64, and 200 more for each set. With a depth of 12 to 16 a set takes 128 bytes of blocks,
-    /// 32 of their order, 8 of its front and 9 of counts, and no more for each block. Where memory
-    /// is refused, nothing is kept.
+    /// 32 of their order, 8 of its front and 8 and three quarters of counts, and no more for each
+    /// block. Where memory is refused, nothing is kept.
     pub fn new(alloc: Global, b: u64, s: u64, depth: u64) -> Result<Profile, AllocError>
         requires { IsGeometry (geometry_value s depth b) }
         ensures { IfOk result (λ profile. profile ≡ empty (geometry_value s depth b)) }
@@ -339,6 +339,9 @@ impl Profile {
         requires slots { is_slotted self.old.geometry.e ≡ true }
         ensures { self.new ≡ after_reference self.old block }
     {
+        if !self.lists.has_front(set) {
+            return self.feed_first(set, block);
+        }
         match self.lists.look(set, block) {
             Some(Touch::Behind(distance)) => self.feed_found(set, block, distance),
             Some(Touch::New(held)) => self.feed_new(set, block, held),
@@ -346,11 +349,24 @@ impl Profile {
         }
     }
 
+    /// The same, where the set has no block.
+    #[inline(never)]
+    fn feed_first(&mut self, set: usize, block: u64)
+        requires next { IsNext self.old set block }
+        requires slots { is_slotted self.old.geometry.e ≡ true }
+        requires empty { list_of self.old set ≡ [] }
+        ensures { self.new ≡ after_reference self.old block }
+    {
+        self.lists.begin(set, block);
+        self.misses_by_occupancy[0] += 1;
+    }
+
     /// The same, where one look did not tell.
     #[inline(never)]
     fn feed_searched(&mut self, set: usize, block: u64)
         requires next { IsNext self.old set block }
         requires slots { is_slotted self.old.geometry.e ≡ true }
+        requires begun { 0 < length (list_of self.old set) }
         requires passed { IsPassed block (list_of self.old set) }
         ensures { self.new ≡ after_reference self.old block }
     {
@@ -365,6 +381,7 @@ impl Profile {
     fn feed_found(&mut self, set: usize, block: u64, distance: usize)
         requires next { IsNext self.old set block }
         requires slots { is_slotted self.old.geometry.e ≡ true }
+        requires begun { 0 < length (list_of self.old set) }
         requires found { Touch.Behind distance ≡ touch_of block (list_of self.old set) }
         ensures { self.new ≡ after_reference self.old block }
     {
@@ -378,6 +395,7 @@ impl Profile {
     fn feed_new(&mut self, set: usize, block: u64, held: usize)
         requires next { IsNext self.old set block }
         requires slots { is_slotted self.old.geometry.e ≡ true }
+        requires begun { 0 < length (list_of self.old set) }
         requires new { Touch.New held ≡ touch_of block (list_of self.old set) }
         ensures { self.new ≡ after_reference self.old block }
     {

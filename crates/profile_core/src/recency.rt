@@ -3,7 +3,7 @@
 
 ghost use Rattle.std.specs.Prelude.{◌≡◌, ◌*◌, ◌^◌, ◌<◌, ◌≤◌, [], true, false, length};
 ghost use Rattle.std.specs.Prelude.{slice_index, MatchOption, ◌-◌};
-ghost use Rattle.std.specs.Prelude.{sum_by, replicate, IfOk, slice_index_or};
+ghost use Rattle.std.specs.Prelude.{sum_by, replicate, IfOk, slice_index_or, IsTrue, ◌↔◌};
 ghost use Rattle.cache_core.specs.internal.Touched.{Covers, ListsFilled};
 ghost use Rattle.profile_core.specs.internal.Moves.{is_front, is_second, touch_of};
 ghost use Rattle.profile_core.specs.internal.Slab.{lists_after_touch};
@@ -78,6 +78,15 @@ impl RecencyLists {
         } else {
             self.lens[set] != 0 && self.fronts[set] == block
         }
+    }
+
+    /// Whether a set's list has a block. The front tells it, but for block 0.
+    #[inline(always)]
+    pub fn has_front(&self, set: usize) -> bool
+        requires within { set < length self.now.lists }
+        ensures { IsTrue result ↔ (0 < length (slice_index_or self.now.lists set [])) }
+    {
+        self.fronts[set] != 0 || self.lens[set] != 0
     }
 
     /// Whether a block is the second of a set's list. Here and below a caller says by `few` that

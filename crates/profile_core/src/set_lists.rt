@@ -1,11 +1,10 @@
 //! A recency list for each set, the most recent block first: in rows, or, where a vector has a lane
 //! for each block of a list and blocks are many enough that it costs more to move them, in slots.
 ghost use Rattle.std.specs.Prelude.{◌≡◌, ◌*◌, ◌^◌, ◌<◌, ◌≤◌, [], true, false, length, IfOk};
-ghost use Rattle.std.specs.Prelude.{IfSome, is_some, option_map, replicate, sum_by, IsTrue, ◌↔◌};
-ghost use Rattle.std.specs.Prelude.{slice_index_or, MatchOption};
+ghost use Rattle.std.specs.Prelude.{replicate, sum_by, IsTrue, ◌↔◌, slice_index_or, MatchOption};
 ghost use Rattle.profile_core.specs.internal.Slotted.{IsPassed};
 ghost use Rattle.profile_core.specs.internal.Moves.{is_front, is_second, touch_of};
-ghost use Rattle.profile_core.specs.internal.SetLists.{is_slotted, emptied};
+ghost use Rattle.profile_core.specs.internal.SetLists.{is_slotted, lists_begun};
 ghost use Rattle.profile_core.specs.internal.Slab.{lists_after_touch};
 
 use crate::recency::Touch;
@@ -19,11 +18,13 @@ use std::marker::Model;
 const SLOTTED_FROM: usize = 12;
 
 /// The lists of all sets. Lists of 12 to 16 blocks stand in slots, and then the rows have the front
-/// of each list alone, since most references look at no more. All other lists stand in the rows.
+/// of each list alone, since most references look at no more. A list whose row is empty is empty,
+/// whatever stands in its slots: so a flush goes to the rows alone. All other lists stand in the
+/// rows, and `slotted` has none.
 #[derive(Drop)]
 pub struct SetLists {
     rows: Stacks,
-    slotted: Option<SlottedLists>,
+    slotted: SlottedLists,
 }
 
 impl Model for SetLists {
@@ -47,17 +48,12 @@ impl SetLists {
     {
         if depth < SLOTTED_FROM || depth > SLOTS {
             let rows = Stacks::new(alloc, sets, depth)?;
-            return Ok(SetLists {
-                rows,
-                slotted: None,
-            });
+            let slotted = SlottedLists::new(alloc, 0, 1)?;
+            return Ok(SetLists { rows, slotted });
         }
         let rows = Stacks::new(alloc, sets, 1)?;
         let slotted = SlottedLists::new(alloc, sets, depth)?;
-        Ok(SetLists {
-            rows,
-            slotted: Some(slotted),
-        })
+        Ok(SetLists { rows, slotted })
     }
 
     /// Whether the lists stand in slots.
@@ -65,7 +61,7 @@ impl SetLists {
     pub fn in_slots(&self) -> bool
         ensures { result ≡ is_slotted self.now.depth }
     {
-        self.slotted.is_some()
+        self.slotted.depth() >= SLOTTED_FROM
     }
 
     /// Whether all lists stand in their rows alone, if they stand in rows.
@@ -143,27 +139,38 @@ impl SetLists {
         self.rows.bring_far(set, block)
     }
 
+    /// Whether a set's list has a block.
+    #[inline(always)]
+    pub fn has_front(&self, set: usize) -> bool
+        requires within { set < length self.now.lists }
+        ensures { IsTrue result ↔ (0 < length (slice_index_or self.now.lists set [])) }
+    {
+        self.rows.has_front(set)
+    }
+
     /// Where a block of a set's list in slots that is not its front stands, or that it is new, if
     /// the first block behind the front that has its mark tells. `None` says that this is another.
     #[inline(always)]
     pub fn look(&self, set: usize, block: u64) -> Option<Touch>
         requires within { set < length self.now.lists }
         requires slots { is_slotted self.now.depth ≡ true }
+        requires begun { 0 < length (slice_index_or self.now.lists set []) }
         requires behind { is_front block (slice_index_or self.now.lists set []) ≡ false }
         ensures { let list = slice_index_or self.now.lists set [] in
             MatchOption result (IsPassed block list) (λ touch. touch ≡ touch_of block list) }
     {
-        look_in(&self.slotted, set, block)
+        self.slotted.look(set, block)
     }
 
     /// Where it stands, or that it is new, if the first that has its mark is another.
     pub fn search(&self, set: usize, block: u64) -> Touch
         requires within { set < length self.now.lists }
         requires slots { is_slotted self.now.depth ≡ true }
+        requires begun { 0 < length (slice_index_or self.now.lists set []) }
         requires passed { IsPassed block (slice_index_or self.now.lists set []) }
         ensures { result ≡ touch_of block (slice_index_or self.now.lists set []) }
     {
-        search_in(&self.slotted, set, block)
+        self.slotted.search(set, block)
     }
 
     /// Brings the block at a place of a set's list in slots to the front.
@@ -171,11 +178,12 @@ impl SetLists {
     pub fn bring_found(&mut self, set: usize, block: u64, place: usize)
         requires within { set < length self.old.lists }
         requires slots { is_slotted self.old.depth ≡ true }
+        requires begun { 0 < length (slice_index_or self.old.lists set []) }
         requires found { Touch.Behind place
             ≡ touch_of block (slice_index_or self.old.lists set []) }
         ensures { self.new ≡ lists_after_touch self.old set block }
     {
-        bring_found_in(&mut self.slotted, set, block, place);
+        self.slotted.bring_found(set, block, place);
         self.rows.set_front(set, block, false);
     }
 
@@ -184,20 +192,32 @@ impl SetLists {
     pub fn bring_new(&mut self, set: usize, block: u64, held: usize)
         requires within { set < length self.old.lists }
         requires slots { is_slotted self.old.depth ≡ true }
+        requires begun { 0 < length (slice_index_or self.old.lists set []) }
         requires new { Touch.New held
             ≡ touch_of block (slice_index_or self.old.lists set []) }
         ensures { self.new ≡ lists_after_touch self.old set block }
     {
-        bring_new_in(&mut self.slotted, set, block, held);
-        self.rows.set_front(set, block, held == 0);
+        self.slotted.bring_new(set, block, held);
+        self.rows.set_front(set, block, false);
     }
 
-    /// Empties the lists.
+    /// Begins a set's empty list in slots with a block. What a flush left in its slots goes.
+    #[inline(always)]
+    pub fn begin(&mut self, set: usize, block: u64)
+        requires within { set < length self.old.lists }
+        requires slots { is_slotted self.old.depth ≡ true }
+        requires empty { slice_index_or self.old.lists set [] ≡ [] }
+        ensures { self.new ≡ lists_after_touch self.old set block }
+    {
+        self.slotted.begin(set, block);
+        self.rows.set_front(set, block, true);
+    }
+
+    /// Empties the lists. Those in slots are empty once they have no front.
     pub fn clear(&mut self)
         ensures { self.new ≡ record self.old { lists = replicate (length self.old.lists) [] } }
     {
         self.rows.clear();
-        clear_slotted(&mut self.slotted);
     }
 
     /// How many blocks stand in the lists. It adds up the lengths of all sets.
@@ -205,80 +225,25 @@ impl SetLists {
         ensures value { result ≡ sum_by length self.now.lists }
         ensures at_most { result ≤ length self.now.lists * self.now.depth }
     {
-        match &self.slotted {
-            Some(slotted) => slotted.held(),
-            None => self.rows.held(),
+        if self.in_slots() {
+            held_in_slots(&self.rows, &self.slotted)
+        } else {
+            self.rows.held()
         }
     }
 }
 
-/// What the first block behind the front of a set's list in slots tells that has a block's mark.
-#[inline(always)]
-fn look_in(slotted: &Option<SlottedLists>, set: usize, block: u64) -> Option<Touch>
-    requires some { is_some slotted.now ≡ true }
-    requires within { IfSome slotted.now (λ lists. set < length lists.lists) }
-    requires behind { IfSome slotted.now (λ lists.
-        is_front block (slice_index_or lists.lists set []) ≡ false) }
-    ensures { IfSome slotted.now (λ lists. let list = slice_index_or lists.lists set [] in
-        MatchOption result (IsPassed block list) (λ touch. touch ≡ touch_of block list)) }
+/// How many blocks stand in lists in slots that have a front.
+fn held_in_slots(rows: &Stacks, slotted: &SlottedLists) -> u64
+    requires { length rows.now.lists ≡ length slotted.now.lists }
+    ensures value { result ≡ sum_by length (lists_begun rows.now.lists slotted.now.lists) }
+    ensures at_most { result ≤ length slotted.now.lists * slotted.now.depth }
 {
-    match slotted {
-        Some(lists) => lists.look(set, block),
-        None => unreachable!(),
+    let mut total = 0;
+    for set in 0..slotted.sets() {
+        if rows.has_front(set) {
+            total += slotted.held_in(set) as u64;
+        }
     }
-}
-
-/// Where a block of a set's list in slots stands, or that it is new, if the first that has its mark
-/// is another.
-fn search_in(slotted: &Option<SlottedLists>, set: usize, block: u64) -> Touch
-    requires some { is_some slotted.now ≡ true }
-    requires within { IfSome slotted.now (λ lists. set < length lists.lists) }
-    requires passed { IfSome slotted.now (λ lists.
-        IsPassed block (slice_index_or lists.lists set [])) }
-    ensures { IfSome slotted.now (λ lists.
-        result ≡ touch_of block (slice_index_or lists.lists set [])) }
-{
-    match slotted {
-        Some(lists) => lists.search(set, block),
-        None => unreachable!(),
-    }
-}
-
-/// Brings the block at a place of a set's list in slots to the front.
-#[inline(always)]
-fn bring_found_in(slotted: &mut Option<SlottedLists>, set: usize, block: u64, place: usize)
-    requires some { is_some slotted.old ≡ true }
-    requires within { IfSome slotted.old (λ lists. set < length lists.lists) }
-    requires found { IfSome slotted.old (λ lists.
-        Touch.Behind place ≡ touch_of block (slice_index_or lists.lists set [])) }
-    ensures { slotted.new ≡ option_map (λ lists. lists_after_touch lists set block) slotted.old }
-{
-    match slotted {
-        Some(lists) => lists.bring_found(set, block, place),
-        None => unreachable!(),
-    }
-}
-
-/// Brings a new block to the front of a set's list in slots, which has `held` blocks.
-#[inline(always)]
-fn bring_new_in(slotted: &mut Option<SlottedLists>, set: usize, block: u64, held: usize)
-    requires some { is_some slotted.old ≡ true }
-    requires within { IfSome slotted.old (λ lists. set < length lists.lists) }
-    requires new { IfSome slotted.old (λ lists.
-        Touch.New held ≡ touch_of block (slice_index_or lists.lists set [])) }
-    ensures { slotted.new ≡ option_map (λ lists. lists_after_touch lists set block) slotted.old }
-{
-    match slotted {
-        Some(lists) => lists.bring_new(set, block, held),
-        None => unreachable!(),
-    }
-}
-
-/// Empties the lists in slots, if there are some.
-fn clear_slotted(slotted: &mut Option<SlottedLists>)
-    ensures { slotted.new ≡ option_map emptied slotted.old }
-{
-    if let Some(lists) = slotted {
-        lists.clear();
-    }
+    total
 }

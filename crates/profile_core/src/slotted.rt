@@ -2,17 +2,17 @@
 //! that its blocks stand in.
 ghost use Rattle.std.specs.Prelude.{◌≡◌, ℕ, ◌+◌, ◌*◌, ◌^◌, ◌<◌, ◌≤◌, [], ◌∷◌, length, IfOk};
 ghost use Rattle.std.specs.Prelude.{replicate};
-ghost use Rattle.std.specs.Prelude.{slice_index, slice_index_or, sum_by};
+ghost use Rattle.std.specs.Prelude.{slice_index, slice_index_or};
 ghost use Rattle.std.specs.Prelude.{◌==◌, drop, map, false, MatchOption};
 ghost use Rattle.std.specs.Simd.Lanes.{mask_l};
 ghost use Rattle.std.specs.List.{remove};
 ghost use Rattle.profile_core.specs.internal.Moves.{touch_of, is_front, is_in};
 ghost use Rattle.profile_core.specs.internal.Slab.{lists_after_touch};
+ghost use Rattle.profile_core.specs.internal.SetLists.{lists_with};
 ghost use Rattle.profile_core.specs.internal.Slotted.{mark_of, listed, IsOrder};
 ghost use Rattle.profile_core.specs.internal.Slotted.{IsBroughtInSlots, IsPassed};
 
 use crate::recency::Touch;
-use cache_core::touched::TouchedSets;
 use std::alloc::{AllocError, Global};
 use std::marker::Model;
 use std::simd::prelude::*;
@@ -39,15 +39,12 @@ const EMPTY: Order = Order {
 };
 
 /// The lists of all sets: for each its order, the blocks of its slots, and how many it has.
-/// `touched` lists the sets that have a block, while they are few, so that a flush goes to these
-/// alone.
 #[derive(Drop)]
 pub struct SlottedLists {
     depth: usize,
     orders: Vec<Order>,
     blocks: Vec<[u64; SLOTS]>,
     lens: Vec<u32>,
-    touched: TouchedSets,
 }
 
 impl Model for SlottedLists {
@@ -62,7 +59,7 @@ impl Model for SlottedLists {
     } };
 
     ghost invariant = { λ s.
-        IsSlotted s.depth s.orders.items s.blocks.items s.lens.items s.touched };
+        IsSlotted s.depth s.orders.items s.blocks.items s.lens.items };
 }
 
 impl SlottedLists {
@@ -78,7 +75,6 @@ impl SlottedLists {
             orders: vec![in alloc; EMPTY; sets]?,
             blocks: vec![in alloc; [0; SLOTS]; sets]?,
             lens: vec![in alloc; 0; sets]?,
-            touched: TouchedSets::new(alloc, sets)?,
         })
     }
 
@@ -133,7 +129,6 @@ impl SlottedLists {
             ≡ touch_of block (slice_index_or self.old.lists set []) }
         ensures { self.new ≡ lists_after_touch self.old set block }
     {
-        let before = self.lens[set];
         bring_new(
             &mut self.orders[set],
             &mut self.blocks[set],
@@ -141,26 +136,46 @@ impl SlottedLists {
             self.depth,
             block,
         );
-        self.touched.add_grown(set, before, self.lens[set]);
     }
 
-    /// Empties the lists.
-    pub fn clear(&mut self)
-        ensures { self.new ≡ record self.old { lists = replicate (length self.old.lists) [] } }
+    /// Makes a block the only one of a set's list, whatever that has.
+    #[inline(always)]
+    pub fn begin(&mut self, set: usize, block: u64)
+        requires within { set < length self.old.lists }
+        ensures { self.new ≡ lists_with self.old set (block ∷ []) }
     {
-        self.touched.empty(&mut self.lens);
+        let marks = only(mark_of(block));
+        let slots = EMPTY.slots;
+        self.orders[set] = Order { marks, slots };
+        self.blocks[set][0] = block;
+        self.lens[set] = 1;
     }
 
-    /// How many blocks stand in the lists. It adds up the lengths of all sets.
-    pub fn held(&self) -> u64
-        ensures value { result ≡ sum_by length self.now.lists }
-        ensures at_most { result ≤ length self.now.lists * self.now.depth }
+    /// How many blocks a list may have.
+    #[inline(always)]
+    pub fn depth(&self) -> usize
+        ensures value { result ≡ self.now.depth }
+        ensures most { result ≤ 16 }
     {
-        let mut total = 0;
-        for len in &self.lens {
-            total += u64::from(*len);
-        }
-        total
+        self.depth
+    }
+
+    /// How many sets there are.
+    pub fn sets(&self) -> usize
+        ensures value { result ≡ length self.now.lists }
+        ensures small { result * self.now.depth ≤ 2 ^ 22 }
+    {
+        self.lens.len()
+    }
+
+    /// How many blocks a set's list has.
+    #[inline(always)]
+    pub fn held_in(&self, set: usize) -> usize
+        requires within { set < length self.now.lists }
+        ensures value { result ≡ length (slice_index_or self.now.lists set []) }
+        ensures at_most { result ≤ self.now.depth }
+    {
+        self.lens[set] as usize
     }
 }
 
@@ -221,6 +236,17 @@ fn turn_with(lanes: &mut [u8; SLOTS], place: usize, first: u8)
         .simd_eq(u8x16::splat(255))
         .select(u8x16::splat(first), turned)
         .copy_to_slice(&mut lanes[..]);
+}
+
+/// A lane in front of fifteen of 0.
+#[inline(always)]
+fn only(first: u8) -> [u8; SLOTS]
+    ensures { result ≡ first ∷ replicate 15 0 }
+{
+    u8x16::from_array(FIRST_LANE)
+        .simd_eq(u8x16::splat(255))
+        .select(u8x16::splat(first), u8x16::splat(0))
+        .to_array()
 }
 
 /// A bit for each lane that is a mark, the lowest for the first.

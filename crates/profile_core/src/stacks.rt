@@ -95,6 +95,15 @@ impl Stacks {
         self.near.is_front(set, block, past_first)
     }
 
+    /// Whether a set's list has a block.
+    #[inline(always)]
+    pub fn has_front(&self, set: usize) -> bool
+        requires within { set < length self.now.lists }
+        ensures { IsTrue result ↔ (0 < length (slice_index_or self.now.lists set [])) }
+    {
+        self.near.has_front(set)
+    }
+
     /// Whether a block is the second of a set's list.
     #[inline(always)]
     pub fn is_second(&self, set: usize, block: u64, few: bool) -> bool

@@ -1,6 +1,5 @@
 -- The lists of all sets in slots.
 use Rattle.std.specs.Prelude.{ℕ, ◌≡◌, ◌≤◌, ◌<◌, ◌*◌, ◌^◌, List, [], ◌∷◌, length, slice_index_or}
-use Rattle.cache_core.specs.internal.Touched.{TouchedValue, Covers}
 use Rattle.profile_core.specs.declared.slotted.Order.{Order}
 use Rattle.profile_core.specs.internal.Slotted.{listed, IsOrder}
 
@@ -17,8 +16,8 @@ abbrev pub no_order : Order
 no_order = record { marks = []; slots = [] }
 
 -- the orders of all sets, each of a list of at most `depth` blocks
-pub record IsSlotted (depth : ℕ) (orders : List Order) (blocks : List (List ℕ)) (lens : List ℕ)
-    (touched : TouchedValue) : Type 0 where
+pub record IsSlotted (depth : ℕ) (orders : List Order) (blocks : List (List ℕ))
+    (lens : List ℕ) : Type 0 where
   pub some : 1 ≤ depth
   pub most : depth ≤ 16
   pub small : length lens * depth ≤ 2 ^ 22
@@ -28,4 +27,3 @@ pub record IsSlotted (depth : ℕ) (orders : List Order) (blocks : List (List �
   pub each : (k : ℕ) → k < length lens → IsOrder (slice_index_or orders k no_order).marks
       (slice_index_or orders k no_order).slots (slice_index_or blocks k []) (slice_index_or lens
       k 0)
-  pub covers : Covers touched lens

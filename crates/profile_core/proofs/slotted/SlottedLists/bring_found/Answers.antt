@@ -87,7 +87,7 @@ invariant_of-self c =
     let at = (goal.at.invariant_of-self c).After-index_mut in
     turned_sound c.self.inside.depth c.args.set c.args.block c.args.place c.bring_found.new.order
     c.self.inside.orders.items c.self.inside.blocks.items c.self.inside.lens.items
-    c.self.inside.touched c.self.invariant (within at)
+    c.self.invariant (within at)
     (found (goal.at.invariant_of-self c).After-self)
     (c.bring_found.ensures.marks ∙ ap (λ o. turned c.args.place o.marks) (order_is at))
     (c.bring_found.ensures.slots ∙ ap (λ o. turned c.args.place o.slots) (order_is at))
@@ -98,7 +98,7 @@ returns c =
     ap (λ ls. record { depth = c.self.inside.depth; lists = ls })
     (turned_lists c.self.inside.depth c.args.set c.args.block c.args.place c.bring_found.new.order
     c.self.inside.orders.items c.self.inside.blocks.items c.self.inside.lens.items
-    c.self.inside.touched c.self.invariant (within at) (found (goal.at.returns c).After-self)
+    c.self.invariant (within at) (found (goal.at.returns c).After-self)
     (c.bring_found.ensures.marks ∙ ap (λ o. turned c.args.place o.marks) (order_is at))
     (c.bring_found.ensures.slots ∙ ap (λ o. turned c.args.place o.slots) (order_is at)))
     ∙ ap (λ v. lists_after_touch v c.args.set c.args.block) c.self.view_is

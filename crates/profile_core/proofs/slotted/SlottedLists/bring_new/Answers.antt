@@ -1,21 +1,16 @@
 -- A block comes to the front of a set's list.
 use Rattle.std.proofs.Common.{◌≡◌, ◌<◌, ◌∙◌, ℕ, List, [], length, get_or, set, sym, ap, arith}
-use Rattle.std.proofs.Common.{subst}
-use Rattle.std.proofs.lemmas.List.{get_or_default, get_or-set_same}
+use Rattle.std.proofs.lemmas.List.{get_or_default}
 use Rattle.std.proofs.Common.{take}
-use Rattle.cache_core.specs.internal.Touched.{Covers, after_count}
-use Rattle.cache_core.proofs.TouchedSets.{covers_change}
 use Rattle.profile_core.specs.internal.Moves.{is_in, move_to_front}
 use Rattle.profile_core.specs.internal.Slab.{Lists, lists_after_touch}
 use Rattle.profile_core.specs.internal.Slotted.{listed}
 use Rattle.profile_core.specs.internal.SlottedState.{lists_in_slots, no_order}
 use Rattle.profile_core.proofs.SlottedLemmas.{length-slotted, slotted_at, slotted-set}
 use Rattle.profile_core.proofs.SlottedLemmas.{slotted_brought}
-use Rattle.profile_core.proofs.SlottedLemmas.{few}
 use Rattle.profile_core.proofs.Feeding.{found_nowhere}
 use Rattle.profile_core.proofs.slotted.SlottedLists.bring_new.Goals as goal
 use Rattle.profile_core.proofs.slotted.SlottedLists.bring_new.Goals.{After-self, After-index_mut-3}
-use Rattle.profile_core.proofs.slotted.SlottedLists.bring_new.Goals.{After-add_grown}
 
 lt : (c : After-self) → c.args.set < length c.self.inside.lens.items
 lt c = omega (
@@ -24,13 +19,6 @@ lt c = omega (
   ap (λ v. length v.lists) c.self.view_is,
   length-slotted c.self.inside.orders.items c.self.inside.blocks.items c.self.inside.lens.items
       c.self.invariant.orders_len c.self.invariant.blocks_len,
-)
-
-pub index-before-requires : goal.index-before-requires
-index-before-requires c = omega (
-  arith,
-  lt (goal.at.index-before-requires c).After-self,
-  c.self.inside.lens.ok.0,
 )
 
 pub index_mut-requires : goal.index_mut-requires
@@ -109,40 +97,13 @@ bring_new-requires-clause-absent c =
     ∙ (found_nowhere c.args.block c.args.held (get_or c.args.self.now.lists c.args.set [])
     c.requires.new).outside
 
-pub index-requires : goal.index-requires
-index-requires c = omega (
-  arith,
-  lt (goal.at.index-requires c).After-self,
-  c.self.inside.lens.ok.0,
-)
-
-pub add_grown-requires : goal.add_grown-requires
-add_grown-requires c = omega (
-  arith,
-  lt (goal.at.add_grown-requires c).After-self,
-  few (length c.self.inside.lens.items) c.self.inside.depth c.self.invariant.some
-      c.self.invariant.small,
-)
-
 pub invariant_of-self : goal.invariant_of-self
 invariant_of-self c =
     let at = (goal.at.invariant_of-self c).After-index_mut-3 in
-    let lens = c.self.inside.lens.items in
-    let set_lens = set lens c.args.set c.bring_new.new.len in
-    let lt = within at in
-    let after : c.index.result.now ≡ c.bring_new.new.len =
-    c.index.ensures ∙ get_or-set_same lens c.args.set c.bring_new.new.len _ lt in
-    let before : c.index-before.result.now ≡ get_or lens c.args.set 0 =
-    c.index-before.ensures ∙ get_or_default lens c.args.set _ 0 lt in
-    let counted = covers_change c.self.inside.touched lens c.args.set c.index-before.result.now
-    c.index.result.now lt before c.self.invariant.covers in
     slotted_brought c.self.inside.depth c.args.set c.args.block c.bring_new.new.len
-    c.bring_new.new.order c.bring_new.new.blocks _
-    c.self.inside.orders.items c.self.inside.blocks.items lens c.self.inside.touched
-    c.add_grown.new.self c.self.invariant lt c.bring_new.ensures
-    (subst (λ t. Covers t set_lens) (sym c.add_grown.ensures)
-    (subst (λ n. Covers (after_count c.args.set c.index-before.result.now c.index.result.now
-    c.self.inside.touched) (set lens c.args.set n)) after counted))
+    c.bring_new.new.order c.bring_new.new.blocks _ c.self.inside.orders.items
+    c.self.inside.blocks.items c.self.inside.lens.items c.self.invariant (within at)
+    c.bring_new.ensures
 
 pub returns : goal.returns
 returns c =
