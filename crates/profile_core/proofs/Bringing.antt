@@ -173,6 +173,11 @@ front_of_some x zero f rest blank (inl other) = ne_eqb f x (λ e. other (sym e �
 front_of_some x zero f rest blank (inr some) = absurd (some refl)
 front_of_some x (suc len) f rest blank some = refl
 
+pub front_of_other : (x len f : ℕ) (rest : List ℕ) → (f ≡ x → ⊥) →
+    false ≡ is_front x (take len (f ∷ rest))
+front_of_other x zero f rest other = refl
+front_of_other x (suc len) f rest other = sym (ne_eqb f x other)
+
 pub front_of_none : (x len f : ℕ) (rest : List ℕ) → len ≡ 0 →
     false ≡ is_front x (take len (f ∷ rest))
 front_of_none x zero f rest none = refl

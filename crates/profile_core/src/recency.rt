@@ -73,10 +73,13 @@ impl RecencyLists {
         requires known { past_first ≡ true → 0 < block }
         ensures { result ≡ is_front block (slice_index_or self.now.lists set []) }
     {
+        if self.fronts[set] != block {
+            return false;
+        }
         if past_first || block != 0 {
-            self.fronts[set] == block
+            true
         } else {
-            self.lens[set] != 0 && self.fronts[set] == block
+            self.lens[set] != 0
         }
     }
 
