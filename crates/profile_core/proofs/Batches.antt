@@ -120,3 +120,142 @@ module _ {at fed : ℕ} {v w : ProfileState} {old now : List ℕ} (so_far : IsFe
     count = counted;
     geometry = kept_geometry;
   }
+
+-- The same of two profiles: the second, v' and w' now, was fed what the first did not find in
+-- front, and those that neither did stand before the others.
+pub record AreFedTo (at fed : ℕ) (v w v' w' : ProfileState) (old now : List ℕ) : Type 0 where
+  pub step : w ≡ after_batch v (take at old)
+  pub next_step : w' ≡ after_batch v' (fed_of_batch v (take at old))
+  pub kept : take fed now ≡ fed_of_batch v' (fed_of_batch v (take at old))
+  pub rest : drop at now ≡ drop at old
+  pub same_length : length now ≡ length old
+  pub few : fed ≤ at
+  pub count : fed_of w ≤ fed_of v + at
+  pub next_count : fed_of w' ≤ fed_of v' + at
+  pub geometry : w.geometry ≡ v.geometry
+  pub next_geometry : w'.geometry ≡ v'.geometry
+
+pub both_none : (v v' : ProfileState) (old : List ℕ) → AreFedTo 0 0 v v v' v' old old
+both_none v v' old = record {
+  step = refl;
+  next_step = refl;
+  kept = refl;
+  rest = refl;
+  same_length = refl;
+  few = omega arith;
+  count = omega arith;
+  next_count = omega arith;
+  geometry = refl;
+  next_geometry = refl;
+}
+
+module _ {at fed : ℕ} {v w v' w' : ProfileState} {old now : List ℕ}
+    (so_far : AreFedTo at fed v w v' w' old now) (inside : at < length old) where
+  abbrev addr : ℕ
+  addr = get_or now at 0
+
+  abbrev left : List ℕ
+  left = fed_of_batch v (take at old)
+
+  addr_here : addr ≡ get_or old at 0
+  addr_here = ap (λ n. get_or now n 0) {x = at} {y = at + 0} (omega arith) ∙
+      sym (get_or-drop at now 0 0) ∙ ap (λ l. get_or l 0 0) so_far.rest ∙
+      get_or-drop at old 0 0 ∙ ap (λ n. get_or old n 0) {x = at + 0} {y = at} (omega arith)
+
+  addr_taken : take (at + 1) old ≡ take at old ++ addr ∷ []
+  addr_taken = (take_at_read old at 0 inside).1 ∙
+      ap (λ b. take at old ++ b ∷ []) (sym addr_here)
+
+  rest_after : drop (at + 1) now ≡ drop (at + 1) old
+  rest_after = sym (drop-drop 1 at now) ∙ ap (drop 1) so_far.rest ∙ drop-drop 1 at old
+
+  module _ (after : ProfileState) (next : after ≡ step_of w addr)
+      (more : fed_of after ≤ fed_of w + 1) where
+    after_step : after ≡ after_batch v (take (at + 1) old)
+    after_step = next ∙ ap (λ u. step_of u addr) so_far.step ∙
+        sym (after_snoc v (take at old) addr) ∙ ap (after_batch v) (sym addr_taken)
+
+    after_geometry : after.geometry ≡ v.geometry
+    after_geometry = ap (λ u. u.geometry) next ∙ step_geometry w addr ∙ so_far.geometry
+
+    left_with : (front : Bool) → is_front_of w (block_of w.geometry addr) ≡ front →
+        fed_of_batch v (take (at + 1) old) ≡ left ++ cond front [] (addr ∷ [])
+    left_with front h =
+        ap (fed_of_batch v) addr_taken ∙ fed_snoc v (take at old) addr
+        ∙ ap (λ u. left ++ cond (is_front_of u (block_of u.geometry addr)) [] (addr ∷ []))
+        (sym so_far.step)
+        ∙ ap (λ b. left ++ cond b [] (addr ∷ [])) h
+
+    -- found in front by the first
+    pub both_front : is_front_of w (block_of w.geometry addr) ≡ true →
+        AreFedTo (at + 1) fed v after v' w' old now
+    both_front front =
+        let same : fed_of_batch v (take (at + 1) old) ≡ left =
+        left_with true front ∙ append-nil left in
+        record {
+          step = after_step;
+          next_step = so_far.next_step ∙ ap (after_batch v') (sym same);
+          kept = so_far.kept ∙ ap (fed_of_batch v') (sym same);
+          rest = rest_after;
+          same_length = so_far.same_length;
+          few = omega (arith, so_far.few);
+          count = omega (arith, more, so_far.count);
+          next_count = omega (arith, so_far.next_count);
+          geometry = after_geometry;
+          next_geometry = so_far.next_geometry;
+        }
+
+    -- or fed to it, and then to the second
+    module _ (behind : is_front_of w (block_of w.geometry addr) ≡ false) (after' : ProfileState)
+        (next' : after' ≡ step_of w' addr) (more' : fed_of after' ≤ fed_of w' + 1) where
+      left_more : fed_of_batch v (take (at + 1) old) ≡ left ++ addr ∷ []
+      left_more = left_with false behind
+
+      after_step' : after' ≡ after_batch v' (fed_of_batch v (take (at + 1) old))
+      after_step' = next' ∙ ap (λ u. step_of u addr) so_far.next_step ∙
+          sym (after_snoc v' left addr) ∙ ap (after_batch v') (sym left_more)
+
+      after_geometry' : after'.geometry ≡ v'.geometry
+      after_geometry' = ap (λ u. u.geometry) next' ∙ step_geometry w' addr ∙ so_far.next_geometry
+
+      kept_with : (front : Bool) → is_front_of w' (block_of w'.geometry addr) ≡ front →
+          fed_of_batch v' (fed_of_batch v (take (at + 1) old))
+          ≡ take fed now ++ cond front [] (addr ∷ [])
+      kept_with front h =
+          ap (fed_of_batch v') left_more ∙ fed_snoc v' left addr
+          ∙ ap (λ u. fed_of_batch v' left ++ cond (is_front_of u (block_of u.geometry addr)) []
+          (addr ∷ [])) (sym so_far.next_step)
+          ∙ ap (λ b. fed_of_batch v' left ++ cond b [] (addr ∷ [])) h
+          ∙ ap (λ l. l ++ cond front [] (addr ∷ [])) (sym so_far.kept)
+
+      pub next_front : is_front_of w' (block_of w'.geometry addr) ≡ true →
+          AreFedTo (at + 1) fed v after v' after' old now
+      next_front front = record {
+        step = after_step;
+        next_step = after_step';
+        kept = sym (kept_with true front ∙ append-nil (take fed now));
+        rest = rest_after;
+        same_length = so_far.same_length;
+        few = omega (arith, so_far.few);
+        count = omega (arith, more, so_far.count);
+        next_count = omega (arith, more', so_far.next_count);
+        geometry = after_geometry;
+        next_geometry = after_geometry';
+      }
+
+      pub both_behind : is_front_of w' (block_of w'.geometry addr) ≡ false →
+          AreFedTo (at + 1) (fed + 1) v after v' after' old (set now fed addr)
+      both_behind behind' = record {
+        step = after_step;
+        next_step = after_step';
+        kept = take_more_set now fed addr
+            (omega (arith, so_far.few, inside, so_far.same_length)) ∙
+            sym (kept_with false behind');
+        rest = drop-set-lt (at + 1) now fed addr (omega (arith, so_far.few)) ∙ rest_after;
+        same_length = length-set now fed addr ∙ so_far.same_length;
+        few = omega (arith, so_far.few);
+        count = omega (arith, more, so_far.count);
+        next_count = omega (arith, more', so_far.next_count);
+        geometry = after_geometry;
+        next_geometry = after_geometry';
+      }

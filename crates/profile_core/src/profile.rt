@@ -158,6 +158,59 @@ impl Profile {
         }
     }
 
+    /// Feeds references to this profile, and to `next` those that it does not find in front. Those
+    /// that neither does come to the front of `addrs`, in their order; returns how many they are.
+    /// Where lists are walked it costs less than one after the other: what a reference finds in a
+    /// profile foretells what it finds in the next.
+    pub fn feed_batch_with(&mut self, next: &mut Profile, addrs: &mut [u64]) -> usize
+        requires few { fed_of self.old + length addrs.old ≤ MAX_REFERENCES }
+        requires next_few { fed_of next.old + length addrs.old ≤ MAX_REFERENCES }
+        ensures step { self.new ≡ after_batch self.old addrs.old }
+        ensures next_step { next.new ≡ after_batch next.old (fed_of_batch self.old addrs.old) }
+        ensures fed { take result addrs.new
+            ≡ fed_of_batch next.old (fed_of_batch self.old addrs.old) }
+        ensures within { result ≤ length addrs.new }
+        ensures length { length addrs.new ≡ length addrs.old }
+    {
+        let slots = self.lists.in_slots() || next.lists.in_slots();
+        if !slots && self.has_plain_rows() && next.has_plain_rows() {
+            return self.feed_plain_rows_with(next, addrs);
+        }
+        let left = self.feed_batch(addrs);
+        next.feed_batch(&mut addrs[..left])
+    }
+
+    /// The same, where both have plain rows.
+    #[inline(never)]
+    fn feed_plain_rows_with(&mut self, next: &mut Profile, addrs: &mut [u64]) -> usize
+        requires few { fed_of self.old + length addrs.old ≤ MAX_REFERENCES }
+        requires next_few { fed_of next.old + length addrs.old ≤ MAX_REFERENCES }
+        requires rows { is_slotted self.old.geometry.e ≡ false }
+        requires plain { ArePlain self.old.geometry }
+        requires next_rows { is_slotted next.old.geometry.e ≡ false }
+        requires next_plain { ArePlain next.old.geometry }
+        ensures step { self.new ≡ after_batch self.old addrs.old }
+        ensures next_step { next.new ≡ after_batch next.old (fed_of_batch self.old addrs.old) }
+        ensures fed { take result addrs.new
+            ≡ fed_of_batch next.old (fed_of_batch self.old addrs.old) }
+        ensures within { result ≤ length addrs.new }
+        ensures length { length addrs.new ≡ length addrs.old }
+    {
+        let geometry = self.geometry;
+        let next_geometry = next.geometry;
+        let mut left = 0;
+        for at in 0..addrs.len() {
+            let addr = addrs[at];
+            if !self.feed_in(geometry, addr, false, true) {
+                if !next.feed_in(next_geometry, addr, false, true) {
+                    addrs[left] = addr;
+                    left += 1;
+                }
+            }
+        }
+        left
+    }
+
     /// The same, where the lists stand in slots. Each of these loops stands apart, so that the
     /// compiler has all registers for it.
     #[inline(never)]

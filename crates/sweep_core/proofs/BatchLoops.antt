@@ -9,6 +9,12 @@ use Rattle.profile_core.specs.internal.State.{ProfileState}
 use Rattle.profile_core.specs.internal.Fronts.{after_batch, fed_of_batch}
 use Rattle.sweep_core.specs.declared.profiles.PairProfile.{PairProfile}
 use Rattle.sweep_core.specs.internal.Batches.{pair_after_batch, AlwaysLeads, AreAlwaysLed}
+use Rattle.sweep_core.specs.internal.Batches.{IsFedToTwo}
+use Rattle.std.proofs.lemmas.List.{length-take, get_or-set_other, drop_at, length-map}
+use Rattle.std.proofs.lemmas.List.{length-take-le, get_or-drop}
+use Rattle.cache_core.specs.Geometry.{block_of}
+use Rattle.profile_core.specs.internal.Fronts.{after_unless_front, is_front_of}
+use Rattle.std.proofs.Common.{cond, true, false}
 use Rattle.sweep_core.proofs.Lists.{Each-both}
 use Rattle.sweep_core.proofs.Passes.{unreached}
 use Rattle.sweep_core.proofs.Batching.{fed-past}
@@ -113,7 +119,7 @@ module _ {at count led_count end : ℕ} {batch addrs led : List ℕ} {old now : 
   module _ (given : List ℕ) (serves_here : Serves given batch (get_or old at d)) (p : ProfileState)
       (after : p ≡ after_batch x.profile given) (items rest : List ℕ) (left : ℕ)
       (are_left : take left items ≡ fed_of_batch x.profile given) (within : left ≤ length items)
-      (same : length items ≡ length given) (few : length given ≤ length batch) where
+      (small : left ≤ length batch) where
     now_fed : set now at (record x { profile = p }) ≡ map (pair_after_batch batch)
         (take (at + 1) old) ++ drop (at + 1) old
     now_fed = ap (λ v. set now at (record x { profile = v })) after ∙
@@ -145,7 +151,7 @@ module _ {at count led_count end : ℕ} {batch addrs led : List ℕ} {old now : 
           (each_less (λ y. AlwaysLeads x.profile y.profile) (until - (at + 1)) x.implied
           (drop (at + 1) old) (omega (arith, most)) leads) served;
       most = so_far.most;
-      led_most = omega (arith, within, same, few);
+      led_most = small;
       same_length = so_far.same_length;
     }
 
@@ -163,7 +169,139 @@ module _ {at count led_count end : ℕ} {batch addrs led : List ℕ} {old now : 
           (omega (arith, all, length-drop (at + 1) old))) leads) served;
       led_serves = subst (λ n. Each (Serves (take led_count led) batch)
           (take n (drop (at + 1) old))) {x = 0} {y = end - (at + 1)} (omega (arith, over)) tt;
-      most = omega (arith, within, same, few);
+      most = small;
       led_most = so_far.led_most;
       same_length = length_is;
     }
+
+-- two neighbours that are set, each in its part of a list
+set_parts : (at : ℕ) (xs : List PairProfile) (x y : PairProfile) → suc at < length xs →
+    set (take (suc at) xs) at x ++ set (drop (suc at) xs) 0 y ≡ set (set xs at x) (suc at) y
+set_parts at [] x y lt = absurd (omega (arith, lt))
+set_parts zero (z ∷ []) x y lt = absurd (omega (arith, lt))
+set_parts zero (z ∷ w ∷ xs) x y lt = refl
+set_parts (suc at) (z ∷ xs) x y lt = ap (λ l. z ∷ l) (set_parts at xs x y (omega (arith, lt)))
+
+pub set_neighbours : (at : ℕ) (xs front back : List PairProfile) (x y : PairProfile) →
+    at + 1 < length xs → front ≡ take (at + 1) xs → back ≡ drop (at + 1) xs →
+    set front at x ++ set back 0 y ≡ set (set xs at x) (at + 1) y
+set_neighbours at xs front back x y lt front_is back_is =
+    ap (λ l. set l at x ++ set back 0 y) front_is ∙
+    ap (λ l. set (take (at + 1) xs) at x ++ set l 0 y) back_is ∙
+    subst (λ n. set (take n xs) at x ++ set (drop n xs) 0 y ≡ set (set xs at x) n y) {x = suc at}
+    {y = at + 1} (omega arith) (set_parts at xs x y (omega (arith, lt)))
+
+-- a profile is fed no more than it is given
+pub fed-short : (v : ProfileState) (addrs : List ℕ) → length (fed_of_batch v addrs) ≤ length addrs
+fed-short v [] = omega arith
+fed-short v (a ∷ addrs) =
+    let w = after_unless_front v (block_of v.geometry a) in
+    let less = fed-short w addrs in
+    elim (is_front_of v (block_of v.geometry a)) as (λ front.
+    length (cond front (fed_of_batch w addrs) (a ∷ fed_of_batch w addrs)) ≤ length (a ∷ addrs))
+    [ true ↦ omega (arith, less) | false ↦ omega (arith, less) ]
+
+-- The profile at the index and the next are fed some addresses together.
+module _ {at count led_count end : ℕ} {batch addrs led : List ℕ} {old now : List PairProfile}
+    (so_far : IsFedUpTo at count led_count end batch addrs led old now)
+    (inside : at + 1 < length old) (always : AreAlwaysLed old)
+    (after : List PairProfile) (left_list : List ℕ)
+    (t : IsFedToTwo at (take led_count led) now after left_list) where
+  abbrev given : List ℕ
+  given = take led_count led
+
+  abbrev first : PairProfile
+  first = get_or now at t.first
+
+  abbrev passed : List ℕ
+  passed = fed_of_batch first.profile given
+
+  abbrev now1 : List PairProfile
+  now1 = set now at (pair_after_batch given first)
+
+  abbrev second : PairProfile
+  second = get_or now1 (at + 1) t.second
+
+  second_is : second ≡ t.second
+  second_is = get_or-set_other now at (at + 1) (pair_after_batch given first) t.second
+      (λ same. absurd (omega (arith, same))) ∙ sym t.second_is
+
+  passed_is : passed ≡ fed_of_batch t.first.profile given
+  passed_is = ap (λ x. fed_of_batch x.profile given) (sym t.first_is)
+
+  given_short : length given ≤ length batch
+  given_short = omega (arith, length-take led_count led, so_far.led_most)
+
+  module _ (until next_until : ℕ) (before : at < end) (within_end : until ≤ end)
+      (within_first : until ≤ at + 1 + first.implied) (next : at + 1 < until)
+      (within_until : next_until ≤ until)
+      (within_second : next_until ≤ at + 1 + 1 + t.second.implied)
+      (items rest : List ℕ) (left : ℕ) (are_left : take left items ≡ left_list)
+      (within : left ≤ length items) (same : length items ≤ length given) where
+    served : Serves given batch (get_or old at t.first) ×
+        Each (Serves given batch) (take (end - (at + 1)) (drop (at + 1) old))
+    served = each_take (Serves given batch) old at end t.first (omega (arith, inside)) before
+        so_far.led_serves
+
+    fed_first : IsFedUpTo (at + 1) count (length passed) until batch addrs (passed ++ []) old now1
+    fed_first = serves_led so_far (omega (arith, inside)) always t.first t.first_is given served.0
+        (after_batch first.profile given) refl passed [] (length passed)
+        (take_all (length passed) passed (omega arith)) (omega arith)
+        (omega (arith, fed-short first.profile given, given_short)) until within_first
+        (each_less (Serves given batch) (until - (at + 1)) (end - (at + 1)) (drop (at + 1) old)
+        (omega (arith, within_end)) served.1)
+
+    abbrev given1 : List ℕ
+    given1 = take (length passed) (passed ++ [])
+
+    given1_is : given1 ≡ passed
+    given1_is = take-append-le (length passed) passed [] (omega arith) ∙
+        take_all (length passed) passed (omega arith)
+
+    served1 : Serves given1 batch (get_or old (at + 1) t.second) ×
+        Each (Serves given1 batch) (take (until - (at + 1 + 1)) (drop (at + 1 + 1) old))
+    served1 = each_take (Serves given1 batch) old (at + 1) until t.second inside next
+        fed_first.led_serves
+
+    pub fed_both : IsFedUpTo (at + 1 + 1) count left next_until batch addrs (items ++ rest) old
+        after
+    fed_both =
+        let all = serves_led fed_first inside always t.second (sym second_is) given1 served1.0
+        (after_batch second.profile given1) refl items rest left
+        (are_left ∙ t.left_are
+        ∙ ap (λ y. fed_of_batch y.profile (fed_of_batch t.first.profile given)) (sym second_is)
+        ∙ ap (fed_of_batch second.profile) (sym passed_is ∙ sym given1_is))
+        within (omega (arith, within, same, given_short)) next_until
+        (omega (arith, within_second, ap (λ y. y.implied) second_is))
+        (each_less (Serves given1 batch) (next_until - (at + 1 + 1)) (until - (at + 1 + 1))
+        (drop (at + 1 + 1) old) (omega (arith, within_until)) served1.1) in
+        let is : after ≡ set now1 (at + 1) (pair_after_batch given1 second) =
+        t.fed
+        ∙ ap (λ x. set (set now at (pair_after_batch given x)) (at + 1)
+        (pair_after_batch (fed_of_batch x.profile given) t.second)) t.first_is
+        ∙ ap (λ y. set now1 (at + 1) (pair_after_batch passed y)) (sym second_is)
+        ∙ ap (λ l. set now1 (at + 1) (pair_after_batch l second)) (sym given1_is) in
+        subst (IsFedUpTo (at + 1 + 1) count left next_until batch addrs (items ++ rest) old)
+        (sym is) all
+
+-- those from the index on were not fed yet
+module _ {at count led_count end : ℕ} {batch addrs led : List ℕ} {old now : List PairProfile}
+    (so_far : IsFedUpTo at count led_count end batch addrs led old now) where
+  pub unfed : at ≤ length old → drop at now ≡ drop at old
+  unfed le = ap (drop at) so_far.fed ∙
+      drop_at (map (pair_after_batch batch) (take at old)) (drop at old) at
+      (length-map (take at old) (pair_after_batch batch) ∙ length-take-le at old le)
+
+  pub next-within : (d : PairProfile) → at + 1 < length old → AreAlwaysLed old →
+      at + 1 + 1 + (get_or now (at + 1) d).implied ≤ length old
+  next-within d inside always =
+      let same : get_or now (at + 1) d ≡ get_or old (at + 1) d =
+      sym (get_or-drop at now 1 d) ∙ ap (λ l. get_or l 1 d) (unfed (omega (arith, inside))) ∙
+      get_or-drop at old 1 d in
+      omega (arith, (led-at old (at + 1) d inside always).0, ap (λ y. y.implied) same)
+
+pub each_rest : (P : PairProfile → Type 0) (n : ℕ) (xs : List PairProfile) → Each P xs →
+    Each P (drop n xs)
+each_rest P zero xs h = h
+each_rest P (suc n) [] h = tt
+each_rest P (suc n) (x ∷ xs) h = each_rest P n xs h.1

@@ -1,9 +1,10 @@
 //! References that wait, so that each profile is fed many at a time.
 ghost use Rattle.std.specs.Prelude.{◌≡◌, ◌+◌, ◌<◌, ◌≤◌, ◌++◌, ◌∷◌, [], length, IsTrue, ◌↔◌};
-ghost use Rattle.std.specs.Prelude.{IfOk, take};
+ghost use Rattle.std.specs.Prelude.{IfOk, take, drop};
 ghost use Rattle.std.specs.List.{AllByRecursion};
 ghost use Rattle.profile_core.specs.internal.State.{fed_of};
 ghost use Rattle.sweep_core.specs.internal.Batches.{AreAlwaysLed, profiles_after_batch};
+ghost use Rattle.sweep_core.specs.internal.Batches.{IsFedToTwo};
 
 use crate::profiles::PairProfile;
 use profile_core::MAX_REFERENCES;
@@ -97,6 +98,8 @@ fn feed_first(profiles: &mut [PairProfile], addrs: &mut [u64], led: &mut [u64], 
 /// Feeds references to each profile that does not find their block in front. Where a profile finds
 /// it there, those that its front implies are not asked. So `addrs` becomes those that are left for
 /// all profiles to come, and `led` has, up to the profile `end`, those that are left for the next.
+/// Where the next profile is one of these, both are fed together. If a profile and the next both
+/// lead all later ones, `led` takes the place of `addrs`.
 fn feed_each(profiles: &mut [PairProfile], addrs: &mut [u64], led: &mut [u64])
     requires few { AllByRecursion
         (λ x. fed_of x.profile + length addrs.old ≤ MAX_REFERENCES) profiles.old }
@@ -107,18 +110,51 @@ fn feed_each(profiles: &mut [PairProfile], addrs: &mut [u64], led: &mut [u64])
     let mut led_count = 0;
     let mut end = 0;
     let mut count = addrs.len();
-    for at in 0..profiles.len() {
+    let mut at = 0;
+    while at < profiles.len() {
         let later = profiles.len() - at - 1;
-        let pair = &mut profiles[at];
+        let implied = profiles[at].implied;
         if at < end {
-            led_count = pair.profile.feed_batch(&mut led[..led_count]);
-            end = end.min(at + 1 + pair.implied);
-        } else if pair.implied == later {
-            count = pair.profile.feed_batch(&mut addrs[..count]);
+            end = end.min(at + 1 + implied);
+            if at + 1 < end {
+                let next_implied = profiles[at + 1].implied;
+                led_count = feed_two(profiles, at, &mut led[..led_count]);
+                at += 1;
+                end = end.min(at + 1 + next_implied);
+            } else {
+                led_count = profiles[at].profile.feed_batch(&mut led[..led_count]);
+            }
+        } else if implied == later && !is_followed(profiles, at) {
+            count = profiles[at].profile.feed_batch(&mut addrs[..count]);
         } else {
             led[..count].copy_from_slice(&addrs[..count]);
-            led_count = pair.profile.feed_batch(&mut led[..count]);
-            end = at + 1 + pair.implied;
+            led_count = profiles[at].profile.feed_batch(&mut led[..count]);
+            end = at + 1 + implied;
         }
+        at += 1;
     }
+}
+
+/// Whether what the profile after an index finds in front is in front in all later ones.
+fn is_followed(profiles: &[PairProfile], at: usize) -> bool
+    requires { at < length profiles.now }
+{
+    let next = at + 1;
+    next < profiles.len() && profiles[next].implied == profiles.len() - next - 1
+}
+
+/// Feeds references to the profile at an index, and to the next those that it does not find in
+/// front. Returns how many neither does, which come to the front of `addrs`.
+fn feed_two(profiles: &mut [PairProfile], at: usize, addrs: &mut [u64]) -> usize
+    requires within { at + 1 < length profiles.old }
+    requires few { AllByRecursion
+        (λ x. fed_of x.profile + length addrs.old ≤ MAX_REFERENCES) (drop at profiles.old) }
+    ensures fed { IsFedToTwo at addrs.old profiles.old profiles.new (take result addrs.new) }
+    ensures within { result ≤ length addrs.new }
+    ensures length { length addrs.new ≡ length addrs.old }
+{
+    let (before, after) = profiles.split_at_mut(at + 1);
+    let first = &mut before[at];
+    let second = &mut after[0];
+    first.profile.feed_batch_with(&mut second.profile, addrs)
 }

@@ -1,8 +1,9 @@
 -- References that are fed to profiles many at a time.
-use Rattle.std.specs.Prelude.{⊤, ℕ, ◌≤◌, ◌+◌, ◌-◌, List, [], ◌∷◌, length, take, map}
+use Rattle.std.specs.Prelude.{⊤, ℕ, ◌≤◌, ◌+◌, ◌-◌, List, [], ◌∷◌, ◌≡◌}
+use Rattle.std.specs.Prelude.{length, take, map, slice_index_or, slice_set}
 use Rattle.std.specs.List.{AllByRecursion}
 use Rattle.profile_core.specs.internal.State.{ProfileState}
-use Rattle.profile_core.specs.internal.Fronts.{after_batch, Leads}
+use Rattle.profile_core.specs.internal.Fronts.{after_batch, fed_of_batch, Leads}
 use Rattle.sweep_core.specs.declared.profiles.PairProfile.{PairProfile}
 use Rattle.sweep_core.specs.internal.Implied.{AreBehind}
 
@@ -35,3 +36,15 @@ AreAlwaysBehind n xs =
 pub record AreWaiting (n : ℕ) (addrs : List ℕ) (xs : List PairProfile) : Type 0 where
   pub waiting : length addrs ≤ n
   pub behind : AreAlwaysBehind (n - length addrs) xs
+
+-- The profile at an index was fed some references, and the next those that it did not find in
+-- front; `left` are those that neither did.
+pub record IsFedToTwo (at : ℕ) (addrs : List ℕ) (old now : List PairProfile)
+    (left : List ℕ) : Type 0 where
+  pub first : PairProfile
+  pub second : PairProfile
+  pub first_is : first ≡ slice_index_or old at first
+  pub second_is : second ≡ slice_index_or old (at + 1) second
+  pub fed : now ≡ slice_set (slice_set old at (pair_after_batch addrs first)) (at + 1)
+      (pair_after_batch (fed_of_batch first.profile addrs) second)
+  pub left_are : left ≡ fed_of_batch second.profile (fed_of_batch first.profile addrs)
