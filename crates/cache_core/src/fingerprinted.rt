@@ -1,7 +1,7 @@
 //! A cache of a system. Where its sets have many ways, a block is searched for by fingerprints.
 ghost use Rattle.std.specs.Prelude.{◌≡◌, ◌≤◌, ◌<◌, ◌+◌, ◌*◌, ◌^◌, ℕ, true, length, None, Some};
 ghost use Rattle.std.specs.Prelude.{IfOk, IfSome, Option, is_some, if◌then◌else◌, replicate};
-ghost use Rattle.std.specs.Prelude.{slice_index_or, [], IsTrue};
+ghost use Rattle.std.specs.Prelude.{slice_index_or, [], IsTrue, ◌↔◌};
 ghost use Rattle.cache_core.specs.Geometry.{IsGeometry, block_of, set_of};
 ghost use Rattle.cache_core.specs.Outcomes.{hit_in_front};
 ghost use Rattle.cache_core.specs.Order.{Accesses, FlushesCache, position_of, slots_of};
@@ -194,7 +194,7 @@ fn find_by(policy: Repl, row: &Fingerprints, slots: &[Slot], block: u64) -> Opti
 /// Whether a block is in the second of some slots, and not in the first.
 #[inline(always)]
 fn is_second(slots: &[Slot], block: u64) -> bool
-    ensures { IsTrue result → position_of block slots.now ≡ Some 1 }
+    ensures { IsTrue result ↔ (position_of block slots.now ≡ Some 1) }
 {
     slots.len() > 1 && slots[0].block != block && slots[1].block == block
 }

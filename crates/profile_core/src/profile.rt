@@ -1,6 +1,6 @@
 //! A profile: one pass over references that counts for every associativity up to a depth.
 ghost use Rattle.std.specs.Prelude.{◌≡◌, ◌+◌, ◌-◌, ◌*◌, ◌^◌, ◌<◌, ◌≤◌, List, IfOk, true, false};
-ghost use Rattle.std.specs.Prelude.{[], length, take, drop, sum};
+ghost use Rattle.std.specs.Prelude.{[], length, take, drop, sum, IsTrue, ◌↔◌};
 ghost use Rattle.trace_core.specs.declared.events.Event.{Event};
 ghost use Rattle.cache_core.specs.Geometry.{IsGeometry, geometry_value, block_of, set_of_block};
 ghost use Rattle.cache_core.specs.Windows.{occurrences, counts, probes, held};
@@ -139,9 +139,9 @@ impl Profile {
 
     /// Feeds references by their addresses, one after the other, but for those that find their
     /// block in front, which are left to be counted by `count_fronts`. Those that were fed come to
-    /// the front of `addrs`, in their order. Returns how many they are. A batch of some hundred
-    /// references costs less than the same references by themselves: the processor finds one
-    /// profile's lists in its caches, and foretells more branches.
+    /// the front of `addrs`, in their order. Returns how many they are. Where several profiles are
+    /// fed, a batch of some hundred references mostly costs less than the same references by
+    /// themselves: the processor finds one profile's lists in its caches.
     pub fn feed_batch(&mut self, addrs: &mut [u64]) -> usize
         requires { fed_of self.old + length addrs.old ≤ MAX_REFERENCES }
         ensures step { self.new ≡ after_batch self.old addrs.old }
@@ -256,7 +256,7 @@ impl Profile {
     /// in order.
     #[inline(always)]
     fn has_plain_rows(&self) -> bool
-        ensures { result ≡ true → ArePlain self.now.geometry }
+        ensures { IsTrue result ↔ ArePlain self.now.geometry }
     {
         self.geometry.sets() <= FEW as u64 && self.geometry.e() < DEEP as u64
     }

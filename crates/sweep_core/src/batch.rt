@@ -4,7 +4,7 @@ ghost use Rattle.std.specs.Prelude.{IfOk, take, drop};
 ghost use Rattle.std.specs.List.{AllByRecursion};
 ghost use Rattle.profile_core.specs.internal.State.{fed_of};
 ghost use Rattle.sweep_core.specs.internal.Batches.{AreAlwaysLed, profiles_after_batch};
-ghost use Rattle.sweep_core.specs.internal.Batches.{IsFedToTwo};
+ghost use Rattle.sweep_core.specs.internal.Batches.{IsFedToTwo, leads_rest};
 
 use crate::profiles::PairProfile;
 use profile_core::MAX_REFERENCES;
@@ -138,6 +138,7 @@ fn feed_each(profiles: &mut [PairProfile], addrs: &mut [u64], led: &mut [u64])
 /// Whether what the profile after an index finds in front is in front in all later ones.
 fn is_followed(profiles: &[PairProfile], at: usize) -> bool
     requires { at < length profiles.now }
+    ensures { result ≡ leads_rest (drop (at + 1) profiles.now) }
 {
     let next = at + 1;
     next < profiles.len() && profiles[next].implied == profiles.len() - next - 1

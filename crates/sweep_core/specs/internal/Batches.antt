@@ -1,5 +1,5 @@
 -- References that are fed to profiles many at a time.
-use Rattle.std.specs.Prelude.{⊤, ℕ, ◌≤◌, ◌+◌, ◌-◌, List, [], ◌∷◌, ◌≡◌}
+use Rattle.std.specs.Prelude.{⊤, ℕ, Bool, false, ◌==◌, ◌≤◌, ◌+◌, ◌-◌, List, [], ◌∷◌, ◌≡◌}
 use Rattle.std.specs.Prelude.{length, take, map, slice_index_or, slice_set}
 use Rattle.std.specs.List.{AllByRecursion}
 use Rattle.profile_core.specs.internal.State.{ProfileState}
@@ -24,6 +24,11 @@ abbrev pub AreAlwaysLed : List PairProfile → Type 0
 AreAlwaysLed [] = ⊤
 AreAlwaysLed (x ∷ xs) = (x.implied ≤ length xs) × AllByRecursion
     (λ y. AlwaysLeads x.profile y.profile) (take x.implied xs) × AreAlwaysLed xs
+
+-- whether the first of some profiles leads all others
+abbrev pub leads_rest : List PairProfile → Bool
+leads_rest [] = false
+leads_rest (x ∷ xs) = x.implied == length xs
 
 -- Profiles that may be fed all of n references but some that found their block in front, and any
 -- others then.
