@@ -2,10 +2,10 @@
 use Rattle.std.proofs.Common.{◌+◌, ◌<◌, ◌∙◌, sym, subst, get_or, length, arith}
 use Rattle.std.proofs.Math.ListN.{set}
 use Rattle.profile_core.proofs.Batches.{AreFedTo, both_front, next_front, both_behind}
-use Rattle.profile_core.proofs.profile.Profile.feed_plain_rows_with.Goals as goal
-use Rattle.profile_core.proofs.profile.Profile.feed_plain_rows_with.Goals.{then-not-feed_in+then-not-feed_in-2}
-use Rattle.profile_core.proofs.profile.Profile.feed_plain_rows_with.Goals.{then-not-feed_in+else-not-feed_in-2}
-use Rattle.profile_core.proofs.profile.Profile.feed_plain_rows_with.Goals.{else-not-feed_in}
+use Rattle.profile_core.proofs.profile.Profile.feed_both_in.Goals as goal
+use Rattle.profile_core.proofs.profile.Profile.feed_both_in.Goals.{then-not-feed_in+then-not-feed_in-2}
+use Rattle.profile_core.proofs.profile.Profile.feed_both_in.Goals.{then-not-feed_in+else-not-feed_in-2}
+use Rattle.profile_core.proofs.profile.Profile.feed_both_in.Goals.{else-not-feed_in}
 
 pub loop-at-preserved : goal.loop-at-preserved
 loop-at-preserved c =

@@ -1,6 +1,6 @@
 -- The references so far were fed to both.
 use Rattle.profile_core.proofs.Batches.{AreFedTo}
-use Rattle.profile_core.proofs.profile.Profile.feed_plain_rows_with.Given as goal
+use Rattle.profile_core.proofs.profile.Profile.feed_both_in.Given as goal
 
 abbrev pub invariant-loop-at : goal.invariant-loop-at
 invariant-loop-at l =
