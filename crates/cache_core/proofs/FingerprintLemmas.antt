@@ -13,6 +13,7 @@ use Rattle.std.proofs.lemmas.List.Sums.{fails_before_first, position_or_len_is}
 use Rattle.std.proofs.lemmas.Bool.{cases_lt, eq-eqb, eqb-true}
 use Rattle.std.proofs.lemmas.Bool.Decides.{eqb_tells}
 use Rattle.cache_core.proofs.Lawful.{marked_length}
+use Rattle.cache_core.proofs.FingerprintsLaw.{fingerprint_at}
 use Rattle.std.specs.Option.{option_map}
 use Rattle.std.proofs.lemmas.List.Edits.{length-remove}
 use Rattle.std.proofs.lemmas.List.Quantifiers.{position-Some}
@@ -439,6 +440,24 @@ module _ (old new : CacheValue ChosenPolicy) (name : Repl) (ref : Ref) (outcome 
 
   abbrev the_row : List ℕ
   the_row = get_or rows number []
+
+  -- the fingerprint of a block that was found stands at its index
+  pub found_in_row : IfSome at (λ k.
+      get_or the_row k 0 ≡ fingerprint_of (block_of old.design.geometry ref.addr))
+  found_in_row = by_place at found
+    where
+      by_place : (o : Option ℕ) → o ≡ position_of (block_of old.design.geometry ref.addr)
+          (slots_of old.sets number) →
+          IfSome o (λ k.
+          get_or the_row k 0 ≡ fingerprint_of (block_of old.design.geometry ref.addr))
+      by_place (Some k) e =
+          let there = position-Some
+          (λ (x : Slot). x.block == block_of old.design.geometry ref.addr)
+          (slots_of old.sets number) k none (sym e) in
+          fingerprint_at (block_of old.design.geometry ref.addr) (slots_of old.sets number) the_row
+          (known number lt).same k none there.0
+          ∙ ap fingerprint_of (eqb-true _ (block_of old.design.geometry ref.addr) there.1)
+      by_place None e = tt
 
   pub way_within_row : at ≡ None → outcome.placed ≡ true → way < length the_row
   way_within_row missed placed =

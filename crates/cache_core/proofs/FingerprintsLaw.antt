@@ -48,7 +48,7 @@ none_before_next block slots at e before here k d lt within =
 
 module _ (block : ℕ) (slots : List Slot) (row : List ℕ) (same : AreFingerprints slots row) where
   -- the fingerprint of a slot
-  fingerprint_at : (k : ℕ) (d : Slot) → k < length slots →
+  pub fingerprint_at : (k : ℕ) (d : Slot) → k < length slots →
       get_or row k 0 ≡ fingerprint_of (get_or slots k d).block
   fingerprint_at k d within =
       sym (get_or-take (length slots) row k 0 within)

@@ -380,7 +380,7 @@ fn find_block(slots: &[Slot], block: u64) -> Option<usize>
 
 /// How many of the four slots from an index on come before the first that holds a block.
 #[inline(always)]
-fn others_of_four(slots: &[Slot], at: usize, block: u64) -> usize
+pub(crate) fn others_of_four(slots: &[Slot], at: usize, block: u64) -> usize
     requires { at + 4 ≤ length slots.now }
     ensures most { result ≤ 4 }
     ensures others { NoneBefore block slots.now at → NoneBefore block slots.now (at + result) }

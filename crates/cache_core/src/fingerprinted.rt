@@ -13,7 +13,7 @@ ghost use Rattle.cache_core.specs.internal.Fingerprints.{AreRows, row_after, row
 ghost use Rattle.cache_core.specs.internal.Fingerprints.{fingerprint_of, AreFingerprints};
 ghost use Rattle.cache_core.specs.Rules.{rules, is_random};
 
-use crate::cache::Cache;
+use crate::cache::{Cache, others_of_four};
 use crate::design::{AllocMode, Repl, WriteMode};
 use crate::fingerprints::Fingerprints;
 use crate::geometry::Geometry;
@@ -172,60 +172,33 @@ fn access_by_rows(
     let at = find_by(policy, &rows[set], slots, block);
     let (outcome, way) = cache.access_at(reference, at);
     let last = filled.min(geometry.e() as usize - 1);
-    follow_soon(policy, &mut rows[set], at, outcome.placed, last, way, block);
+    follow(policy, &mut rows[set], at, outcome.placed, last, way, block);
     outcome
 }
 
-/// The index of a block among the slots of a set, if it is there. Under LRU most blocks that are
-/// not in front are second, so this slot is looked at before the row.
+/// The index of a block among the slots of a set, if it is there. Under LRU most blocks are in the
+/// first slots, so four are looked at before the row.
 #[inline(always)]
 fn find_by(policy: Repl, row: &Fingerprints, slots: &[Slot], block: u64) -> Option<usize>
     requires room { length slots.now + 16 ≤ length row.now }
     requires same { AreFingerprints slots.now row.now }
     ensures { result ≡ position_of block slots.now }
 {
-    if policy == Repl::Lru && is_second(slots, block) {
-        Some(1)
-    } else {
-        row.find(slots, block)
+    if policy != Repl::Lru || slots.len() < 4 {
+        return row.find(slots, block, 0);
     }
-}
-
-/// Whether a block is in the second of some slots, and not in the first.
-#[inline(always)]
-fn is_second(slots: &[Slot], block: u64) -> bool
-    ensures { IsTrue result ↔ (position_of block slots.now ≡ Some 1) }
-{
-    slots.len() > 1 && slots[0].block != block && slots[1].block == block
+    let others = others_of_four(slots, 0, block);
+    if others < 4 {
+        Some(others)
+    } else {
+        row.find(slots, block, 4)
+    }
 }
 
 /// A row after an access that found its block at an index, or placed it in a way, or did neither.
-/// Where it found the block second under LRU, two fingerprints change places.
+/// A block that was found leaves the row as it is, but under LRU, where its fingerprint comes to
+/// the front.
 #[inline(always)]
-fn follow_soon(
-    policy: Repl,
-    row: &mut Fingerprints,
-    at: Option<usize>,
-    placed: bool,
-    last: usize,
-    way: usize,
-    block: u64,
-)
-    requires at { IfSome at (λ at. at < length row.old) }
-    requires last { last < length row.old }
-    requires way { at ≡ None → placed ≡ true → way < length row.old }
-    ensures { row.new ≡ row_followed policy at placed last way (fingerprint_of block) row.old }
-{
-    if policy == Repl::Lru && at == Some(1) {
-        row.bring_second(block);
-    } else {
-        follow(policy, row, at, placed, last, way, block);
-    }
-}
-
-/// The same for any access.
-/// It stands apart, so that the path of few ways stays short.
-#[inline(never)]
 fn follow(
     policy: Repl,
     row: &mut Fingerprints,
@@ -236,12 +209,17 @@ fn follow(
     block: u64,
 )
     requires at { IfSome at (λ at. at < length row.old) }
+    requires same { IfSome at (λ at. slice_index_or row.old at 0 ≡ fingerprint_of block) }
     requires last { last < length row.old }
     requires way { at ≡ None → placed ≡ true → way < length row.old }
     ensures { row.new ≡ row_followed policy at placed last way (fingerprint_of block) row.old }
 {
     match at {
-        Some(at) => follow_touch(policy, row, at, block),
+        Some(at) => {
+            if policy == Repl::Lru {
+                row.bring_found(at, block);
+            }
+        }
         None => {
             if placed {
                 follow_placing(policy, row, last, way, block);
@@ -250,20 +228,9 @@ fn follow(
     }
 }
 
-/// Moves a fingerprint as the policy moves the slot that it touches.
-fn follow_touch(policy: Repl, row: &mut Fingerprints, at: usize, block: u64)
-    requires { at < length row.old }
-    ensures { row.new ≡ row_after (rules policy).touched at (fingerprint_of block) row.old }
-{
-    if policy == Repl::Lru {
-        row.bring(at, block);
-    } else {
-        row.put(at, block);
-    }
-}
-
 /// Puts a fingerprint where the policy puts the slot that it places: in front, where the last one
-/// leaves, or in a way.
+/// leaves, or in a way. It stands apart, so that the path of few ways stays short.
+#[inline(never)]
 fn follow_placing(policy: Repl, row: &mut Fingerprints, last: usize, way: usize, block: u64)
     requires last { last < length row.old }
     requires way { way < length row.old }

@@ -5,6 +5,7 @@ ghost use Rattle.std.specs.Prelude.{replicate, remove, slice_set};
 ghost use Rattle.std.specs.List.{prefix_len};
 ghost use Rattle.cache_core.specs.Order.{position_of};
 ghost use Rattle.cache_core.specs.internal.Fingerprints.{fingerprint_of, AreFingerprints};
+ghost use Rattle.cache_core.specs.internal.Order.{NoneBefore};
 
 use crate::outcome::Slot;
 use std::alloc::{AllocError, Global};
@@ -42,16 +43,17 @@ impl Fingerprints {
         })
     }
 
-    /// The index of a block among the slots, if it is there. Only a slot with its fingerprint is
-    /// looked at.
+    /// The index of a block among the slots, if it is there, where it is in none before `from`.
+    /// Only a slot with its fingerprint is looked at.
     #[inline(never)]
-    pub(crate) fn find(&self, slots: &[Slot], block: u64) -> Option<usize>
+    pub(crate) fn find(&self, slots: &[Slot], block: u64, from: usize) -> Option<usize>
         requires room { length slots.now + 16 ≤ length self.now }
         requires same { AreFingerprints slots.now self.now }
+        requires none { NoneBefore block slots.now from }
         ensures { result ≡ position_of block slots.now }
     {
         let wanted = fingerprint(block);
-        let mut at = 0;
+        let mut at = from;
         while at < slots.len() {
             let others = others_before(&self.row[at..], wanted);
             at += others;
@@ -65,7 +67,22 @@ impl Fingerprints {
         None
     }
 
+    /// Brings the fingerprint of a block that was found at an index to the front. Most are among
+    /// the first four.
+    #[inline(always)]
+    pub(crate) fn bring_found(&mut self, at: usize, block: u64)
+        requires { at < length self.old }
+        ensures { self.new ≡ fingerprint_of block ∷ remove self.old at }
+    {
+        if at < 4 {
+            self.bring_near(at, block);
+        } else {
+            self.bring(at, block);
+        }
+    }
+
     /// Brings a fingerprint to the front, in place of that at an index.
+    #[inline(never)]
     pub(crate) fn bring(&mut self, at: usize, block: u64)
         requires { at < length self.old }
         ensures { self.new ≡ fingerprint_of block ∷ remove self.old at }
@@ -73,13 +90,22 @@ impl Fingerprints {
         bring_to_front(&mut self.row, at, fingerprint(block));
     }
 
-    /// Brings the fingerprint of the second slot to the front.
+    /// The same, in place of one of the first four.
     #[inline(always)]
-    pub(crate) fn bring_second(&mut self, block: u64)
-        requires { 1 < length self.old }
-        ensures { self.new ≡ fingerprint_of block ∷ remove self.old 1 }
+    fn bring_near(&mut self, at: usize, block: u64)
+        requires near { at < 4 }
+        requires within { at < length self.old }
+        ensures { self.new ≡ fingerprint_of block ∷ remove self.old at }
     {
-        self.row[1] = self.row[0];
+        if at > 2 {
+            self.row[3] = self.row[2];
+        }
+        if at > 1 {
+            self.row[2] = self.row[1];
+        }
+        if at > 0 {
+            self.row[1] = self.row[0];
+        }
         self.row[0] = fingerprint(block);
     }
 
