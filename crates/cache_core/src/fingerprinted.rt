@@ -1,7 +1,7 @@
 //! A cache of a system. Where its sets have many ways, a block is searched for by fingerprints.
 ghost use Rattle.std.specs.Prelude.{◌≡◌, ◌≤◌, ◌<◌, ◌+◌, ◌*◌, ◌^◌, ℕ, true, length, None, Some};
 ghost use Rattle.std.specs.Prelude.{IfOk, IfSome, Option, is_some, if◌then◌else◌, replicate};
-ghost use Rattle.std.specs.Prelude.{slice_index_or, [], IsTrue, ◌↔◌};
+ghost use Rattle.std.specs.Prelude.{slice_index_or, []};
 ghost use Rattle.cache_core.specs.Geometry.{IsGeometry, block_of, set_of};
 ghost use Rattle.cache_core.specs.Outcomes.{hit_in_front};
 ghost use Rattle.cache_core.specs.Order.{Accesses, FlushesCache, position_of, slots_of};
@@ -54,7 +54,7 @@ impl Model for FingerprintedCache {
 
 impl FingerprintedCache {
     /// An empty cache. It takes all its memory here, and that alone can fail: that of a cache, and
-    /// if its sets have 64 ways or more, a byte for each line and 48 for each set.
+    /// if its sets have 64 ways or more, a byte for each line and 40 for each set.
     pub(crate) fn new(
         alloc: Global,
         geometry: Geometry,
