@@ -1,0 +1,205 @@
+"""bench/run, on programs that stand for the two builds: what it stops at, and with which status."""
+
+import os
+import re
+import shutil
+import unittest
+
+import base
+
+RUN = base.TOP / "bench/run"
+GOOD = 'echo "sweep 4049 b4f2c625a41b7a36"', 'echo "din 733 896b3ccdbea6edb5"'
+JOBS = "sweep --sets 1 / din -l1-usize 1k"
+
+
+class Bench(base.ToolTest):
+    """Each test has the checkouts old and new, with one workload and programs that end well."""
+
+    def setUp(self):
+        super().setUp()
+        for checkout in ("old", "new"):
+            (self.folder / checkout / "bench").mkdir(parents=True)
+            self.program(checkout, *GOOD)
+        self.workloads(f"usual user_jobs SEED + program 10 / {JOBS}")
+
+    def program(self, checkout, *lines, crate="user_jobs"):
+        """A script for bash as the program of a checkout."""
+        (self.folder / checkout / f"crates/{crate}/out").mkdir(parents=True, exist_ok=True)
+        return self.executable(f"{checkout}/crates/{crate}/out/{crate}", *lines)
+
+    def workloads(self, *lines):
+        self.write("new/bench/workloads.txt", "".join(f"{line}\n" for line in lines))
+
+    def bench(self, *more, old="old", new="new"):
+        return self.run_command(RUN, old, new, *more)
+
+    def stops(self, status, fault, *more, header=True, **given):
+        """It ends with this status and one line, and has written no line of the table."""
+        ran = self.bench(*more, **given)
+        self.assertRegex(ran.stderr.decode(), rf"\Abench/run: {fault}\n\Z")
+        self.assertEqual(ran.returncode, status)
+        self.assertEqual(len(ran.stdout.splitlines()), 1 if header else 0)
+
+    def wrong(self, fault, *more, **given):
+        """It ends with status 2 and one line before it runs anything."""
+        for checkout in ("old", "new"):
+            self.program(checkout, f"touch {self.folder}/ran")
+        self.stops(2, fault, *more, header=False, **given)
+        self.assertFalse((self.folder / "ran").exists())
+
+
+class Runs(Bench):
+    def test_what_it_prints(self):
+        self.workloads("usual user_jobs SEED + program 10 / sweep", "",
+                       "other user_jobs SEED + lackey 10 / csim")
+        lines = self.good(self.bench()).splitlines()
+        self.assertEqual(lines[0].split(), "old (least) new (least) old/new".split())
+        self.assertEqual([line.split()[0] for line in lines[1:]], ["usual", "other"])
+        for line in lines[1:]:
+            self.assertRegex(line, r"^\w+( +\d+\.\d{3}  \(\d+\.\d{3}\)){2} +(\d+\.\d{3}|inf)$")
+        lines = self.good(self.bench("--only", "other")).splitlines()
+        self.assertEqual([line.split()[0] for line in lines[1:]], ["other"])
+
+    def test_what_it_runs(self):
+        """By turns, with the words of the line, the seed in place of its word, in bench/."""
+        kept = f'echo "$0 $* in $PWD" >> {self.folder}/ran'
+        for checkout in ("old", "new"):
+            self.program(checkout, kept, *GOOD)
+        self.good(self.bench("4242", "--turns", "8"))
+        ran = (self.folder / "ran").read_text().splitlines()
+        told = [line.replace(f"{self.folder}/", "") for line in ran]
+        of = {name: f"{name}/crates/user_jobs/out/user_jobs 4242 + program 10 / {JOBS} in "
+                    f"{name}/bench" for name in ("old", "new")}
+        turns = [[of["new"], of["old"]], [of["old"], of["new"]]]
+        self.assertEqual(told, [line for at in range(9) for line in turns[at % 2]])
+
+    def test_a_file_that_is_read(self):
+        """Of a crate that prints no digests."""
+        for checkout in ("old", "new"):
+            self.program(checkout, "read line", 'echo "$1 $line"', crate="cachesim")
+            self.write(f"{checkout}/bench/trace", "0 10\n")
+        self.workloads("piped cachesim sweep <trace")
+        self.good(self.bench())
+        self.write("old/bench/trace", "0 20\n")
+        self.stops(1, "piped: the outputs differ")
+
+    def test_help(self):
+        self.assertIn("\n    bench/run OLD NEW ", self.good(self.run_command(RUN, "--help")))
+
+
+class Faults(Bench):
+    """Where a program does other than end well, or than the other, no ratio is told."""
+
+    def of_both(self, *lines):
+        for checkout in ("old", "new"):
+            self.program(checkout, *lines)
+
+    def test_outputs_that_differ(self):
+        self.program("new", GOOD[0], 'echo "din 733 896b3ccdbea6edb6"')
+        self.stops(1, "usual: the outputs differ")
+
+    def test_programs_that_fail_alike(self):
+        for line, told in (
+            ("echo user_jobs: out of memory >&2; exit 1",
+             "ended with status 1: user_jobs: out of memory"),
+            ("printf 'one\\ntwo\\n' >&2; exit 2", "ended with status 2: one"),
+            ("exit 3", "ended with status 3"),
+            ("kill -KILL $$", "ended by signal 9"),
+        ):
+            with self.subTest(line):
+                self.of_both(*GOOD, line)
+                self.stops(1, rf"usual: {self.folder}/(old|new)/\S*/user_jobs: {told}")
+
+    def test_one_that_fails(self):
+        for checkout in ("old", "new"):
+            with self.subTest(checkout):
+                self.of_both(*GOOD)
+                self.program(checkout, *GOOD, "exit 1")
+                self.stops(1, rf"usual: {self.folder}/{checkout}/\S*: ended with status 1")
+
+    def test_one_that_fails_late(self):
+        """In its last turn."""
+        counted = f'echo >> {self.folder}/ran; [ $(wc -l < {self.folder}/ran) -lt 8 ] || exit 1'
+        self.program("new", *GOOD, counted)
+        self.stops(1, rf"usual: {self.folder}/new/\S*: ended with status 1")
+        self.assertEqual(len((self.folder / "ran").read_text().splitlines()), 8)
+
+    def test_faults_in_place_of_digests(self):
+        """As user_jobs prints them, which ends with 0."""
+        for line in ("csim line 1: bad label", "swep error: unrecognized subcommand 'swep'",
+                     "sweep out of memory", "sweep --sets: 3 is no power of two",
+                     "sweep 4049 b4f2c625a41b7a3", "sweep 4049"):
+            with self.subTest(line):
+                self.of_both(GOOD[0], f'echo "{line}"', GOOD[1])
+                self.stops(1, rf"usual: {self.folder}/\S*: {re.escape(line)}")
+
+    def test_no_command(self):
+        self.of_both("")
+        self.stops(1, rf"usual: {self.folder}/\S*: no command")
+
+    def test_the_second_workload(self):
+        """The line of the first stands in the table."""
+        self.of_both(*GOOD, '[ "$3" = program ] || exit 1')
+        self.workloads("usual user_jobs SEED + program 10", "other user_jobs SEED + lackey 10")
+        ran = self.bench()
+        self.assertEqual((ran.returncode, ran.stdout.decode().split()[5]), (1, "usual"))
+        self.assertRegex(ran.stderr.decode(), r"\Abench/run: other: .* ended with status 1\n\Z")
+
+
+class WrongInput(Bench):
+    def test_arguments(self):
+        for told, *more in (
+            ("argument --turns: '6' is no number from 7 on", "--turns", "6"),
+            ("argument --turns: 'x' is no number from 7 on", "--turns", "x"),
+            ("argument SEED: '4294967296' is no number of 0 to 4294967295", 2**32),
+            ("argument SEED: 'x' is no number of 0 to 4294967295", "x"),
+            ("unrecognized arguments: --bogus", "--bogus"),
+        ):
+            with self.subTest(more):
+                self.wrong(f"{told}; 'bench/run --help' explains the arguments", *more)
+
+    def test_an_unknown_workload(self):
+        self.wrong(r"no workload usua in new/bench/workloads\.txt", "--only", "usua")
+
+    def test_workloads(self):
+        """Also of a line that is not asked for."""
+        for line in ("alone", "wrong <trace", "wrong user_jobs <", "wrong user_jobs \0"):
+            with self.subTest(line):
+                self.workloads("usual user_jobs SEED", "", line)
+                told = r"new/bench/workloads\.txt: line 3 is no name, crate and words"
+                self.wrong(told, "--only", "usual")
+        for text, told in (("", "no workload"), (b"\xff user_jobs\n", "no text")):
+            with self.subTest(text):
+                self.write("new/bench/workloads.txt", text)
+                self.wrong(rf"new/bench/workloads\.txt: {told}")
+        os.remove(self.folder / "new/bench/workloads.txt")
+        self.wrong(r"new/bench/workloads\.txt: No such file or directory")
+
+    def test_checkouts(self):
+        self.wrong(r"absent/bench/workloads\.txt: No such file or directory", new="absent")
+        self.wrong("no folder absent/bench", old="absent")
+        shutil.rmtree(self.folder / "old/bench")
+        self.wrong("no folder old/bench")
+
+    def test_programs(self):
+        """Of each workload, before the first is run."""
+        built = "'rt run' in crates/other builds it"
+        self.workloads("usual user_jobs SEED", "second other SEED")
+        self.program("new", *GOOD, crate="other")
+        told = rf"no program {self.folder}/old/crates/other/out/other: {built}"
+        self.wrong(told)
+        self.program("old", *GOOD, crate="other").chmod(0o644)
+        self.wrong(told)
+
+    def test_a_program_of_no_known_form(self):
+        (self.folder / "old/crates/user_jobs/out/user_jobs").write_bytes(b"\x7fELF")
+        self.stops(2, rf"{self.folder}/old/\S*: Exec format error")
+
+    def test_a_file_that_is_missing(self):
+        self.workloads("usual user_jobs SEED <trace")
+        self.write("new/bench/trace", "")
+        self.wrong("no file old/bench/trace that can be read")
+
+
+if __name__ == "__main__":
+    unittest.main()
