@@ -96,8 +96,7 @@ impl<const CAPACITY: usize> Text<CAPACITY> {
         self.push(buffer.format(number).as_bytes());
     }
 
-    /// Adds a number in lower-case hexadecimal digits. Its digits are moved to the front of
-    /// sixteen,
+    /// Adds a number in lower-case hexadecimal digits. They are moved to the front of sixteen,
     /// which are then made and stored all at once, so no branch depends on how many they are.
     #[inline(always)]
     pub fn push_hexadecimal(&mut self, number: u64)
