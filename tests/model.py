@@ -131,20 +131,16 @@ def windows(events, s, b):
 
     Both look back no further than the last flush. The distance is the number of different blocks of
     the set in between, and None where the block wasn't referenced before."""
-    found = []
-    for i, event in enumerate(events):
+    found, of_set = [], {}  # blocks of each set since the last flush, the latest first
+    for event in events:
         if event is FLUSH:
+            of_set = {}
             continue
         block = event.addr >> b
-        before = []  # blocks of this set, the latest first
-        for j in range(i - 1, -1, -1):
-            if events[j] is FLUSH:
-                break
-            other = events[j].addr >> b
-            if other % 2**s == block % 2**s:
-                before.append(other)
+        before = of_set.setdefault(block % 2**s, [])
         distance = len(set(before[: before.index(block)])) if block in before else None
         found.append((distance, len(set(before))))
+        before.insert(0, block)
     return found
 
 
@@ -333,8 +329,11 @@ def log(job, text, write):
 
 # ---- sweep
 
+POWERS = {2**k for k in range(64)}
+
+
 def is_power(n):
-    return n in {2**k for k in range(64)}
+    return n in POWERS
 
 
 def table(space):

@@ -4,11 +4,16 @@ So a test that is disarmed is seen here. The programs are the right one with the
 wrong_program.c.
 """
 
+import contextlib
+import importlib
+import io
+import itertools
 import re
 import subprocess
 import unittest
 
 import base
+import common
 
 # what passed and what failed, without what was seen
 SEEN = r": (?:wanted |at most |as the manual|no refusal|\(|\d+ KiB|\d+\.\d+ s|\d+ growths).*"
@@ -76,6 +81,46 @@ class Fuzz(Wrong):
             text = self.fails("fuzz", ["BYTE"], "--commands", command, "--only", index)
             self.assertIn(f"FAILED case {index} of seed 1\n", text)
             self.assertEqual(self.failed(text), 1)
+
+    WRONG_AT_17 = (
+        r'[[ " $* " =~ (assoc|-E)\ ([0-9]+-)?17\  ]] || exec "$CACHESIM" "$@"',
+        r""""$CACHESIM" "$@" | sed -zE 's/9([^0-9]*)$/0\1/; t; s/[0-8]([^0-9]*)$/9\1/'""",
+        'exit "${PIPESTATUS[0]}"',
+    )
+
+    def case_of(self, command, ways):
+        """The number of a case at a threshold, whose words name its ways."""
+        fuzz, places = base.script("fuzz"), importlib.import_module("thresholds").PLACES
+        for at in range(places.index((command, "ways", ways)), 500, len(places)):
+            index = (at + 1) * fuzz.THRESHOLD_EACH - 1
+            words = " ".join(fuzz.case(1, index, fuzz.COMMANDS)[0])
+            if re.search(rf"(assoc|-E) ([0-9]+-)?{ways}\b", words):
+                return index
+
+    def test_of_thresholds(self):
+        """What is wrong with 17 ways alone is found of each command, in a case of 17 ways and in
+        none of 16. It is the last digit that is written."""
+        wrong = self.executable("wrong", *self.WRONG_AT_17)
+        for command, ways in itertools.product(base.script("fuzz").COMMANDS, (16, 17)):
+            with self.subTest((command, ways)):
+                words = ["--program", wrong, "--only", self.case_of(command, ways)]
+                ran = self.run_command(base.TOP / "tests/fuzz", *words)
+                failed = self.failed(ran.stdout.decode())
+                self.assertEqual((failed, ran.returncode), (int(ways == 17),) * 2)
+
+    def test_of_places(self):
+        """Each threshold has cases by what the model makes of them, and too few are told."""
+        fuzz, thresholds = base.script("fuzz"), importlib.import_module("thresholds")
+        variety, total = fuzz.Variety(), common.Sum()
+        variety.random, variety.bad, variety.seeds = 10000, 5000, set(range(500))
+        variety.stood.update(dict.fromkeys(thresholds.PLACES, 2))
+        with contextlib.redirect_stdout(io.StringIO()) as told:
+            variety.judge(total)
+            self.assertEqual((total.passed, total.failed), (3, 0))
+            variety.stood[thresholds.PLACES[0]] = 1
+            variety.judge(total)
+        self.assertEqual((total.passed, total.failed), (5, 1))
+        self.assertIn("[('sweep', 'ways', 11)]", told.getvalue().splitlines()[-1])
 
     def test_a_report_that_does_not_count_the_log(self):
         """Where din alone is wrong, in the name of a cache, it is found of each that is reached.
