@@ -1,7 +1,7 @@
 #   make                        proves and builds the program (8 minutes on four processors), and
 #                               says where it is
-#   make demo                   sweeps an example within a minute; without a proved program it makes
-#                               an unproved one, which tests/run takes
+#   make demo                   sweeps an example; without a proved program by 'rt try', which takes
+#                               a minute, proves nothing and does not keep its program
 #   make test                   proves everything and tests the program; the last line is 'N passed,
 #                               M failed'
 #   make test-tools             builds the program and tests the tools and the package with it

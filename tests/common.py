@@ -14,7 +14,6 @@ import tempfile
 
 TOP = pathlib.Path(__file__).resolve().parent.parent
 PROGRAM = TOP / "crates/cachesim/out/cachesim"
-UNPROVED = PROGRAM.with_name("cachesim.unproved")  # make demo leaves it
 RT = os.environ.get("RT", "rt")
 # how many cases each script of the gate runs, and what its last run had
 SUMS, LEFT = TOP / "tests/sums", TOP / "out/sums"
@@ -36,35 +35,20 @@ class Arguments(argparse.ArgumentParser):
     def error(self, message):
         self.exit(2, f"{self.prog}: {message}; '{self.prog} --help' explains the arguments\n")
 
-    def of_program(self, may_be_unproved=False):
+    def of_program(self):
         """The arguments with --program, which gets the path of a program that can be run: without
-        it the proved one, or, where it may be unproved, that of make demo, if it is newer."""
+        it the proved one."""
         self.add_argument("--program", type=pathlib.Path)
         asked = self.parse_args()
         path = asked.program or PROGRAM
-        if not asked.program and may_be_unproved and is_newer(UNPROVED, PROGRAM):
-            path = UNPROVED
-            name = path.relative_to(TOP)
-            print(f"with the unproved program of make demo, {name}: make proves it", flush=True)
-        if not is_program(path):
-            makes = "make builds it" + ", make demo an unproved one" * may_be_unproved
-            print(f"no program {path}: {makes}\n0 passed, 1 failed")
+        if not (path.is_file() and os.access(path, os.X_OK)):
+            print(f"no program {path}: make builds it\n0 passed, 1 failed")
             sys.exit(1)
         if changed := not asked.program and changed_since(path):
             older, newer = path.relative_to(TOP), changed.relative_to(TOP)
             print(f"{older} is older than {newer}: make builds it anew", flush=True)
         asked.program = str(path.resolve())
         return asked
-
-
-def is_program(path):
-    return path.is_file() and os.access(path, os.X_OK)
-
-
-def is_newer(path, other):
-    if not is_program(path) or not is_program(other):
-        return is_program(path)
-    return path.stat().st_mtime > other.stat().st_mtime
 
 
 def is_worked(path):

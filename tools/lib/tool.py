@@ -171,13 +171,12 @@ def size_text(size):
 
 
 def find_cachesim():
-    """The path of the program: $CACHESIM's, else this checkout's, the tools' own, the path's, or
-    the unproved one of make demo."""
+    """The path of the program: $CACHESIM's, else this checkout's, the tools' own, or the path's."""
     named = os.environ.get("CACHESIM")
     near = [os.path.join(HERE, folder) for folder in ("../crates/cachesim/out", "../../bin")]
     paths = [os.path.join(folder, "cachesim") for folder in
              [*near, *os.environ.get("PATH", "").split(":")]]
-    for path in [named] if named else [*paths, f"{near[0]}/cachesim.unproved"]:
+    for path in [named] if named else paths:
         if os.path.isfile(path) and os.access(path, os.X_OK):
             path = os.path.join(".", path)
             fault = f"{path} is not cachesim: it doesn't write a sweep's table"
