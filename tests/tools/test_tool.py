@@ -10,6 +10,7 @@ import unittest
 import common
 from base import ToolTest, comes, copy_tools
 from lib import tool
+from lib.compiled import Make
 
 
 class Sizes(unittest.TestCase):
@@ -87,6 +88,32 @@ class Compiling(ToolTest):
             self.assertEqual((told, running.returncode), (b"", -number))
             self.assertTrue(comes(lambda: not self.made()))
             begun.unlink()
+
+    def test_a_second_signal(self):
+        """make hands one to its shell, which may come while the shell removes the file."""
+        copy_tools(self.folder)
+        begun, removing = self.folder / "begun", self.folder / "removing"
+        self.stand_in("rm", f"touch '{removing}'", "sleep 0.3", f'exec {shutil.which("rm")} "$@"')
+        path = self.stand_in("cc", f"touch '{begun}' \"${{@: -2:1}}\"", "exec sleep 60")
+        given = {**self.in_folder(**path), "stderr": subprocess.PIPE, "start_new_session": True}
+        for number in (signal.SIGTERM, signal.SIGINT, signal.SIGHUP):
+            with subprocess.Popen(["make", "-s", "-C", self.folder, "out/to-din"],
+                                  **given) as running:
+                self.assertTrue(comes(begun.exists))
+                os.killpg(running.pid, number)
+                self.assertTrue(comes(removing.exists))
+                os.killpg(running.pid, number)
+                self.end_of(running)
+            self.assertTrue(comes(lambda: not self.made(), 3), self.made())
+            begun.unlink()
+            removing.unlink()
+
+    def test_a_make_that_has_just_ended(self):
+        """A signal may come before its end is noted."""
+        maker = Make(["true"], setpgroup=0)
+        os.waitpid(maker.number, 0)
+        maker.kill()
+        self.assertFalse(maker.is_running)
 
     def test_a_compiler_that_fails(self):
         """Nothing of a part is left, which would be taken for the whole."""

@@ -1,5 +1,6 @@
 """The C parts of tools, which make compiles at their first use."""
 
+import contextlib
 import os
 import signal
 import sys
@@ -13,8 +14,9 @@ class Make(Helper):
 
     def kill(self):
         if self.is_running:
-            os.killpg(self.number, signal.SIGTERM)
-            os.waitpid(self.number, 0)
+            with contextlib.suppress(ProcessLookupError, ChildProcessError):  # not noted its end
+                os.killpg(self.number, signal.SIGTERM)
+                os.waitpid(self.number, 0)
             self.is_running = False
 
 
