@@ -65,11 +65,11 @@ def script(name):
 
 
 def comes(condition, seconds=20):
-    """Whether a condition comes true within some time."""
+    """Whether a condition comes true within some time, if only for a moment."""
     until = time.monotonic() + seconds
-    while not condition() and time.monotonic() < until:
+    while not (is_true := bool(condition())) and time.monotonic() < until:
         time.sleep(0.001)
-    return condition()
+    return is_true
 
 
 def all_processes(*names):

@@ -1,12 +1,16 @@
 """What the tools share: signals, packed traces, the program, cut traces."""
 
+import fcntl
 import gzip
 import itertools
 import os
 import shutil
 import signal
+import struct
 import subprocess
+import termios
 import time
+import unittest
 
 from base import EXAMPLES, PROGRAM, TOOLS, ToolTest, all_processes, comes, copy_tools
 
@@ -86,6 +90,20 @@ class Traces(Shared):
             self.assertEqual((ran.returncode, ran.stdout), (1, b"0 10\n" + last))
 
 
+def is_drained(pipe):
+    """Whether all that was written to a pipe has been read."""
+    return fcntl.ioctl(pipe, termios.FIONREAD, bytes(4)) == struct.pack("i", 0)
+
+
+class Waiting(unittest.TestCase):
+    def test_what_comes_for_a_moment(self):
+        """What is true once is not asked again, and what never is, is not."""
+        answers = iter((False, True, False))
+        self.assertIs(comes(lambda: next(answers)), True)
+        self.assertIs(next(answers), False)
+        self.assertIs(comes(lambda: [], seconds=0), False)
+
+
 class Signals(Shared):
     def waiting(self):
         """The processes whose folder for temporary files is that of this test."""
@@ -95,16 +113,18 @@ class Signals(Shared):
 
     def test_an_idle_input(self):
         """Where no line comes, a tool ends at once without a word, and no file or process stays."""
-        given = {"stdout": subprocess.DEVNULL, "stderr": subprocess.PIPE,
+        given = {"stdout": subprocess.DEVNULL, "stderr": subprocess.PIPE, "start_new_session": True,
                  "env": self.in_folder(TMPDIR=str(self.folder))["env"]}
         for tool, number in itertools.product(JOINING, (signal.SIGTERM, signal.SIGHUP)):
             source, writer = os.pipe()
             running = subprocess.Popen(self.reading(tool, "-"), stdin=source, **given)
             os.close(source)
             os.write(writer, LINES)
-            self.assertTrue(comes(lambda: len(self.waiting()) == JOINING[tool]), tool)
+            # there may have been as many earlier, when a tool tried the program
+            self.assertTrue(comes(lambda: is_drained(writer) and
+                                  len(self.waiting()) == JOINING[tool]), tool)
             running.send_signal(number)
-            told = running.communicate(timeout=5)[1]
+            told = self.end_of(running)[1]
             self.assertEqual((running.returncode, told), (-number, b""), tool)
             self.assertTrue(comes(lambda: not self.waiting()), tool)
             self.assertEqual(list(self.folder.iterdir()), [], tool)
