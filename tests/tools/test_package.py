@@ -34,6 +34,33 @@ def crates():
     return {crate.strip() for crate in ours}, set(" ".join(used).split())
 
 
+def packages_named(tools):
+    """Debian's packages that the files of a folder name where something is missing, but for what is
+    built there."""
+    found, package = set(), r"([a-z][\w+.-]*\w)"
+    for path in tools.rglob("[!.]*"):
+        is_built = {"out", "__pycache__"} & {*path.relative_to(tools).parts}
+        if path.is_file() and not is_built and path.suffix not in (".c", ".h", ".md"):
+            text = path.read_text(errors="replace")
+            found |= set(re.findall(f"apt-get install {package}", text))
+            # a call of tool.needs, or a row of runs.UNPACKERS
+            needs_it = rf'(?:\bneeds\([^\s,]+|": \("\w+"), "{package}"\)'
+            found |= set(re.findall(needs_it, text))
+    return found
+
+
+class Named(ToolTest):
+    def test_what_is_built_is_not_read(self):
+        """Python's own files have a byte behind a name, which would be taken for a part of it."""
+        (self.folder / "lib/__pycache__").mkdir(parents=True)
+        (self.folder / "out").mkdir()
+        for name in ("lib/__pycache__/tool.cpython-311.pyc", "out/part"):
+            self.write(name, b"\x00: apt-get install absentz\x0cxz-utils\n")
+        self.write("lib/tool.py", "tool.fail('apt-get install gnuplot-nox')\n")
+        self.write("three", 'tool.needs("zstd", "zstd-of-debian")\n')
+        self.assertEqual(packages_named(self.folder), {"gnuplot-nox", "zstd-of-debian"})
+
+
 class Version(ToolTest):
     def changes(self, text):
         """What the package finds in a CHANGELOG.md, as whole days."""
@@ -142,15 +169,9 @@ class Package(unittest.TestCase):
 
     def test_what_the_tools_name_is_suggested(self):
         """And nothing else, but what runs the list that cachesim-pages writes."""
-        named, package = {"parallel"}, r"([a-z][\w+.-]*\w)"
-        for path in TOOLS.rglob("[!.]*"):
-            if path.is_file() and path.suffix not in (".c", ".h", ".md"):
-                text = path.read_text(errors="replace")
-                named |= set(re.findall(f"apt-get install {package}", text))
-                # a call of tool.needs, or a row of runs.UNPACKERS
-                needs_it = rf'(?:\bneeds\([^\s,]+|": \("\w+"), "{package}"\)'
-                named |= set(re.findall(needs_it, text))
-        named -= {"gcc", "make", "gzip"}  # all is compiled there; it is always there
+        named = {"parallel"} | packages_named(TOOLS)
+        # all is compiled there; gzip and an awk are always there
+        named -= {"gcc", "make", "gzip", "mawk"}
         suggested = self.field("Suggests")
         there = set(re.findall(r"[a-z][\w+.-]*", f"{self.field('Recommends')}, {suggested}"))
         self.assertEqual(named - there, set())
