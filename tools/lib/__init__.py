@@ -4,6 +4,7 @@ has foreseen, such as too little memory."""
 
 import os
 import signal
+import stat
 import sys
 
 NAME = os.path.basename(sys.argv[0])
@@ -11,10 +12,24 @@ NAME = os.path.basename(sys.argv[0])
 WRITES_A_TRACE = NAME.replace("cachesim-", "") in ("lab-trace", "second-level", "to-din", "trace")
 
 
+def is_output_read():
+    """Whether standard output goes to a file that the tool may read: to standard input, or to one
+    that an argument names. That gets no line about a fault."""
+    for file in [0] + sys.argv[1:]:
+        try:
+            found = os.fstat(1)
+            if stat.S_ISREG(found.st_mode) and os.path.samestat(os.stat(file), found):
+                return True
+        except OSError:  # there is no such file
+            pass
+    return False
+
+
 def end_early(text, status):
     """Ends the tool with a line, where it can't even begin."""
     line = "%s: %s\n" % (NAME, text)
-    streams = [sys.stderr] + [sys.stdout] * (WRITES_A_TRACE and not os.isatty(1))
+    is_told = WRITES_A_TRACE and not os.isatty(1) and not is_output_read()
+    streams = [sys.stderr] + [sys.stdout] * is_told
     for stream in streams:
         try:
             stream.write(line)
@@ -40,7 +55,7 @@ def stop_early(number, _):
     """Ends a trace in a line that no simulator takes, also where the tool has only begun."""
     signal.signal(number, signal.SIG_DFL)
     is_output = not any(word.startswith(("-o", "--output")) for word in sys.argv)
-    if is_output and not os.isatty(1):
+    if is_output and not os.isatty(1) and not is_output_read():
         os.write(1, ("%s failed: what stands above is not all\n" % NAME).encode())
     os.kill(os.getpid(), number)
 

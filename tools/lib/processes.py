@@ -188,6 +188,7 @@ class Group:
     def start_source(self, trace):
         """The descriptor that a trace is read from, and the process that unpacks it, if any does,
         which is ended with the others."""
+        tool.spare(trace)
         if not is_packed(trace):
             return opened(trace), None
         unpacker = self.start(Unpacker, trace)

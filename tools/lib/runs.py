@@ -193,6 +193,7 @@ def over(trace, commands, jobs, part="", is_read_once=False, state=None):
     not all. Where one fails, the others are ended, and the tool ends with its message and status;
     so it does where several read a file that is no longer in the given state, or in that at the
     beginning. How far they are is shown after `part`."""
+    tool.spare(trace)
     state = state or state_of(trace)
     with Group() as group:
         runs = Runs(group, trace, commands, jobs, part, is_read_once)

@@ -7,7 +7,7 @@ import signal
 import stat
 import sys
 
-from lib import tool
+from lib import is_output_read, tool
 
 STOPS = (signal.SIGHUP, signal.SIGINT, signal.SIGTERM)
 LAST = 1 << 13  # the bytes that a last line may take the place of
@@ -93,14 +93,14 @@ class WholeTrace:
     def __exit__(self, _, fault, __):
         if fault is None or isinstance(fault, SystemExit) and not fault.code:
             return
+        if isinstance(fault, tool.Spared):
+            return
         with contextlib.suppress(OSError):
             self.spoil(f"{tool.NAME} failed: what stands above is not all\n")
 
     def spoil(self, line):
-        if self.output is None:
-            return
         if self.output == "-":
-            if not os.isatty(1):
+            if not os.isatty(1) and not is_output_read():
                 put_last(line.encode())
             return
         kind = os.stat(self.output).st_mode

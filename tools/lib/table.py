@@ -4,7 +4,7 @@ import fractions
 import re
 from typing import NamedTuple
 
-from lib.tool import faults_of, warn
+from lib.tool import faults_of, spare, warn
 
 HEADER = "bsize,sets,assoc,size,hits,misses,evictions"
 # columns that count references, those of `three-c` too: they are shown in per cent of all
@@ -130,6 +130,7 @@ def judge_end(lines, name):
 def lines_of(name):
     """The lines of a table, and its name for faults; '-' is standard input. Ends the tool with one
     line where that fails. A spreadsheet may have put a byte order mark in front."""
+    spare(name)
     shown = "standard input" if name == "-" else name
     text = {"encoding": "utf-8-sig", "errors": "replace"}
     with faults_of(shown), open(0 if name == "-" else name, closefd=name != "-", **text) as file:

@@ -21,17 +21,21 @@ failure = None
 UNITS = {"": 0, "k": 10, "m": 20, "g": 30}
 
 
-def end(text, status):
+class Spared(SystemExit):
+    """The end of a tool that was to write to a file that it reads, which it leaves as it is."""
+
+
+def end(text, status, kind=SystemExit):
     """Ends the tool with a message."""
     with contextlib.suppress(OSError, AttributeError):  # standard error may be closed
         print(text, file=sys.stderr, flush=True)
-    sys.exit(status)
+    raise kind(status)
 
 
-def fail(text, status=FAILED):
+def fail(text, status=FAILED, kind=SystemExit):
     """Ends the tool with one line on standard error, also where a name has several."""
     text = "".join(letter if letter >= " " else repr(letter)[1:-1] for letter in text)
-    end(f"{NAME}: {text}", failure or status)
+    end(f"{NAME}: {text}", failure or status, kind)
 
 
 def warn(text):
@@ -40,9 +44,9 @@ def warn(text):
         print(f"{NAME}: {text}", file=sys.stderr, flush=True)
 
 
-def misused(text):
+def misused(text, kind=SystemExit):
     """The same for wrong arguments."""
-    fail(f"{text}; '{NAME} --help' explains the arguments", MISUSED)
+    fail(f"{text}; '{NAME} --help' explains the arguments", MISUSED, kind)
 
 
 @contextlib.contextmanager
@@ -111,9 +115,16 @@ def readable(trace):
     that standard output goes to."""
     if trace != "-" and (os.path.isdir(trace) or not os.access(trace, os.R_OK)):
         fail(f"{trace}: no file that can be read")
-    with contextlib.suppress(OSError):  # it is closed
-        if is_same(0 if trace == "-" else trace, 1):
-            fail(f"{'standard input' if trace == '-' else trace} is standard output too")
+    spare(trace)
+
+
+def spare(file):
+    """Ends the tool where the file that it is about to read, or '-', is the one that standard
+    output goes to: it would be lost, or grow as it is read. What opens a trace or a table asks
+    this."""
+    if is_same(0 if file == "-" else file, 1):
+        name = "standard input" if file == "-" else file
+        fail(f"{name} is standard output too", kind=Spared)
 
 
 def is_same(file, other):
@@ -134,7 +145,7 @@ def apart(outputs, inputs=()):
     for number, (name, file) in enumerate(written):
         for other, path in [*inputs, *written[:number]]:
             if path not in (None, "") and is_same(path, file):
-                misused(f"{name} and {other} are one file")
+                misused(f"{name} and {other} are one file", Spared)
 
 
 def bytes_of(text):

@@ -211,6 +211,10 @@ class Layout:
                 tool.fail(f"{map_file}: line {number} is none of a map")
             self.take_mapping(*(int(text, 16) for text in mapping.groups()[:3]), mapping[4])
 
+    def paths(self):
+        """All files that have names or lines."""
+        return {path for file in self.files for path in file.paths}
+
     def newer_than(self, map_file):
         """The paths of the programs and libraries that were written after a map."""
         since = os.stat(map_file).st_mtime_ns

@@ -198,6 +198,7 @@ def lines_of(rows):
 
 def report(asked, text, objects, layout):
     cells, pairs = read_counts(text, objects, layout)
+    asked.spare({line.file for cell in cells for line in cell.code.lines if line.file})
     if asked.callgrind:
         with tool.faults_of(asked.callgrind), open(asked.callgrind, "w", **elf.ANY_TEXT) as file:
             file.writelines(f"{line}\n" for line in in_callgrind_format(asked, cells))

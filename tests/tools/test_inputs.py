@@ -1,0 +1,180 @@
+"""No tool writes to a file that it reads: it is left as it is, and a message says why."""
+
+import gzip
+import shutil
+
+import trace_base
+from base import EXAMPLES, TOOLS, TOP, ToolTest, needs
+
+SPACE = "--bsize 16 --sets 1-4 --assoc 1-2 --size 64".split()
+CACHE = "-l1-dsize 128 -l1-dbsize 16 -l1-dassoc 2".split()
+TABLE = "bsize,sets,assoc,size,hits,misses,evictions\n16,1,1,16,5,5,4\n16,1,2,32,6,4,2\n"
+# tools that read a file or standard input, and their words; FILE stands for its name or '-'
+READERS = {
+    "best": (TABLE, ["FILE"]),
+    "by-line": ("d", ["FILE", *CACHE]),
+    "by-page": ("d", ["FILE", *CACHE]),
+    "din-table": ("d", ["2", "FILE", *CACHE[:2], "-l1-dbsize", "16,32"]),
+    "over-time": ("d", ["FILE", *CACHE, "--each", "50"]),
+    "plot": (TABLE, ["--script", "FILE", "-"]),
+    "second-level": ("d", ["FILE", *CACHE]),
+    "sweep-parallel": ("d", ["2", "FILE", *SPACE]),
+    "three-c": ("d", ["FILE", *SPACE]),
+    "to-din": ("10\n20\n", ["addresses", "FILE"]),
+    "warm": ("d", ["9", "FILE", *SPACE]),
+}
+LAB = "-s 1 -E 2 -b 4 -t FILE".split()
+# those that read a file alone
+OF_A_FILE = {
+    "lab/grade": ("l", ["/bin/true", "FILE"]),
+    "lab/grade-class": ("l", ["--trace", "FILE", "."]),
+    "lab/lab-csim": ("l", LAB),
+    "lab/lab-transpose": ("int x;\n", ["FILE"]),
+    "lab/replay": ("l", [*LAB, "--text"]),
+}
+TEXTS = {"d": "".join(f"0 {16 * number:x}\n" for number in range(200)),
+         "l": (TOP / "tests/cases/inputs/handout.lackey").read_text()}
+
+
+class InputTest(ToolTest):
+    def text(self, form):
+        return TEXTS.get(form, form)
+
+    def kept(self, tool, line, told, status, place="input"):
+        """A line of bash that would write to a file: the tool leaves it as it is, and says so."""
+        before = (self.folder / place).read_bytes()
+        # a tool that reads what it has written ends by this limit
+        line = f'ulimit -f 1000; {line}'
+        ran = self.run_command("bash", "-c", line, TOOLS / tool, seconds=20)
+        name = tool.rpartition("/")[2]
+        fault = f"{name}: {told}"
+        if status == 2 and "are one file" in told:
+            fault += f"; '{name} --help' explains the arguments"
+        self.assertEqual((ran.stderr.decode(), ran.returncode), (f"{fault}\n", status))
+        self.assertEqual((self.folder / place).read_bytes(), before, line)
+
+
+class StandardOutput(InputTest):
+    """In append mode, as by '>> input': with '>' the shell empties it before any tool begins."""
+
+    def test_by_name(self):
+        for tool, (form, words) in {**READERS, **OF_A_FILE}.items():
+            with self.subTest(tool):
+                self.write("input", self.text(form))
+                line = f'"$0" {" ".join(words).replace("FILE", "input")} >> input'
+                is_2 = tool.startswith(("lab/grade", "lab/lab-transpose"))  # whatever the fault
+                self.kept(tool, line, "input is standard output too", 2 if is_2 else 1)
+
+    def test_by_another_name(self):
+        """A link, and the name of a descriptor."""
+        for tool in ("lab/lab-csim", "sweep-parallel"):
+            form, words = {**READERS, **OF_A_FILE}[tool]
+            for name in ("link", "/dev/stdin"):
+                with self.subTest(tool=tool, name=name):
+                    self.write("input", self.text(form))
+                    (self.folder / "link").unlink(missing_ok=True)
+                    (self.folder / "link").symlink_to("input")
+                    line = f'"$0" {" ".join(words).replace("FILE", name)} < input >> input'
+                    self.kept(tool, line, f"{name} is standard output too", 1)
+
+    def test_standard_input(self):
+        for tool, (form, words) in READERS.items():
+            with self.subTest(tool):
+                self.write("input", self.text(form))
+                line = f'"$0" {" ".join(words).replace("FILE", "-")} < input >> input'
+                self.kept(tool, line, "standard input is standard output too", 1)
+        self.write("input", self.text("l"))
+        line = '"$0" -s 1 -E 2 -b 4 < input >> input'
+        self.kept("lab/replay", line, "standard input is standard output too", 1)
+
+    def test_packed(self):
+        for tool in ("second-level", "sweep-parallel", "to-din", "three-c"):
+            with self.subTest(tool):
+                form, words = READERS[tool]
+                self.write("input.gz", gzip.compress(self.text(form).encode()))
+                line = f'"$0" {" ".join(words).replace("FILE", "input.gz")} >> input.gz'
+                self.kept(tool, line, "input.gz is standard output too", 1, "input.gz")
+
+    def test_another_fault_before(self):
+        """The line that marks a trace that is not whole is not written to an input."""
+        self.write("input", self.text("d"))
+        for tool, words, told, status in (
+            ("second-level", "input -t x", "the trace is the first argument", 2),
+            ("to-din", "addresses input more", "a format and at most one file are wanted", 2),
+        ):
+            with self.subTest(tool):
+                before = (self.folder / "input").read_bytes()
+                ran = self.run_command("bash", "-c", f'"$0" {words} >> input', TOOLS / tool)
+                self.assertEqual(ran.returncode, status)
+                self.assertIn(f"{tool}: {told}", ran.stderr.decode())
+                self.assertEqual((self.folder / "input").read_bytes(), before)
+                # but in a file of its own it is
+                self.run_command("bash", "-c", f'"$0" {words} > own', TOOLS / tool)
+                own = (self.folder / "own").read_text()
+                self.assertEqual(own, f"{tool} failed: what stands above is not all\n")
+
+    def test_other_files_are_written(self):
+        """Also where standard input and output are one terminal or device."""
+        self.write("input", self.text("d"))
+        line = f'"$0" 2 input {" ".join(SPACE)} >> output && "$0" 2 - {" ".join(SPACE)}'
+        line += " < /dev/null > /dev/null"
+        self.good(self.run_command("bash", "-c", line, TOOLS / "sweep-parallel"))
+        table = self.sweep(*SPACE, "-t", self.folder / "input")
+        self.assertEqual((self.folder / "output").read_text(), table)
+
+    @needs("valgrind")
+    def test_the_program_of_lab_trace(self):
+        """By its path, and by its name on the path."""
+        (self.folder / "on the path").mkdir()
+        for place, word in ("input", "./input"), ("on the path/program", "program"):
+            shutil.copy("/bin/true", self.folder / place)
+            line = f'PATH="$PWD/on the path:$PATH"; "$0" {word} >> "{place}"'
+            name = word if "/" in word else f"{self.folder}/on the path/program"
+            self.kept("lab/lab-trace", line, f"{name} is standard output too", 125, place)
+
+
+@needs("binutils", "llvm")
+class OfByLine(InputTest):
+    """The programs that its map names, the files of their debug information, and sources."""
+
+    def setUp(self):
+        super().setUp()
+        self.source = shutil.copy(EXAMPLES / "sort.c", self.folder)
+        words = "-g", "-no-pie", "-o", self.folder / "srt", self.source
+        self.good(self.run_command("cc", *words))
+        start, size = trace_base.symbols_of(self.folder / "srt")["main"]
+        self.write("s.din", "".join(f"2 {at:x}\n0 10\n" for at in range(start, start + size)))
+        self.trace = f"s.din {' '.join(CACHE)}"
+
+    def write_map(self):
+        """A map of the program where it lies by its own addresses."""
+        lines = self.run_command("readelf", "-lW", "srt").stdout.decode().splitlines()
+        loads = [line.split() for line in lines if line.split()[:1] == ["LOAD"]]
+        self.write("s.map", "".join(
+            f"{int(at, 16):x}-{int(at, 16) + int(size, 16):x} r-xp {int(offset, 16):08x} 08:01 1 "
+            f"{self.folder}/srt\n" for _, offset, at, _, _, size, *_ in loads))
+
+    def test_the_program(self):
+        path = f"{self.folder}/srt"
+        self.write_map()
+        for words, name, told in (
+            ("--map s.map --callgrind ./srt", "--callgrind", path),
+            ("--map s.map >> srt", "standard output", path),
+            ("--program srt >> srt", "standard output", "./srt"),
+        ):
+            with self.subTest(words):
+                line = f'"$0" {self.trace} {words}'
+                self.kept("by-line", line, f"{name} and {told} are one file", 2, "srt")
+
+    def test_debug_information_of_its_own(self):
+        self.good(self.run_command("objcopy", "--only-keep-debug", "srt", "srt.debug"))
+        self.good(self.run_command("objcopy", "--strip-debug", "--add-gnu-debuglink=srt.debug",
+                                   "srt"))
+        line = f'"$0" {self.trace} --program srt --callgrind srt.debug'
+        told = f"--callgrind and {self.folder}/srt.debug are one file"
+        self.kept("by-line", line, told, 2, "srt.debug")
+
+    def test_a_source(self):
+        line = f'"$0" {self.trace} --program srt --callgrind sort.c'
+        told = f"--callgrind and {self.source} are one file"
+        self.kept("by-line", line, told, 2, "sort.c")
