@@ -58,4 +58,4 @@ def deb(to=TOP / "out"):
         package = make(pathlib.Path(folder))
         to.mkdir(parents=True, exist_ok=True)
         shutil.copy(package, to)
-    print(f"made: {to / package.name}")
+    tool.write_lines([f"made: {to / package.name}"])

@@ -54,7 +54,7 @@ def install(prefix):
         command = [sys.executable, "-m", "compileall", "-q", "--invalidation-mode", "checked-hash"]
         subprocess.run([*command, tree / "lib/cachesim"], check=False)
         put(tree, prefix)
-    print(f"installed: {prefix}/bin/cachesim")
+    tool.write_lines([f"installed: {prefix}/bin/cachesim"])
 
 
 def uninstall(prefix):
@@ -62,4 +62,4 @@ def uninstall(prefix):
         tool.fail(f"nothing is installed below {prefix}: there is no {prefix / LIST}")
     with tool.faults_of(prefix):
         remove(prefix)
-    print(f"removed from {prefix}")
+    tool.write_lines([f"removed from {prefix}"])

@@ -6,6 +6,7 @@ import os
 import re
 import signal
 import subprocess
+import sys
 
 import base
 from din_base import COLUMNS, POLICIES, din_rows
@@ -260,13 +261,14 @@ class Refused(PlotTest):
 
     def test_missing_packages(self):
         empty = self.folder / "empty"
-        (empty / "plotly").mkdir(parents=True)
-        self.write("empty/plotly/__init__.py", "raise ImportError('as if it were missing')\n")
+        own = "empty/.local/lib/python{}.{}/site-packages/plotly".format(*sys.version_info)
+        (self.folder / own).mkdir(parents=True)
+        self.write(f"{own}/__init__.py", "raise ImportError('as if it were missing')\n")
         for out in ("-", "a.png", "a.svg"):
             message = "plot: gnuplot is missing: apt-get install gnuplot-nox\n"
             self.refused(self.plot("eight.csv", out, env={"PATH": str(empty)}), 1, message)
         message = "plot: plotly is missing: apt-get install python3-plotly\n"
-        self.refused(self.plot("eight.csv", "a.html", env={"PYTHONPATH": str(empty)}), 1, message)
+        self.refused(self.plot("eight.csv", "a.html", env={"HOME": str(empty)}), 1, message)
         self.assertEqual(self.names(), ["eight.csv", "empty"])
 
     def test_a_failure_leaves_what_was_there(self):

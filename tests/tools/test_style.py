@@ -87,11 +87,19 @@ class Scripts(base.ToolTest):
 
 
 class Pythons(base.ToolTest):
-    """A Python older than 3.9 reads each tool, and ends with one line."""
+    """All tools begin in the same way. A Python older than 3.9 reads each, and ends with one
+    line."""
 
     def tools(self):
         mine = [pathlib.Path(path) for path in tools() if path.startswith(f"{base.TOOLS}/")]
         return [path for path in mine if b"python3" in first_line(path)]
+
+    def test_the_first_line(self):
+        """It is that which lib/__init__.py gives a reason for; make tools compiles in this way."""
+        firsts = {path: first_line(path).partition(b"\n")[0].decode() for path in tools()}
+        first, = set(firsts.values())
+        self.assertIn(f"'{first}'", (base.TOOLS / "lib/__init__.py").read_text())
+        self.assertIn(f"PYTHON := {first[2:]}\n", (base.TOOLS / "Makefile").read_text())
 
     def test_what_it_reads(self):
         lib = [base.TOOLS / folder / "__init__.py" for folder in ("lib", "lab/parts")]

@@ -206,15 +206,17 @@ def is_cachesim(path):
 
 
 def write_lines(lines):
-    """Writes lines to standard output. A fault ends the tool; without a word if a reader left."""
+    """Writes lines to standard output. A fault ends the tool; without a word if a reader left. By
+    sys.stdout, text that is held would fail again as Python ends, and without a buffer Python does
+    not tell that it wrote only a part."""
     if sys.stdout is None:
         fail("standard output: Bad file descriptor")
+    text = "".join(f"{line}\n" for line in lines)
+    left = memoryview(text.encode(sys.stdout.encoding, sys.stdout.errors))
     try:
-        sys.stdout.write("".join(f"{line}\n" for line in lines))
-        sys.stdout.flush()
+        while left:
+            left = left[os.write(1, left):]
+    except BrokenPipeError:
+        sys.exit(READER_GONE)
     except OSError as fault:
-        # what is still held must not fail again at the end
-        os.dup2(os.open(os.devnull, os.O_WRONLY), sys.stdout.fileno())
-        if isinstance(fault, BrokenPipeError):
-            sys.exit(READER_GONE)
         fail(f"standard output: {fault.strerror}")

@@ -264,8 +264,8 @@ def temporary_folder(**given):
 
 
 def in_private_folder(work):
-    """What some work returns in a folder that is removed at its end, also by a signal. It may write
-    to standard output."""
+    """What some work returns in a folder that is removed at its end, also by a signal. What it
+    writes to standard output may have any letters."""
     if sys.stdout:  # it may be closed
         sys.stdout.reconfigure(errors="backslashreplace")
     stop_at_signals()
@@ -274,9 +274,8 @@ def in_private_folder(work):
         with temporary_folder(prefix=prefix) as folder:
             return work(pathlib.Path(folder))
     except OSError as fault:
-        if isinstance(fault, BrokenPipeError):
-            return tool.READER_GONE
-        return tool.fail(f"{fault.filename or 'standard output'}: {fault.strerror}")
+        place = f"{fault.filename}: " if fault.filename else ""
+        return tool.fail(f"{place}{fault.strerror}")
 
 
 def hard_traces(folder):
