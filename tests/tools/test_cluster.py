@@ -4,6 +4,7 @@ import ast
 import gzip
 import os
 import pathlib
+import re
 import shutil
 import tempfile
 
@@ -18,7 +19,7 @@ TRACE = EXAMPLES / "sort.din"
 
 # Runs the tasks of a job at once, and a job that depends on another only where all tasks of that
 # one ended well. Each job is noted with its options. A task that is
-# to be spoiled does nothing.
+# to be spoiled does nothing; before another one a script may run.
 SBATCH = """#!/bin/bash
 set -eu
 note=$(dirname "$0") tasks= after=
@@ -40,6 +41,7 @@ echo "$number;here"
 cd "$folder"
 for task in ${tasks:-0}; do
     if [ -e "$note/spoil-$task" ]; then touch "$note/failed-$number"; continue; fi
+    [ ! -e "$note/before-$task" ] || . "$note/before-$task"
     SLURM_ARRAY_TASK_ID=$task bash "$@" < /dev/null > "log-$number-$task" 2>&1 ||
         touch "$note/failed-$number"
 done
@@ -109,6 +111,7 @@ class Submitting(ToolTest):
             table.append("".join(rows))
             if references:
                 self.write(f"part-{number}", table[-1])
+                self.write(f"trace-{number}", "120 1764226529.000000001\n")
         ran, made = self.run_command("bash", CLUSTER / "join.sbatch"), self.folder / "table.csv"
         if made.exists():
             self.assertEqual(made.read_text(), "".join(table[1:]))
@@ -125,6 +128,61 @@ class Submitting(ToolTest):
             self.assertEqual((status, is_made), (1, False))
             self.assertIn("the pages are of different traces: remove ", told)
             self.assertEqual(len(list(self.folder.glob("part-*"))), len(parts))
+
+    def rewriting(self):
+        """A trace, and a line of bash that rewrites it with as many references and bytes."""
+        trace = self.write("trace.din", TRACE.read_bytes())
+        other = self.write("other.din", b"".join(sorted(TRACE.read_bytes().splitlines(True))))
+        self.assertTrue(self.sweep(*SPACE, "-t", other) != self.sweep(*SPACE, "-t", trace))
+        return trace, f"cat '{self.folder}/other.din' > '{trace}'\n"
+
+    def test_a_trace_that_is_rewritten_between_tasks(self):
+        """With as many references: its pages are not joined."""
+        trace, rewrites = self.rewriting()
+        self.write("bin/before-2", rewrites)
+        self.good(self.submit("run", 3, trace, *SPACE))
+        made = self.folder / "run"
+        self.assertFalse((made / "table.csv").exists())
+        told = f"the pages are of different traces: remove {made}, and submit it anew\n"
+        self.assertEqual((made / "log-8-0").read_text(), told)
+        self.assertEqual(len(list(made.glob("part-*"))), 3)
+
+    def test_a_trace_that_is_rewritten_before_again(self):
+        """The pages that are there are of another one: nothing is submitted."""
+        trace, rewrites = self.rewriting()
+        self.command("squeue", "#!/bin/sh\nexit 1\n")
+        (self.note / "spoil-2").touch()
+        self.good(self.submit("run", 3, trace, *SPACE))
+        self.good(self.run_command("bash", "-c", rewrites))
+        told = (f"submit: {trace} has changed since its first pages were swept: remove "
+                f"{self.folder}/run, and submit it anew\n")
+        self.refused(self.submit("--again", "run"), 1, told)
+        self.assertEqual(len(list(self.note.glob("job-*"))), 2)
+
+    def test_a_trace_that_is_rewritten_while_a_task_reads_it(self):
+        """It leaves no part. A packed trace is read once, so no run sees that it has changed."""
+        trace, rewrites = self.rewriting()
+        packed = self.write("trace.gz", gzip.compress(TRACE.read_bytes()))
+        for name, also in (trace, rewrites), (packed, f"touch -d '2 days ago' '{packed}'\n"):
+            program = self.executable(
+                "slow", f'{PROGRAM} "$@" || exit', '[[ $* != *--rows* ]] && exit', also)
+            run = f"run of {name.name}"
+            self.good(self.submit(run, 1, name, *SPACE, CACHESIM=str(program)))
+            made = self.folder / run
+            self.assertEqual([path.name for path in made.glob("part-?")], [])
+            log, = made.glob("log-*")
+            self.assertRegex(log.read_text(), f"{name} has changed while it was read")
+            self.write("trace.din", TRACE.read_bytes())
+
+    def test_where_readers_are_sent(self):
+        """To the tool that explains what they are to find there."""
+        for path, call, found in (
+            (CLUSTER / "README.md", r"the command in `tools/([\w-]+) --help`", "parallel --will"),
+            (CLUSTER / "submit", r"\(see `([\w-]+) --help`\)", "the pages are the table, byte"),
+        ):
+            name = re.search(call, " ".join(path.read_text().split()))[1]
+            helped = " ".join(self.good(self.run_tool(name, "--help")).split())
+            self.assertIn(found, helped)
 
     def test_again(self):
         """What failed or is missing, and no other page, by one command."""
@@ -158,6 +216,9 @@ class Submitting(ToolTest):
         (self.folder / "run/table.csv").unlink()
         self.write("run/part-1", "".join(lines[:2]))
         self.write("run/part-2", "".join(lines[2:]))
+        for number in (1, 2):
+            state = self.run_command("stat", "-L", "-c", "%s %.9Y", TRACE).stdout
+            self.write(f"run/trace-{number}", state)
         said = self.good(self.submit("--again", "run"))
         self.assertEqual(said, f"job 9: {self.folder}/run/table.csv\n")
         self.assertEqual(self.options(9), ["--parsable", f"--chdir={self.folder}/run", ""])

@@ -290,6 +290,14 @@ class Trace(LabTest):
         self.ends(ran, 125, said, f"I  0400d7d4,8\n{LAST}")
         self.assertEqual(list(self.private.iterdir()), [])
 
+    def test_a_silent_end_of_valgrind(self):
+        """Without a line of a trace, the tool tells of it."""
+        for end, status, told in (("exit 1", 1, 1), ("exit 0", 125, 0), ("kill -KILL $$", 137, 137),
+                                  ("exit 127", 127, 127)):
+            ran = self.trace("true", env=self.stand_in("valgrind", end))
+            said = f"lab-trace: valgrind ended with status {told}, and there is no trace\n"
+            self.ends(ran, status, said, LAST)
+
     def test_a_signal_as_the_program_begins(self):
         """To the tool alone, which does not wait for the program's end."""
         env = {**self.stand_in("valgrind", "exec sleep 60"), "TMPDIR": str(self.private)}
