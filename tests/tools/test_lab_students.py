@@ -6,7 +6,9 @@ import shlex
 
 from lab_base import LAB, StudentTest
 
-# by mistake of student.c: a trace, a cache, and why; where grade can't know, the line that is told
+# By mistake of student.c: a trace, a cache, and why; where grade can't know, the line that is told.
+# In wide.trace four bases differ in bits 40 to 46 and 48 to 63: more bits than are told would tell
+# them apart, and how few would depends on the numbers drawn, '..'.
 WRONG = """
 LINES_OF_8       rows   1,9,3   the array has 8 lines for a set, and more run into the next set
 LINES_OF_64      rows   1,65,3  the array has 64 lines for a set, and more run into the next set
@@ -17,14 +19,16 @@ UNCLEARED        order  2,4,3   memory of malloc is taken for zeros; calloc clea
 BYTE_CLOCK       mixed  2,4,3   the clock of LRU has only 8 bits
 TICKS_AT_MISSES  mixed  2,2,3   in which a hit does not advance the clock of LRU
 TICKS_AFTER_MISSES mixed 2,4,3  of LRU, and a miss does once its block is in
-SHORT_TAG        wide   0,2,4   tags have only 16 bits
+SHORT_TAG        wide   0,2,4   tags have only 16 or 32 bits, or another number from .. to 36
+TAG_OF_44        wide   0,2,4   tags have only .. to 44 bits
+MASK_OF_31       wide   0,2,4   addresses have only 32 bits, or another number from .. to 40
 SIGNED_CLOCK     mixed  0,2,4   the clock of LRU is signed and has only 8 bits
 NRU              mixed  2,4,3   and where there is none all bits are cleared (NRU)
 HAND             mixed  2,4,3   gets a second chance (the clock algorithm)
 MASK_IS_S        mixed  4,2,4   the mask of the set is s and not 2 to the power of s, less 1
 BLOCKS_OF_16     mixed  2,4,3   blocks have 16 bytes, whatever -b is
 SHORT_LINES      wide   2,4,3   a line of the trace is read into 16 bytes, and longer ones are lost
-BYTE_TAG         order  2,4,3   tags have only 8 bits
+BYTE_TAG         order  2,4,3   tags have only 8 bits, or another number from 1 to 11
 TAG_IS_ADDRESS   mixed  4,2,4   the offset is taken for a part of the tag
 TAG_WITHOUT_SET  mixed  2,1,4   the tag is the address without s bits, with b bits of the offset
 ONE_SET          mixed  4,2,4   all blocks share one set
@@ -72,7 +76,8 @@ class Students(StudentTest):
                 options = [f"--geometry={cache}", self.student(mistake), f"{trace}.trace"]
                 said = self.grade(*options)
                 reasons = re.findall("^why: (.*)", said, re.M)
-                self.assertIn(words, said if "with -v" in words or not reasons else reasons[0])
+                where = said if "with -v" in words or not reasons else reasons[0]
+                self.assertRegex(where, re.escape(words).replace(r"\.\.", r"\d+"))
                 self.assertTrue(said.endswith("\n0 of 1 right\n"), said)
 
     def test_right_ones(self):

@@ -132,7 +132,7 @@ static address_t tag_of(address_t address)
     if (HAS(TAG_TOO_SHORT))
         return address >> (block_bits + set_bits + 1);
     return address >> block_bits >> set_bits & (HAS(NARROW_TAG) ? 0xffffffff
-        : HAS(SHORT_TAG) ? 0xffff : HAS(BYTE_TAG) ? 0xff : ~0ull);
+        : HAS(TAG_OF_44) ? 0xfffffffffff : HAS(SHORT_TAG) ? 0xffff : HAS(BYTE_TAG) ? 0xff : ~0ull);
 }
 
 /* The lines that an array has for a set, and those of a set that are looked at. */
@@ -150,7 +150,7 @@ static int looked_at(void)
 
 static void touch(address_t address, char kind)
 {
-    address &= HAS(NARROW) ? 0xffffffff : ~0ull;
+    address &= HAS(NARROW) ? 0xffffffff : HAS(MASK_OF_31) ? 0x7fffffff : ~0ull;
     address_t tag = tag_of(address);
     struct line *set = lines + place(address) * apart(), *victim = set, *end = set + looked_at();
     now += !HAS(TICKS_AT_MISSES) && !HAS(TICKS_AFTER_MISSES);

@@ -2,12 +2,15 @@
 `guesses` tells which of these count exactly as a student's program did."""
 
 import itertools
-from dataclasses import dataclass, replace
+from dataclasses import dataclass
 from typing import Callable, NamedTuple, Optional
 
 LONG = 1000  # accesses: of longer traces two cases are looked at
 MOST = 200000  # longer ones are not looked at
 FEW = 3  # so many guesses are shown; where more fit, the cases say too little
+# what may have too few bits, and the numbers of bits that are usual: of types of C, and of the
+# addresses of x86-64
+WIDTHS = {"address_bits": ("addresses", (32, 48)), "tag_bits": ("tags", (8, 16, 32))}
 
 
 class Access(NamedTuple):
@@ -74,7 +77,10 @@ def of_blocks(bits):
             "tag_of": lambda address, s, b: address >> s + bits}
 
 
-# what is said of a program, and how it differs from a right one
+# the usual ones of widths: what is said of them, and how a program differs from a right one
+OF_WIDTH = {f"{what} have only {bits} bits": {habit: bits}
+            for habit, (what, usual) in WIDTHS.items() for bits in usual}
+# the same of all mistakes
 MISTAKES = {
     "a hit does not count as a use of its block (FIFO)": {"evicts": "came"},
     "the block used last is evicted (MRU)": {"evicts": "latest"},
@@ -92,10 +98,7 @@ MISTAKES = {
     "M is ignored": {"kinds": "LS"},
     "S is ignored": {"kinds": "LM"},
     "I lines count as accesses": {"kinds": "LSMI"},
-    "addresses have only 32 bits": {"address_bits": 32},
-    "tags have only 32 bits": {"tag_bits": 32},
-    "tags have only 16 bits": {"tag_bits": 16},
-    "tags have only 8 bits": {"tag_bits": 8},
+    **OF_WIDTH,
     "addresses are signed, and cut at 7fffffffffffffff": {"is_signed": True},
     "the clock of LRU has only 8 bits": {"clock_bits": 8},
     "the clock of LRU has only 16 bits": {"clock_bits": 16},
@@ -165,7 +168,6 @@ MISTAKES = {
         "set_of": lambda address, s, b: (address >> b) % max(1, (1 << s) - 1)},
     "there are at most 4096 sets": {
         "set_of": lambda address, s, b: address >> b & (1 << min(s, 12)) - 1},
-    "addresses have only 48 bits": {"address_bits": 48},
     "the last byte of an access decides on its block": {"taken": lambda all: [
         one._replace(address=one.address + one.size - 1) for one in all]},
     "S counts as two accesses": {"taken": twice("S")},
@@ -373,12 +375,43 @@ class Evidence:
             seen.add(kind)
         self.runs.sort(key=lambda run: (len(run[0]), run[3]))  # stable
 
-    def fits(self, *names):
-        """Whether all was counted as by a simulator with these mistakes."""
-        habits = Habits()
-        for name in names:
-            habits = replace(habits, **MISTAKES[name])
+    def is_of(self, **habits):
+        """Whether all was counted as by a simulator with these habits."""
+        habits = Habits(**habits)
         return all(counts(accesses, cache, habits) == got for accesses, cache, got, _ in self.runs)
+
+    def fits(self, *names):
+        """The same, with these mistakes."""
+        return self.is_of(**{habit: value for name in names
+                             for habit, value in MISTAKES[name].items()})
+
+    def width(self, habit, **others):
+        """How many bits addresses or tags may have, beside other habits, in words; nothing where
+        no number fits. Most traces tell few numbers apart."""
+        what, usual = WIDTHS[habit]
+        fitting = [bits for bits in range(1, 64) if self.is_of(**{habit: bits}, **others)]
+        return f"{what} have only {widths_text(fitting, usual)}" if fitting else ""
+
+    def told(self, names):
+        """Several mistakes in words."""
+        others = [name for name in names if name not in OF_WIDTH]
+        if len(others) == len(names) or len(others) != 1:
+            return " and ".join(names)
+        (width,), (other,) = set(names) - set(others), others
+        (habit,) = OF_WIDTH[width]
+        return f"{self.width(habit, **MISTAKES[other])} and {other}"
+
+
+def widths_text(fitting, usual):
+    """Numbers of bits in words, the usual ones first."""
+    ends = [bits for bits in fitting if bits + 1 not in fitting]
+    starts = [bits for bits in fitting if bits - 1 not in fitting]
+    every = " or ".join(f"{start} to {end}" if start < end else str(end)
+                        for start, end in zip(starts, ends))
+    named = " or ".join(str(bits) for bits in usual if bits in fitting)
+    if named in ("", every):
+        return f"{every} bits"
+    return f"{named} bits, or another number from {every}"
 
 
 def guesses(runs):
@@ -387,9 +420,11 @@ def guesses(runs):
     evidence = Evidence(runs)
     if all(is_right for _, _, _, is_right in evidence.runs):
         return []
-    found = [name for name in MISTAKES if evidence.fits(name)]
+    found = [text for text in map(evidence.width, WIDTHS) if text]
+    found += [name for name in MISTAKES if name not in OF_WIDTH and evidence.fits(name)]
     if not found and len(evidence.runs) >= 20:
         pairs = itertools.combinations(MISTAKES, 2)
         apart = (pair for pair in pairs if not set(MISTAKES[pair[0]]) & set(MISTAKES[pair[1]]))
-        found = [" and ".join(pair) for pair in apart if evidence.fits(*pair)]
+        fitting = filter(lambda pair: evidence.fits(*pair), apart)
+        found = list(dict.fromkeys(map(evidence.told, fitting)))
     return found if len(found) <= FEW else []
