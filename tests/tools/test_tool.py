@@ -77,7 +77,7 @@ class Compiling(ToolTest):
         """It leaves nothing of what was being compiled, also where the tool alone gets it."""
         copy_tools(self.folder, "to-din")
         begun = self.folder / "begun"
-        path = self.stand_in("cc", f"touch '{begun}' \"${{@: -2:1}}\"", "exec sleep 60")
+        path = self.stand_in("cc", f"touch \"${{@: -2:1}}\" '{begun}'", "exec sleep 60")
         given = {**self.in_folder(**path), "stderr": subprocess.PIPE, "start_new_session": True}
         for number in (signal.SIGTERM, signal.SIGINT, signal.SIGHUP):
             with subprocess.Popen([self.folder / "to-din", "--build"], **given) as running:
@@ -94,7 +94,7 @@ class Compiling(ToolTest):
         copy_tools(self.folder)
         begun, removing = self.folder / "begun", self.folder / "removing"
         self.stand_in("rm", f"touch '{removing}'", "sleep 0.3", f'exec {shutil.which("rm")} "$@"')
-        path = self.stand_in("cc", f"touch '{begun}' \"${{@: -2:1}}\"", "exec sleep 60")
+        path = self.stand_in("cc", f"touch \"${{@: -2:1}}\" '{begun}'", "exec sleep 60")
         given = {**self.in_folder(**path), "stderr": subprocess.PIPE, "start_new_session": True}
         for number in (signal.SIGTERM, signal.SIGINT, signal.SIGHUP):
             with subprocess.Popen(["make", "-s", "-C", self.folder, "out/to-din"],
