@@ -80,6 +80,12 @@ class Students(StudentTest):
                 self.assertRegex(where, re.escape(words).replace(r"\.\.", r"\d+"))
                 self.assertTrue(said.endswith("\n0 of 1 right\n"), said)
 
+    def test_two_mistakes(self):
+        """The number of bits is as open as with one."""
+        said = self.grade(self.student("FIFO", "MASK_OF_31"), "order.trace", "wide.trace")
+        self.assertRegex(said, r"\nwhy: .* a hit does not count as a use of its block \(FIFO\) and "
+                         r"addresses have only 32 bits, or another number from \d+ to 40(,|\n)")
+
     def test_right_ones(self):
         """With csim.py and student.c itself, which others judge, there are eleven."""
         for style in RIGHT:
