@@ -8,7 +8,7 @@ import subprocess
 import unittest
 
 import common
-from base import ToolTest, comes, copy_tools
+from base import ToolTest, comes, copy_tools, processes
 from lib import tool
 from lib.compiled import Make
 
@@ -92,20 +92,21 @@ class Compiling(ToolTest):
     def test_a_second_signal(self):
         """make hands one to its shell, which may come while the shell removes the file."""
         copy_tools(self.folder)
-        begun, removing = self.folder / "begun", self.folder / "removing"
+        removing = self.folder / "removing"
         self.stand_in("rm", f"touch '{removing}'", "sleep 0.3", f'exec {shutil.which("rm")} "$@"')
-        path = self.stand_in("cc", f"touch \"${{@: -2:1}}\" '{begun}'", "exec sleep 60")
+        path = self.stand_in("cc", 'touch "${@: -2:1}"', "exec sleep 60")
         given = {**self.in_folder(**path), "stderr": subprocess.PIPE, "start_new_session": True}
         for number in (signal.SIGTERM, signal.SIGINT, signal.SIGHUP):
             with subprocess.Popen(["make", "-s", "-C", self.folder, "out/to-din"],
                                   **given) as running:
-                self.assertTrue(comes(begun.exists))
+                # bash itself would go on after an interrupt that touch has not ended by
+                self.assertTrue(comes(lambda: any(name.endswith("(sleep")
+                                                  for name in processes(running.pid))))
                 os.killpg(running.pid, number)
                 self.assertTrue(comes(removing.exists))
                 os.killpg(running.pid, number)
                 self.end_of(running)
             self.assertTrue(comes(lambda: not self.made(), 3), self.made())
-            begun.unlink()
             removing.unlink()
 
     def test_a_make_that_has_just_ended(self):
