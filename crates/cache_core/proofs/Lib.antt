@@ -32,8 +32,10 @@ pub mod Exponents
 pub mod GeometryLaw
 pub mod Counters
 pub mod SystemPushes
+pub mod BehindRows
 pub mod FingerprintsLaw
 pub mod FingerprintLemmas
+pub mod FingerprintRows
 pub mod FirstLevelLaw
 pub mod LowerLaw
 pub mod SystemLaw

@@ -162,14 +162,14 @@ impl<P: Replacement> Cache<P> {
         visit_front(self.design, &mut self.slots, &self.filled, reference)
     }
 
-    /// The filled slots of a set.
+    /// The filled slots of the set of a reference.
     #[inline(always)]
-    pub(crate) fn slots(&self, set: usize) -> &[Slot]
-        requires { set < 2 ^ self.now.design.geometry.s }
-        ensures slots { result.now ≡ slots_of self.now.sets set }
+    pub(crate) fn slots(&self, reference: Ref) -> &[Slot]
+        ensures slots { result.now
+            ≡ slots_of self.now.sets (set_of self.now.design.geometry reference.addr) }
         ensures within { length result.now ≤ self.now.design.geometry.e }
     {
-        segment(self.design, &self.slots, &self.filled, set)
+        segment(self.design, &self.slots, &self.filled, reference)
     }
 
     /// Its geometry.
@@ -191,16 +191,17 @@ impl<P: Replacement> Cache<P> {
     }
 }
 
-/// The filled slots of a set, in the slab of all sets.
+/// The filled slots of the set of a reference, in the slab of all sets.
 #[inline(always)]
-fn segment<'a>(design: Design, slots: &'a [Slot], filled: &[u32], set: usize) -> &'a [Slot]
-    requires slab { IsCacheSlab design slots.now filled.now }
-    requires set { set < 2 ^ design.geometry.s }
-    ensures slots { result.now ≡ slots_of (sets_of design.geometry.e slots.now filled.now) set }
+fn segment<'a>(design: Design, slots: &'a [Slot], filled: &[u32], reference: Ref) -> &'a [Slot]
+    requires { IsCacheSlab design slots.now filled.now }
+    ensures slots { result.now ≡ slots_of (sets_of design.geometry.e slots.now filled.now)
+        (set_of design.geometry reference.addr) }
     ensures within { length result.now ≤ design.geometry.e }
 {
-    let start = set * design.geometry.e() as usize;
-    let held = filled[set] as usize;
+    let set_number = design.geometry.set_of(reference.addr) as usize;
+    let start = set_number * design.geometry.e() as usize;
+    let held = filled[set_number] as usize;
     &slots[start..start + held]
 }
 
@@ -212,9 +213,8 @@ fn find_in_slab(design: Design, slots: &[Slot], filled: &[u32], reference: Ref) 
         (slots_of (sets_of design.geometry.e slots.now filled.now)
         (set_of design.geometry reference.addr)) }
 {
-    let set = design.geometry.set_of(reference.addr) as usize;
     let block = design.geometry.block_of(reference.addr);
-    find_block(segment(design, slots, filled, set), block)
+    find_block(segment(design, slots, filled, reference), block)
 }
 
 /// One access, in the slab of all sets, where the index of its block in its set is known. A set
@@ -358,7 +358,7 @@ fn visit<P: Replacement>(
 /// The index of a block among the slots, if it is there. It goes four slots at a time, since a
 /// compiler doesn't unroll a search.
 #[inline(always)]
-fn find_block(slots: &[Slot], block: u64) -> Option<usize>
+pub(crate) fn find_block(slots: &[Slot], block: u64) -> Option<usize>
     ensures { result ≡ position_of block slots.now }
 {
     let mut at = 0;
@@ -380,7 +380,7 @@ fn find_block(slots: &[Slot], block: u64) -> Option<usize>
 
 /// How many of the four slots from an index on come before the first that holds a block.
 #[inline(always)]
-pub(crate) fn others_of_four(slots: &[Slot], at: usize, block: u64) -> usize
+fn others_of_four(slots: &[Slot], at: usize, block: u64) -> usize
     requires { at + 4 ≤ length slots.now }
     ensures most { result ≤ 4 }
     ensures others { NoneBefore block slots.now at → NoneBefore block slots.now (at + result) }

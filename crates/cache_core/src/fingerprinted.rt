@@ -1,45 +1,44 @@
 //! A cache of a system. Where its sets have many ways, a block is searched for by fingerprints.
-ghost use Rattle.std.specs.Prelude.{◌≡◌, ◌≤◌, ◌<◌, ◌+◌, ◌*◌, ◌^◌, ℕ, true, length, None, Some};
-ghost use Rattle.std.specs.Prelude.{IfOk, IfSome, Option, is_some, if◌then◌else◌, replicate};
-ghost use Rattle.std.specs.Prelude.{slice_index_or, []};
+ghost use Rattle.std.specs.Prelude.{◌≡◌, ◌≤◌, ◌<◌, ◌+◌, ◌*◌, ◌^◌, length, None, Some};
+ghost use Rattle.std.specs.Prelude.{IfOk, IfSome, Option, is_some, if◌then◌else◌};
 ghost use Rattle.cache_core.specs.Geometry.{IsGeometry, block_of, set_of};
 ghost use Rattle.cache_core.specs.Outcomes.{hit_in_front};
-ghost use Rattle.cache_core.specs.Order.{Accesses, FlushesCache, position_of, slots_of};
+ghost use Rattle.cache_core.specs.Order.{Accesses, FlushesCache, slots_of};
 ghost use Rattle.cache_core.specs.Slab.{contents_of};
 ghost use Rattle.cache_core.specs.internal.Slab.{empty_sets};
-ghost use Rattle.cache_core.specs.internal.Order.{DirtiesByWrites, hits_in_front};
+ghost use Rattle.cache_core.specs.internal.Order.{DirtiesByWrites, NoneBefore, hits_in_front};
 ghost use Rattle.cache_core.specs.internal.SystemCaches.{policy_of, random_numbers_of};
-ghost use Rattle.cache_core.specs.internal.Fingerprints.{AreRows, row_after, row_followed};
-ghost use Rattle.cache_core.specs.internal.Fingerprints.{fingerprint_of, AreFingerprints};
+ghost use Rattle.cache_core.specs.internal.Fingerprints.{AreRows, HasFingerprints};
+ghost use Rattle.cache_core.specs.internal.Fingerprints.{row_touched, row_placed};
 ghost use Rattle.cache_core.specs.Rules.{rules, is_random};
 
-use crate::cache::{Cache, others_of_four};
+use crate::cache::{Cache, find_block};
+use crate::chosen_policy::ChosenPolicy;
 use crate::design::{AllocMode, Repl, WriteMode};
-use crate::fingerprints::Fingerprints;
+use crate::fingerprints::{NEAR, bring, find_far, fingerprint};
 use crate::geometry::Geometry;
-use crate::outcome::{Outcome, Slot};
-use crate::system_cache::ChosenPolicy;
+use crate::outcome::Outcome;
 use std::alloc::{AllocError, Global};
 use std::marker::Model;
 use trace_core::Ref;
 
 /// The fewest ways of a set that are searched by fingerprints. Fewer are searched slot by slot:
 /// most searches of so few end before the time that it takes to follow the slots.
-const FINGERPRINTED_WAYS: u64 = 64;
+const FINGERPRINTED_WAYS: u64 = 128;
 
-/// A cache of a system, with the fingerprints of each set beside its slots. There are none if its
-/// sets have few ways.
+/// A cache of a system, with the fingerprints of all sets beside its slots, a row for each set.
+/// There are none if its sets have few ways.
 #[derive(Drop)]
 pub(crate) struct FingerprintedCache {
     cache: Cache<ChosenPolicy>,
     policy: Repl,
-    rows: Vec<Fingerprints>,
+    rows: Vec<u8>,
 }
 
 impl Model for FingerprintedCache {
     ghost use Rattle.std.specs.Prelude.{◌≡◌, Some};
     ghost use Rattle.cache_core.specs.Slab.{CacheValue};
-    ghost use Rattle.cache_core.specs.declared.system_cache.ChosenPolicy.{ChosenPolicy};
+    ghost use Rattle.cache_core.specs.declared.chosen_policy.ChosenPolicy.{ChosenPolicy};
 
     ghost Value = { CacheValue ChosenPolicy };
 
@@ -54,7 +53,7 @@ impl Model for FingerprintedCache {
 
 impl FingerprintedCache {
     /// An empty cache. It takes all its memory here, and that alone can fail: that of a cache, and
-    /// if its sets have 64 ways or more, a byte for each line and 40 for each set.
+    /// a byte for each line if its sets have 128 ways or more.
     pub(crate) fn new(
         alloc: Global,
         geometry: Geometry,
@@ -70,13 +69,12 @@ impl FingerprintedCache {
     {
         let name = policy.name();
         let cache = Cache::new(alloc, geometry, policy, write, allocate)?;
-        let ways = geometry.e();
-        let sets = if ways < FINGERPRINTED_WAYS {
+        let bytes = if geometry.e() < FINGERPRINTED_WAYS {
             0
         } else {
-            geometry.sets()
+            geometry.lines()
         };
-        let rows = empty_rows(alloc, sets as usize, ways as usize)?;
+        let rows = vec![in alloc; 0; bytes as usize]?;
         Ok(FingerprintedCache {
             cache,
             policy: name,
@@ -130,25 +128,14 @@ impl FingerprintedCache {
     }
 }
 
-/// Rows of fingerprints for a number of empty sets of so many ways.
-fn empty_rows(alloc: Global, sets: usize, ways: usize) -> Result<Vec<Fingerprints>, AllocError>
-    requires { ways ≤ 2 ^ 22 }
-    ensures { IfOk result (λ rows. rows.items ≡ replicate sets (replicate (ways + 16) 0)) }
-{
-    let mut rows = Vec::with_capacity(alloc, sets)?;
-    for made in 0..sets {
-        rows.push(Fingerprints::new(alloc, ways)?)?;
-    }
-    Ok(rows)
-}
-
-/// One access. Where its set has a row of fingerprints, its block is searched for by them, and the
-/// row follows the slots.
+/// One access. The first slots of its set are looked at one by one, and the others by their
+/// fingerprints, if there are any. Where the block is among the first, or there are no others, no
+/// fingerprint moves.
 #[inline(always)]
 fn access_by_rows(
     cache: &mut Cache<ChosenPolicy>,
     policy: Repl,
-    rows: &mut [Fingerprints],
+    rows: &mut [u8],
     reference: Ref,
 ) -> Outcome
     requires policy { policy_of cache.old.policy ≡ Some policy }
@@ -162,84 +149,88 @@ fn access_by_rows(
 {
     let geometry = cache.geometry();
     let set = geometry.set_of(reference.addr) as usize;
-    // The two ways part here, so that the one of few ways keeps nothing for the other.
-    if set >= rows.len() {
-        return cache.access(reference);
+    let ways = geometry.e() as usize;
+    let start = set * ways;
+    let slots = cache.slots(reference);
+    let near = if start < rows.len() {
+        slots.len().min(NEAR)
+    } else {
+        slots.len()
+    };
+    let at = find_block(&slots[..near], geometry.block_of(reference.addr));
+    if at.is_none() && near == NEAR && start < rows.len() {
+        return access_far(cache, policy, &mut rows[start..start + ways], reference);
     }
+    cache.access_at(reference, at).0
+}
+
+/// One access whose block is not among the first slots of its set, which are filled. It is
+/// searched for by the row of the set, and the row follows the slots. It stands apart, so that the
+/// path of the many references whose block is among the first stays short.
+#[inline(never)]
+fn access_far(
+    cache: &mut Cache<ChosenPolicy>,
+    policy: Repl,
+    row: &mut [u8],
+    reference: Ref,
+) -> Outcome
+    requires policy { policy_of cache.old.policy ≡ Some policy }
+    requires far { 16 ≤ length (slots_of cache.old.sets
+        (set_of cache.old.design.geometry reference.addr)) }
+    requires none { NoneBefore (block_of cache.old.design.geometry reference.addr)
+        (slots_of cache.old.sets (set_of cache.old.design.geometry reference.addr)) 16 }
+    requires row { HasFingerprints cache.old.design.geometry.e
+        (slots_of cache.old.sets (set_of cache.old.design.geometry reference.addr)) row.old }
+    ensures step { Accesses (contents_of policy_of random_numbers_of cache.old) reference result
+        (contents_of policy_of random_numbers_of cache.new) }
+    ensures dirty { DirtiesByWrites cache.old.sets reference result cache.new.sets }
+    ensures victim { IfSome result.evicted
+        (λ slot. slot.block * 2 ^ cache.old.design.geometry.b < 2 ^ 64) }
+    ensures row { HasFingerprints cache.new.design.geometry.e
+        (slots_of cache.new.sets (set_of cache.old.design.geometry reference.addr)) row.new }
+{
+    let geometry = cache.geometry();
     let block = geometry.block_of(reference.addr);
-    let slots = cache.slots(set);
-    let filled = slots.len();
-    let at = find_by(policy, &rows[set], slots, block);
+    let slots = cache.slots(reference);
+    let passing = fingerprint(slots[NEAR - 1].block);
+    let last = slots.len().min(geometry.e() as usize - 1);
+    let at = find_far(row, slots, block);
     let (outcome, way) = cache.access_at(reference, at);
-    let last = filled.min(geometry.e() as usize - 1);
-    follow(policy, &mut rows[set], at, outcome.placed, last, way, block);
+    match at {
+        Some(at) => follow_touch(policy, row, at, passing),
+        None => {
+            if outcome.placed {
+                follow_placing(policy, row, last, way, passing, fingerprint(block));
+            }
+        }
+    }
     outcome
 }
 
-/// The index of a block among the slots of a set, if it is there. Under LRU most blocks are in the
-/// first slots, so four are looked at before the row.
-#[inline(always)]
-fn find_by(policy: Repl, row: &Fingerprints, slots: &[Slot], block: u64) -> Option<usize>
-    requires room { length slots.now + 16 ≤ length row.now }
-    requires same { AreFingerprints slots.now row.now }
-    ensures { result ≡ position_of block slots.now }
+/// A row after a touch of the slot at an index. Under LRU the slot goes to the front, and the last
+/// of the first slots passes to those that have fingerprints.
+fn follow_touch(policy: Repl, row: &mut [u8], at: usize, passing: u8)
+    requires far { 16 ≤ at }
+    requires within { at < 16 + length row.old }
+    ensures { row.new ≡ row_touched (rules policy).touched at passing row.old }
 {
-    if policy != Repl::Lru || slots.len() < 4 {
-        return row.find(slots, block, 0);
-    }
-    let others = others_of_four(slots, 0, block);
-    if others < 4 {
-        Some(others)
-    } else {
-        row.find(slots, block, 4)
+    if policy == Repl::Lru {
+        bring(row, at - NEAR, passing);
     }
 }
 
-/// A row after an access that found its block at an index, or placed it in a way, or did neither.
-/// A block that was found leaves the row as it is, but under LRU, where its fingerprint comes to
-/// the front.
-#[inline(always)]
-fn follow(
-    policy: Repl,
-    row: &mut Fingerprints,
-    at: Option<usize>,
-    placed: bool,
-    last: usize,
-    way: usize,
-    block: u64,
-)
-    requires at { IfSome at (λ at. at < length row.old) }
-    requires same { IfSome at (λ at. slice_index_or row.old at 0 ≡ fingerprint_of block) }
-    requires last { last < length row.old }
-    requires way { at ≡ None → placed ≡ true → way < length row.old }
-    ensures { row.new ≡ row_followed policy at placed last way (fingerprint_of block) row.old }
+/// A row after a placing: in front, where the last slot leaves and the last of the first slots
+/// passes to those that have fingerprints, or in a way.
+fn follow_placing(policy: Repl, row: &mut [u8], last: usize, way: usize, passing: u8, own: u8)
+    requires far { 16 ≤ last }
+    requires last { last < 16 + length row.old }
+    requires way { way < 16 + length row.old }
+    ensures { row.new ≡ row_placed (rules policy).placed
+        (if is_random (rules policy).victim then way else last) passing own row.old }
 {
-    match at {
-        Some(at) => {
-            if policy == Repl::Lru {
-                row.bring_found(at, block);
-            }
-        }
-        None => {
-            if placed {
-                follow_placing(policy, row, last, way, block);
-            }
-        }
-    }
-}
-
-/// Puts a fingerprint where the policy puts the slot that it places: in front, where the last one
-/// leaves, or in a way. It stands apart, so that the path of few ways stays short.
-#[inline(never)]
-fn follow_placing(policy: Repl, row: &mut Fingerprints, last: usize, way: usize, block: u64)
-    requires last { last < length row.old }
-    requires way { way < length row.old }
-    ensures { row.new ≡ row_after (rules policy).placed
-        (if is_random (rules policy).victim then way else last) (fingerprint_of block) row.old }
-{
-    if policy == Repl::Random {
-        row.put(way, block);
-    } else {
-        row.bring(last, block);
+    if policy != Repl::Random {
+        bring(row, last - NEAR, passing);
+    } else if way >= NEAR {
+        row[way - NEAR] = own;
     }
 }

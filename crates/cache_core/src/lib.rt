@@ -4,6 +4,7 @@
 
 pub mod arrival;
 pub mod cache;
+mod chosen_policy;
 mod deep_sets;
 pub mod design;
 mod fingerprinted;

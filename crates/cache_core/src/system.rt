@@ -112,21 +112,8 @@ impl System {
         if access_first_level_in_front(&mut self.i, &mut self.d, &mut self.u, reference) {
             self.steps += 1;
         } else {
-            self.step_further(reference);
+            self.step_seen(reference, &mut Nobody);
         }
-    }
-
-    /// The same step, whatever it comes to. It stands apart, so that the path of the many
-    /// references that find their block in the first slot of its set stays short.
-    #[inline(never)]
-    fn step_further(&mut self, reference: Ref)
-        requires { self.old.steps < MAX_STEPS }
-        ensures stands { (plan : PlannedCaches) (seed : ℕ) (events : List Event) → IsPlan plan →
-            SystemStandsFor plan seed events self.old →
-            SystemStandsFor plan seed (events ++ event.Reference reference ∷ []) self.new }
-        ensures steps { self.new.steps ≡ self.old.steps + 1 }
-    {
-        self.step_seen(reference, &mut Nobody);
     }
 
     /// The same step; an observer sees each arrival.
@@ -158,7 +145,8 @@ impl System {
         }
     }
 
-    /// The same step, whatever it comes to, as `step_further`.
+    /// The same step, whatever it comes to. It stands apart, so that the path of the many
+    /// references that find their block in the first slot of its set stays short.
     #[inline(never)]
     fn step_seen<O: Observer>(&mut self, reference: Ref, observer: &mut O)
         requires steps { self.old.steps < MAX_STEPS }

@@ -1,4 +1,4 @@
-//! A cache of a system, with what it counted. Its policy is chosen at run time.
+//! A cache of a system, with what it counted.
 ghost use Rattle.std.specs.Prelude.{◌≡◌, ◌≤◌, ◌<◌, ◌+◌, ◌^◌, ◌∷◌, [], Some, IfOk, MatchBool};
 ghost use Rattle.cache_core.specs.Arrivals.{Saw, arrival_at};
 ghost use Rattle.cache_core.specs.Order.{dirty_slots};
@@ -9,46 +9,13 @@ ghost use Rattle.cache_core.specs.internal.SystemCaches.{policy_of, random_numbe
 ghost use Rattle.cache_core.specs.Systems.{random_numbers_for};
 
 use crate::arrival::{Observer, arrival_at};
-use crate::design::Repl;
+use crate::chosen_policy::chosen_policy;
 use crate::fingerprinted::FingerprintedCache;
-use crate::outcome::{Outcome, Slot};
+use crate::outcome::Outcome;
 use crate::plan::{CacheName, PlannedCache};
-use crate::replacement::{Fifo, Lru, Random, Replacement};
 use crate::stats::CacheStats;
 use std::alloc::{AllocError, Global};
 use trace_core::Ref;
-
-/// A policy that is chosen when the system is made.
-#[derive(Drop)]
-pub(crate) enum ChosenPolicy {
-    Lru(Lru),
-    Fifo(Fifo),
-    Random(Random),
-}
-
-impl Replacement for ChosenPolicy {
-    ghost use Rattle.cache_core.specs.internal.SystemCaches.{policy_of, random_numbers_of};
-
-    ghost policy = { policy_of };
-
-    ghost words = { random_numbers_of };
-
-    fn touch(&mut self, set: &mut [Slot], at: usize) -> usize {
-        match self {
-            ChosenPolicy::Lru(policy) => policy.touch(set, at),
-            ChosenPolicy::Fifo(policy) => policy.touch(set, at),
-            ChosenPolicy::Random(policy) => policy.touch(set, at),
-        }
-    }
-
-    fn place(&mut self, set: &mut [Slot], filled: usize, new: Slot) -> (usize, Option<Slot>) {
-        match self {
-            ChosenPolicy::Lru(policy) => policy.place(set, filled, new),
-            ChosenPolicy::Fifo(policy) => policy.place(set, filled, new),
-            ChosenPolicy::Random(policy) => policy.place(set, filled, new),
-        }
-    }
-}
 
 /// A cache of a system, with what it counted. Each miss and each eviction is caused by an access,
 /// and each copyback and each dirty line by a write.
@@ -58,31 +25,6 @@ pub(crate) struct SystemCache {
     pub(crate) stats: CacheStats,
     ghost counted: { IsCounted stats },
     ghost written: { stats.copybacks + dirty_slots cache.sets ≤ stats.writes },
-}
-
-impl ChosenPolicy {
-    /// Its name.
-    pub(crate) fn name(&self) -> Repl
-        ensures { policy_of self.now ≡ Some result }
-    {
-        match self {
-            ChosenPolicy::Lru(_) => Repl::Lru,
-            ChosenPolicy::Fifo(_) => Repl::Fifo,
-            ChosenPolicy::Random(_) => Repl::Random,
-        }
-    }
-}
-
-/// The policy that is named, with a generator of this seed.
-fn chosen_policy(policy: Repl, seed: u64) -> ChosenPolicy
-    ensures policy { policy_of result ≡ Some policy }
-    ensures random_numbers { random_numbers_of result ≡ random_numbers_for policy seed }
-{
-    match policy {
-        Repl::Lru => ChosenPolicy::Lru(Lru::new()),
-        Repl::Fifo => ChosenPolicy::Fifo(Fifo::new()),
-        Repl::Random => ChosenPolicy::Random(Random::new(seed)),
-    }
 }
 
 impl SystemCache {

@@ -3,8 +3,8 @@ use Rattle.std.specs.Prelude.{ℕ, Option, Some}
 use Rattle.cache_core.specs.declared.design.Repl.{Repl}
 use Rattle.cache_core.specs.declared.design.Repl.TheVariants.{Lru as LruRepl, Fifo as FifoRepl}
 use Rattle.cache_core.specs.declared.design.Repl.TheVariants.{Random as RandomRepl}
-use Rattle.cache_core.specs.declared.system_cache.ChosenPolicy.{ChosenPolicy}
-use Rattle.cache_core.specs.declared.system_cache.ChosenPolicy.TheVariants.{Lru, Fifo, Random}
+use Rattle.cache_core.specs.declared.chosen_policy.ChosenPolicy.{ChosenPolicy}
+use Rattle.cache_core.specs.declared.chosen_policy.ChosenPolicy.TheVariants.{Lru, Fifo, Random}
 use Rattle.cache_core.specs.RandomNumbers.{random_number}
 
 -- the name of a policy that was chosen

@@ -1,5 +1,5 @@
 -- The rows stay, since the slot that is touched stays first.
-use Rattle.cache_core.proofs.FingerprintLemmas.{front_rows_kept}
+use Rattle.cache_core.proofs.FingerprintRows.{front_rows_kept}
 use Rattle.cache_core.proofs.fingerprinted.FingerprintedCache.access_in_front.Goals as goal
 
 pub invariant_of-self : goal.invariant_of-self

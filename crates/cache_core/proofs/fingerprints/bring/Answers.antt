@@ -2,7 +2,7 @@
 use Rattle.std.proofs.Common.{set, length-set, get_or-set_same, arith, ap, ◌∙◌, ◌∷◌}
 use Rattle.std.specs.List.{remove}
 use Rattle.cache_core.proofs.Lawful.{to_front, set_removed}
-use Rattle.cache_core.proofs.fingerprints.bring_to_front.Goals as goal
+use Rattle.cache_core.proofs.fingerprints.bring.Goals as goal
 
 pub returns : goal.returns
 returns c =
