@@ -32,11 +32,14 @@ pub(crate) fn find_far(row: &[u8], slots: &[Slot], block: u64) -> Option<usize>
     let wanted = fingerprint(block);
     let mut at = NEAR;
     while at < slots.len() {
-        let from = at + others_before(&row[at - NEAR..], wanted);
-        let end = slots.len().min(at + LANES);
-        if from < end {
-            if let Some(passed) = find_block(&slots[from..end], block) {
-                return Some(from + passed);
+        let others = others_before(&row[at - NEAR..], wanted);
+        if others < LANES {
+            let from = at + others;
+            let end = slots.len().min(at + LANES);
+            if from < end {
+                if let Some(passed) = find_block(&slots[from..end], block) {
+                    return Some(from + passed);
+                }
             }
         }
         at += LANES;
