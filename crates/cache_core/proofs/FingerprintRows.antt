@@ -185,10 +185,6 @@ module _ (block : ℕ) (slots : List Slot) (near start bytes : ℕ) (at : Option
           absurd (omega (arith, lt, looked e full)))
           (cases_lt (length slots) 16)
 
-pub nothing_found : (at : Option ℕ) → is_some at ≡ false → at ≡ None
-nothing_found None e = refl
-nothing_found (Some k) e = absurd (cc)
-
 pub something_found : (at : Option ℕ) → at ≡ None → is_some at ≡ true → ⊥
 something_found None e is = absurd (cc)
 something_found (Some k) e is = absurd (cc)

@@ -3,6 +3,8 @@ use Rattle.std.proofs.Common.{◌≡◌, ℕ, ◌+◌, ◌-◌, ◌<◌, ◌≤�
 use Rattle.std.proofs.Common.{get_or, Some, None, sym, ◌∙◌, ap, subst, arith, eqb, take, drop}
 use Rattle.std.proofs.Common.{⊎_elim, min, map, length-drop, length-take}
 use Rattle.std.specs.List.{prefix_len}
+use Rattle.std.specs.Prelude.{Option, is_some}
+use Rattle.std.proofs.Common.{refl}
 use Rattle.std.specs.Simd.Lanes.{chunk}
 use Rattle.std.proofs.lemmas.Simd.{run_in_chunk_fails}
 use Rattle.std.proofs.lemmas.List.{get_or-take, get_or-map, get_or-drop, take_rest, get_or_default}
@@ -14,6 +16,10 @@ use Rattle.cache_core.specs.declared.outcome.Slot.{Slot}
 use Rattle.cache_core.specs.Order.{position_of}
 use Rattle.cache_core.specs.internal.Order.{NoneBefore}
 use Rattle.cache_core.specs.internal.Fingerprints.{fingerprint_of, AreFingerprints}
+
+pub nothing_found : (at : Option ℕ) → is_some at ≡ false → at ≡ None
+nothing_found None e = refl
+nothing_found (Some k) e = absurd (cc)
 
 -- the search ends
 pub found_at : (block : ℕ) (slots : List Slot) (at : ℕ) (d : Slot) → NoneBefore block slots at →

@@ -1,6 +1,7 @@
 //! The fingerprints of the blocks of one set: a byte for each slot behind the first sixteen, so
 //! that a block is searched for sixteen slots at once.
-ghost use Rattle.std.specs.Prelude.{◌≡◌, ◌≤◌, ◌<◌, ◌∷◌, ◌==◌, not, length, take, remove};
+ghost use Rattle.std.specs.Prelude.{◌≡◌, ◌≢◌, ◌≤◌, ◌<◌, ◌∷◌, ◌==◌, not, length, take, remove};
+ghost use Rattle.std.specs.Prelude.{None};
 ghost use Rattle.std.specs.List.{prefix_len};
 ghost use Rattle.cache_core.specs.Order.{position_of};
 ghost use Rattle.cache_core.specs.internal.Fingerprints.{fingerprint_of, AreFingerprints};
@@ -34,17 +35,30 @@ pub(crate) fn find_far(row: &[u8], slots: &[Slot], block: u64) -> Option<usize>
     while at < slots.len() {
         let others = others_before(&row[at - NEAR..], wanted);
         if others < LANES {
-            let from = at + others;
-            let end = slots.len().min(at + LANES);
-            if from < end {
-                if let Some(passed) = find_block(&slots[from..end], block) {
-                    return Some(from + passed);
-                }
+            let found = find_between(slots, at + others, at + LANES, block);
+            if found.is_some() {
+                return found;
             }
         }
         at += LANES;
     }
     None
+}
+
+/// The index of a block among the slots from an index up to another, as far as there are any. It
+/// stands apart, so that the loop over fingerprints stays short.
+#[inline(never)]
+fn find_between(slots: &[Slot], from: usize, next: usize, block: u64) -> Option<usize>
+    requires { NoneBefore block slots.now from }
+    ensures found { result ≢ None → result ≡ position_of block slots.now }
+    ensures none { result ≡ None → NoneBefore block slots.now next }
+{
+    let end = slots.len().min(next);
+    if from >= end {
+        return None;
+    }
+    let passed = find_block(&slots[from..end], block)?;
+    Some(from + passed)
 }
 
 /// Brings a byte to the front of a row, in place of that at an index.

@@ -7,9 +7,9 @@ use Rattle.cache_core.specs.Order.{position_of, slots_of}
 use Rattle.cache_core.specs.Slab.{contents_of}
 use Rattle.cache_core.specs.internal.SystemCaches.{policy_of, random_numbers_of}
 use Rattle.cache_core.specs.internal.Fingerprints.{AreRows}
-use Rattle.cache_core.proofs.FingerprintsLaw.{none_in_part}
+use Rattle.cache_core.proofs.FingerprintsLaw.{none_in_part, nothing_found}
 use Rattle.cache_core.proofs.FingerprintRows.{rows_with, rows_near, found_in_all}
-use Rattle.cache_core.proofs.FingerprintRows.{found_near, nothing_found, something_found}
+use Rattle.cache_core.proofs.FingerprintRows.{found_near, something_found}
 use Rattle.cache_core.proofs.fingerprinted.access_by_rows.Goals as goal
 use Rattle.cache_core.proofs.fingerprinted.access_by_rows.Goals.{
   then-start-rows,
