@@ -1,5 +1,6 @@
 -- The rows of fingerprints after an access to a cache of a system.
-use Rattle.std.proofs.Common.{◌≡◌, ◌≢◌, ℕ, zero, suc, ◌+◌, ◌-◌, ◌*◌, ◌<◌, ◌≤◌, ◌==◌, true, false, List, []}
+use Rattle.std.proofs.Common.{◌≡◌, ◌≢◌, ℕ, zero, suc, ◌+◌, ◌-◌, ◌*◌, ◌<◌, ◌≤◌, ◌==◌, true, false}
+use Rattle.std.proofs.Common.{List, []}
 use Rattle.std.proofs.Common.{◌∷◌, ◌⊎◌, replicate, length, take, drop, Option, Some, None, min}
 use Rattle.std.proofs.Common.{sym, ◌∙◌, ap, refl, subst, arith, ⊎_elim}
 use Rattle.std.proofs.Common.{length-take, length-drop, length-append}
@@ -22,7 +23,7 @@ use Rattle.cache_core.specs.Order.{Accesses, Contents, position_of, slots_of}
 use Rattle.cache_core.specs.Slab.{CacheValue, contents_of}
 use Rattle.cache_core.specs.internal.Order.{holds_first, hits_in_front}
 use Rattle.cache_core.specs.internal.SystemCaches.{policy_of, random_numbers_of}
-use Rattle.cache_core.specs.internal.Fingerprints.{AreRows, HasFingerprints, row_of}
+use Rattle.cache_core.specs.internal.Fingerprints.{AreRows, HasFingerprints, row_in}
 use Rattle.cache_core.proofs.FingerprintsLaw.{found_in_part}
 use Rattle.cache_core.proofs.FingerprintLemmas.{row_after_near_hit, row_after_few}
 
@@ -35,7 +36,7 @@ length-put a w xs ys within long = grind (arith, length-append, length-take, len
 
 -- a row stands within the bytes
 pub row_within : (ways set : ℕ) (slots : List Slot) (bytes : List ℕ) →
-    HasFingerprints ways slots (row_of ways set bytes) → set * ways < length bytes →
+    HasFingerprints ways slots (row_in ways set bytes) → set * ways < length bytes →
     set * ways + ways ≤ length bytes
 row_within ways set slots bytes r lt =
     omega (
@@ -59,16 +60,16 @@ module _ (ways set : ℕ) (bytes row : List ℕ) (within : set * ways + ways ≤
   width = omega arith
 
   -- the row that was written
-  row_here : row_of ways set written ≡ row
+  row_here : row_in ways set written ≡ row
   row_here = ap (λ n. take n (drop start written)) (sym width)
       ∙ between-put_mid start (start + ways - start) bytes row (start + ways)
       (omega (arith, within)) (omega (arith, long))
 
   -- another one
-  row_there : (other : ℕ) → (other ≡ set → ⊥) → row_of ways other written ≡ row_of ways other bytes
+  row_there : (other : ℕ) → (other ≡ set → ⊥) → row_in ways other written ≡ row_in ways other bytes
   row_there other differs = ⊎_elim before (λ (le : set ≤ other). behind le) (cases_lt other set)
     where
-      before : other < set → row_of ways other written ≡ row_of ways other bytes
+      before : other < set → row_in ways other written ≡ row_in ways other bytes
       before lt =
           let ends : other * ways + ways ≤ start = start_le_start other set ways lt in
           sym (drop-take (other * ways) ways written)
@@ -76,7 +77,7 @@ module _ (ways set : ℕ) (bytes row : List ℕ) (within : set * ways + ways ≤
           (other * ways + ways) ends (omega (arith, within)))
           ∙ drop-take (other * ways) ways bytes
 
-      behind : set ≤ other → row_of ways other written ≡ row_of ways other bytes
+      behind : set ≤ other → row_in ways other written ≡ row_in ways other bytes
       behind le =
           let more : set < other = ⊎_elim (λ (l : set < other). l)
           (λ (l : other ≤ set). absurd (differs (omega (arith, le, l)))) (cases_lt set other) in
@@ -126,7 +127,7 @@ rows_with d after old new set number ways bytes row same here wide lt r others r
 pub rows_stay : (ways : ℕ) (old new : List (List Slot)) (set : ℕ) (bytes : List ℕ) →
     AreRows ways old bytes → ((k : ℕ) → k ≢ set → slots_of new k ≡ slots_of old k) →
     (set * ways < length bytes →
-    HasFingerprints ways (slots_of new set) (row_of ways set bytes)) →
+    HasFingerprints ways (slots_of new set) (row_in ways set bytes)) →
     AreRows ways new bytes
 rows_stay ways old new set bytes r others r' k lt =
     ⊎_elim
@@ -208,15 +209,15 @@ rows_near old new name ref outcome bytes at named known a found near =
     by : (o : Option ℕ) → o ≡ position_of (block_of old.design.geometry ref.addr)
         (slots_of old.sets set) → IsNear o (slots_of old.sets set) →
         HasFingerprints old.design.geometry.e (slots_of old.sets set)
-        (row_of old.design.geometry.e set bytes) →
+        (row_in old.design.geometry.e set bytes) →
         HasFingerprints old.design.geometry.e (slots_of new.sets set)
-        (row_of old.design.geometry.e set bytes)
+        (row_in old.design.geometry.e set bytes)
     by (Some k) e lt r = row_after_near_hit old.design old.policy name old.random_numbers
         new.random_numbers ref (slots_of old.sets set) (slots_of new.sets set) outcome
-        (row_of old.design.geometry.e set bytes) named r a.visit k (sym e) lt
+        (row_in old.design.geometry.e set bytes) named r a.visit k (sym e) lt
     by None e few r = row_after_few old.design old.policy name old.random_numbers
         new.random_numbers ref (slots_of old.sets set) (slots_of new.sets set) outcome
-        (row_of old.design.geometry.e set bytes) named r a.visit (sym e) few
+        (row_in old.design.geometry.e set bytes) named r a.visit (sym e) few
 
 found_first : (slots : List Slot) (b : ℕ) → holds_first b slots ≡ true →
     Some 0 ≡ position_of b slots
@@ -260,7 +261,8 @@ empty_slots (suc n) (suc k) = empty_slots n k
 
 -- the rows of a new cache, if it has any
 pub rows_made : (ways n lines : ℕ) (sets : List (List Slot)) (bytes : List ℕ) →
-    sets ≡ replicate n [] → length bytes ≡ lines → (lines ≡ 0) ⊎ ((16 < ways) × (lines ≡ ways * n)) →
+    sets ≡ replicate n [] → length bytes ≡ lines → (lines ≡ 0) ⊎ ((16 < ways) × (lines ≡ ways * n))
+    →
     AreRows ways sets bytes
 rows_made ways n lines sets bytes empty long either set lt = ⊎_elim
     (λ (none : lines ≡ 0). absurd (omega (arith, lt, long, none)))

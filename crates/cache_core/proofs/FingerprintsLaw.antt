@@ -145,7 +145,8 @@ module _ (block : ℕ) (slots : List Slot) (row : List ℕ) (same : AreFingerpri
 pub none_before_more : (block : ℕ) (slots : List Slot) (row : List ℕ) (at r more wanted : ℕ) →
     AreFingerprints slots row → length slots ≤ length row → NoneBefore block slots at →
     16 + r ≡ at → at < length slots → wanted ≡ fingerprint_of block →
-    more ≡ prefix_len (λ byte. not (byte == wanted)) (take 16 (take (length row - r) (drop r row))) →
+    more ≡ prefix_len (λ byte. not (byte == wanted)) (take 16 (take (length row - r) (drop r row)))
+    →
     NoneBefore block slots (at + more)
 none_before_more block slots row at r more wanted same room before e within this counted =
     none_before_lanes block slots row same at r more e before (omega (arith, e, within, room))

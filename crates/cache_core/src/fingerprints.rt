@@ -71,7 +71,7 @@ pub(crate) fn bring(row: &mut [u8], at: usize, byte: u8)
 }
 
 /// The fingerprint of a block. Of one product alone, some strides would put all blocks on one
-/// fingerprint; of two, blocks at equal distances have many.
+/// fingerprint; of two, blocks at equal distances have many fingerprints.
 #[inline(always)]
 pub(crate) fn fingerprint(block: u64) -> u8
     ensures { result ≡ fingerprint_of block }

@@ -42,10 +42,10 @@ pub record HasFingerprints (ways : ℕ) (slots : List Slot) (row : List ℕ) : T
   pub same : AreFingerprints slots row
 
 -- the row of a set, in the bytes of all sets
-abbrev pub row_of : ℕ → ℕ → List ℕ → List ℕ
-row_of ways set bytes = take ways (drop (set * ways) bytes)
+abbrev pub row_in : ℕ → ℕ → List ℕ → List ℕ
+row_in ways set bytes = take ways (drop (set * ways) bytes)
 
 -- each set that has a row; sets of few ways have none
 abbrev pub AreRows : ℕ → List (List Slot) → List ℕ → Type 0
 AreRows ways sets bytes = (set : ℕ) → set * ways < length bytes →
-    HasFingerprints ways (slots_of sets set) (row_of ways set bytes)
+    HasFingerprints ways (slots_of sets set) (row_in ways set bytes)

@@ -26,7 +26,8 @@ access_far-requires-clause-none c =
     let set = c.set_of-set.ensures.value
     ∙ ap (λ g. set_of g c.args.reference.addr) c.geometry-geometry.ensures in
     let slots = c.slots-slots.ensures.slots in
-    let ways = c.e-ways.ensures.value ∙ ap (λ (g : GeometryValue). g.e) c.geometry-geometry.ensures in
+    let ways = c.e-ways.ensures.value ∙ ap (λ (g : GeometryValue). g.e) c.geometry-geometry.ensures
+    in
     let found : c.find_block-at.result ≡ position_of
     (block_of c.args.cache.now.design.geometry c.args.reference.addr) (take c.if-start-rows.near
     (slots_of c.args.cache.now.sets (set_of c.args.cache.now.design.geometry
@@ -47,7 +48,8 @@ returns-then-start-rows-2-clause-rows c =
     let set = c.set_of-set.ensures.value
     ∙ ap (λ g. set_of g c.args.reference.addr) c.geometry-geometry.ensures in
     let slots = c.slots-slots.ensures.slots in
-    let ways = c.e-ways.ensures.value ∙ ap (λ (g : GeometryValue). g.e) c.geometry-geometry.ensures in
+    let ways = c.e-ways.ensures.value ∙ ap (λ (g : GeometryValue). g.e) c.geometry-geometry.ensures
+    in
     rows_with c.args.cache.now.design c.access_far.new.cache.design c.args.cache.now.sets
     c.access_far.new.cache.sets (set_of c.args.cache.now.design.geometry c.args.reference.addr)
     c.set_of-set.result c.e-ways.result c.args.rows.now c.access_far.new.row
@@ -61,7 +63,8 @@ access_at-requires c =
     let set = c.set_of-set.ensures.value
     ∙ ap (λ g. set_of g c.args.reference.addr) c.geometry-geometry.ensures in
     let slots = c.slots-slots.ensures.slots in
-    let ways = c.e-ways.ensures.value ∙ ap (λ (g : GeometryValue). g.e) c.geometry-geometry.ensures in
+    let ways = c.e-ways.ensures.value ∙ ap (λ (g : GeometryValue). g.e) c.geometry-geometry.ensures
+    in
     let found : c.find_block-at.result ≡ position_of
     (block_of c.args.cache.now.design.geometry c.args.reference.addr) (take c.if-start-rows.near
     (slots_of c.args.cache.now.sets (set_of c.args.cache.now.design.geometry
@@ -90,7 +93,8 @@ access_at-requires c =
       | else-is_none-via-else-is_none w ↦ absurd (something_found c.find_block-at.result missed
           w.if-is_none.ensures)
     ] in
-    found_in_all _ _ c.if-start-rows.near start (length c.args.rows.now) c.find_block-at.result found
+    found_in_all _ _ c.if-start-rows.near start (length c.args.rows.now) c.find_block-at.result
+    found
     of_row of_none looked
 
 pub returns-clause-rows : goal.returns-clause-rows
@@ -100,7 +104,8 @@ returns-clause-rows c =
     let set = c.set_of-set.ensures.value
     ∙ ap (λ g. set_of g c.args.reference.addr) c.geometry-geometry.ensures in
     let slots = c.slots-slots.ensures.slots in
-    let ways = c.e-ways.ensures.value ∙ ap (λ (g : GeometryValue). g.e) c.geometry-geometry.ensures in
+    let ways = c.e-ways.ensures.value ∙ ap (λ (g : GeometryValue). g.e) c.geometry-geometry.ensures
+    in
     let found : c.find_block-at.result ≡ position_of
     (block_of c.args.cache.now.design.geometry c.args.reference.addr) (take c.if-start-rows.near
     (slots_of c.args.cache.now.sets (set_of c.args.cache.now.design.geometry

@@ -32,7 +32,8 @@ follow_placing-requires-clause-way c =
     let found = c.find_far-at.ensures
     ∙ ap (λ b. position_of b c.slots-slots.result.now) block
     ∙ ap (position_of (block_of c.args.cache.now.design.geometry c.args.reference.addr)) slots in
-    let within = way_within c.args.cache.now.design (policy_of c.args.cache.now.policy) c.args.policy _
+    let within = way_within c.args.cache.now.design (policy_of c.args.cache.now.policy)
+    c.args.policy _
     _ c.args.reference _ _ c.access_at-way.result.0 c.args.row.now c.requires.policy
     c.requires.row c.access_at-way.ensures.step.visit c.access_at-way.result.1
     (sym found ∙ c.in-None.is) c.if-outcome.true c.requires.far c.access_at-way.ensures.placed in
