@@ -5,7 +5,7 @@ use Rattle.std.specs.Prelude.{All, IfSome, replicate}
 use Rattle.std.proofs.lemmas.List.{length-replicate}
 use Rattle.cache_core.specs.internal.Touched.{TouchedValue, Covers, ListsFilled, no_sets}
 use Rattle.cache_core.proofs.TouchedSets.{covers_none}
-use Rattle.profile_core.specs.internal.Rows.{RowsValue, row_for}
+use Rattle.profile_core.specs.internal.Rows.{RowsValue, AreLong}
 use Rattle.profile_core.specs.internal.Slab.{IsListed}
 
 -- the sets that have a block are those whose fronts may not be 0
@@ -31,16 +31,14 @@ zero_at (suc n) (suc k) = zero_at n k
 
 pub listed_none : (m : ℕ) (fronts : List ℕ) (rows : RowsValue) (lens : List ℕ)
     (before touched : TouchedValue) → fronts ≡ replicate m 0 → lens ≡ replicate m 0 →
-    m ≤ length rows.rows → (m ≤ 4096 → length rows.rows ≤ 4096) →
-    ((k : ℕ) → k < length rows.rows → length (row_for rows k) ≡ rows.stride) →
+    m ≤ length rows.rows → AreLong rows →
     m * (rows.stride + 1) ≤ 2 ^ 22 → touched ≡ no_sets before →
     IsListed fronts rows lens touched
-listed_none m fronts rows lens before touched blank none enough few long small is =
+listed_none m fronts rows lens before touched blank none enough long small is =
     let count : length lens ≡ m = ap length none ∙ length-replicate m 0 in
     record {
       fronts_len = ap length blank ∙ length-replicate m 0 ∙ sym count;
       rows_len = omega (arith, count, enough);
-      few_rows = λ le. few (omega (arith, le, count));
       long = long;
       small = subst (λ (j : ℕ). j * (rows.stride + 1) ≤ 2 ^ 22) (sym count) small;
       short = λ k. omega (arith, ap (λ ls. get_or ls k 0) none, zero_at m k);

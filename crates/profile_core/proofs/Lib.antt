@@ -4,8 +4,16 @@ pub mod Stands
 pub mod Counting
 pub mod Shifting
 pub mod Bringing
-pub mod RowLemmas
+pub mod RowParts
+pub mod PlainRowLemmas
+pub mod GroupedRowLemmas
 pub mod RowGroups
+pub mod SlotLemmas
+pub mod Marks
+pub mod SlottedRowLemmas
+pub mod SlottedPlaces
+pub mod SlottedNew
+pub mod SlottedBehind
 pub mod SlabLemmas
 pub mod Writing
 pub mod Emptying
@@ -17,8 +25,4 @@ pub mod Batches
 pub mod Runs
 pub mod HitSums
 pub mod StackLemmas
-pub mod SlotLemmas
-pub mod SlottedLemmas
-pub mod Kept
-pub mod Marks
 mod ProfileRows

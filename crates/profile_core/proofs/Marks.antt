@@ -1,19 +1,19 @@
 -- A walk over the places of a list in slots that have a block's mark: the marks from a place on are
 -- the bits of a number.
 use Rattle.std.proofs.Common.{◌≡◌, ℕ, zero, suc, ◌+◌, ◌-◌, ◌/◌, ◌^◌, ◌<◌, ◌≤◌, ◌∙◌, ◌⊎◌, inl, inr}
-use Rattle.std.proofs.Common.{Bool, true, false, List, [], ◌∷◌, take, drop, map, sym, ap, refl}
+use Rattle.std.proofs.Common.{Bool, true, false, List, [], ◌∷◌, take, drop, map, sym, ap}
 use Rattle.std.proofs.Common.{arith, eqb, length, subst, get_or}
 use Rattle.std.specs.Int.Count.{count_trailing_zeros}
 use Rattle.std.specs.List.{position_or_len}
 use Rattle.std.specs.Simd.Lanes.{mask_l}
 use Rattle.std.proofs.lemmas.Bool.{false≢true, cases_lt, eq-eqb}
 use Rattle.std.proofs.lemmas.List.{drop-map, get_or-drop, length-drop}
-use Rattle.std.proofs.lemmas.List.Sums.{fails_before_first, passes_at_first, position_or_len_is}
+use Rattle.std.proofs.lemmas.List.Sums.{fails_before_first}
 use Rattle.std.proofs.lemmas.Nat.{shr-shr, shr_le}
 use Rattle.std.proofs.lemmas.Simd.{leading_from_mask_l, trailing_mask_l}
 use Rattle.profile_core.specs.declared.recency.Touch.TheVariants.{Behind, New}
-use Rattle.profile_core.specs.internal.Moves.{is_front, is_in, touch_of}
-use Rattle.profile_core.specs.internal.Slotted.{mark_of, listed, IsOrder, first_alike, IsPassed}
+use Rattle.profile_core.specs.internal.Moves.{is_in, touch_of}
+use Rattle.profile_core.specs.internal.Slots.{mark_of, listed, IsOrder}
 use Rattle.profile_core.proofs.SlotLemmas.{length-listed, listed_at, found_at, found_nowhere}
 use Rattle.profile_core.proofs.SlotLemmas.{touch_found, touch_new, absent_to, absent_at}
 
@@ -38,7 +38,7 @@ marks_from mark k marks =
 
 -- a walk that has come to a place: no block before it is x
 pub record CameTo (marks slots blocks : List ℕ) (len x place left : ℕ) : Type 0 where
-  pub order : IsOrder marks slots blocks len
+  pub order : IsOrder marks slots blocks
   pub most : len ≤ 16
   pub left_is : left ≡ mask_l (map (λ m. eqb m (mark_of x)) (drop place marks))
   pub absent : is_in x (take place (listed slots blocks len)) ≡ false
@@ -50,7 +50,7 @@ absent_past : (marks slots blocks : List ℕ) (len x place left n : ℕ) →
     is_in x (take (place + n) (listed slots blocks len)) ≡ false
 absent_past marks slots blocks len x place left n c le =
     let list = listed slots blocks len in
-    let fits : len ≤ length slots = omega (arith, c.order.slots_len, c.most) in
+    let fits : len ≤ length slots = omega (arith, c.order.order_len, c.most) in
     let long : length list ≡ len = length-listed slots blocks len fits in
     absent_to x (place + n) list (λ k h lt e.
     let split : (k < place) ⊎ (place ≤ k) → ⊥ =
@@ -61,7 +61,7 @@ absent_past marks slots blocks len x place left n c le =
           let here : place + (k - place) ≡ k = omega arith in
           let same : get_or (drop place marks) (k - place) 0 ≡ mark_of x =
           get_or-drop place marks (k - place) 0 ∙ ap (λ j. get_or marks j 0) here
-          ∙ c.order.marked k within
+          ∙ c.order.marked k (omega (arith, within, c.most))
           ∙ ap mark_of (sym (listed_at slots blocks len k fits within) ∙ e) in
           false≢true (sym (fails_before_first (λ m. eqb m (mark_of x)) (drop place marks)
           (k - place) 0 (omega arith))
@@ -103,7 +103,7 @@ pub new_past : (marks slots blocks : List ℕ) (len x place left : ℕ) →
     New len ≡ touch_of x (listed slots blocks len)
 new_past marks slots blocks len x place left c some le =
     new_to marks slots blocks len x (place + count_trailing_zeros 64 left)
-    (omega (arith, c.order.slots_len, c.most)) le
+    (omega (arith, c.order.order_len, c.most)) le
     (absent_before marks slots blocks len x place left c some)
 
 pub new_unmarked : (marks slots blocks : List ℕ) (len x place left : ℕ) →
@@ -114,7 +114,7 @@ new_unmarked marks slots blocks len x place left c none =
     let all : position_or_len p (drop place marks) ≡ length (drop place marks) =
     leading_from_mask_l p (drop place marks) (sym c.left_is ∙ none) in
     new_to marks slots blocks len x (place + length (drop place marks))
-    (omega (arith, c.order.slots_len, c.most))
+    (omega (arith, c.order.order_len, c.most))
     (omega (arith, length-drop place marks, c.order.marks_len, c.most))
     (absent_past marks slots blocks len x place left (length (drop place marks)) c
     (omega (arith, all)))
@@ -128,7 +128,7 @@ pub found_marked : (marks slots blocks : List ℕ) (len x place left : ℕ) →
 found_marked marks slots blocks len x place left c some lt at =
     let list = listed slots blocks len in
     let n : ℕ = place + count_trailing_zeros 64 left in
-    let fits : len ≤ length slots = omega (arith, c.order.slots_len, c.most) in
+    let fits : len ≤ length slots = omega (arith, c.order.order_len, c.most) in
     let within : n < length list = omega (arith, length-listed slots blocks len fits) in
     touch_found x n list (found_at x n list within
     (λ k h e. absent_at x n k list (absent_before marks slots blocks len x place left c some) h
@@ -143,7 +143,7 @@ pub absent_behind : (marks slots blocks : List ℕ) (len x place left : ℕ) →
 absent_behind marks slots blocks len x place left c some lt other =
     let list = listed slots blocks len in
     let n : ℕ = place + count_trailing_zeros 64 left in
-    let fits : len ≤ length slots = omega (arith, c.order.slots_len, c.most) in
+    let fits : len ≤ length slots = omega (arith, c.order.order_len, c.most) in
     absent_to x (n + 1) list (λ k h le e.
     let split : (k < n) ⊎ (n ≤ k) → ⊥ =
     λ w. elim w [
@@ -163,38 +163,3 @@ left_behind mark place n left marks is =
     ap (λ b. b / 2 ^ n / 2 ^ 1) (is ∙ sym (marks_from mark place marks))
     ∙ ap (λ b. b / 2 ^ 1) (shr-shr all place n) ∙ shr-shr all (place + n) 1
     ∙ marks_from mark (place + n + 1) marks
-
--- a block that is not the front
-pub first_absent : (x : ℕ) (xs : List ℕ) → is_front x xs ≡ false → is_in x (take 1 xs) ≡ false
-first_absent x [] other = refl
-first_absent x (y ∷ ys) other = cc (other)
-
--- the first place with the mark is that of the first block with it
-pub alike_is : (marks slots blocks : List ℕ) (len x left : ℕ) →
-    CameTo marks slots blocks len x 1 left → 0 < left → 1 + count_trailing_zeros 64 left < len →
-    first_alike x (listed slots blocks len) ≡ 1 + count_trailing_zeros 64 left
-alike_is marks slots blocks len x left c some lt =
-    let list = listed slots blocks len in
-    let n : ℕ = count_trailing_zeros 64 left in
-    let fits : len ≤ length slots = omega (arith, c.order.slots_len, c.most) in
-    let long : length list ≡ len = length-listed slots blocks len fits in
-    let first = others_are marks slots blocks len x 1 left c some in
-    let mark : (k : ℕ) → 1 + k < len →
-    mark_of (get_or (drop 1 list) k 0) ≡ get_or (drop 1 marks) k 0 =
-    λ k within. ap mark_of (get_or-drop 1 list k 0 ∙ listed_at slots blocks len (1 + k) fits within)
-    ∙ sym (get_or-drop 1 marks k 0 ∙ c.order.marked (1 + k) within) in
-    let is : position_or_len (λ y. eqb (mark_of y) (mark_of x)) (drop 1 list) ≡ n =
-    position_or_len_is (λ y. eqb (mark_of y) (mark_of x)) (drop 1 list) n 0
-    (omega (arith, length-drop 1 list, long))
-    (λ k h. ap (λ m. eqb m (mark_of x)) (mark k (omega arith)) ∙
-    fails_before_first (λ m. eqb m (mark_of x)) (drop 1 marks) k 0 (omega (arith, first)))
-    (λ h. ap (λ m. eqb m (mark_of x)) (mark n lt) ∙
-    ap (λ k. eqb (get_or (drop 1 marks) k 0) (mark_of x)) first ∙
-    passes_at_first (λ m. eqb m (mark_of x)) (drop 1 marks) 0
-    (omega (arith, first, length-drop 1 marks, c.order.marks_len, c.most))) in
-    ap (λ k. 1 + k) is
-
--- a block that was passed is not the front
-pub passed_first : (x : ℕ) (xs : List ℕ) → IsPassed x xs → is_in x (take 1 xs) ≡ false
-passed_first x xs passed = absent_to x 1 xs (λ k lt le e.
-    absent_at x (first_alike x xs + 1) k xs passed (omega arith) le e)

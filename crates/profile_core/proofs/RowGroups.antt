@@ -1,23 +1,21 @@
 -- A group of sets takes rows of its own, and rows of which none is taken yet.
 use Rattle.std.proofs.Common.{◌≡◌, ℕ, ◌+◌, ◌*◌, ◌/◌, ◌%◌, ◌<◌, ◌≤◌, ◌^◌, inl, inr}
-use Rattle.std.proofs.Common.{List, [], ◌++◌, map, zero, suc, length, take, drop, get_or, set}
+use Rattle.std.proofs.Common.{List, [], ◌++◌, length, take, drop, get_or, set}
 use Rattle.std.proofs.Common.{refl, sym, ◌∙◌, ap, subst, arith, not, eqb, cond}
 use Rattle.std.proofs.Common.{length-take, length-append, length-set}
 use Rattle.std.proofs.Common.{get_or-set_same, get_or-set_other}
 use Rattle.std.specs.Prelude.{replicate}
 use Rattle.std.proofs.Math.Nat.{mul-le-mul_right, mul-div_cancel}
-use Rattle.std.proofs.lemmas.Bool.{cases_eq, cases_lt, ne_eqb}
+use Rattle.std.proofs.lemmas.Bool.{cases_eq, ne_eqb}
 use Rattle.std.proofs.lemmas.List.{take-take, drop_at, take-append-le, drop-drop, take-replicate}
-use Rattle.std.proofs.lemmas.List.{drop-replicate, length-replicate, get_or-replicate, get_or_past}
-use Rattle.std.proofs.lemmas.List.FromFn.{length-map-range_with_len, get_or-map-range_with_len}
-use Rattle.std.proofs.lemmas.List.FromFn.{sum_by-map-range_with_len_more}
-use Rattle.std.specs.List.{range_with_len}
+use Rattle.std.proofs.lemmas.List.{drop-replicate, length-replicate, get_or-replicate}
 use Rattle.std.proofs.lemmas.List.Sums.{sum_by-set, count_by-le-length}
-use Rattle.profile_core.specs.internal.Rows.{row_start, row_at, rows_in, taken, IsGrouped}
-use Rattle.profile_core.specs.internal.Rows.{AreInOrder}
+use Rattle.profile_core.specs.internal.GroupedRows.{row_start, grouped_row, grouped_rows}
+use Rattle.profile_core.specs.internal.GroupedRows.{taken, IsGrouped}
 use Rattle.profile_core.proofs.Emptying.{zero_at}
-use Rattle.profile_core.proofs.RowLemmas.{length-rows_in, rows_at, rows_same, in_group, part_of}
-use Rattle.profile_core.proofs.RowLemmas.{part_same, row_ends}
+use Rattle.profile_core.proofs.RowParts.{part_of, part_same}
+use Rattle.profile_core.proofs.GroupedRowLemmas.{length-grouped_rows, rows_at, rows_same, in_group}
+use Rattle.profile_core.proofs.GroupedRowLemmas.{row_ends}
 
 -- a part of zeros
 part_zeros : (m b n : ℕ) (xs : List ℕ) → take m xs ≡ replicate m 0 → b + n ≤ m →
@@ -126,7 +124,7 @@ module _ {n room : ℕ} {groups entries : List ℕ} (a : IsGrouped n groups entr
 
   -- the rows of the group were zeros, and are zeros again
   row_of_group : (k : ℕ) → k / 8 ≡ g →
-      row_at n groups_then entries_then k ≡ row_at n groups entries k
+      grouped_row n groups_then entries_then k ≡ grouped_row n groups entries k
   row_of_group k here =
       let rest : k % 8 < 8 = omega arith in
       let before : row_start n groups k + n ≤ 8 * n =
@@ -150,22 +148,22 @@ module _ {n room : ℕ} {groups entries : List ℕ} (a : IsGrouped n groups entr
       ∙ sym (part_zeros (8 * n) (row_start n groups k) n entries a.blank before)
 
   row_besides : (k : ℕ) → (k / 8 ≡ g → ⊥) →
-      row_at n groups_then entries_then k ≡ row_at n groups entries k
+      grouped_row n groups_then entries_then k ≡ grouped_row n groups entries k
   row_besides k other =
       ap (λ h. take n (drop ((h * 8 + k % 8) * n) entries_then)) (place_then (k / 8) other)
       ∙ part_same (row_start n groups k) n entries_then entries
       (take-append-le (row_start n groups k + n) entries (take (8 * n) entries) (row_ends a k))
 
-  row_same : (k : ℕ) → row_at n groups_then entries_then k ≡ row_at n groups entries k
+  row_same : (k : ℕ) → grouped_row n groups_then entries_then k ≡ grouped_row n groups entries k
   row_same k = elim (cases_eq (k / 8) g) [
     | inl here ↦ row_of_group k here
     | inr other ↦ row_besides k other
   ]
 
-  pub taken_rows : rows_in n groups_then entries_then ≡ rows_in n groups entries
+  pub taken_rows : grouped_rows n groups_then entries_then ≡ grouped_rows n groups entries
   taken_rows =
-      rows_same n groups_then entries_then (rows_in n groups entries)
-      (length-rows_in n groups entries ∙ ap (λ m. m * 8) (sym same_len))
+      rows_same n groups_then entries_then (grouped_rows n groups entries)
+      (length-grouped_rows n groups entries ∙ ap (λ m. m * 8) (sym same_len))
       (λ k lt. row_same k ∙ sym (rows_at n k groups entries (omega (arith, lt, same_len))))
 
 -- the same rows, once set k has a row of its own
@@ -173,13 +171,13 @@ pub record IsReady (n k : ℕ) (groups entries : List ℕ) (room : ℕ)
     (rows : List (List ℕ)) : Type 0 where
   pub sound : IsGrouped n groups entries room
   pub own : 0 < n → 0 < get_or groups (k / 8) 0
-  pub same : rows_in n groups entries ≡ rows
+  pub same : grouped_rows n groups entries ≡ rows
 
 pub ready_taken : {n k room more number : ℕ} {groups entries groups' entries' : List ℕ} →
     IsGrouped n groups entries room → 0 < n → k / 8 < length groups →
     get_or groups (k / 8) 0 ≡ 0 → room ≤ more → number ≡ length entries / (8 * n) →
     groups' ≡ set groups (k / 8) number → entries' ≡ entries ++ take (8 * n) entries →
-    IsReady n k groups' entries' more (rows_in n groups entries)
+    IsReady n k groups' entries' more (grouped_rows n groups entries)
 ready_taken {n} {k} {room} {more} {number} {groups} {entries} {groups'} {entries'} a some lt none le
     which put grown =
     let size : 0 < 8 * n = omega (arith, some) in
@@ -193,8 +191,8 @@ ready_taken {n} {k} {room} {more} {number} {groups} {entries} {groups'} {entries
           (subst (λ es. IsGrouped n (groups_then a lt none) es more) (sym grown)
           (taken_sound a lt none le));
       own = λ _. omega (arith, here);
-      same = ap (λ gs. rows_in n gs entries') groups_are ∙
-          ap (rows_in n (groups_then a lt none)) grown ∙ taken_rows a lt none;
+      same = ap (λ gs. grouped_rows n gs entries') groups_are ∙
+          ap (grouped_rows n (groups_then a lt none)) grown ∙ taken_rows a lt none;
     }
 
 -- rows of which none is taken yet: all groups have the zeros in front
@@ -206,7 +204,7 @@ module _ (n m : ℕ) {groups entries : List ℕ} (none : groups ≡ replicate m 
   blank : take (8 * n) entries ≡ replicate (8 * n) 0
   blank = ap (take (8 * n)) zeros ∙ take-replicate (8 * n) (8 * n) 0 (omega arith)
 
-  pub blank_rows_in : rows_in n groups entries ≡ replicate (m * 8) (replicate n 0)
+  pub blank_rows_in : grouped_rows n groups entries ≡ replicate (m * 8) (replicate n 0)
   blank_rows_in = rows_same n groups entries (replicate (m * 8) (replicate n 0))
       (length-replicate (m * 8) (replicate n 0) ∙
       ap (λ j. j * 8) (sym (ap length none ∙ length-replicate m 0)))
@@ -222,77 +220,3 @@ module _ (n m : ℕ) {groups entries : List ℕ} (none : groups ≡ replicate m 
         ap length none,
         length-replicate {A = ℕ} m 0,
       ))))
-
--- rows of which all are there, in the order of the sets
-abbrev pub ordered : ℕ → List ℕ
-ordered m = map (λ g. g + 1) (range_with_len 0 m)
-
-length-ordered : (m : ℕ) → length (ordered m) ≡ m
-length-ordered m = length-map-range_with_len (λ g. g + 1) 0 m
-
-ordered_at : (m g : ℕ) → g < m → get_or (ordered m) g 0 ≡ g + 1
-ordered_at m g lt = get_or-map-range_with_len (λ g. g + 1) 0 m g g 0 lt (omega arith)
-
-all_taken : (m : ℕ) → taken (ordered m) ≡ m
-all_taken zero = refl
-all_taken (suc m) =
-    let more : suc m ≡ m + 1 = omega arith in
-    ap (λ j. taken (ordered j)) more
-    ∙ sum_by-map-range_with_len_more counted (λ g. g + 1) 0 m m (omega arith)
-    ∙ omega (arith, all_taken m, counted_one m)
-
-module _ (n m room : ℕ) {groups entries : List ℕ} (is : groups ≡ ordered m)
-    (zeros : entries ≡ replicate ((m + 1) * (8 * n)) 0) where
-  count : length groups ≡ m
-  count = ap length is ∙ length-ordered m
-
-  place : (g : ℕ) → g < m → get_or groups g 0 ≡ g + 1
-  place g lt = ap (λ gs. get_or gs g 0) is ∙ ordered_at m g lt
-
-  pub in_order : AreInOrder groups
-  in_order g lt = place g (omega (arith, lt, count))
-
-  place_past : (g : ℕ) → m ≤ g → get_or groups g 0 ≡ 0
-  place_past g le = get_or_past groups g 0 (omega (arith, le, count))
-
-  some_group : 1 ≤ m + 1
-  some_group = omega arith
-
-  all : taken groups ≡ m
-  all = ap taken is ∙ all_taken m
-
-  pub ordered_sound : (m + 1) * (8 * n) ≤ 2 ^ 26 → (m + 1) * (8 * n) ≤ room →
-      IsGrouped n groups entries room
-  ordered_sound small fits = record {
-    small = subst (λ j. (j + 1) * (8 * n) ≤ 2 ^ 26) (sym count) small;
-    entries_len = ap length zeros ∙ length-replicate ((m + 1) * (8 * n)) 0 ∙
-        ap (λ j. (j + 1) * (8 * n)) (sym all);
-    fits = subst (λ j. (j + 1) * (8 * n) ≤ room) (sym count) fits;
-    within = λ g. elim (cases_lt g m) [
-      | inl lt ↦ omega (arith, place g lt, all, lt)
-      | inr past ↦ omega (arith, place_past g past)
-    ];
-    apart = λ g h own same. elim (cases_lt g m) [
-      | inl lt ↦ elim (cases_lt h m) [
-        | inl near ↦ omega (arith, place g lt, place h near, same)
-        | inr past ↦ absurd (omega (arith, place g lt, place_past h past, same))
-      ]
-      | inr past ↦ absurd (omega (arith, own, place_past g past))
-    ];
-    blank = ap (take (8 * n)) zeros ∙
-        take-replicate (8 * n) ((m + 1) * (8 * n)) 0
-        (omega (arith, mul-le-mul_right (8 * n) some_group));
-  }
-
-  pub ordered_rows : (m + 1) * (8 * n) ≤ 2 ^ 26 → (m + 1) * (8 * n) ≤ room →
-      rows_in n groups entries ≡ replicate (m * 8) (replicate n 0)
-  ordered_rows small fits =
-      let sound = ordered_sound small fits in
-      let size : ℕ = (m + 1) * (8 * n) in
-      let whole : take size entries ≡ replicate size 0 =
-      ap (take size) zeros ∙ take-replicate size size 0 (omega arith) in
-      rows_same n groups entries (replicate (m * 8) (replicate n 0))
-      (length-replicate (m * 8) (replicate n 0) ∙ ap (λ j. j * 8) (sym count))
-      (λ k lt. part_zeros size (row_start n groups k) n entries whole
-      (omega (arith, row_ends sound k, ap length zeros, length-replicate {A = ℕ} size 0))
-      ∙ sym (get_or-replicate (m * 8) k (replicate n 0) [] (omega (arith, lt, count))))

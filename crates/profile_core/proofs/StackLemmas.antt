@@ -291,10 +291,6 @@ second-append x [] ys h = sym (ap (is_second x) (h (omega arith)))
 second-append x (y ∷ []) ys h = sym (ap (is_front x) (h (omega arith)))
 second-append x (y ∷ z ∷ xs) ys h = refl
 
-one-append : (xs ys : List ℕ) → (length xs < 2 → ys ≡ []) → take 1 xs ≡ take 1 (xs ++ ys)
-one-append [] ys h = sym (ap (take 1) (h (omega arith)))
-one-append (y ∷ xs) ys h = refl
-
 module _ {near : Lists} {beyond : ℕ} {far : List Deep} (s : IsStacked near beyond far) where
   abbrev pub row_of : ℕ → List ℕ
   row_of k = get_or near.lists k []
@@ -324,11 +320,6 @@ module _ {near : Lists} {beyond : ℕ} {far : List Deep} (s : IsStacked near bey
       (get_or (whole_lists near.lists far) k [])
   front_is x k lt = front-append x (row_of k) (rest_of far k) (rest_two k) ∙
       ap (is_front x) (sym (whole_at k lt))
-
-  pub first_is : (k : ℕ) → k < length near.lists → take 1 (row_of k) ≡ take 1
-      (get_or (whole_lists near.lists far) k [])
-  first_is k lt = one-append (row_of k) (rest_of far k) (rest_two k) ∙
-      ap (take 1) (sym (whole_at k lt))
 
   pub second_is : (x k : ℕ) → k < length near.lists → is_second x (row_of k) ≡ is_second x
       (get_or (whole_lists near.lists far) k [])
@@ -687,13 +678,6 @@ pub two_near : {near : Lists} {beyond : ℕ} {far : List Deep} (s : IsStacked ne
     (beyond ≡ 0 → ⊥) → 2 ≤ near.depth
 two_near s some = elim s.sets [ inl none ↦ absurd (some none.0) | inr all ↦ all.2 ]
 
-pub all_near : {near : Lists} {beyond : ℕ} {far : List Deep} (s : IsStacked near beyond far) →
-    beyond ≡ 0 → whole_lists near.lists far ≡ near.lists
-all_near {near} {beyond} {far} s none = joined_none near.lists far (elim s.sets [
-  | inl both ↦ both.1
-  | inr all ↦ absurd (omega (arith, all.0, none))
-])
-
 -- where all blocks are in their rows
 pub all_stay : {near : Lists} {beyond : ℕ} {far : List Deep} (s : IsStacked near beyond far)
     (x k : ℕ) (lt : k < length near.lists) → beyond ≡ 0
@@ -704,7 +688,7 @@ all_stay s x k lt none = elim (is_or (is_in x (row_of s k))) [
 ]
 
 -- lists with no blocks
-pub nils : (n k : ℕ) → get_or {A = List ℕ} (replicate n []) k [] ≡ []
+nils : (n k : ℕ) → get_or {A = List ℕ} (replicate n []) k [] ≡ []
 nils zero k = refl
 nils (suc n) zero = refl
 nils (suc n) (suc k) = nils n k

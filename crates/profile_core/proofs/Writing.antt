@@ -9,10 +9,10 @@ use Rattle.std.proofs.lemmas.List.{set-get_or}
 use Rattle.cache_core.specs.internal.Touched.{TouchedValue, Covers, after_count, with_set}
 use Rattle.cache_core.proofs.TouchedSets.{covers_change}
 use Rattle.profile_core.specs.internal.Moves.{is_front, is_second, move_to_front}
+use Rattle.profile_core.specs.declared.recency.RecencyLists.TheInside.{Inside}
 use Rattle.profile_core.specs.internal.Rows.{RowsValue, row_for, with_row}
 use Rattle.profile_core.specs.internal.Slab.{lists_in, IsListed, IsBroughtInRow}
 use Rattle.profile_core.proofs.Bringing.{row_exchanged, second_long}
-use Rattle.profile_core.specs.declared.recency.RecencyLists.TheInside.{Inside}
 use Rattle.profile_core.proofs.SlabLemmas.{HasList, list_set, within, among_rows, list_is}
 use Rattle.profile_core.proofs.SlabLemmas.{list_size, row_long}
 
@@ -23,9 +23,10 @@ pub record IsTouched (k held front : ℕ) (fronts : List ℕ) (rows : RowsValue)
   pub held_is : held ≡ get_or lens k 0
   pub front_is : front ≡ get_or fronts k 0
 
-abbrev pub TouchedIn : Inside → ℕ → ℕ → ℕ → List (List ℕ) → Type 0
-TouchedIn s k held front lists =
-    IsTouched k held front s.fronts.items s.rows s.lens.items s.touched lists
+abbrev pub TouchedIn : {R : Type 0} → (R → RowsValue) → Inside R → ℕ → ℕ → ℕ →
+    List (List ℕ) → Type 0
+TouchedIn view s k held front lists =
+    IsTouched k held front s.fronts.items (view s.rows) s.lens.items s.touched lists
 
 -- set k has a list of `len` blocks: the one before with x brought to its front; `new` is its row
 pub record IsWritten (k len front x : ℕ) (fronts : List ℕ) (rows : RowsValue) (lens new : List ℕ)
@@ -144,8 +145,6 @@ module _ {k held front : ℕ} {fronts : List ℕ} {rows : RowsValue} {lens : Lis
         fronts_len = ap length w.fronts_are ∙ length-set fronts k front' ∙
             t.known.sound.fronts_len ∙ sym lens_long;
         rows_len = omega (arith, t.known.sound.rows_len, lens_long, rows_long);
-        few_rows = λ few.
-            omega (arith, t.known.sound.few_rows (omega (arith, few, lens_long)), rows_long);
         long = long_after;
         small = subst (λ (m : ℕ). m * (rows'.stride + 1) ≤ 2 ^ 22) (sym lens_long)
             (subst (λ (m : ℕ). length lens * (m + 1) ≤ 2 ^ 22) (sym stride_same)
@@ -171,23 +170,6 @@ module _ {k held front : ℕ} {fronts : List ℕ} {rows : RowsValue} {lens : Lis
     list_is =
         sym (ap (λ ys. take (n + 1) (move_to_front x ys)) (list_none none) ∙
         ap (λ j. take j (x ∷ [])) (add-one n) ∙ ap (λ ys. x ∷ ys) (take-nil n));
-  }
-
-  -- a list of one block, where no list has more, gets another in its place
-  pub written_alone : (x : ℕ) → n ≡ 0 → 0 < held →
-      IsWritten k held x x fronts rows lens (row_for rows k) (set fronts k x) rows lens list
-  written_alone x alone some = record {
-    fronts_are = refl;
-    rows_are = row_kept;
-    lens_are = len_kept;
-    long = row_long t.known;
-    some = some;
-    short = held_short;
-    list_is =
-        let one : held ≡ 1 = omega (arith, alone, some, held_short) in
-        let depth : n + 1 ≡ 1 = omega (arith, alone) in
-        ap (λ j. take j (x ∷ row_for rows k)) one ∙
-        sym (ap (λ j. take j (move_to_front x list)) depth);
   }
 
   -- a list of two blocks has a number behind its front

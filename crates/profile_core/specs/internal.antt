@@ -1,10 +1,12 @@
 pub mod Fronts
+pub mod GroupedRows
+pub mod KeptLists
 pub mod Moves
+pub mod PlainRows
 pub mod ProfileStandsFor
 pub mod Rows
-pub mod SetLists
 pub mod Slab
-pub mod Slotted
-pub mod SlottedState
+pub mod Slots
+pub mod SlottedRows
 pub mod State
 pub mod Stacks

@@ -2,13 +2,18 @@
 //! and Traiger 1970).
 #![tactic(auto)]
 
+mod feed;
+mod grouped_rows;
+mod histograms;
+mod kept_lists;
 pub mod laws;
+mod plain_rows;
 pub mod profile;
 mod recency;
 mod row;
 mod rows;
 mod set_lists;
-mod slotted;
+mod slotted_rows;
 mod stacks;
 
 pub use profile::{MAX_REFERENCES, Profile};

@@ -1,23 +1,19 @@
 //! A profile: one pass over references that counts for every associativity up to a depth.
 ghost use Rattle.std.specs.Prelude.{◌≡◌, ◌+◌, ◌-◌, ◌*◌, ◌^◌, ◌<◌, ◌≤◌, List, IfOk, true, false};
-ghost use Rattle.std.specs.Prelude.{[], length, take, drop, sum, IsTrue, ◌↔◌};
+ghost use Rattle.std.specs.Prelude.{length, take, drop, sum};
 ghost use Rattle.trace_core.specs.declared.events.Event.{Event};
-ghost use Rattle.cache_core.specs.Geometry.{IsGeometry, geometry_value, block_of, set_of_block};
+ghost use Rattle.cache_core.specs.Geometry.{IsGeometry, geometry_value, block_of};
 ghost use Rattle.cache_core.specs.Windows.{occurrences, counts, probes, held};
-ghost use Rattle.profile_core.specs.internal.State.{empty, list_of, after_reference, after_flush};
+ghost use Rattle.profile_core.specs.internal.State.{empty, after_reference, after_flush};
 ghost use Rattle.profile_core.specs.internal.State.{fed_of, held_of, counts_at, hit_sums_at};
-ghost use Rattle.profile_core.specs.internal.State.{weighed, IsNext};
+ghost use Rattle.profile_core.specs.internal.State.{weighed};
 ghost use Rattle.profile_core.specs.internal.Fronts.{is_front_of, after_unless_front, after_fronts};
 ghost use Rattle.profile_core.specs.internal.Fronts.{is_refined, after_batch, fed_of_batch};
-ghost use Rattle.profile_core.specs.internal.Moves.{is_second, touch_of};
-ghost use Rattle.profile_core.specs.internal.SetLists.{is_slotted, ArePlain};
-ghost use Rattle.profile_core.specs.internal.Slotted.{IsPassed};
 ghost use Rattle.profile_core.specs.internal.ProfileStandsFor.{ProfileStandsFor};
 
-use crate::recency::Touch;
-use crate::rows::FEW;
-use crate::set_lists::SetLists;
-use crate::stacks::DEEP;
+use crate::feed::{feed_each, feed_each_to_two, feed_one};
+use crate::histograms::Histograms;
+use crate::kept_lists::KeptLists;
 use cache_core::{Counts, Geometry};
 use std::alloc::{AllocError, Global};
 use std::marker::Model;
@@ -27,35 +23,23 @@ use trace_core::MAX_LINES;
 /// overflows.
 pub const MAX_REFERENCES: u64 = 2 * MAX_LINES;
 
-/// The recency lists of all sets (LRU stacks, Mattson 1970) and two histograms: `behind` counts the
-/// references found behind the front of their list, by their stack distance, which is the block's
-/// index in the list; `misses_by_occupancy` those not found, by the number of blocks in the list.
-/// Most are found in front, at distance 0, and have no counter: each made one comparison, so they
-/// are as many as the comparisons that the histograms leave over.
+/// The recency lists of all sets (LRU stacks, Mattson 1970), and what is counted of them.
 #[derive(Drop)]
 pub struct Profile {
     geometry: Geometry,
-    probes: u64,
-    lists: SetLists,
-    behind: Vec<u64>,
-    misses_by_occupancy: Vec<u64>,
+    lists: KeptLists,
+    histograms: Histograms,
 }
 
 impl Model for Profile {
-    ghost use Rattle.profile_core.specs.internal.State.{ProfileState, IsSound, distances_of};
+    ghost use Rattle.profile_core.specs.internal.State.{ProfileState, profile_of, AreSound};
+    ghost use Rattle.profile_core.specs.internal.KeptLists.{lists_of};
 
     ghost Value = { ProfileState };
 
-    ghost view = { λ p. record {
-      geometry = p.geometry;
-      lists = p.lists.lists;
-      distances = distances_of p.probes p.behind.items p.misses_by_occupancy.items;
-      misses_by_occupancy = p.misses_by_occupancy.items;
-      probes = p.probes;
-    } };
+    ghost view = { λ p. profile_of p.geometry (lists_of p.lists) p.histograms };
 
-    ghost invariant = { λ p.
-        IsSound p.geometry p.lists p.behind.items p.misses_by_occupancy.items p.probes };
+    ghost invariant = { λ p. AreSound p.geometry (lists_of p.lists) p.histograms };
 }
 
 /// The sums of a profile's histograms up to an associativity, which only rises: `hits` of the `fed`
@@ -83,12 +67,11 @@ impl Model for HitSums {
 
 impl Profile {
     /// A profile of caches of `2^s` sets of 1 to `depth` lines of `2^b` bytes. It takes all its
-    /// memory here: 8 bytes for each of `depth * 2^s` blocks, 4 and three quarters for each set (8,
-    /// where there are fewer), and 80 for each associativity. With more than 4,096 sets it leaves
-    /// the memory of a set's blocks but the first unwritten until the set, or one of seven
-    /// neighbours, has two. With a depth of 256 or more it takes 22 bytes for each block of a set
-    /// but 64, and 200 more for each set. With a depth of 12 to 16 a set takes 128 bytes of blocks,
-    /// 32 of their order, 8 of its front and 8 and three quarters of counts, and no more for each
+    /// memory here: 8 bytes for each of `depth * 2^s` blocks, 4 and a quarter for each set, and 16
+    /// for each associativity and 8 more. With more than 4,096 sets and a depth of 32 to 255 it
+    /// takes half a byte more for each set, and eight rows. With a depth of 12 to 16 and up to
+    /// 4,096 sets it takes 184 and a quarter for each set, of which 160 are not written before
+    /// the set has three blocks. With a depth of 256 or more it takes at most 21.6 bytes for each
     /// block. Where memory is refused, nothing is kept.
     pub fn new(alloc: Global, b: u64, s: u64, depth: u64) -> Result<Profile, AllocError>
         requires { IsGeometry (geometry_value s depth b) }
@@ -100,10 +83,12 @@ impl Profile {
         let depth = depth as usize;
         Ok(Profile {
             geometry,
-            lists: SetLists::new(alloc, 1 << s, depth)?,
-            behind: vec![in alloc; 0; depth]?,
-            misses_by_occupancy: vec![in alloc; 0; depth + 1]?,
-            probes: 0,
+            lists: KeptLists::new(alloc, 1 << s, depth)?,
+            histograms: Histograms {
+                probes: 0,
+                behind: vec![in alloc; 0; depth]?,
+                misses_by_occupancy: vec![in alloc; 0; depth + 1]?,
+            },
         })
     }
 
@@ -140,7 +125,7 @@ impl Profile {
     /// Feeds references by their addresses, one after the other, but for those that find their
     /// block in front, which are left to be counted by `count_fronts`. Those that were fed come to
     /// the front of `addrs`, in their order. Returns how many they are. Where several profiles are
-    /// fed, a batch of some hundred references mostly costs less than the same references by
+    /// fed, a batch of some hundred references usually costs less than the same references by
     /// themselves: the processor finds one profile's lists in its caches.
     pub fn feed_batch(&mut self, addrs: &mut [u64]) -> usize
         requires { fed_of self.old + length addrs.old ≤ MAX_REFERENCES }
@@ -149,20 +134,19 @@ impl Profile {
         ensures within { result ≤ length addrs.new }
         ensures length { length addrs.new ≡ length addrs.old }
     {
-        if self.lists.in_slots() {
-            self.feed_slots(addrs)
-        } else if self.has_plain_rows() {
-            self.feed_plain_rows(addrs)
-        } else {
-            self.feed_rows(addrs)
+        let (geometry, histograms) = (self.geometry, &mut self.histograms);
+        match &mut self.lists {
+            KeptLists::InRows(lists) => feed_each(geometry, lists, histograms, addrs),
+            KeptLists::InSlots(lists) => feed_each(geometry, lists, histograms, addrs),
+            KeptLists::InGroups(lists) => feed_each(geometry, lists, histograms, addrs),
+            KeptLists::Long(lists) => feed_each(geometry, lists, histograms, addrs),
         }
     }
 
     /// Feeds references to this profile, and to `next` those that it does not find in front. Those
     /// that neither does come to the front of `addrs`, in their order; returns how many they are.
-    /// Where both have 12 to 16 ways, or both others of up to 255 and up to 4,096 sets, it costs
-    /// less than one after the other: what a reference finds in a profile foretells what it finds
-    /// in the next.
+    /// Where both keep their lists in the same way, it costs less than one after the other: what a
+    /// reference finds in a profile predicts what it finds in the next.
     pub fn feed_batch_with(&mut self, next: &mut Profile, addrs: &mut [u64]) -> usize
         requires few { fed_of self.old + length addrs.old ≤ MAX_REFERENCES }
         requires next_few { fed_of next.old + length addrs.old ≤ MAX_REFERENCES }
@@ -173,188 +157,48 @@ impl Profile {
         ensures within { result ≤ length addrs.new }
         ensures length { length addrs.new ≡ length addrs.old }
     {
-        let slots = self.lists.in_slots();
-        let next_slots = next.lists.in_slots();
-        if slots && next_slots {
-            return self.feed_slots_with(next, addrs);
-        }
-        if !slots && !next_slots && self.has_plain_rows() && next.has_plain_rows() {
-            return self.feed_plain_rows_with(next, addrs);
-        }
-        let left = self.feed_batch(addrs);
-        next.feed_batch(&mut addrs[..left])
-    }
-
-    /// The same, where the lists of both stand in slots.
-    #[inline(never)]
-    fn feed_slots_with(&mut self, next: &mut Profile, addrs: &mut [u64]) -> usize
-        requires few { fed_of self.old + length addrs.old ≤ MAX_REFERENCES }
-        requires next_few { fed_of next.old + length addrs.old ≤ MAX_REFERENCES }
-        requires slots { is_slotted self.old.geometry.e ≡ true }
-        requires next_slots { is_slotted next.old.geometry.e ≡ true }
-        ensures step { self.new ≡ after_batch self.old addrs.old }
-        ensures next_step { next.new ≡ after_batch next.old (fed_of_batch self.old addrs.old) }
-        ensures fed { take result addrs.new
-            ≡ fed_of_batch next.old (fed_of_batch self.old addrs.old) }
-        ensures within { result ≤ length addrs.new }
-        ensures length { length addrs.new ≡ length addrs.old }
-    {
-        self.feed_both_in(next, addrs, true, false)
-    }
-
-    /// The same, where both have plain rows.
-    #[inline(never)]
-    fn feed_plain_rows_with(&mut self, next: &mut Profile, addrs: &mut [u64]) -> usize
-        requires few { fed_of self.old + length addrs.old ≤ MAX_REFERENCES }
-        requires next_few { fed_of next.old + length addrs.old ≤ MAX_REFERENCES }
-        requires rows { is_slotted self.old.geometry.e ≡ false }
-        requires plain { ArePlain self.old.geometry }
-        requires next_rows { is_slotted next.old.geometry.e ≡ false }
-        requires next_plain { ArePlain next.old.geometry }
-        ensures step { self.new ≡ after_batch self.old addrs.old }
-        ensures next_step { next.new ≡ after_batch next.old (fed_of_batch self.old addrs.old) }
-        ensures fed { take result addrs.new
-            ≡ fed_of_batch next.old (fed_of_batch self.old addrs.old) }
-        ensures within { result ≤ length addrs.new }
-        ensures length { length addrs.new ≡ length addrs.old }
-    {
-        self.feed_both_in(next, addrs, false, true)
-    }
-
-    /// The same, where the caller knows of both whether the lists stand in slots, and whether rows
-    /// are plain.
-    #[inline(always)]
-    fn feed_both_in(
-        &mut self,
-        next: &mut Profile,
-        addrs: &mut [u64],
-        slots: bool,
-        plain: bool,
-    ) -> usize
-        requires few { fed_of self.old + length addrs.old ≤ MAX_REFERENCES }
-        requires next_few { fed_of next.old + length addrs.old ≤ MAX_REFERENCES }
-        requires known { slots ≡ is_slotted self.old.geometry.e }
-        requires plain { plain ≡ true → ArePlain self.old.geometry }
-        requires next_known { slots ≡ is_slotted next.old.geometry.e }
-        requires next_plain { plain ≡ true → ArePlain next.old.geometry }
-        ensures step { self.new ≡ after_batch self.old addrs.old }
-        ensures next_step { next.new ≡ after_batch next.old (fed_of_batch self.old addrs.old) }
-        ensures fed { take result addrs.new
-            ≡ fed_of_batch next.old (fed_of_batch self.old addrs.old) }
-        ensures within { result ≤ length addrs.new }
-        ensures length { length addrs.new ≡ length addrs.old }
-    {
-        let geometry = self.geometry;
-        let next_geometry = next.geometry;
-        let mut left = 0;
-        for at in 0..addrs.len() {
-            let addr = addrs[at];
-            if !self.feed_in(geometry, addr, slots, plain) {
-                if !next.feed_in(next_geometry, addr, slots, plain) {
-                    addrs[left] = addr;
-                    left += 1;
-                }
+        match (&mut self.lists, &mut next.lists) {
+            (KeptLists::InRows(lists), KeptLists::InRows(next_lists)) => feed_each_to_two(
+                self.geometry,
+                lists,
+                &mut self.histograms,
+                next.geometry,
+                next_lists,
+                &mut next.histograms,
+                addrs,
+            ),
+            (KeptLists::InSlots(lists), KeptLists::InSlots(next_lists)) => feed_each_to_two(
+                self.geometry,
+                lists,
+                &mut self.histograms,
+                next.geometry,
+                next_lists,
+                &mut next.histograms,
+                addrs,
+            ),
+            (KeptLists::InGroups(lists), KeptLists::InGroups(next_lists)) => feed_each_to_two(
+                self.geometry,
+                lists,
+                &mut self.histograms,
+                next.geometry,
+                next_lists,
+                &mut next.histograms,
+                addrs,
+            ),
+            (KeptLists::Long(lists), KeptLists::Long(next_lists)) => feed_each_to_two(
+                self.geometry,
+                lists,
+                &mut self.histograms,
+                next.geometry,
+                next_lists,
+                &mut next.histograms,
+                addrs,
+            ),
+            _ => {
+                let left = self.feed_batch(addrs);
+                next.feed_batch(&mut addrs[..left])
             }
         }
-        left
-    }
-
-    /// The same, where the lists stand in slots. Each of these loops stands apart, so that the
-    /// compiler has all registers for it.
-    #[inline(never)]
-    fn feed_slots(&mut self, addrs: &mut [u64]) -> usize
-        requires few { fed_of self.old + length addrs.old ≤ MAX_REFERENCES }
-        requires slots { is_slotted self.old.geometry.e ≡ true }
-        ensures step { self.new ≡ after_batch self.old addrs.old }
-        ensures fed { take result addrs.new ≡ fed_of_batch self.old addrs.old }
-        ensures within { result ≤ length addrs.new }
-        ensures length { length addrs.new ≡ length addrs.old }
-    {
-        self.feed_batch_in(addrs, true, false)
-    }
-
-    /// The same, where they stand in plain rows.
-    #[inline(never)]
-    fn feed_plain_rows(&mut self, addrs: &mut [u64]) -> usize
-        requires few { fed_of self.old + length addrs.old ≤ MAX_REFERENCES }
-        requires rows { is_slotted self.old.geometry.e ≡ false }
-        requires plain { ArePlain self.old.geometry }
-        ensures step { self.new ≡ after_batch self.old addrs.old }
-        ensures fed { take result addrs.new ≡ fed_of_batch self.old addrs.old }
-        ensures within { result ≤ length addrs.new }
-        ensures length { length addrs.new ≡ length addrs.old }
-    {
-        self.feed_batch_in(addrs, false, true)
-    }
-
-    /// The same, where they stand in rows.
-    #[inline(never)]
-    fn feed_rows(&mut self, addrs: &mut [u64]) -> usize
-        requires few { fed_of self.old + length addrs.old ≤ MAX_REFERENCES }
-        requires rows { is_slotted self.old.geometry.e ≡ false }
-        ensures step { self.new ≡ after_batch self.old addrs.old }
-        ensures fed { take result addrs.new ≡ fed_of_batch self.old addrs.old }
-        ensures within { result ≤ length addrs.new }
-        ensures length { length addrs.new ≡ length addrs.old }
-    {
-        self.feed_batch_in(addrs, false, false)
-    }
-
-    /// Whether lists that stand in rows stand there alone, and sets are so few that their rows are
-    /// in order.
-    #[inline(always)]
-    fn has_plain_rows(&self) -> bool
-        ensures { IsTrue result ↔ ArePlain self.now.geometry }
-    {
-        self.geometry.sets() <= FEW as u64 && self.geometry.e() < DEEP as u64
-    }
-
-    /// The same, where the caller knows whether the lists stand in slots, and whether rows are
-    /// plain, so that the loop need not ask for each reference.
-    #[inline(always)]
-    fn feed_batch_in(&mut self, addrs: &mut [u64], slots: bool, plain: bool) -> usize
-        requires plain { plain ≡ true → ArePlain self.old.geometry }
-        requires few { fed_of self.old + length addrs.old ≤ MAX_REFERENCES }
-        requires known { slots ≡ is_slotted self.old.geometry.e }
-        ensures step { self.new ≡ after_batch self.old addrs.old }
-        ensures fed { take result addrs.new ≡ fed_of_batch self.old addrs.old }
-        ensures within { result ≤ length addrs.new }
-        ensures length { length addrs.new ≡ length addrs.old }
-    {
-        let geometry = self.geometry;
-        let mut fed = 0;
-        for at in 0..addrs.len() {
-            let addr = addrs[at];
-            if !self.feed_in(geometry, addr, slots, plain) {
-                addrs[fed] = addr;
-                fed += 1;
-            }
-        }
-        fed
-    }
-
-    /// Feeds one of them, unless it finds its block in front. Returns whether it does.
-    #[inline(always)]
-    fn feed_in(&mut self, geometry: Geometry, addr: u64, slots: bool, plain: bool) -> bool
-        requires plain { plain ≡ true → ArePlain self.old.geometry }
-        requires same { geometry ≡ self.old.geometry }
-        requires few { fed_of self.old < MAX_REFERENCES }
-        requires known { slots ≡ is_slotted self.old.geometry.e }
-        ensures front { result ≡ is_front_of self.old (block_of self.old.geometry addr) }
-        ensures step { self.new ≡ after_unless_front self.old (block_of self.old.geometry addr) }
-        ensures more { fed_of self.new ≤ fed_of self.old + 1 }
-    {
-        let block = geometry.block_of(addr);
-        let set = geometry.set_of_block(block) as usize;
-        if self.lists.is_front(set, block, false) {
-            return true;
-        }
-        if slots {
-            self.feed_slotted(set, block);
-        } else {
-            self.feed_in_rows(set, block, plain);
-        }
-        false
     }
 
     /// Feeds one reference by its block, unless it finds it in front. `past_first` may say that it
@@ -366,13 +210,8 @@ impl Profile {
         ensures front { result ≡ is_front_of self.old block }
         ensures step { self.new ≡ after_unless_front self.old block }
     {
-        let set = self.geometry.set_of_block(block) as usize;
-        if self.lists.is_front(set, block, past_first) {
-            true
-        } else {
-            self.feed_behind(set, block);
-            false
-        }
+        let (lists, histograms) = (&mut self.lists, &mut self.histograms);
+        feed_one(self.geometry, lists, histograms, block, past_first)
     }
 
     /// Counts so many references that find their block in front, each with the comparison that
@@ -382,7 +221,7 @@ impl Profile {
         requires { fed_of self.old + count ≤ MAX_REFERENCES }
         ensures { self.new ≡ after_fronts count self.old }
     {
-        self.probes += count;
+        self.histograms.probes += count;
     }
 
     /// Whether a block that is in front here is in front there too, wherever both were fed the
@@ -394,161 +233,6 @@ impl Profile {
         let (s, b) = (self.geometry.s(), self.geometry.b());
         let (finer_s, finer_b) = (finer.geometry.s(), finer.geometry.b());
         b == finer_b && s <= finer_s || s == 0 && b <= finer_b
-    }
-
-    /// Feeds a reference to a block that is not the front of its set's list, or not in it at all.
-    /// It stands apart, so that the path of the many references that find their block in front
-    /// stays short.
-    #[inline(never)]
-    fn feed_behind(&mut self, set: usize, block: u64)
-        requires { IsNext self.old set block }
-        ensures { self.new ≡ after_reference self.old block }
-    {
-        if self.lists.in_slots() {
-            self.feed_slotted(set, block);
-        } else if self.has_plain_rows() {
-            self.feed_in_rows(set, block, true);
-        } else {
-            self.feed_in_rows(set, block, false);
-        }
-    }
-
-    /// The same, where the lists stand in rows. More than a third of the blocks behind the front
-    /// are second, which is looked at first.
-    #[inline(always)]
-    fn feed_in_rows(&mut self, set: usize, block: u64, plain: bool)
-        requires plain { plain ≡ true → ArePlain self.old.geometry }
-        requires next { IsNext self.old set block }
-        requires rows { is_slotted self.old.geometry.e ≡ false }
-        ensures { self.new ≡ after_reference self.old block }
-    {
-        if self.lists.is_second(set, block, plain) {
-            self.lists.bring_second(set, block, plain);
-            self.probes += 2;
-            self.behind[1] += 1;
-        } else {
-            self.feed_further(set, block, plain);
-        }
-    }
-
-    /// The same, where the lists stand in slots: all blocks behind the front are found alike.
-    /// Mostly one look tells where a block stands or that it is new, and each of these paths is
-    /// short.
-    #[inline(always)]
-    fn feed_slotted(&mut self, set: usize, block: u64)
-        requires next { IsNext self.old set block }
-        requires slots { is_slotted self.old.geometry.e ≡ true }
-        ensures { self.new ≡ after_reference self.old block }
-    {
-        if !self.lists.has_front(set) {
-            return self.feed_first(set, block);
-        }
-        match self.lists.look(set, block) {
-            Some(Touch::Behind(distance)) => self.feed_found(set, block, distance),
-            Some(Touch::New(held)) => self.feed_new(set, block, held),
-            None => self.feed_searched(set, block),
-        }
-    }
-
-    /// The same, where the set has no block.
-    #[inline(never)]
-    fn feed_first(&mut self, set: usize, block: u64)
-        requires next { IsNext self.old set block }
-        requires slots { is_slotted self.old.geometry.e ≡ true }
-        requires empty { list_of self.old set ≡ [] }
-        ensures { self.new ≡ after_reference self.old block }
-    {
-        self.lists.begin(set, block);
-        self.misses_by_occupancy[0] += 1;
-    }
-
-    /// The same, where one look did not tell.
-    #[inline(never)]
-    fn feed_searched(&mut self, set: usize, block: u64)
-        requires next { IsNext self.old set block }
-        requires slots { is_slotted self.old.geometry.e ≡ true }
-        requires begun { 0 < length (list_of self.old set) }
-        requires passed { IsPassed block (list_of self.old set) }
-        ensures { self.new ≡ after_reference self.old block }
-    {
-        match self.lists.search(set, block) {
-            Touch::Behind(distance) => self.feed_found(set, block, distance),
-            Touch::New(held) => self.feed_new(set, block, held),
-        }
-    }
-
-    /// The same, where the block stands at a stack distance.
-    #[inline(always)]
-    fn feed_found(&mut self, set: usize, block: u64, distance: usize)
-        requires next { IsNext self.old set block }
-        requires slots { is_slotted self.old.geometry.e ≡ true }
-        requires begun { 0 < length (list_of self.old set) }
-        requires found { Touch.Behind distance ≡ touch_of block (list_of self.old set) }
-        ensures { self.new ≡ after_reference self.old block }
-    {
-        self.lists.bring_found(set, block, distance);
-        self.probes += distance as u64 + 1;
-        self.behind[distance] += 1;
-    }
-
-    /// The same, where the block is new in a list of `held` blocks.
-    #[inline(always)]
-    fn feed_new(&mut self, set: usize, block: u64, held: usize)
-        requires next { IsNext self.old set block }
-        requires slots { is_slotted self.old.geometry.e ≡ true }
-        requires begun { 0 < length (list_of self.old set) }
-        requires new { Touch.New held ≡ touch_of block (list_of self.old set) }
-        ensures { self.new ≡ after_reference self.old block }
-    {
-        self.lists.bring_new(set, block, held);
-        self.probes += held as u64;
-        self.misses_by_occupancy[held] += 1;
-    }
-
-    /// Feeds a reference to a block that is neither the front nor the second of its set's list, or
-    /// not in it at all.
-    #[inline(always)]
-    fn feed_further(&mut self, set: usize, block: u64, plain: bool)
-        requires plain { plain ≡ true → ArePlain self.old.geometry }
-        requires next { IsNext self.old set block }
-        requires rows { is_slotted self.old.geometry.e ≡ false }
-        requires further { is_second block (list_of self.old set) ≡ false }
-        ensures { self.new ≡ after_reference self.old block }
-    {
-        if !plain && !self.lists.in_rows() {
-            return self.feed_deep(set, block);
-        }
-        match self.lists.bring(set, block, plain) {
-            Touch::Behind(distance) => {
-                self.probes += distance as u64 + 1;
-                self.behind[distance] += 1;
-            }
-            Touch::New(held) => {
-                self.probes += held as u64;
-                self.misses_by_occupancy[held] += 1;
-            }
-        }
-    }
-
-    /// The same, where lists may be longer than their rows. It stands apart, so that the path of
-    /// the others stays short.
-    #[inline(never)]
-    fn feed_deep(&mut self, set: usize, block: u64)
-        requires next { IsNext self.old set block }
-        requires further { is_second block (list_of self.old set) ≡ false }
-        requires deep { DEEP ≤ self.old.geometry.e }
-        ensures { self.new ≡ after_reference self.old block }
-    {
-        match self.lists.bring_far(set, block) {
-            Touch::Behind(distance) => {
-                self.probes += distance as u64 + 1;
-                self.behind[distance] += 1;
-            }
-            Touch::New(held) => {
-                self.probes += held as u64;
-                self.misses_by_occupancy[held] += 1;
-            }
-        }
     }
 
     /// Empties the lists, as a flush of the caches does. The counts stay.
@@ -565,7 +249,7 @@ impl Profile {
         ensures trace { (es : List Event) → ProfileStandsFor es self.now
             → result ≡ length (occurrences self.now.geometry es) }
     {
-        self.hits() + total(&self.misses_by_occupancy)
+        self.hits() + total(&self.histograms.misses_by_occupancy)
     }
 
     /// How many references found their block: the comparisons less `d` for each found at distance
@@ -573,7 +257,8 @@ impl Profile {
     fn hits(&self) -> u64
         ensures { result ≡ sum self.now.distances }
     {
-        self.probes - weighed(&self.behind) - weighed(&self.misses_by_occupancy)
+        let histograms = &self.histograms;
+        histograms.probes - weighed(&histograms.behind) - weighed(&histograms.misses_by_occupancy)
     }
 
     /// How many references hit at a stack distance in `from..to`.
@@ -584,24 +269,24 @@ impl Profile {
         ensures { result ≡ sum (take (to - from) (drop from self.now.distances)) }
     {
         if from == 0 {
-            self.hits() - total(&self.behind[to..])
+            self.hits() - total(&self.histograms.behind[to..])
         } else {
-            total(&self.behind[from..to])
+            total(&self.histograms.behind[from..to])
         }
     }
 
     /// How many comparisons of a block with an entry of its set's list are counted: those of a walk
     /// over the list up to the block, or over all of it if the block isn't there. That is the cost
     /// of the stack algorithm, by which spaces are compared. Fewer may be made, never more: for a
-    /// reference that `count_fronts` counts one is counted and none made, and in a list of 12 to 16
-    /// ways, or of 256 or more, most blocks are found without a walk.
+    /// reference that `count_fronts` counts one is counted and none made, and in a list of 256 ways
+    /// or more most blocks are found without a walk.
     pub fn probes(&self) -> u64
         ensures value { result ≡ self.now.probes }
         ensures trace { (es : List Event) → ProfileStandsFor es self.now
             → result ≡ probes self.now.geometry es }
         ensures at_most { result ≤ fed_of self.now * self.now.geometry.e }
     {
-        self.probes
+        self.histograms.probes
     }
 
     /// How many blocks the lists hold.
@@ -657,7 +342,7 @@ impl Profile {
         let from = sums.ways;
         let to = e as usize;
         let hits = self.hits_between(from, to);
-        let free = total(&self.misses_by_occupancy[from..to]);
+        let free = total(&self.histograms.misses_by_occupancy[from..to]);
         sums.ways = to;
         sums.hits += hits;
         sums.free_misses += free;

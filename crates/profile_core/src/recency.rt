@@ -3,15 +3,18 @@
 
 ghost use Rattle.std.specs.Prelude.{◌≡◌, ◌*◌, ◌^◌, ◌<◌, ◌≤◌, [], true, false, length};
 ghost use Rattle.std.specs.Prelude.{slice_index, MatchOption, ◌-◌};
-ghost use Rattle.std.specs.Prelude.{sum_by, replicate, IfOk, slice_index_or, IsTrue, ◌↔◌};
+ghost use Rattle.std.specs.Prelude.{sum_by, replicate, IfOk, slice_index_or, ◌+◌};
 ghost use Rattle.cache_core.specs.internal.Touched.{Covers, ListsFilled};
 ghost use Rattle.profile_core.specs.internal.Moves.{is_front, is_second, touch_of};
+ghost use Rattle.profile_core.specs.internal.Rows.{AreLong};
 ghost use Rattle.profile_core.specs.internal.Slab.{lists_after_touch};
 
-use crate::rows::{FEW, Rows};
+use crate::rows::RowStore;
+use crate::set_lists::SetLists;
 use cache_core::touched::TouchedSets;
 use std::alloc::{AllocError, Global};
 use std::marker::Model;
+use std::mem;
 
 /// Where a reference finds its block, if that is not the front of its set's list: behind the front,
 /// at a stack distance (its index in the list, so 1 is the second); or nowhere in a list of so many
@@ -27,38 +30,41 @@ pub enum Touch {
 /// empty list is 0. `touched` lists the sets that have a block, while they are few, so that a flush
 /// goes to these alone.
 #[derive(Drop)]
-pub struct RecencyLists {
+pub struct RecencyLists<R: RowStore> {
     fronts: Vec<u64>,
-    rows: Rows,
+    rows: R,
     lens: Vec<u32>,
     touched: TouchedSets,
 }
 
-impl Model for RecencyLists {
+impl<R: RowStore> Model for RecencyLists<R> {
     ghost use Rattle.std.specs.Prelude.{◌+◌};
     ghost use Rattle.profile_core.specs.internal.Slab.{Lists, lists_in, IsListed};
 
     ghost Value = { Lists };
 
     ghost view = { λ r. record {
-      depth = r.rows.stride + 1;
-      lists = lists_in r.fronts.items r.rows.rows r.lens.items;
+      depth = (R.view r.rows).stride + 1;
+      lists = lists_in r.fronts.items (R.view r.rows).rows r.lens.items;
     } };
 
-    ghost invariant = { λ r. IsListed r.fronts.items r.rows r.lens.items r.touched };
+    ghost invariant = { λ r. IsListed r.fronts.items (R.view r.rows) r.lens.items r.touched };
 }
 
-impl RecencyLists {
-    /// Empty lists for a number of sets.
-    pub fn new(alloc: Global, sets: usize, depth: usize) -> Result<RecencyLists, AllocError>
-        requires some { 1 ≤ depth }
-        requires filled { 1 ≤ sets }
-        requires small { sets * depth ≤ 2 ^ 22 }
-        ensures { IfOk result (λ r. r ≡ record { depth = depth; lists = replicate sets [] }) }
+impl<R: RowStore> RecencyLists<R> {
+    /// Empty lists for a number of sets, of which each has a row.
+    pub fn new(alloc: Global, rows: R, sets: usize) -> Result<RecencyLists<R>, AllocError>
+        requires enough { sets ≤ length (R.view rows).rows }
+        requires long { AreLong (R.view rows) }
+        requires small { sets * ((R.view rows).stride + 1) ≤ 2 ^ 22 }
+        ensures { IfOk result (λ r. r ≡ record {
+          depth = (R.view rows).stride + 1;
+          lists = replicate sets [];
+        }) }
     {
         Ok(RecencyLists {
             fronts: vec![in alloc; 0; sets]?,
-            rows: Rows::new(alloc, sets, depth - 1)?,
+            rows,
             lens: vec![in alloc; 0; sets]?,
             touched: TouchedSets::new(alloc, sets)?,
         })
@@ -83,44 +89,31 @@ impl RecencyLists {
         }
     }
 
-    /// Whether a set's list has a block. The front tells it, but for block 0.
+    /// Whether a block is the second of a set's list.
     #[inline(always)]
-    pub fn has_front(&self, set: usize) -> bool
-        requires within { set < length self.now.lists }
-        ensures { IsTrue result ↔ (0 < length (slice_index_or self.now.lists set [])) }
-    {
-        self.fronts[set] != 0 || self.lens[set] != 0
-    }
-
-    /// Whether a block is the second of a set's list. Here and below a caller says by `few` that
-    /// sets are few, which spares a look-up, or says nothing.
-    #[inline(always)]
-    pub fn is_second(&self, set: usize, block: u64, few: bool) -> bool
-        requires known { few ≡ true → length self.now.lists ≤ FEW }
-        requires within { set < length self.now.lists }
+    pub fn is_second(&self, set: usize, block: u64) -> bool
+        requires { set < length self.now.lists }
         ensures { result ≡ is_second block (slice_index_or self.now.lists set []) }
     {
-        self.lens[set] > 1 && self.rows.first(set, few) == block
+        self.lens[set] > 1 && self.rows.first(set) == block
     }
 
     /// Brings the second block of a set's list to the front.
     #[inline(always)]
-    pub fn bring_second(&mut self, set: usize, block: u64, few: bool)
-        requires known { few ≡ true → length self.old.lists ≤ FEW }
+    pub fn bring_second(&mut self, set: usize, block: u64)
         requires within { set < length self.old.lists }
         requires behind { is_front block (slice_index_or self.old.lists set []) ≡ false }
         requires second { is_second block (slice_index_or self.old.lists set []) ≡ true }
         ensures { self.new ≡ lists_after_touch self.old set block }
     {
-        self.rows.put_first(set, self.fronts[set], few);
-        self.fronts[set] = block;
+        let second = mem::replace(&mut self.fronts[set], block);
+        self.rows.put_first(set, second);
     }
 
     /// Brings a block that is neither the front nor the second of a set's list to the front,
     /// wherever it is.
     #[inline(always)]
-    pub fn bring(&mut self, set: usize, block: u64, few: bool) -> Touch
-        requires known { few ≡ true → length self.old.lists ≤ FEW }
+    pub fn bring(&mut self, set: usize, block: u64) -> Touch
         requires within { set < length self.old.lists }
         requires behind { is_front block (slice_index_or self.old.lists set []) ≡ false }
         requires further { is_second block (slice_index_or self.old.lists set []) ≡ false }
@@ -132,12 +125,12 @@ impl RecencyLists {
             return Touch::New(0);
         }
         let front = &mut self.fronts[set];
-        self.rows.bring(set, front, &mut self.lens[set], block, few)
+        self.rows.bring(set, front, &mut self.lens[set], block)
     }
 
     /// Begins a set's empty list with a block.
     #[inline(never)]
-    pub fn begin(&mut self, set: usize, block: u64)
+    fn begin(&mut self, set: usize, block: u64)
         requires within { set < length self.old.lists }
         requires empty { slice_index_or self.old.lists set [] ≡ [] }
         ensures { self.new ≡ lists_after_touch self.old set block }
@@ -145,18 +138,6 @@ impl RecencyLists {
         self.fronts[set] = block;
         self.lens[set] = 1;
         self.touched.add_grown(set, 0, 1);
-    }
-
-    /// Puts a block in place of the front of a set's list, where no list has more blocks than its
-    /// front.
-    #[inline(always)]
-    pub fn replace_front(&mut self, set: usize, block: u64)
-        requires within { set < length self.old.lists }
-        requires one { self.old.depth ≡ 1 }
-        requires some { 0 < length (slice_index_or self.old.lists set []) }
-        ensures { self.new ≡ lists_after_touch self.old set block }
-    {
-        self.fronts[set] = block;
     }
 
     /// The last block of a set's list, if that is as long as it may be.
@@ -194,6 +175,38 @@ impl RecencyLists {
             total += u64::from(*len);
         }
         total
+    }
+}
+
+impl<R: RowStore> SetLists for RecencyLists<R> {
+    ghost view = { λ r. r };
+
+    #[inline(always)]
+    fn is_front(&self, set: usize, block: u64, past_first: bool) -> bool {
+        self.is_front(set, block, past_first)
+    }
+
+    #[inline(always)]
+    fn is_second(&self, set: usize, block: u64) -> bool {
+        self.is_second(set, block)
+    }
+
+    #[inline(always)]
+    fn bring_second(&mut self, set: usize, block: u64) {
+        self.bring_second(set, block)
+    }
+
+    #[inline(always)]
+    fn bring(&mut self, set: usize, block: u64) -> Touch {
+        self.bring(set, block)
+    }
+
+    fn clear(&mut self) {
+        self.clear()
+    }
+
+    fn held(&self) -> u64 {
+        self.held()
     }
 }
 

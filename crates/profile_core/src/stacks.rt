@@ -2,14 +2,14 @@
 //! behind them, if lists may be long, in a list that is not walked.
 ghost use Rattle.std.specs.Prelude.{◌≡◌, ◌*◌, ◌^◌, ◌<◌, ◌≤◌, [], ◌∷◌, true, false, length};
 ghost use Rattle.std.specs.Prelude.{replicate, sum_by, map, IfOk, IsTrue, ◌↔◌, slice_index_or};
-ghost use Rattle.std.specs.Prelude.{nat_eq};
 ghost use Rattle.deep_list.specs.Deep.{list_after_exchange};
 ghost use Rattle.profile_core.specs.internal.Moves.{is_in, is_front, is_second, touch_of};
 ghost use Rattle.profile_core.specs.internal.Stacks.{rest_touch_of, in_row_of, empty_deep};
 ghost use Rattle.profile_core.specs.internal.Slab.{lists_after_touch};
 
+use crate::plain_rows::PlainRows;
 use crate::recency::{RecencyLists, Touch};
-use crate::rows::FEW;
+use crate::set_lists::SetLists;
 use deep_list::DeepList;
 use std::alloc::{AllocError, Global};
 use std::marker::Model;
@@ -33,7 +33,7 @@ enum InRow {
 /// the first `ROW` blocks of each, and `far` a list for each set, of up to `beyond` blocks more.
 #[derive(Drop)]
 pub struct Stacks {
-    near: RecencyLists,
+    near: RecencyLists<PlainRows>,
     beyond: usize,
     far: Vec<DeepList>,
 }
@@ -64,13 +64,13 @@ impl Stacks {
     {
         if depth < DEEP {
             return Ok(Stacks {
-                near: RecencyLists::new(alloc, sets, depth)?,
+                near: near_lists(alloc, sets, depth)?,
                 beyond: 0,
                 far: Vec::new(alloc),
             });
         }
         let beyond = depth - ROW;
-        let near = RecencyLists::new(alloc, sets, ROW)?;
+        let near = near_lists(alloc, sets, ROW)?;
         let far = far_lists(alloc, sets, beyond)?;
         Ok(Stacks { near, beyond, far })
     }
@@ -95,42 +95,30 @@ impl Stacks {
         self.near.is_front(set, block, past_first)
     }
 
-    /// Whether a set's list has a block.
-    #[inline(always)]
-    pub fn has_front(&self, set: usize) -> bool
-        requires within { set < length self.now.lists }
-        ensures { IsTrue result ↔ (0 < length (slice_index_or self.now.lists set [])) }
-    {
-        self.near.has_front(set)
-    }
-
     /// Whether a block is the second of a set's list.
     #[inline(always)]
-    pub fn is_second(&self, set: usize, block: u64, few: bool) -> bool
-        requires known { few ≡ true → length self.now.lists ≤ FEW }
-        requires within { set < length self.now.lists }
+    pub fn is_second(&self, set: usize, block: u64) -> bool
+        requires { set < length self.now.lists }
         ensures { result ≡ is_second block (slice_index_or self.now.lists set []) }
     {
-        self.near.is_second(set, block, few)
+        self.near.is_second(set, block)
     }
 
     /// Brings the second block of a set's list to the front.
     #[inline(always)]
-    pub fn bring_second(&mut self, set: usize, block: u64, few: bool)
-        requires known { few ≡ true → length self.old.lists ≤ FEW }
+    pub fn bring_second(&mut self, set: usize, block: u64)
         requires within { set < length self.old.lists }
         requires behind { is_front block (slice_index_or self.old.lists set []) ≡ false }
         requires second { is_second block (slice_index_or self.old.lists set []) ≡ true }
         ensures { self.new ≡ lists_after_touch self.old set block }
     {
-        self.near.bring_second(set, block, few);
+        self.near.bring_second(set, block);
     }
 
     /// Brings a block that is neither the front nor the second of a set's list to the front,
     /// wherever it is. All lists stand in their rows alone.
     #[inline(always)]
-    pub fn bring(&mut self, set: usize, block: u64, few: bool) -> Touch
-        requires known { few ≡ true → length self.old.lists ≤ FEW }
+    pub fn bring(&mut self, set: usize, block: u64) -> Touch
         requires within { set < length self.old.lists }
         requires shallow { self.old.depth < DEEP }
         requires behind { is_front block (slice_index_or self.old.lists set []) ≡ false }
@@ -138,7 +126,7 @@ impl Stacks {
         ensures found { result ≡ touch_of block (slice_index_or self.old.lists set []) }
         ensures moved { self.new ≡ lists_after_touch self.old set block }
     {
-        self.near.bring(set, block, few)
+        self.near.bring(set, block)
     }
 
     /// The same, where lists may be longer than their rows.
@@ -157,22 +145,6 @@ impl Stacks {
         }
     }
 
-    /// Makes a block the front of a set's list, where no list has more blocks than its front. The
-    /// caller knows whether the list was empty.
-    #[inline(always)]
-    pub fn set_front(&mut self, set: usize, block: u64, was_empty: bool)
-        requires within { set < length self.old.lists }
-        requires one { self.old.depth ≡ 1 }
-        requires known { was_empty ≡ nat_eq (length (slice_index_or self.old.lists set [])) 0 }
-        ensures { self.new ≡ lists_after_touch self.old set block }
-    {
-        if was_empty {
-            self.near.begin(set, block);
-        } else {
-            self.near.replace_front(set, block);
-        }
-    }
-
     /// Empties the lists.
     pub fn clear(&mut self)
         ensures { self.new ≡ record self.old { lists = replicate (length self.old.lists) [] } }
@@ -187,6 +159,56 @@ impl Stacks {
         ensures at_most { result ≤ length self.now.lists * self.now.depth }
     {
         self.near.held() + held_by(&self.far)
+    }
+}
+
+/// Empty lists that stand in rows.
+fn near_lists(
+    alloc: Global,
+    sets: usize,
+    depth: usize,
+) -> Result<RecencyLists<PlainRows>, AllocError>
+    requires some { 1 ≤ depth }
+    requires small { sets * depth ≤ 2 ^ 22 }
+    ensures { IfOk result (λ r. r ≡ record { depth = depth; lists = replicate sets [] }) }
+{
+    let rows = PlainRows::new(alloc, sets, depth - 1)?;
+    RecencyLists::new(alloc, rows, sets)
+}
+
+impl SetLists for Stacks {
+    ghost view = { λ s. s };
+
+    #[inline(always)]
+    fn is_front(&self, set: usize, block: u64, past_first: bool) -> bool {
+        self.is_front(set, block, past_first)
+    }
+
+    #[inline(always)]
+    fn is_second(&self, set: usize, block: u64) -> bool {
+        self.is_second(set, block)
+    }
+
+    #[inline(always)]
+    fn bring_second(&mut self, set: usize, block: u64) {
+        self.bring_second(set, block)
+    }
+
+    #[inline(always)]
+    fn bring(&mut self, set: usize, block: u64) -> Touch {
+        if self.in_rows() {
+            self.bring(set, block)
+        } else {
+            self.bring_far(set, block)
+        }
+    }
+
+    fn clear(&mut self) {
+        self.clear()
+    }
+
+    fn held(&self) -> u64 {
+        self.held()
     }
 }
 
@@ -213,7 +235,7 @@ fn held_by(far: &[DeepList]) -> u64
 
 /// Brings a block to the front of its row.
 #[inline(always)]
-fn bring_near(near: &mut RecencyLists, set: usize, block: u64) -> InRow
+fn bring_near(near: &mut RecencyLists<PlainRows>, set: usize, block: u64) -> InRow
     requires within { set < length near.old.lists }
     requires two { 2 ≤ near.old.depth }
     requires behind { is_front block (slice_index_or near.old.lists set []) ≡ false }
@@ -222,7 +244,7 @@ fn bring_near(near: &mut RecencyLists, set: usize, block: u64) -> InRow
     ensures moved { near.new ≡ lists_after_touch near.old set block }
 {
     let last = near.last_of_full(set);
-    match near.bring(set, block, false) {
+    match near.bring(set, block) {
         Touch::Behind(distance) => InRow::Settled(Touch::Behind(distance)),
         Touch::New(held) => match last {
             Some(last) => InRow::Full(held, last),

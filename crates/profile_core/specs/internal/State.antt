@@ -6,6 +6,7 @@ use Rattle.trace_core.specs.declared.events.Event.{Event}
 use Rattle.trace_core.specs.declared.events.Event.TheVariants as event
 use Rattle.cache_core.specs.declared.outcome.Counts.{Counts}
 use Rattle.cache_core.specs.Geometry.{GeometryValue, block_of, set_of_block}
+use Rattle.profile_core.specs.declared.histograms.Histograms.{Histograms}
 use Rattle.profile_core.specs.internal.Slab.{Lists}
 use Rattle.profile_core.specs.internal.Moves.{index_of, is_in, is_front, move_to_front}
 
@@ -136,3 +137,17 @@ pub record IsNext (v : ProfileState) (k x : ℕ) : Type 0 where
   pub few : fed_of v < most_references
   pub of_set : k ≡ set_of_block v.geometry x
   pub behind : is_front x (list_of v k) ≡ false
+
+-- the profile that lists and histograms stand for
+abbrev pub profile_of : GeometryValue → Lists → Histograms → ProfileState
+profile_of g lists h = record {
+  geometry = g;
+  lists = lists.lists;
+  distances = distances_of h.probes h.behind.items h.misses_by_occupancy.items;
+  misses_by_occupancy = h.misses_by_occupancy.items;
+  probes = h.probes;
+}
+
+-- lists and histograms that stand for a profile
+abbrev pub AreSound : GeometryValue → Lists → Histograms → Type 0
+AreSound g lists h = IsSound g lists h.behind.items h.misses_by_occupancy.items h.probes

@@ -28,7 +28,7 @@ pub total-free-requires : goal.total-free-requires
 total-free-requires c =
     omega (
       arith,
-      part-le c.deref.result.now c.self.inside.misses_by_occupancy.items
+      part-le c.deref.result.now c.self.inside.histograms.misses_by_occupancy.items
           (c.args.e - c.sums.inside.ways) c.sums.inside.ways c.deref.ensures.value,
       c.self.invariant.fed,
     )

@@ -7,10 +7,11 @@ use Rattle.profile_core.proofs.profile.Profile.hits.Goals as goal
 use Rattle.profile_core.proofs.profile.Profile.hits.Goals.{After-self}
 
 -- what the histograms tell of the comparisons
-told : (c : After-self) → weighed 0 c.self.inside.behind.items + sum
-    c.self.inside.behind.items + weighed 0 c.self.inside.misses_by_occupancy.items
-    ≤ c.self.inside.probes
-told c = omega (arith, c.self.invariant.told, weighed-more 0 c.self.inside.behind.items)
+told : (c : After-self) → weighed 0 c.self.inside.histograms.behind.items + sum
+    c.self.inside.histograms.behind.items + weighed 0
+    c.self.inside.histograms.misses_by_occupancy.items
+    ≤ c.self.inside.histograms.probes
+told c = omega (arith, c.self.invariant.told, weighed-more 0 c.self.inside.histograms.behind.items)
 
 pub weighed-requires : goal.weighed-requires
 weighed-requires c = omega (
@@ -39,8 +40,9 @@ returns c =
     let rows = c.self.inside in
     let behind = c.weighed.ensures ∙ ap (weighed 0) c.deref.ensures.value in
     let missed = c.weighed-2.ensures ∙ ap (weighed 0) c.deref-2.ensures.value in
-    let more = weighed-more 0 rows.behind.items in
-    let all = sum-distances rows.probes rows.behind.items rows.misses_by_occupancy.items
+    let more = weighed-more 0 rows.histograms.behind.items in
+    let all = sum-distances rows.histograms.probes rows.histograms.behind.items
+    rows.histograms.misses_by_occupancy.items
     c.self.invariant.none_in_front in
     omega (
       arith,

@@ -7,16 +7,18 @@ use Rattle.profile_core.proofs.HitSums.{part-le, drop-later, sum-rest}
 use Rattle.profile_core.proofs.profile.Profile.hits_between.Goals as goal
 use Rattle.profile_core.proofs.profile.Profile.hits_between.Goals.{After-self, After-total}
 
-distances : (c : After-self) → distances_of c.self.inside.probes c.self.inside.behind.items
-    c.self.inside.misses_by_occupancy.items ≡ c.args.self.now.distances
+distances : (c : After-self) → distances_of c.self.inside.histograms.probes
+    c.self.inside.histograms.behind.items
+    c.self.inside.histograms.misses_by_occupancy.items ≡ c.args.self.now.distances
 distances c = ap (λ v. v.distances) c.self.view_is
 
-all : (c : After-self) → sum (distances_of c.self.inside.probes c.self.inside.behind.items
-    c.self.inside.misses_by_occupancy.items)
-    ≡ c.self.inside.probes - compared_behind c.self.inside.behind.items
-    c.self.inside.misses_by_occupancy.items + sum c.self.inside.behind.items
-all c = sum-distances c.self.inside.probes c.self.inside.behind.items
-    c.self.inside.misses_by_occupancy.items c.self.invariant.none_in_front
+all : (c : After-self) → sum (distances_of c.self.inside.histograms.probes
+    c.self.inside.histograms.behind.items
+    c.self.inside.histograms.misses_by_occupancy.items)
+    ≡ c.self.inside.histograms.probes - compared_behind c.self.inside.histograms.behind.items
+    c.self.inside.histograms.misses_by_occupancy.items + sum c.self.inside.histograms.behind.items
+all c = sum-distances c.self.inside.histograms.probes c.self.inside.histograms.behind.items
+    c.self.inside.histograms.misses_by_occupancy.items c.self.invariant.none_in_front
 
 -- the hits at a distance below `to`, and the others
 split : (c : After-total) → sum
@@ -28,8 +30,9 @@ split c =
     let is = ap (λ v. v.distances) c.self.view_is in
     omega (
       arith,
-      sum-rest rows.behind.items (rows.probes - compared_behind rows.behind.items
-          rows.misses_by_occupancy.items) c.args.to c.requires.some,
+      sum-rest rows.histograms.behind.items (rows.histograms.probes - compared_behind
+          rows.histograms.behind.items
+          rows.histograms.misses_by_occupancy.items) c.args.to c.requires.some,
       far,
       ap (λ ds. sum (take c.args.to ds)) is,
       ap sum is,
@@ -41,7 +44,8 @@ total-requires c =
     let n = length c.deref.result.now - c.args.to in
     omega (
       arith,
-      part-le c.deref.result.now c.self.inside.behind.items n c.args.to c.deref.ensures.value,
+      part-le c.deref.result.now c.self.inside.histograms.behind.items n c.args.to
+          c.deref.ensures.value,
       c.self.invariant.fed,
       all (goal.at.total-requires c).After-self,
     )
@@ -53,7 +57,8 @@ pub total-requires-else-from-eq0 : goal.total-requires-else-from-eq0
 total-requires-else-from-eq0 c =
     omega (
       arith,
-      part-le c.deref-else-from-eq0.result.now c.self.inside.behind.items (c.args.to - c.args.from)
+      part-le c.deref-else-from-eq0.result.now c.self.inside.histograms.behind.items (c.args.to -
+          c.args.from)
           c.args.from c.deref-else-from-eq0.ensures.value,
       c.self.invariant.fed,
       all (goal.at.total-requires-else-from-eq0 c).After-self,
@@ -74,6 +79,6 @@ returns-else-from-eq0 c =
     c.deref-else-from-eq0.ensures.value in
     c.total-else-from-eq0.ensures ∙ part
     ∙ ap (λ ns. sum (take (c.args.to - c.args.from) ns))
-    (sym (drop-later c.self.inside.behind.items _ c.args.from
+    (sym (drop-later c.self.inside.histograms.behind.items _ c.args.from
     (omega (arith, c.if-from-eq0.false))))
     ∙ ap (λ ds. sum (take (c.args.to - c.args.from) (drop c.args.from ds))) is

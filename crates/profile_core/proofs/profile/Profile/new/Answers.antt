@@ -3,6 +3,7 @@ use Rattle.std.proofs.Common.{rules, ◌≡◌, ◌+◌, ◌*◌, ◌^◌, ◌%�
 use Rattle.std.proofs.Common.{Some, None, sym, ap, arith}
 use Rattle.std.specs.Prelude.{replicate}
 use Rattle.cache_core.specs.Geometry.{GeometryValue, geometry_value, geometry_of}
+use Rattle.profile_core.specs.internal.KeptLists.{lists_of}
 use Rattle.profile_core.proofs.Feeding.{new_sound}
 use Rattle.profile_core.proofs.profile.Profile.new.Goals as goal
 
@@ -20,7 +21,7 @@ invariant_of-result c =
     let lists = c.in_ok-new.ensures in
     let ways = ap (λ g. g.e) is in
     let small : (1 * 2 ^ c.args.s) % 2 ^ 64 ≡ 2 ^ c.args.s = search rules in
-    new_sound c.in-Some.geometry c.in_ok-new.field-0 c.in_ok-vec.field-0.items
+    new_sound c.in-Some.geometry (lists_of c.in_ok-new.field-0) c.in_ok-vec.field-0.items
     c.in_ok-vec-2.field-0.items
     (ap (λ l. l.depth) lists ∙ sym ways)
     (ap (λ l. l.lists) lists ∙ ap (λ n. replicate n []) (small ∙ ap (λ g. 2 ^ g.s) (sym is)))

@@ -3,45 +3,42 @@ use Rattle.std.proofs.Common.{◌<◌, ◌∙◌, eqb, get_or, sym, ap, arith}
 use Rattle.std.proofs.lemmas.Bool.{le-ltb}
 use Rattle.profile_core.specs.internal.Moves.{is_second}
 use Rattle.profile_core.proofs.Bringing.{second_of_some, second_of_few}
-use Rattle.profile_core.proofs.SlabLemmas.{few_rows_in}
 use Rattle.profile_core.proofs.SlabLemmas.{ListIn, within, among_rows, row_long, list_is, len_read}
 use Rattle.profile_core.proofs.recency.RecencyLists.is_second.Goals as goal
 use Rattle.profile_core.proofs.recency.RecencyLists.is_second.Goals.{After-self}
+use Rattle.profile_core.proofs.recency.RecencyLists.is_second.Given.{Over}
 
-list : (c : After-self) → ListIn c.self.inside c.args.set c.args.self.now.lists
-list c = record {
+list : (g : Over) (c : After-self g) → ListIn g.R.RowStore.view c.self.inside c.args.set
+    c.args.self.now.lists
+list g c = record {
   sound = c.self.invariant;
   lists_are = ap (λ v. v.lists) c.self.view_is;
-  is_set = c.requires.within;
+  is_set = c.requires;
 }
 
-pub first-requires-clause-known : goal.first-requires-clause-known
-first-requires-clause-known c = λ few.
-    few_rows_in (list (goal.at.first-requires-clause-known c).After-self) (c.requires.known few)
-
 pub index-requires : goal.index-requires
-index-requires c = omega (
+index-requires g c = omega (
   arith,
-  within (list (goal.at.index-requires c).After-self),
+  within (list g (goal.at.index-requires g c).After-self),
   c.self.inside.lens.ok.0,
 )
 
 pub first-requires-clause-within : goal.first-requires-clause-within
-first-requires-clause-within c =
-    among_rows (list (goal.at.first-requires-clause-within c).After-self)
+first-requires-clause-within g c =
+    among_rows (list g (goal.at.first-requires-clause-within g c).After-self)
 
 -- a list of two blocks has a number behind its front
 pub first-requires-clause-some : goal.first-requires-clause-some
-first-requires-clause-some c = omega (
+first-requires-clause-some g c = omega (
   arith,
   c.if-index-gt1.true,
-  len_read (list (goal.at.first-requires-clause-some c).After-self) c.index.ensures,
+  len_read (list g (goal.at.first-requires-clause-some g c).After-self) c.index.ensures,
   c.self.invariant.short c.args.set,
 )
 
 pub returns-then-index-gt1 : goal.returns-then-index-gt1
-returns-then-index-gt1 c =
-    let l = list (goal.at.returns-then-index-gt1 c).After-self in
+returns-then-index-gt1 g c =
+    let l = list g (goal.at.returns-then-index-gt1 g c).After-self in
     let two : 1 < get_or c.self.inside.lens.items c.args.set 0 =
     omega (arith, c.if-index-gt1.true, len_read l c.index.ensures) in
     ap (λ y. eqb y c.args.block) c.first.ensures
@@ -51,8 +48,8 @@ returns-then-index-gt1 c =
     ∙ ap (is_second c.args.block) (sym (list_is l))
 
 pub returns-else-index-gt1 : goal.returns-else-index-gt1
-returns-else-index-gt1 c =
-    let l = list (goal.at.returns-else-index-gt1 c).After-self in
+returns-else-index-gt1 g c =
+    let l = list g (goal.at.returns-else-index-gt1 g c).After-self in
     le-ltb 1 c.index.result.now (omega (arith, c.if-index-gt1.false))
     ∙ second_of_few c.args.block (get_or c.self.inside.lens.items c.args.set 0)
     (get_or c.self.inside.fronts.items c.args.set 0) _

@@ -10,15 +10,6 @@ use Rattle.profile_core.proofs.StackLemmas.{none_beyond, stays_stacked, stays_li
 use Rattle.profile_core.proofs.stacks.Stacks.bring.Goals as goal
 use Rattle.profile_core.proofs.stacks.Stacks.bring.Goals.{After-self}
 
-pub bring-requires-clause-known : goal.bring-requires-clause-known
-bring-requires-clause-known c = λ few.
-    omega (
-      arith,
-      c.requires.known few,
-      ap (λ v. length v.lists) c.self.view_is,
-      length-joined c.self.inside.near.lists c.self.inside.far.items,
-    )
-
 lt : (c : After-self) → c.args.set < length c.self.inside.near.lists
 lt c =
     omega (

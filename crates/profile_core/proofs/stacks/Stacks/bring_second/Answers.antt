@@ -9,15 +9,6 @@ use Rattle.profile_core.proofs.StackLemmas.{stays_stacked, stays_lists}
 use Rattle.profile_core.proofs.stacks.Stacks.bring_second.Goals as goal
 use Rattle.profile_core.proofs.stacks.Stacks.bring_second.Goals.{After-self}
 
-pub bring_second-requires-clause-known : goal.bring_second-requires-clause-known
-bring_second-requires-clause-known c = λ few.
-    omega (
-      arith,
-      c.requires.known few,
-      ap (λ v. length v.lists) c.self.view_is,
-      length-joined c.self.inside.near.lists c.self.inside.far.items,
-    )
-
 lt : (c : After-self) → c.args.set < length c.self.inside.near.lists
 lt c =
     omega (

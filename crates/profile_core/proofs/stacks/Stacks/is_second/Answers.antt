@@ -4,20 +4,11 @@ use Rattle.profile_core.specs.internal.Moves.{is_second}
 use Rattle.profile_core.proofs.StackLemmas.{length-joined, second_is}
 use Rattle.profile_core.proofs.stacks.Stacks.is_second.Goals as goal
 
-pub is_second-requires-clause-known : goal.is_second-requires-clause-known
-is_second-requires-clause-known c = λ few.
+pub is_second-requires : goal.is_second-requires
+is_second-requires c =
     omega (
       arith,
-      c.requires.known few,
-      ap (λ v. length v.lists) c.self.view_is,
-      length-joined c.self.inside.near.lists c.self.inside.far.items,
-    )
-
-pub is_second-requires-clause-within : goal.is_second-requires-clause-within
-is_second-requires-clause-within c =
-    omega (
-      arith,
-      c.requires.within,
+      c.requires,
       ap (λ v. length v.lists) c.self.view_is,
       length-joined c.self.inside.near.lists c.self.inside.far.items,
     )
@@ -27,7 +18,7 @@ returns c =
     let lt : c.args.set < length c.self.inside.near.lists =
     omega (
       arith,
-      c.requires.within,
+      c.requires,
       ap (λ v. length v.lists) c.self.view_is,
       length-joined c.self.inside.near.lists c.self.inside.far.items,
     ) in

@@ -17,12 +17,12 @@ far_lists-requires-clause-small c =
 
 pub returns-then-depth-lt-DEEP : goal.returns-then-depth-lt-DEEP
 returns-then-depth-lt-DEEP c =
-    let near = c.in_ok-new.field-0 in
+    let near = c.in_ok-near_lists.field-0 in
     let made : ℕ → List (List ℕ) → Lists = λ n ls. record { depth = n; lists = ls } in
     ap (λ ds. made (near.depth + 0) (whole_lists near.lists ds))
-    c.new-then-depth-lt-DEEP.ensures.items
+    c.new.ensures.items
     ∙ ap (made (near.depth + 0)) (joined_none near.lists [] refl) ∙
-    ap (λ v. made (v.depth + 0) v.lists) (c.in_ok-new.ensures {u = tt})
+    ap (λ v. made (v.depth + 0) v.lists) (c.in_ok-near_lists.ensures {u = tt})
     ∙ ap (λ n. made n (replicate c.args.sets [])) (omega arith)
 
 pub invariant_of-result-2 : goal.invariant_of-result-2

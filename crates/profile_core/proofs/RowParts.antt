@@ -1,0 +1,58 @@
+-- Parts of n numbers of an array, as rows are: what is read of one, and one of them written anew.
+use Rattle.std.proofs.Common.{◌≡◌, ℕ, ◌+◌, ◌*◌, ◌<◌, ◌≤◌, inl, inr, List, ◌++◌, length, take, drop}
+use Rattle.std.proofs.Common.{get_or, set, sym, ◌∙◌, ap, arith, length-drop, get_or-take}
+use Rattle.std.proofs.Common.{get_or-drop}
+use Rattle.std.proofs.Math.Nat.{mul-le-mul_right}
+use Rattle.std.proofs.lemmas.Bool.{cases_lt}
+use Rattle.std.proofs.lemmas.List.{get_or_read, take_at, drop_at, drop-take, length-take-le}
+use Rattle.std.proofs.lemmas.Slice.{drop-put_mid, take-put_mid_below}
+use borrow.Rule.Slice.PartMut.{put_mid, set_mid_at}
+
+-- a row that stands in front of another ends where that begins
+pub in_front : (p q n : ℕ) → p < q → p * n + n ≤ q * n
+in_front p q n lt =
+    let next : p + 1 ≤ q = omega (arith, lt) in
+    omega (arith, mul-le-mul_right n next)
+
+-- a part of a list, as the end of what it begins
+pub part_of : (b n : ℕ) (xs : List ℕ) → take n (drop b xs) ≡ drop b (take (b + n) xs)
+part_of b n xs = sym (drop-take b n xs)
+
+pub part_same : (b n : ℕ) (xs ys : List ℕ) → take (b + n) xs ≡ take (b + n) ys →
+    take n (drop b xs) ≡ take n (drop b ys)
+part_same b n xs ys same = part_of b n xs ∙ ap (drop b) same ∙ sym (part_of b n ys)
+
+module _ (b n : ℕ) (xs : List ℕ) (ends : b + n ≤ length xs) where
+  pub part_long : length (take n (drop b xs)) ≡ n
+  part_long = length-take-le n (drop b xs) (omega (arith, length-drop b xs, ends))
+
+  -- what is read of it
+  pub part_read : {i at x : ℕ} → i < n → at ≡ b + i → x ≡ get_or xs at x →
+      x ≡ get_or (take n (drop b xs)) i 0
+  part_read {i} {at} {x} lt is read =
+      get_or_read xs at x (omega (arith, lt, is, ends)) read 0
+      ∙ ap (λ j. get_or xs j 0) is
+      ∙ sym (get_or-take n (drop b xs) i 0 lt ∙ get_or-drop b xs i 0)
+
+  -- its first number written is the whole part written
+  pub part_first : (x : ℕ) → 0 < n → set xs b x ≡ put_mid b n xs (set (take n (drop b xs)) 0 x)
+  part_first x some = ap (λ j. set xs j x) (omega arith) ∙
+      sym (set_mid_at b n 0 xs x (omega (arith, some, part_long)))
+
+  -- the part written anew
+  pub part_here : (new : List ℕ) → length new ≡ n → take n (drop b (put_mid b n xs new)) ≡ new
+  part_here new long =
+      ap (take n) (drop_at (take b xs) (new ++ drop n (drop b xs)) b
+      (length-take-le b xs (omega (arith, ends))))
+      ∙ take_at new (drop n (drop b xs)) n long
+
+-- the row at place p written anew, and that at another place
+pub part_other : (p q n : ℕ) (xs new : List ℕ) → p * n ≤ length xs → length new ≡ n →
+    (q ≡ p → ⊥) →
+    take n (drop (q * n) (put_mid (p * n) n xs new)) ≡ take n (drop (q * n) xs)
+part_other p q n xs new begins long other = elim (cases_lt q p) [
+  | inl lt ↦ part_same (q * n) n (put_mid (p * n) n xs new) xs
+      (take-put_mid_below (p * n) n xs new (q * n + n) (in_front q p n lt) begins)
+  | inr ge ↦ ap (take n) (drop-put_mid (p * n) n xs new (q * n)
+      (in_front p q n (grind (arith, ge, other))) begins long)
+]

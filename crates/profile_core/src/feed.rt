@@ -1,0 +1,334 @@
+//! References are fed to lists and histograms, one by one or a batch at a time, in whatever way
+//! the lists are kept.
+ghost use Rattle.std.specs.Prelude.{◌≡◌, ◌+◌, ◌<◌, ◌≤◌, true, false, length, take, []};
+ghost use Rattle.std.specs.Prelude.{slice_index_or};
+ghost use Rattle.cache_core.specs.Geometry.{block_of};
+ghost use Rattle.profile_core.specs.internal.KeptLists.{lists_of};
+ghost use Rattle.profile_core.specs.internal.Moves.{is_second};
+ghost use Rattle.profile_core.specs.internal.State.{after_reference, fed_of, IsNext};
+ghost use Rattle.profile_core.specs.internal.State.{profile_of, AreSound};
+ghost use Rattle.profile_core.specs.internal.Fronts.{is_front_of, after_unless_front};
+ghost use Rattle.profile_core.specs.internal.Fronts.{after_batch, fed_of_batch};
+
+use crate::grouped_rows::GroupedRows;
+use crate::histograms::Histograms;
+use crate::kept_lists::KeptLists;
+use crate::profile::MAX_REFERENCES;
+use crate::recency::{RecencyLists, Touch};
+use crate::set_lists::SetLists;
+use cache_core::Geometry;
+
+/// Feeds a reference by its block, unless it finds that in front of its set's list. Returns whether
+/// it does. What has to be done for another stands apart, so that the path of the many references
+/// that find their block in front stays short. `past_first` may say that it is not block 0.
+#[inline(always)]
+pub fn feed_one(
+    geometry: Geometry,
+    lists: &mut KeptLists,
+    histograms: &mut Histograms,
+    block: u64,
+    past_first: bool,
+) -> bool
+    requires sound { AreSound geometry (lists_of lists.old) histograms.old }
+    requires few { fed_of (profile_of geometry (lists_of lists.old) histograms.old)
+        < MAX_REFERENCES }
+    requires known { past_first ≡ true → 1 ≤ block }
+    ensures sound { AreSound geometry (lists_of lists.new) histograms.new }
+    ensures front { result
+        ≡ is_front_of (profile_of geometry (lists_of lists.old) histograms.old) block }
+    ensures step { profile_of geometry (lists_of lists.new) histograms.new
+        ≡ after_unless_front (profile_of geometry (lists_of lists.old) histograms.old) block }
+{
+    let set = geometry.set_of_block(block) as usize;
+    if lists.is_front(set, block, past_first) {
+        return true;
+    }
+    feed_behind_apart(&geometry, lists, histograms, set, block);
+    false
+}
+
+/// Feeds references by their addresses, one after the other, but for those that find their block
+/// in front. Those that were fed come to the front of `addrs`, in their order. Returns how many
+/// they are. It is a function of its own for each way of keeping lists, so that the compiler has
+/// all registers for it.
+#[inline(never)]
+pub fn feed_each<L: SetLists>(
+    geometry: Geometry,
+    lists: &mut L,
+    histograms: &mut Histograms,
+    addrs: &mut [u64],
+) -> usize
+    requires sound { AreSound geometry (L.view lists.old) histograms.old }
+    requires few { fed_of (profile_of geometry (L.view lists.old) histograms.old)
+        + length addrs.old ≤ MAX_REFERENCES }
+    ensures sound { AreSound geometry (L.view lists.new) histograms.new }
+    ensures step { profile_of geometry (L.view lists.new) histograms.new
+        ≡ after_batch (profile_of geometry (L.view lists.old) histograms.old) addrs.old }
+    ensures fed { take result addrs.new
+        ≡ fed_of_batch (profile_of geometry (L.view lists.old) histograms.old) addrs.old }
+    ensures within { result ≤ length addrs.new }
+    ensures length { length addrs.new ≡ length addrs.old }
+{
+    let mut fed = 0;
+    for at in 0..addrs.len() {
+        let addr = addrs[at];
+        if !feed_in_batch(geometry, lists, histograms, addr) {
+            addrs[fed] = addr;
+            fed += 1;
+        }
+    }
+    fed
+}
+
+/// Feeds references to two profiles whose lists are kept in the same way: to the second those that
+/// the first does not find in front. Those that neither does come to the front of `addrs`, in their
+/// order; returns how many they are. What a reference finds in one predicts what it finds in the
+/// next.
+#[inline(never)]
+pub fn feed_each_to_two<L: SetLists>(
+    geometry: Geometry,
+    lists: &mut L,
+    histograms: &mut Histograms,
+    next_geometry: Geometry,
+    next_lists: &mut L,
+    next_histograms: &mut Histograms,
+    addrs: &mut [u64],
+) -> usize
+    requires sound { AreSound geometry (L.view lists.old) histograms.old }
+    requires next_sound { AreSound next_geometry (L.view next_lists.old) next_histograms.old }
+    requires few { fed_of (profile_of geometry (L.view lists.old) histograms.old)
+        + length addrs.old ≤ MAX_REFERENCES }
+    requires next_few { fed_of (profile_of next_geometry (L.view next_lists.old)
+        next_histograms.old) + length addrs.old ≤ MAX_REFERENCES }
+    ensures sound { AreSound geometry (L.view lists.new) histograms.new }
+    ensures next_sound { AreSound next_geometry (L.view next_lists.new) next_histograms.new }
+    ensures step { profile_of geometry (L.view lists.new) histograms.new
+        ≡ after_batch (profile_of geometry (L.view lists.old) histograms.old) addrs.old }
+    ensures next_step { profile_of next_geometry (L.view next_lists.new) next_histograms.new
+        ≡ after_batch (profile_of next_geometry (L.view next_lists.old) next_histograms.old)
+        (fed_of_batch (profile_of geometry (L.view lists.old) histograms.old) addrs.old) }
+    ensures fed { take result addrs.new
+        ≡ fed_of_batch (profile_of next_geometry (L.view next_lists.old) next_histograms.old)
+        (fed_of_batch (profile_of geometry (L.view lists.old) histograms.old) addrs.old) }
+    ensures within { result ≤ length addrs.new }
+    ensures length { length addrs.new ≡ length addrs.old }
+{
+    let mut left = 0;
+    for at in 0..addrs.len() {
+        let addr = addrs[at];
+        if !feed_in_batch(geometry, lists, histograms, addr) {
+            if !feed_in_batch(next_geometry, next_lists, next_histograms, addr) {
+                addrs[left] = addr;
+                left += 1;
+            }
+        }
+    }
+    left
+}
+
+/// Feeds one reference of a batch, unless it finds its block in front. Returns whether it does.
+#[inline(always)]
+fn feed_in_batch<L: SetLists>(
+    geometry: Geometry,
+    lists: &mut L,
+    histograms: &mut Histograms,
+    addr: u64,
+) -> bool
+    requires sound { AreSound geometry (L.view lists.old) histograms.old }
+    requires few { fed_of (profile_of geometry (L.view lists.old) histograms.old) < MAX_REFERENCES }
+    ensures sound { AreSound geometry (L.view lists.new) histograms.new }
+    ensures front { result ≡ is_front_of (profile_of geometry (L.view lists.old) histograms.old)
+        (block_of geometry addr) }
+    ensures step { profile_of geometry (L.view lists.new) histograms.new
+        ≡ after_unless_front (profile_of geometry (L.view lists.old) histograms.old)
+        (block_of geometry addr) }
+    ensures more { fed_of (profile_of geometry (L.view lists.new) histograms.new)
+        ≤ fed_of (profile_of geometry (L.view lists.old) histograms.old) + 1 }
+{
+    let block = geometry.block_of(addr);
+    let set = geometry.set_of(addr) as usize;
+    if lists.is_front(set, block, false) {
+        return true;
+    }
+    feed_behind(geometry, lists, histograms, set, block);
+    false
+}
+
+/// Feeds a reference to a block that is not the front of its set's list, or not in it at all,
+/// apart from its caller. No code reads the geometry: by a `&` the compiler leaves it out.
+#[inline(never)]
+fn feed_behind_apart(
+    geometry: &Geometry,
+    lists: &mut KeptLists,
+    histograms: &mut Histograms,
+    set: usize,
+    block: u64,
+)
+    requires sound { AreSound geometry.now (lists_of lists.old) histograms.old }
+    requires next { IsNext (profile_of geometry.now (lists_of lists.old) histograms.old) set block }
+    ensures sound { AreSound geometry.now (lists_of lists.new) histograms.new }
+    ensures step { profile_of geometry.now (lists_of lists.new) histograms.new
+        ≡ after_reference (profile_of geometry.now (lists_of lists.old) histograms.old) block }
+{
+    if let KeptLists::InRows(lists) = lists {
+        feed_by_parts(geometry, lists, histograms, set, block);
+    } else {
+        feed_otherwise(geometry, lists, histograms, set, block);
+    }
+}
+
+/// The same for the other ways: the caller has asked for rows in the order of the sets.
+#[inline(never)]
+fn feed_otherwise(
+    geometry: &Geometry,
+    lists: &mut KeptLists,
+    histograms: &mut Histograms,
+    set: usize,
+    block: u64,
+)
+    requires sound { AreSound geometry.now (lists_of lists.old) histograms.old }
+    requires next { IsNext (profile_of geometry.now (lists_of lists.old) histograms.old) set block }
+    ensures sound { AreSound geometry.now (lists_of lists.new) histograms.new }
+    ensures step { profile_of geometry.now (lists_of lists.new) histograms.new
+        ≡ after_reference (profile_of geometry.now (lists_of lists.old) histograms.old) block }
+{
+    match lists {
+        KeptLists::InSlots(lists) => feed_by_parts(geometry, lists, histograms, set, block),
+        KeptLists::InRows(lists) => feed_by_parts(geometry, lists, histograms, set, block),
+        KeptLists::InGroups(lists) => feed_in_groups(geometry, lists, histograms, set, block),
+        KeptLists::Long(lists) => feed_by_parts(geometry, lists, histograms, set, block),
+    }
+}
+
+/// The same for one way of keeping lists. More than a third of these references find their block
+/// second. What has to be done for another stands apart, so that the path of these stays short.
+#[inline(always)]
+fn feed_by_parts<L: SetLists>(
+    geometry: &Geometry,
+    lists: &mut L,
+    histograms: &mut Histograms,
+    set: usize,
+    block: u64,
+)
+    requires sound { AreSound geometry.now (L.view lists.old) histograms.old }
+    requires next { IsNext (profile_of geometry.now (L.view lists.old) histograms.old) set block }
+    ensures sound { AreSound geometry.now (L.view lists.new) histograms.new }
+    ensures step { profile_of geometry.now (L.view lists.new) histograms.new
+        ≡ after_reference (profile_of geometry.now (L.view lists.old) histograms.old) block }
+{
+    if lists.is_second(set, block) {
+        feed_second(*geometry, lists, histograms, set, block);
+    } else {
+        feed_further_apart(geometry, lists, histograms, set, block);
+    }
+}
+
+/// The same for rows in groups, apart from the other ways: it may have to add a group, and saves
+/// registers for this.
+#[inline(never)]
+fn feed_in_groups(
+    geometry: &Geometry,
+    lists: &mut RecencyLists<GroupedRows>,
+    histograms: &mut Histograms,
+    set: usize,
+    block: u64,
+)
+    requires sound { AreSound geometry.now lists.old histograms.old }
+    requires next { IsNext (profile_of geometry.now lists.old histograms.old) set block }
+    ensures sound { AreSound geometry.now lists.new histograms.new }
+    ensures step { profile_of geometry.now lists.new histograms.new
+        ≡ after_reference (profile_of geometry.now lists.old histograms.old) block }
+{
+    feed_behind(*geometry, lists, histograms, set, block);
+}
+
+/// Feeds a reference to a block that is not the front of its set's list, or not in it at all.
+#[inline(always)]
+fn feed_behind<L: SetLists>(
+    geometry: Geometry,
+    lists: &mut L,
+    histograms: &mut Histograms,
+    set: usize,
+    block: u64,
+)
+    requires sound { AreSound geometry (L.view lists.old) histograms.old }
+    requires next { IsNext (profile_of geometry (L.view lists.old) histograms.old) set block }
+    ensures sound { AreSound geometry (L.view lists.new) histograms.new }
+    ensures step { profile_of geometry (L.view lists.new) histograms.new
+        ≡ after_reference (profile_of geometry (L.view lists.old) histograms.old) block }
+{
+    if lists.is_second(set, block) {
+        feed_second(geometry, lists, histograms, set, block);
+    } else {
+        feed_further(geometry, lists, histograms, set, block);
+    }
+}
+
+/// Feeds a reference to the second block of its set's list.
+#[inline(always)]
+fn feed_second<L: SetLists>(
+    geometry: Geometry,
+    lists: &mut L,
+    histograms: &mut Histograms,
+    set: usize,
+    block: u64,
+)
+    requires sound { AreSound geometry (L.view lists.old) histograms.old }
+    requires next { IsNext (profile_of geometry (L.view lists.old) histograms.old) set block }
+    requires second { is_second block (slice_index_or (L.view lists.old).lists set []) ≡ true }
+    ensures sound { AreSound geometry (L.view lists.new) histograms.new }
+    ensures step { profile_of geometry (L.view lists.new) histograms.new
+        ≡ after_reference (profile_of geometry (L.view lists.old) histograms.old) block }
+{
+    lists.bring_second(set, block);
+    histograms.probes += 2;
+    histograms.behind[1] += 1;
+}
+
+/// `feed_further`, apart from its caller.
+#[inline(never)]
+fn feed_further_apart<L: SetLists>(
+    geometry: &Geometry,
+    lists: &mut L,
+    histograms: &mut Histograms,
+    set: usize,
+    block: u64,
+)
+    requires sound { AreSound geometry.now (L.view lists.old) histograms.old }
+    requires next { IsNext (profile_of geometry.now (L.view lists.old) histograms.old) set block }
+    requires further { is_second block (slice_index_or (L.view lists.old).lists set []) ≡ false }
+    ensures sound { AreSound geometry.now (L.view lists.new) histograms.new }
+    ensures step { profile_of geometry.now (L.view lists.new) histograms.new
+        ≡ after_reference (profile_of geometry.now (L.view lists.old) histograms.old) block }
+{
+    feed_further(*geometry, lists, histograms, set, block);
+}
+
+/// Feeds a reference to a block that is neither the front nor the second of its set's list, or not
+/// in it at all.
+#[inline(always)]
+fn feed_further<L: SetLists>(
+    geometry: Geometry,
+    lists: &mut L,
+    histograms: &mut Histograms,
+    set: usize,
+    block: u64,
+)
+    requires sound { AreSound geometry (L.view lists.old) histograms.old }
+    requires next { IsNext (profile_of geometry (L.view lists.old) histograms.old) set block }
+    requires further { is_second block (slice_index_or (L.view lists.old).lists set []) ≡ false }
+    ensures sound { AreSound geometry (L.view lists.new) histograms.new }
+    ensures step { profile_of geometry (L.view lists.new) histograms.new
+        ≡ after_reference (profile_of geometry (L.view lists.old) histograms.old) block }
+{
+    match lists.bring(set, block) {
+        Touch::Behind(distance) => {
+            histograms.probes += distance as u64 + 1;
+            histograms.behind[distance] += 1;
+        }
+        Touch::New(held) => {
+            histograms.probes += held as u64;
+            histograms.misses_by_occupancy[held] += 1;
+        }
+    }
+}

@@ -1,0 +1,120 @@
+//! The ways of keeping lists that a profile has.
+ghost use Rattle.std.specs.Prelude.{◌≡◌, ◌*◌, ◌^◌, ◌≤◌, ◌<◌, [], IfOk, replicate, length, sum_by};
+ghost use Rattle.std.specs.Prelude.{true, slice_index_or};
+ghost use Rattle.profile_core.specs.internal.KeptLists.{lists_of};
+ghost use Rattle.profile_core.specs.internal.Moves.{is_front};
+
+use crate::grouped_rows::GroupedRows;
+use crate::plain_rows::PlainRows;
+use crate::recency::RecencyLists;
+use crate::slotted_rows::SlottedRows;
+use crate::stacks::{DEEP, Stacks};
+use std::alloc::{AllocError, Global};
+
+/// With more sets than this, a start would clear more memory than most traces reach.
+const MANY_SETS: usize = 4096;
+
+/// With fewer ways than this, to find a row costs more than it saves.
+const MANY_WAYS: usize = 32;
+
+/// With so many ways at least, and 16 at most, blocks stand in slots: with fewer it costs less to
+/// move them, and a list of more would not fit the lanes of a vector.
+const SLOTTED_FROM: usize = 12;
+
+const SLOTTED_TO: usize = 16;
+
+/// The lists of all sets, in one of these ways: each list in a row, where the rows stand in the
+/// order of the sets, in slots or in groups; or, where lists may be long, only the first blocks of
+/// each in a row, and the others in a deep list.
+#[derive(Drop)]
+pub enum KeptLists {
+    InRows(RecencyLists<PlainRows>),
+    InSlots(RecencyLists<SlottedRows>),
+    InGroups(RecencyLists<GroupedRows>),
+    Long(Stacks),
+}
+
+impl KeptLists {
+    /// Empty lists for a number of sets, of up to `depth` blocks each.
+    pub fn new(alloc: Global, sets: usize, depth: usize) -> Result<KeptLists, AllocError>
+        requires some { 1 ≤ depth }
+        requires filled { 1 ≤ sets }
+        requires small { sets * depth ≤ 2 ^ 22 }
+        ensures { IfOk result (λ r.
+            lists_of r ≡ record { depth = depth; lists = replicate sets [] }) }
+    {
+        if depth >= DEEP {
+            return Ok(KeptLists::Long(Stacks::new(alloc, sets, depth)?));
+        }
+        if sets > MANY_SETS && depth >= MANY_WAYS {
+            let rows = GroupedRows::new(alloc, sets, depth - 1)?;
+            return Ok(KeptLists::InGroups(RecencyLists::new(alloc, rows, sets)?));
+        }
+        if depth >= SLOTTED_FROM && depth <= SLOTTED_TO && sets <= MANY_SETS {
+            let rows = SlottedRows::new(alloc, sets, depth - 1)?;
+            return Ok(KeptLists::InSlots(RecencyLists::new(alloc, rows, sets)?));
+        }
+        let rows = PlainRows::new(alloc, sets, depth - 1)?;
+        Ok(KeptLists::InRows(RecencyLists::new(alloc, rows, sets)?))
+    }
+
+    /// Whether a block is the front of a set's list. A caller that knows that the block is not
+    /// block 0 says so by `past_first`, and spares the test.
+    #[inline(always)]
+    pub fn is_front(&self, set: usize, block: u64, past_first: bool) -> bool
+        requires within { set < length (lists_of self.now).lists }
+        requires known { past_first ≡ true → 0 < block }
+        ensures { result ≡ is_front block (slice_index_or (lists_of self.now).lists set []) }
+    {
+        // Only for block 0 has the program to ask in which way the lists are kept: the others are
+        // compared with the fronts alone, which stand at the same place in each.
+        if past_first || block != 0 {
+            self.has_front(set, block, true)
+        } else {
+            self.has_front(set, block, false)
+        }
+    }
+
+    /// The same, by the way in which the lists are kept.
+    #[inline(always)]
+    fn has_front(&self, set: usize, block: u64, past_first: bool) -> bool
+        requires within { set < length (lists_of self.now).lists }
+        requires known { past_first ≡ true → 0 < block }
+        ensures { result ≡ is_front block (slice_index_or (lists_of self.now).lists set []) }
+    {
+        match self {
+            KeptLists::InRows(lists) => lists.is_front(set, block, past_first),
+            KeptLists::InSlots(lists) => lists.is_front(set, block, past_first),
+            KeptLists::InGroups(lists) => lists.is_front(set, block, past_first),
+            KeptLists::Long(lists) => lists.is_front(set, block, past_first),
+        }
+    }
+
+    /// Empties the lists.
+    pub fn clear(&mut self)
+        ensures { lists_of self.new ≡ record (lists_of self.old) {
+          lists = replicate (length (lists_of self.old).lists) [];
+        } }
+    {
+        match self {
+            KeptLists::InRows(lists) => lists.clear(),
+            KeptLists::InSlots(lists) => lists.clear(),
+            KeptLists::InGroups(lists) => lists.clear(),
+            KeptLists::Long(lists) => lists.clear(),
+        }
+    }
+
+    /// How many blocks stand in the lists. It goes over all sets.
+    pub fn held(&self) -> u64
+        ensures value { result ≡ sum_by length (lists_of self.now).lists }
+        ensures at_most { result
+            ≤ length (lists_of self.now).lists * (lists_of self.now).depth }
+    {
+        match self {
+            KeptLists::InRows(lists) => lists.held(),
+            KeptLists::InSlots(lists) => lists.held(),
+            KeptLists::InGroups(lists) => lists.held(),
+            KeptLists::Long(lists) => lists.held(),
+        }
+    }
+}

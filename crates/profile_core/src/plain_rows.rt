@@ -1,0 +1,77 @@
+//! The rows of all sets in one array.
+
+ghost use Rattle.std.specs.Prelude.{◌≡◌, ◌*◌, ◌^◌, ◌≤◌, IfOk};
+ghost use Rattle.profile_core.specs.internal.Rows.{blank_rows};
+
+use crate::recency::Touch;
+use crate::row::bring_in_row;
+use crate::rows::RowStore;
+use std::alloc::{AllocError, Global};
+use std::marker::Model;
+
+/// A row for each of so many sets, one behind the other in the order of the sets.
+#[derive(Drop)]
+pub struct PlainRows {
+    stride: usize,
+    sets: usize,
+    slab: Vec<u64>,
+}
+
+impl Model for PlainRows {
+    ghost use Rattle.profile_core.specs.internal.Rows.{RowsValue};
+    ghost use Rattle.profile_core.specs.internal.PlainRows.{plain_rows, IsPlain};
+
+    ghost Value = { RowsValue };
+
+    ghost view = { λ r. record {
+      stride = r.stride;
+      rows = plain_rows r.stride r.sets r.slab.items;
+    } };
+
+    ghost invariant = { λ r. IsPlain r.stride r.sets r.slab.items };
+}
+
+impl PlainRows {
+    /// Rows of zeros for a number of sets.
+    pub fn new(alloc: Global, sets: usize, stride: usize) -> Result<PlainRows, AllocError>
+        requires small { sets * stride ≤ 2 ^ 22 }
+        ensures { IfOk result (λ r. r ≡ blank_rows sets stride) }
+    {
+        Ok(PlainRows {
+            stride,
+            sets,
+            slab: vec![in alloc; 0; sets * stride]?,
+        })
+    }
+}
+
+impl RowStore for PlainRows {
+    ghost view = { λ r. r };
+
+    #[inline(always)]
+    fn stride(&self) -> usize {
+        self.stride
+    }
+
+    #[inline(always)]
+    fn first(&self, set: usize) -> u64 {
+        self.slab[set * self.stride]
+    }
+
+    #[inline(always)]
+    fn last(&self, set: usize) -> u64 {
+        self.slab[set * self.stride + self.stride - 1]
+    }
+
+    #[inline(always)]
+    fn put_first(&mut self, set: usize, number: u64) {
+        self.slab[set * self.stride] = number;
+    }
+
+    #[inline(always)]
+    fn bring(&mut self, set: usize, front: &mut u64, len: &mut u32, block: u64) -> Touch {
+        let start = set * self.stride;
+        let end = start + self.stride;
+        bring_in_row(front, &mut self.slab[start..end], len, block)
+    }
+}
