@@ -9,13 +9,15 @@ use Rattle.profile_core.specs.internal.State.{ProfileState}
 use Rattle.profile_core.specs.internal.Fronts.{after_batch, fed_of_batch}
 use Rattle.sweep_core.specs.declared.profiles.PairProfile.{PairProfile}
 use Rattle.sweep_core.specs.internal.Batches.{pair_after_batch, AlwaysLeads, AreAlwaysLed}
-use Rattle.sweep_core.specs.internal.Batches.{IsFedToTwo}
+use Rattle.sweep_core.specs.internal.Batches.{IsFedToTwo, IsGiven}
 use Rattle.std.proofs.lemmas.List.{length-take, get_or-set_other, drop_at, length-map}
 use Rattle.std.proofs.lemmas.List.{length-take-le, get_or-drop}
 use Rattle.cache_core.specs.Geometry.{block_of}
 use Rattle.profile_core.specs.internal.Fronts.{after_unless_front, is_front_of}
 use Rattle.std.proofs.Common.{cond, true, false}
-use Rattle.sweep_core.proofs.Lists.{Each-both}
+use Rattle.std.proofs.Common.{inl, inr}
+use Rattle.std.proofs.lemmas.Bool.{cases_lt}
+use Rattle.sweep_core.proofs.Lists.{Each-both, Each-take}
 use Rattle.sweep_core.proofs.Passes.{unreached}
 use Rattle.sweep_core.proofs.Batching.{fed-past}
 
@@ -84,7 +86,7 @@ each_less P (suc m) n [] le h = tt
 each_less P (suc m) zero (x ∷ xs) le h = absurd (omega (arith, le))
 each_less P (suc m) (suc n) (x ∷ xs) le h = (h.0, each_less P m n xs (omega (arith, le)) h.1)
 
-led-at : (xs : List PairProfile) (i : ℕ) (d : PairProfile) → i < length xs → AreAlwaysLed xs
+pub led-at : (xs : List PairProfile) (i : ℕ) (d : PairProfile) → i < length xs → AreAlwaysLed xs
     → (i + 1 + (get_or xs i d).implied ≤ length xs) ×
     Each (λ y. AlwaysLeads (get_or xs i d).profile y.profile)
     (take (get_or xs i d).implied (drop (i + 1) xs))
@@ -173,6 +175,57 @@ module _ {at count led_count end : ℕ} {batch addrs led : List ℕ} {old now : 
       led_most = so_far.led_most;
       same_length = length_is;
     }
+
+-- What a profile at the index is given serves for those up to `until`.
+pub given_serves : {at count led_count end implied given until : ℕ} {batch addrs led led' : List ℕ}
+    {old now : List PairProfile} → IsFedUpTo at count led_count end batch addrs led old now →
+    IsGiven at implied led_count end (take count addrs) led led' given until →
+    IsFedUpTo at count given until batch addrs led' old now
+given_serves {at} {count} {led_count} {end} {implied} {given} {until} {batch} {addrs} {led} {led'}
+    {old} so_far is =
+    let serving : Each (Serves (take given led') batch) (take (until - at) (drop at old)) ×
+    (given ≤ length batch) =
+    elim (cases_lt at end) [
+      | inl before ↦
+          let kept = is.kept before in (
+            subst (λ l. Each (Serves (take given l) batch) (take (until - at) (drop at old)))
+                (sym kept.2)
+                (subst (λ n. Each (Serves (take n led) batch) (take (until - at) (drop at old)))
+                (sym kept.0)
+                (each_less (Serves (take led_count led) batch) (until - at) (end - at)
+                (drop at old) (omega (arith, kept.1)) so_far.led_serves)),
+            omega (arith, kept.0, so_far.led_most),
+          )
+      | inr past ↦
+          let all = is.all past in (
+            subst (λ l. Each (Serves l batch) (take (until - at) (drop at old))) (sym all.2)
+                (Each-take (Serves (take count addrs) batch) (until - at) (drop at old)
+                so_far.serves),
+            omega (arith, all.0, length-take count addrs, so_far.most),
+          )
+    ] in
+    record {
+      fed = so_far.fed;
+      serves = so_far.serves;
+      led_serves = serving.0;
+      most = so_far.most;
+      led_most = serving.1;
+      same_length = so_far.same_length;
+    }
+
+pub given_within : {at implied led_count end given until : ℕ} {addrs led led' : List ℕ} →
+    IsGiven at implied led_count end addrs led led' given until → until ≤ at + 1 + implied
+given_within {at} {implied} {led_count} {end} is = elim (cases_lt at end) [
+  | inl before ↦ omega (arith, (is.kept before).1)
+  | inr past ↦ omega (arith, (is.all past).1)
+]
+
+pub given_reaches : {at implied led_count end given until : ℕ} {addrs led led' : List ℕ} →
+    IsGiven at implied led_count end addrs led led' given until → at < until
+given_reaches {at} {implied} {led_count} {end} is = elim (cases_lt at end) [
+  | inl before ↦ omega (arith, before, (is.kept before).1)
+  | inr past ↦ omega (arith, (is.all past).1)
+]
 
 -- two neighbours that are set, each in its part of a list
 set_parts : (at : ℕ) (xs : List PairProfile) (x y : PairProfile) → suc at < length xs →

@@ -1,10 +1,10 @@
 //! References that wait, so that each profile is fed many at a time.
-ghost use Rattle.std.specs.Prelude.{◌≡◌, ◌+◌, ◌<◌, ◌≤◌, ◌++◌, ◌∷◌, [], length, IsTrue, ◌↔◌};
+ghost use Rattle.std.specs.Prelude.{◌≡◌, ◌+◌, ◌^◌, ◌<◌, ◌≤◌, ◌++◌, ◌∷◌, [], length, IsTrue, ◌↔◌};
 ghost use Rattle.std.specs.Prelude.{IfOk, take, drop};
 ghost use Rattle.std.specs.List.{AllByRecursion};
 ghost use Rattle.profile_core.specs.internal.State.{fed_of};
 ghost use Rattle.sweep_core.specs.internal.Batches.{AreAlwaysLed, profiles_after_batch};
-ghost use Rattle.sweep_core.specs.internal.Batches.{IsFedToTwo, leads_rest};
+ghost use Rattle.sweep_core.specs.internal.Batches.{IsFedToTwo, IsGiven, leads_rest};
 
 use crate::profiles::PairProfile;
 use profile_core::MAX_REFERENCES;
@@ -13,6 +13,10 @@ use std::marker::Model;
 
 /// How many references wait at most. With fewer, waits for memory overlap less.
 pub(crate) const BATCH: usize = 4096;
+
+/// How many references at most are fed one at a time. To give each profile a copy of one takes
+/// longer than to feed it, as where a flush follows each reference. With two or more it does not.
+const FEW: usize = 1;
 
 /// The addresses of references that wait to be fed: the first `len` of `addrs`. `led` has room for
 /// those of them that some profiles are fed and others are not.
@@ -83,7 +87,7 @@ impl Batch {
     }
 }
 
-/// Feeds the first `count` of some references.
+/// Feeds the first `count` of some references: few of them one at a time.
 fn feed_first(profiles: &mut [PairProfile], addrs: &mut [u64], led: &mut [u64], count: usize)
     requires few { AllByRecursion
         (λ x. fed_of x.profile + count ≤ MAX_REFERENCES) profiles.old }
@@ -92,7 +96,40 @@ fn feed_first(profiles: &mut [PairProfile], addrs: &mut [u64], led: &mut [u64], 
     requires led { AreAlwaysLed profiles.old }
     ensures { profiles.new ≡ profiles_after_batch (take count addrs.old) profiles.old }
 {
-    feed_each(profiles, &mut addrs[..count], &mut led[..count]);
+    if count <= FEW {
+        feed_few(profiles, &addrs[..count]);
+    } else {
+        feed_each(profiles, &mut addrs[..count], &mut led[..count]);
+    }
+}
+
+/// Feeds references, each to all profiles before the next.
+fn feed_few(profiles: &mut [PairProfile], addrs: &[u64])
+    requires few { AllByRecursion
+        (λ x. fed_of x.profile + length addrs.now ≤ MAX_REFERENCES) profiles.old }
+    requires led { AreAlwaysLed profiles.old }
+    ensures { profiles.new ≡ profiles_after_batch addrs.now profiles.old }
+{
+    for addr in addrs {
+        feed_at_once(profiles, *addr);
+    }
+}
+
+/// Feeds a reference to each profile that does not find its block in front. Where one finds it
+/// there, those that its front implies are not looked at.
+fn feed_at_once(profiles: &mut [PairProfile], addr: u64)
+    requires few { AllByRecursion (λ x. fed_of x.profile < MAX_REFERENCES) profiles.old }
+    requires led { AreAlwaysLed profiles.old }
+    ensures { profiles.new ≡ profiles_after_batch (addr ∷ []) profiles.old }
+{
+    let mut next = 0;
+    while next < profiles.len() {
+        let pair = &mut profiles[next];
+        next += 1;
+        if pair.profile.feed_unless_front(addr, false) {
+            next += pair.implied;
+        }
+    }
 }
 
 /// Feeds references to each profile that does not find their block in front. Where a profile finds
@@ -114,25 +151,45 @@ fn feed_each(profiles: &mut [PairProfile], addrs: &mut [u64], led: &mut [u64])
     while at < profiles.len() {
         let later = profiles.len() - at - 1;
         let implied = profiles[at].implied;
-        if at < end {
-            end = end.min(at + 1 + implied);
-            if at + 1 < end {
-                let next_implied = profiles[at + 1].implied;
-                led_count = feed_two(profiles, at, &mut led[..led_count]);
-                at += 1;
-                end = end.min(at + 1 + next_implied);
-            } else {
-                led_count = profiles[at].profile.feed_batch(&mut led[..led_count]);
-            }
-        } else if implied == later && !is_followed(profiles, at) {
+        if at >= end && implied == later && !is_followed(profiles, at) {
             count = profiles[at].profile.feed_batch(&mut addrs[..count]);
         } else {
-            led[..count].copy_from_slice(&addrs[..count]);
-            led_count = profiles[at].profile.feed_batch(&mut led[..count]);
-            end = at + 1 + implied;
+            let (given, until) = give(&addrs[..count], led, led_count, end, at, implied);
+            if at + 1 < until {
+                let next_implied = profiles[at + 1].implied;
+                led_count = feed_two(profiles, at, &mut led[..given]);
+                at += 1;
+                end = until.min(at + 1 + next_implied);
+            } else {
+                led_count = profiles[at].profile.feed_batch(&mut led[..given]);
+                end = until;
+            }
         }
         at += 1;
     }
+}
+
+/// What the profile at an index is fed: up to the profile `end`, the first `led_count` of `led`;
+/// from there on a copy of `addrs`, which `led` becomes. Returns how many they are, and up to which
+/// profile what is left of them is given on.
+fn give(
+    addrs: &[u64],
+    led: &mut [u64],
+    led_count: usize,
+    end: usize,
+    at: usize,
+    implied: usize,
+) -> (usize, usize)
+    requires room { length addrs.now ≤ length led.old }
+    requires small { at + 1 + implied < 2 ^ 64 }
+    ensures { IsGiven at implied led_count end addrs.now led.old led.new result.0 result.1 }
+{
+    let until = at + 1 + implied;
+    if at < end {
+        return (led_count, end.min(until));
+    }
+    led[..addrs.len()].copy_from_slice(addrs);
+    (addrs.len(), until)
 }
 
 /// Whether what the profile after an index finds in front is in front in all later ones.

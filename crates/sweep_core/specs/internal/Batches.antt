@@ -1,5 +1,5 @@
 -- References that are fed to profiles many at a time.
-use Rattle.std.specs.Prelude.{⊤, ℕ, Bool, false, ◌==◌, ◌≤◌, ◌+◌, ◌-◌, List, [], ◌∷◌, ◌≡◌}
+use Rattle.std.specs.Prelude.{⊤, ℕ, Bool, false, ◌==◌, ◌≤◌, ◌<◌, ◌+◌, ◌-◌, min, List, [], ◌∷◌, ◌≡◌}
 use Rattle.std.specs.Prelude.{length, take, map, slice_index_or, slice_set}
 use Rattle.std.specs.List.{AllByRecursion}
 use Rattle.profile_core.specs.internal.State.{ProfileState}
@@ -53,3 +53,12 @@ pub record IsFedToTwo (at : ℕ) (addrs : List ℕ) (old now : List PairProfile)
   pub fed : now ≡ slice_set (slice_set old at (pair_after_batch addrs first)) (at + 1)
       (pair_after_batch (fed_of_batch first.profile addrs) second)
   pub left_are : left ≡ fed_of_batch second.profile (fed_of_batch first.profile addrs)
+
+-- A profile at an index, whose front is one in the `implied` next, is given some addresses: those
+-- that were led up to the profile `end`, and from there on all of `addrs`.
+pub record IsGiven (at implied led_count end : ℕ) (addrs led led' : List ℕ)
+    (given until : ℕ) : Type 0 where
+  pub kept : at < end → (given ≡ led_count) × (until ≡ min end (at + 1 + implied)) × (led' ≡ led)
+  pub all : end ≤ at → (given ≡ length addrs) × (until ≡ at + 1 + implied) ×
+      (take given led' ≡ addrs)
+  pub same_length : length led' ≡ length led

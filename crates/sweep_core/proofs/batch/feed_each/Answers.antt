@@ -1,61 +1,66 @@
 -- Each profile in turn is fed what serves for it, two together where the first leads the second.
-use Rattle.std.proofs.Common.{◌≡◌, ◌+◌, ◌-◌, ◌<◌, ◌≤◌, ◌∙◌, ◌++◌, sym, subst, ap, arith, length}
+use Rattle.std.proofs.Common.{◌≡◌, ◌+◌, ◌<◌, ◌≤◌, ◌∙◌, sym, subst, ap, arith, length}
 use Rattle.std.proofs.Common.{get_or, take, drop, min, length-append, ℕ}
 use Rattle.std.specs.List.{AllByRecursion as Each}
 use Rattle.std.proofs.Common.{List, refl}
-use Rattle.std.proofs.lemmas.List.{length-take, length-drop, take_at, get_or_default}
+use Rattle.std.proofs.lemmas.List.{length-take, length-drop, get_or_default}
 use Rattle.sweep_core.specs.declared.profiles.PairProfile.{PairProfile}
 use Rattle.profile_core.specs.declared.profile.TheConstants.{MAX_REFERENCES}
 use Rattle.profile_core.specs.internal.State.{fed_of}
-use Rattle.profile_core.specs.internal.Fronts.{after_batch, fed_of_batch}
 use Rattle.sweep_core.proofs.BatchLoops.{Serves, implied-within, each_drop, each_take}
-use Rattle.sweep_core.proofs.BatchLoops.{each_less, serves_led, serves_all, of_equal, fed_both}
+use Rattle.sweep_core.proofs.BatchLoops.{serves_led, serves_all, of_equal, fed_both}
 use Rattle.sweep_core.proofs.BatchLoops.{unfed, IsFedUpTo, each_rest, next-within}
-use Rattle.sweep_core.proofs.Lists.{Each-take, Each-weaker}
+use Rattle.sweep_core.proofs.BatchLoops.{given_serves, given_within, given_reaches}
+use Rattle.sweep_core.proofs.Lists.{Each-weaker}
 use Rattle.sweep_core.proofs.batch.feed_each.Goals as goal
-use Rattle.sweep_core.proofs.batch.feed_each.Goals.{then-at-end+then-at-end-2}
-use Rattle.sweep_core.proofs.batch.feed_each.Goals.{then-at-end+else-at-end-2}
-use Rattle.sweep_core.proofs.batch.feed_each.Goals.{else-at-end+then-implied-later+then-not-is_followed}
-use Rattle.sweep_core.proofs.batch.feed_each.Goals.{else-at-end+else-implied-later}
-
-pub overflow_add-at-then-at-end : goal.overflow_add-at-then-at-end
-overflow_add-at-then-at-end c =
-    let within = implied-within c.loop-at.invariant.1 (omega arith) c.requires.led
-    c.index-profiles-at.result c.index-profiles-at.is in
-    omega (arith, within)
-
-pub overflow_add-end-else-implied-later : goal.overflow_add-end-else-implied-later
-overflow_add-end-else-implied-later c =
-    let within = implied-within c.loop-at.invariant.1 (omega arith) c.requires.led
-    c.index-profiles-at.result c.index-profiles-at.is in
-    omega (arith, within)
+use Rattle.sweep_core.proofs.batch.feed_each.Goals.{then-at-end+then-implied-later+then-not-is_followed}
+use Rattle.sweep_core.proofs.batch.feed_each.Goals.{else-at-end+then-at-until}
+use Rattle.sweep_core.proofs.batch.feed_each.Goals.{else-at-end+else-at-until}
 
 -- how many the profile at the index implies, whatever stands for one that is not there
 implied_is : (xs : List PairProfile) (at : ℕ) (d e : PairProfile) → at < length xs →
     (get_or xs at d).implied ≡ (get_or xs at e).implied
 implied_is xs at d e lt = ap (λ y. y.implied) (get_or_default xs at d e lt)
 
-pub bounds-profiles-at-then-at-end-2 : goal.bounds-profiles-at-then-at-end-2
-bounds-profiles-at-then-at-end-2 c =
+pub give-given-requires-clause-small : goal.give-given-requires-clause-small
+give-given-requires-clause-small c =
     let within = implied-within c.loop-at.invariant.1 (omega arith) c.requires.led
     c.index-profiles-at.result c.index-profiles-at.is in
-    omega (arith, within, c.min-end.ensures, c.if-at-end-2.true, c.loop-at.auto.profiles)
+    omega (arith, within)
 
-pub bounds-profiles-at-then-at-end-2-2 : goal.bounds-profiles-at-then-at-end-2-2
-bounds-profiles-at-then-at-end-2-2 c =
+pub bounds-profiles-at-then-at-until : goal.bounds-profiles-at-then-at-until
+bounds-profiles-at-then-at-until c =
     let within = implied-within c.loop-at.invariant.1 (omega arith) c.requires.led
     c.index-profiles-at.result c.index-profiles-at.is in
-    omega (arith, within, c.min-end.ensures, c.if-at-end-2.true, c.loop-at.auto.profiles)
+    omega (
+      arith,
+      within,
+      given_within c.give-given.ensures,
+      c.if-at-until.true,
+      c.loop-at.auto.profiles,
+    )
 
-pub overflow_add-at-then-at-end-2-4 : goal.overflow_add-at-then-at-end-2-4
-overflow_add-at-then-at-end-2-4 c =
+pub bounds-profiles-at-then-at-until-2 : goal.bounds-profiles-at-then-at-until-2
+bounds-profiles-at-then-at-until-2 c =
+    let within = implied-within c.loop-at.invariant.1 (omega arith) c.requires.led
+    c.index-profiles-at.result c.index-profiles-at.is in
+    omega (
+      arith,
+      within,
+      given_within c.give-given.ensures,
+      c.if-at-until.true,
+      c.loop-at.auto.profiles,
+    )
+
+pub overflow_add-at-then-at-until-3 : goal.overflow_add-at-then-at-until-3
+overflow_add-at-then-at-until-3 c =
     let within = implied-within c.loop-at.invariant.1 (omega arith) c.requires.led
     c.index-profiles-at.result c.index-profiles-at.is in
     let inside : c.loop-at.at + 1 < length c.args.profiles.now =
-    omega (arith, within, c.min-end.ensures, c.if-at-end-2.true) in
+    omega (arith, within, given_within c.give-given.ensures, c.if-at-until.true) in
     omega (
       arith,
-      next-within c.loop-at.invariant.1 c.index-profiles-at-then-at-end-2.result inside
+      next-within c.loop-at.invariant.1 c.index-profiles-at-then-at-until.result inside
           c.requires.led,
     )
 
@@ -63,16 +68,23 @@ pub feed_two-led_count-requires-clause-within : goal.feed_two-led_count-requires
 feed_two-led_count-requires-clause-within c =
     let within = implied-within c.loop-at.invariant.1 (omega arith) c.requires.led
     c.index-profiles-at.result c.index-profiles-at.is in
-    omega (arith, within, c.min-end.ensures, c.if-at-end-2.true, c.loop-at.auto.profiles)
+    omega (
+      arith,
+      within,
+      given_within c.give-given.ensures,
+      c.if-at-until.true,
+      c.loop-at.auto.profiles,
+    )
 
 pub feed_two-led_count-requires-clause-few : goal.feed_two-led_count-requires-clause-few
 feed_two-led_count-requires-clause-few c =
-    let so_far = c.loop-at.invariant.1 in
+    let so_far = given_serves c.loop-at.invariant.1 c.give-given.ensures in
+    let given = c.give-given.result.0 in
     let few = each_rest (λ x. fed_of x.profile + length c.args.addrs.now ≤ MAX_REFERENCES)
     c.loop-at.at c.args.profiles.now c.requires.few in
-    let short = length-take c.loop-at.led_count c.loop-at.led in
+    let short = length-take given c.give-given.new.led in
     Each-weaker (λ x. fed_of x.profile + length c.args.addrs.now ≤ MAX_REFERENCES)
-    (λ x. fed_of x.profile + length (take c.loop-at.led_count c.loop-at.led) ≤ MAX_REFERENCES)
+    (λ x. fed_of x.profile + length (take given c.give-given.new.led) ≤ MAX_REFERENCES)
     (λ x le. omega (arith, le, short, so_far.led_most)) (drop c.loop-at.at c.loop-at.profiles)
     (subst (Each (λ x. fed_of x.profile + length c.args.addrs.now ≤ MAX_REFERENCES))
     (sym (unfed so_far c.loop-at.invariant.0)) few)
@@ -87,66 +99,68 @@ loop-at-preserved c =
     let inside : at < length old = omega arith in
     let here : at < length now = omega arith in
     elim c.if-at-end.branch [
-      | then-at-end+then-at-end-2 w ↦
+      | else-at-end+then-at-until w ↦
           let fed = w.feed_two-led_count in
           let t = fed.ensures.fed in
+          let given = w.give-given.result.0 in
+          let led = given_serves so_far w.give-given.ensures in
           let within = implied-within so_far inside c.requires.led
           c.index-profiles-at.result c.index-profiles-at.is in
-          let ends : at + 1 < length old =
-          omega (arith, within, w.min-end.ensures, w.if-at-end-2.true) in
+          let until = given_within w.give-given.ensures in
+          let ends : at + 1 < length old = omega (arith, within, until, w.if-at-until.true) in
           let there : at + 1 < length now = omega (arith, ends, c.loop-at.auto.profiles) in
           let second = ap (λ y. y.implied) t.second_is ∙ implied_is now (at + 1) t.second
-          w.index-profiles-at-then-at-end-2.result there in (
+          w.index-profiles-at-then-at-until.result there in (
             omega (arith, w.at-is, ends),
             subst (λ n. IsFedUpTo (n + 1) c.if-at-end.count c.if-at-end.led_count c.if-at-end.end
                 batch c.if-at-end.addrs c.if-at-end.led old c.if-at-end.profiles) (sym w.at-is)
-                (of_equal w.count-is w.led_count-is (w.end-is ∙ w.min-end-then-at-end-2.ensures)
+                (of_equal w.count-is w.led_count-is (w.end-is ∙ w.min-end.ensures)
                 w.addrs-is w.led-is w.profiles-is
-                (fed_both so_far ends c.requires.led fed.new.profiles (take fed.result
-                fed.new.addrs) t w.min-end.result
-                (min w.min-end.result (at + 1 + 1 + (get_or now (at + 1)
-                w.index-profiles-at-then-at-end-2.result).implied))
-                (omega (arith, w.if-at-end.true)) (omega (arith, w.min-end.ensures))
+                (fed_both led ends c.requires.led fed.new.profiles (take fed.result
+                fed.new.addrs) t w.give-given.result.1
+                (min w.give-given.result.1 (at + 1 + 1 + (get_or now (at + 1)
+                w.index-profiles-at-then-at-until.result).implied))
+                (omega (arith, w.if-at-until.true)) (omega arith)
                 (omega (
                   arith,
-                  w.min-end.ensures,
+                  until,
                   implied_is now at t.first c.index-profiles-at.result here,
-                )) (omega (arith, w.if-at-end-2.true)) (omega arith) (omega (arith, second))
-                fed.new.addrs (drop c.loop-at.led_count c.loop-at.led) fed.result refl
+                )) (omega (arith, w.if-at-until.true)) (omega arith) (omega (arith, second))
+                fed.new.addrs (drop given w.give-given.new.led) fed.result refl
                 fed.ensures.within (omega (arith, fed.ensures.length)))),
           )
-      | then-at-end+else-at-end-2 w ↦
-          let d = w.index-profiles-at-else-at-end-2.result in
-          let given = take c.loop-at.led_count c.loop-at.led in
+      | else-at-end+else-at-until w ↦
+          let d = w.index-profiles-at-else-at-until.result in
+          let count = w.give-given.result.0 in
+          let given = take count w.give-given.new.led in
+          let led = given_serves so_far w.give-given.ensures in
           let fed = w.feed_batch-led_count in
-          let served = each_take (Serves given batch) old at c.loop-at.end d inside
-          (omega (arith, w.if-at-end.true)) so_far.led_serves in (
+          let served = each_take (Serves given batch) old at w.give-given.result.1 d inside
+          (given_reaches w.give-given.ensures) led.led_serves in (
             omega (arith, w.at-is, inside),
             subst (λ n. IsFedUpTo (n + 1) c.if-at-end.count c.if-at-end.led_count c.if-at-end.end
                 batch c.if-at-end.addrs c.if-at-end.led old c.if-at-end.profiles) (sym w.at-is)
                 (of_equal w.count-is w.led_count-is w.end-is w.addrs-is w.led-is
                 w.profiles-is
-                (serves_led so_far inside c.requires.led d w.index-profiles-at-else-at-end-2.is
+                (serves_led led inside c.requires.led d w.index-profiles-at-else-at-until.is
                 given served.0 fed.new.self
-                fed.ensures.step fed.new.addrs (drop c.loop-at.led_count c.loop-at.led) fed.result
+                fed.ensures.step fed.new.addrs (drop count w.give-given.new.led) fed.result
                 fed.ensures.fed fed.ensures.within
                 (omega (
                   arith,
                   fed.ensures.within,
                   fed.ensures.length,
-                  length-take c.loop-at.led_count c.loop-at.led,
-                  so_far.led_most,
-                )) w.min-end.result
+                  length-take count w.give-given.new.led,
+                  led.led_most,
+                )) w.give-given.result.1
                 (omega (
                   arith,
-                  w.min-end.ensures,
+                  given_within w.give-given.ensures,
                   implied_is now at d c.index-profiles-at.result here,
                 ))
-                (each_less (Serves given batch) (w.min-end.result - (at + 1))
-                (c.loop-at.end - (at + 1)) (drop (at + 1) old)
-                (omega (arith, w.min-end.ensures)) served.1))),
+                served.1)),
           )
-      | else-at-end+then-implied-later+then-not-is_followed w ↦
+      | then-at-end+then-implied-later+then-not-is_followed w ↦
           let d = w.index-profiles-at-then-not-is_followed.result in
           let given = take c.loop-at.count c.loop-at.addrs in
           let fed = w.feed_batch-count in
@@ -163,7 +177,7 @@ loop-at-preserved c =
                 fed.ensures.step fed.new.addrs rest fed.result
                 fed.ensures.fed fed.ensures.within
                 (omega (arith, fed.ensures.within, fed.ensures.length, few, so_far.most))
-                (omega (arith, w.if-at-end.false))
+                (omega (arith, w.if-at-end.true))
                 (omega (
                   arith,
                   w.if-implied-later.true,
@@ -180,44 +194,5 @@ loop-at-preserved c =
                   so_far.same_length,
                 ))
                 served.1)),
-          )
-      | else-at-end+else-implied-later w ↦
-          let d = w.index-profiles-at-else-implied-later.result in
-          let given = take c.loop-at.count c.loop-at.addrs in
-          let fed = w.feed_batch-led_count-else-implied-later in
-          let served = each_drop (Serves given batch) old at d inside so_far.serves in
-          let until = at + 1 + (get_or now at c.index-profiles-at.result).implied in
-          let v = (get_or now at d).profile in
-          let copied = w.copy_from_slice.new.self in
-          let rest = drop c.loop-at.count c.loop-at.led in
-          let copy : copied ≡ given = w.copy_from_slice.ensures.after in
-          let few = length-take c.loop-at.count c.loop-at.addrs in
-          let are : take c.loop-at.count (copied ++ rest) ≡ given =
-          take_at copied rest c.loop-at.count (omega (
-            arith,
-            ap length copy,
-            few,
-            so_far.most,
-            so_far.same_length,
-          )) ∙ copy in (
-            omega (arith, w.at-is, inside),
-            subst (λ n. IsFedUpTo (n + 1) c.if-at-end.count c.if-at-end.led_count c.if-at-end.end
-                batch c.if-at-end.addrs c.if-at-end.led old c.if-at-end.profiles) (sym w.at-is)
-                (of_equal w.count-is w.led_count-is w.end-is w.addrs-is w.led-is w.profiles-is
-                (serves_led so_far inside c.requires.led d
-                w.index-profiles-at-else-implied-later.is given served.0
-                fed.new.self
-                (fed.ensures.step ∙ ap (after_batch v) are) fed.new.addrs
-                (drop c.loop-at.count (copied ++ rest)) fed.result
-                (fed.ensures.fed ∙ ap (fed_of_batch v) are) fed.ensures.within
-                (omega (
-                  arith,
-                  fed.ensures.within,
-                  fed.ensures.length ∙ ap length are,
-                  few,
-                  so_far.most,
-                )) until
-                (omega (arith, implied_is now at d c.index-profiles-at.result here))
-                (Each-take (Serves given batch) (until - (at + 1)) (drop (at + 1) old) served.1))),
           )
     ]
