@@ -178,6 +178,59 @@ fn nothing_is_found_behind_a_flush(rt: HostRuntime) -> Result<(), Fail> {
     Ok(())
 }
 
+/// Counts references that were found in front, and compares what the profile tells with what it
+/// tells of the short trace.
+fn expect_short(rt: &impl Abort, profile: &mut Profile, fronts: u64) {
+    assert!(rt; profile.fed().saturating_add(fronts) == 9);
+    profile.count_fronts(fronts);
+    assert!(rt; numbers(profile) == (9, 3, 14));
+}
+
+/// Feeds those of some addresses that are not found in front, and returns how many others there
+/// are.
+fn feed_unless_fronts(rt: &impl Abort, profile: &mut Profile, addrs: &[u64]) -> u64 {
+    let mut fronts = 0u64;
+    for addr in addrs {
+        assert!(rt; profile.fed() < MAX_REFERENCES);
+        if profile.feed_unless_front(*addr, false) {
+            fronts = fronts.saturating_add(1);
+        }
+    }
+    fronts
+}
+
+#[test]
+fn references_found_in_front_are_left_to_be_counted(rt: HostRuntime) -> Result<(), Fail> {
+    let mut profile = one_set(rt.alloc(), 3)?;
+    let fronts = feed_unless_fronts(&rt, &mut profile, &SHORT);
+    assert!(rt; fronts == 3 && profile.fed() == 6);
+    expect_short(&rt, &mut profile, fronts);
+    Ok(())
+}
+
+#[test]
+fn a_batch_leaves_what_was_not_in_front(rt: HostRuntime) -> Result<(), Fail> {
+    let mut profile = one_set(rt.alloc(), 3)?;
+    let mut addrs = SHORT;
+    let fed = profile.feed_batch(&mut addrs);
+    assert!(rt; addrs[..fed] == [0x10, 0x20, 0x18, 0x110, 0x210, 0x12]);
+    expect_short(&rt, &mut profile, 3);
+    Ok(())
+}
+
+#[test]
+fn the_second_of_two_is_fed_what_the_first_leaves(rt: HostRuntime) -> Result<(), Fail> {
+    let mut first = one_set(rt.alloc(), 3)?;
+    let two_sets = Geometry::new(1, 3, 4).ok_or("no geometry")?;
+    let mut second = new_profile(rt.alloc(), two_sets)?;
+    let mut addrs = SHORT;
+    let left = first.feed_batch_with(&mut second, &mut addrs);
+    assert!(rt; addrs[..left] == [0x10, 0x20, 0x110, 0x210, 0x12]);
+    assert!(rt; second.fed() == 5);
+    expect_short(&rt, &mut first, 3);
+    Ok(())
+}
+
 /// The counts of every associativity are those of a separate simulation.
 fn expect_simulations(
     rt: &impl Abort,
