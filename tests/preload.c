@@ -12,6 +12,8 @@
    TELL_CALLS=1     at the end of the process the numbers of reads and writes are written to
                     standard error
    TELL_PEAK=1      the same of the most memory that it had, in KiB
+   TELL_ASKED=N     the same of the bytes that it asked for in pieces of N or more, those that it
+                    gave back too, and how many of them it asked for after its first read
 
    A read or a write after one that failed ends the process with status 98: a device that failed is
    not to be asked again. */
@@ -37,6 +39,8 @@ struct calls {
 
 static struct calls reads, writes;
 static unsigned long asked, refused_call;
+/* what it asked for in pieces of at least so many bytes, and that before its first read */
+static unsigned long piece, bytes, bytes_before;
 static int is_on, and_later, told = -1;
 
 static unsigned long number(const char *name) {
@@ -53,6 +57,7 @@ __attribute__((constructor)) static void begin(void) {
     writes.most = number("WRITE_MOST");
     writes.fails = number("WRITE_FAILS");
     is_on = refused_call > 0;
+    piece = number("TELL_ASKED");
 }
 
 /* What wait4 tells of a process has the memory of the one that forked it in it; this is its own. */
@@ -68,11 +73,13 @@ static void tell_peak(void) {
 __attribute__((destructor)) static void end(void) {
     if (number("TELL_CALLS")) fprintf(stderr, "%lu reads, %lu writes\n", reads.made, writes.made);
     if (number("TELL_PEAK")) tell_peak();
+    if (piece) fprintf(stderr, "%lu bytes, %lu late\n", bytes, bytes - bytes_before);
 }
 
 /* Memory. */
 
-static int refuses(void) {
+static int refuses(size_t size) {
+    if (size >= piece) bytes += size;
     if (!is_on) return 0;
     asked++;
     if (!(asked == refused_call || (and_later && asked > refused_call))) return 0;
@@ -81,24 +88,30 @@ static int refuses(void) {
     return 1;
 }
 
-void *malloc(size_t size) { return refuses() ? NULL : __libc_malloc(size); }
-void *calloc(size_t count, size_t size) { return refuses() ? NULL : __libc_calloc(count, size); }
+void *malloc(size_t size) { return refuses(size) ? NULL : __libc_malloc(size); }
+void *calloc(size_t count, size_t size)
+{
+    return refuses(count * size) ? NULL : __libc_calloc(count, size);
+}
 void *realloc(void *old, size_t size)
 {
-    return size && refuses() ? NULL : __libc_realloc(old, size);
+    return size && refuses(size) ? NULL : __libc_realloc(old, size);
 }
-void *memalign(size_t step, size_t size) { return refuses() ? NULL : __libc_memalign(step, size); }
+void *memalign(size_t step, size_t size)
+{
+    return refuses(size) ? NULL : __libc_memalign(step, size);
+}
 void *aligned_alloc(size_t step, size_t size) { return memalign(step, size); }
 
 int posix_memalign(void **out, size_t step, size_t size) {
-    if (refuses()) return ENOMEM;
+    if (refuses(size)) return ENOMEM;
     void *got = __libc_memalign(step, size);
     if (got) *out = got;
     return got ? 0 : ENOMEM;
 }
 
 void *mmap(void *at, size_t size, int prot, int flags, int file, off_t from) {
-    if (refuses()) return MAP_FAILED;
+    if (refuses(size)) return MAP_FAILED;
     return (void *)syscall(SYS_mmap, at, size, prot, flags, file, from);
 }
 
@@ -129,6 +142,7 @@ static size_t allowed(struct calls *calls, size_t size) {
 }
 
 ssize_t read(int file, void *into, size_t size) {
+    if (!reads.made) bytes_before = bytes;
     size_t most = allowed(&reads, size);
     return size && !most ? -1 : syscall(SYS_read, file, into, most);
 }

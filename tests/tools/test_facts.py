@@ -62,6 +62,26 @@ class Manual(base.ToolTest):
         self.assertIn(f"at most {line:,} bytes", text)
         self.assertIn(f"at most 2^{lines.bit_length() - 1} lines", text)
 
+    def test_memory(self):
+        """The pages of the libraries tell what the manual tells, which tests/limits measures."""
+        limits, page = base.script("limits"), "CALLING.md"
+        cost = section((base.TOP / "crates/profile_core" / page).read_text(), "Cost")
+        told, said = (re.findall(limits.FORMULA, it) for it in (section(MANUAL, "Limits"), cost))
+        self.assertEqual(len(told), 5)
+        self.assertEqual(sorted(said), sorted(told))
+        caches = limits.told_by_the_manual(limits.CACHES)
+        line, set_, wide, more, searched, instead, far, near, set_far = caches
+        self.assertEqual(instead, line)
+        text, lists = flat(f"crates/cache_core/{page}"), flat(f"crates/deep_list/{page}")
+        for part in (
+            f"{line:g} bytes for each line and {set_:g} for each set",
+            f"{wide:g} ways or more takes {more:g} byte more for each line",
+            f"more than {searched:g} ways takes this for {near:g} ways, at most {far:g} bytes for "
+            f"each way more, and {set_far:g} more for each set",
+        ):
+            self.assertIn(part, text)
+        self.assertIn(f"at most {far:g} bytes per block", lists)
+
     def test_digits(self):
         """How many an address and a size have, by how many the code reads."""
         code = (base.TOP / "crates/trace_core/src/line.rt").read_text()

@@ -231,6 +231,15 @@ class Others(Wrong):
             "a sweep of eight block sizes and 2^20 sets, in all", "din with 2^20 sets, in all",
             "csim with 2^20 sets, in all",
             "csim with 2^20 sets", "a table of 65,536 rows", "20,000 references of log",
+            "csim with S = 1048576 and A = 1",
+        ):
+            self.assertIn(name, bad)
+
+    def test_limits_of_what_is_taken_late(self):
+        bad = self.named("limits", ["KEEPS", "PIECES"], "--tries", 1)[1]
+        for name in (
+            "bytes that din asks for after its first read",
+            "a sweep with S = 8192 and A = 255: a block in each set",
         ):
             self.assertIn(name, bad)
 
