@@ -22,8 +22,8 @@ use std::alloc::{AllocError, Global};
 use std::marker::Model;
 use trace_core::Ref;
 
-/// The fewest ways of a set that are searched by fingerprints. Fewer are searched slot by slot:
-/// most searches of so few end before the time that it takes to follow the slots.
+/// The fewest ways of a set that are searched by fingerprints. Fewer are searched slot by slot,
+/// which usually takes less time than to keep fingerprints that follow the slots.
 const FINGERPRINTED_WAYS: u64 = 128;
 
 /// A cache of a system, with the fingerprints of all sets beside its slots, a row for each set.
@@ -129,8 +129,8 @@ impl FingerprintedCache {
 }
 
 /// One access. The first slots of its set are looked at one by one, and the others by their
-/// fingerprints, if there are any. Where the block is among the first, or there are no others, no
-/// fingerprint moves.
+/// fingerprints, if there are any. Where the block is among the first, or these are not all filled,
+/// no fingerprint moves.
 #[inline(always)]
 fn access_by_rows(
     cache: &mut Cache<ChosenPolicy>,

@@ -22,7 +22,7 @@ const LANES: usize = 16;
 const MULTIPLIER: u64 = 0x9E37_79B9_7F4A_7C15;
 
 /// The index of a block among the slots, if it is there, where the first sixteen don't hold it.
-/// Only from a slot with its fingerprint on are slots looked at, up to the next sixteen.
+/// Of each sixteen slots those are looked at that stand from the first with its fingerprint on.
 #[inline(never)]
 pub(crate) fn find_far(row: &[u8], slots: &[Slot], block: u64) -> Option<usize>
     requires room { length slots.now ≤ length row.now }

@@ -161,8 +161,8 @@ impl<R: RowStore> RecencyLists<R> {
     pub fn clear(&mut self)
         ensures { self.new ≡ record self.old { lists = replicate (length self.old.lists) [] } }
     {
-        blank_fronts(&mut self.fronts, &self.touched);
-        self.touched.empty(&mut self.lens);
+        blank(&mut self.fronts, &mut self.lens, &self.touched);
+        self.touched.clear();
     }
 
     /// How many blocks stand in the lists. It adds up the lengths of all sets.
@@ -210,23 +210,33 @@ impl<R: RowStore> SetLists for RecencyLists<R> {
     }
 }
 
-/// Sets all fronts to 0. Where the sets that have a block are listed, it goes to them alone.
-fn blank_fronts(fronts: &mut [u64], touched: &TouchedSets)
-    requires { Covers touched.now fronts.old }
-    ensures { fronts.new ≡ replicate (length fronts.old) 0 }
+/// Sets all fronts and lengths to 0. Where the sets that have a block are listed, it goes to them
+/// alone.
+fn blank(fronts: &mut [u64], lens: &mut [u32], touched: &TouchedSets)
+    requires fronts { Covers touched.now fronts.old }
+    requires lens { Covers touched.now lens.old }
+    ensures fronts { fronts.new ≡ replicate (length fronts.old) 0 }
+    ensures lens { lens.new ≡ replicate (length lens.old) 0 }
 {
     match touched.listed() {
-        Some(sets) => blank_listed(fronts, sets),
-        None => fronts.fill(0),
+        Some(sets) => blank_listed(fronts, lens, sets),
+        None => {
+            fronts.fill(0);
+            lens.fill(0);
+        }
     }
 }
 
-/// Sets the fronts of the listed sets to 0, which are all that are not 0.
-fn blank_listed(fronts: &mut [u64], sets: &[u32])
-    requires { ListsFilled sets.now fronts.old }
-    ensures { fronts.new ≡ replicate (length fronts.old) 0 }
+/// Sets the fronts and lengths of the listed sets to 0, which are all that are not 0.
+fn blank_listed(fronts: &mut [u64], lens: &mut [u32], sets: &[u32])
+    requires fronts { ListsFilled sets.now fronts.old }
+    requires lens { ListsFilled sets.now lens.old }
+    ensures fronts { fronts.new ≡ replicate (length fronts.old) 0 }
+    ensures lens { lens.new ≡ replicate (length lens.old) 0 }
 {
     for set in sets {
-        fronts[*set as usize] = 0;
+        let set = *set as usize;
+        fronts[set] = 0;
+        lens[set] = 0;
     }
 }

@@ -23,7 +23,7 @@ AreFingerprints slots row =
     take (length slots - 16) row ≡ drop 16 (map (λ slot. fingerprint_of slot.block) slots)
 
 -- a row after a touch of the slot at an index, of those behind the first sixteen: where it comes
--- to the front, the sixteenth slot passes into its place
+-- to the front, the sixteenth slot becomes the first of these
 abbrev pub row_touched : Place → ℕ → ℕ → List ℕ → List ℕ
 row_touched InFront at passing row = passing ∷ remove row (at - 16)
 row_touched InPlace at passing row = row

@@ -1,7 +1,10 @@
--- What is left of the listed sets has all fronts that are not 0.
+-- What is left of the listed sets has all fronts and lengths that are not 0.
 use Rattle.std.proofs.Common.{drop}
 use Rattle.cache_core.specs.internal.Touched.{ListsFilled}
 use Rattle.profile_core.proofs.recency.blank_listed.Given as goal
 
 abbrev pub invariant-loop-set : goal.invariant-loop-set
-invariant-loop-set l = ListsFilled (drop l.set-index l.sets) l.fronts
+invariant-loop-set l = record {
+  fronts : ListsFilled (drop l.set-index l.sets) l.fronts;
+  lens : ListsFilled (drop l.set-index l.sets) l.lens;
+}
