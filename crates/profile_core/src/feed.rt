@@ -53,26 +53,26 @@ pub fn feed_one(
 /// all registers for it.
 #[inline(never)]
 pub fn feed_each<L: SetLists>(
-    geometry: Geometry,
+    geometry: &Geometry,
     lists: &mut L,
     histograms: &mut Histograms,
     addrs: &mut [u64],
 ) -> usize
-    requires sound { AreSound geometry (L.view lists.old) histograms.old }
-    requires few { fed_of (profile_of geometry (L.view lists.old) histograms.old)
+    requires sound { AreSound geometry.now (L.view lists.old) histograms.old }
+    requires few { fed_of (profile_of geometry.now (L.view lists.old) histograms.old)
         + length addrs.old ≤ MAX_REFERENCES }
-    ensures sound { AreSound geometry (L.view lists.new) histograms.new }
-    ensures step { profile_of geometry (L.view lists.new) histograms.new
-        ≡ after_batch (profile_of geometry (L.view lists.old) histograms.old) addrs.old }
+    ensures sound { AreSound geometry.now (L.view lists.new) histograms.new }
+    ensures step { profile_of geometry.now (L.view lists.new) histograms.new
+        ≡ after_batch (profile_of geometry.now (L.view lists.old) histograms.old) addrs.old }
     ensures fed { take result addrs.new
-        ≡ fed_of_batch (profile_of geometry (L.view lists.old) histograms.old) addrs.old }
+        ≡ fed_of_batch (profile_of geometry.now (L.view lists.old) histograms.old) addrs.old }
     ensures within { result ≤ length addrs.new }
     ensures length { length addrs.new ≡ length addrs.old }
 {
     let mut fed = 0;
     for at in 0..addrs.len() {
         let addr = addrs[at];
-        if !feed_in_batch(geometry, lists, histograms, addr) {
+        if !feed_in_batch(*geometry, lists, histograms, addr) {
             addrs[fed] = addr;
             fed += 1;
         }
@@ -86,38 +86,38 @@ pub fn feed_each<L: SetLists>(
 /// next.
 #[inline(never)]
 pub fn feed_each_to_two<L: SetLists>(
-    geometry: Geometry,
+    geometry: &Geometry,
     lists: &mut L,
     histograms: &mut Histograms,
-    next_geometry: Geometry,
+    next_geometry: &Geometry,
     next_lists: &mut L,
     next_histograms: &mut Histograms,
     addrs: &mut [u64],
 ) -> usize
-    requires sound { AreSound geometry (L.view lists.old) histograms.old }
-    requires next_sound { AreSound next_geometry (L.view next_lists.old) next_histograms.old }
-    requires few { fed_of (profile_of geometry (L.view lists.old) histograms.old)
+    requires sound { AreSound geometry.now (L.view lists.old) histograms.old }
+    requires next_sound { AreSound next_geometry.now (L.view next_lists.old) next_histograms.old }
+    requires few { fed_of (profile_of geometry.now (L.view lists.old) histograms.old)
         + length addrs.old ≤ MAX_REFERENCES }
-    requires next_few { fed_of (profile_of next_geometry (L.view next_lists.old)
+    requires next_few { fed_of (profile_of next_geometry.now (L.view next_lists.old)
         next_histograms.old) + length addrs.old ≤ MAX_REFERENCES }
-    ensures sound { AreSound geometry (L.view lists.new) histograms.new }
-    ensures next_sound { AreSound next_geometry (L.view next_lists.new) next_histograms.new }
-    ensures step { profile_of geometry (L.view lists.new) histograms.new
-        ≡ after_batch (profile_of geometry (L.view lists.old) histograms.old) addrs.old }
-    ensures next_step { profile_of next_geometry (L.view next_lists.new) next_histograms.new
-        ≡ after_batch (profile_of next_geometry (L.view next_lists.old) next_histograms.old)
-        (fed_of_batch (profile_of geometry (L.view lists.old) histograms.old) addrs.old) }
+    ensures sound { AreSound geometry.now (L.view lists.new) histograms.new }
+    ensures next_sound { AreSound next_geometry.now (L.view next_lists.new) next_histograms.new }
+    ensures step { profile_of geometry.now (L.view lists.new) histograms.new
+        ≡ after_batch (profile_of geometry.now (L.view lists.old) histograms.old) addrs.old }
+    ensures next_step { profile_of next_geometry.now (L.view next_lists.new) next_histograms.new
+        ≡ after_batch (profile_of next_geometry.now (L.view next_lists.old) next_histograms.old)
+        (fed_of_batch (profile_of geometry.now (L.view lists.old) histograms.old) addrs.old) }
     ensures fed { take result addrs.new
-        ≡ fed_of_batch (profile_of next_geometry (L.view next_lists.old) next_histograms.old)
-        (fed_of_batch (profile_of geometry (L.view lists.old) histograms.old) addrs.old) }
+        ≡ fed_of_batch (profile_of next_geometry.now (L.view next_lists.old) next_histograms.old)
+        (fed_of_batch (profile_of geometry.now (L.view lists.old) histograms.old) addrs.old) }
     ensures within { result ≤ length addrs.new }
     ensures length { length addrs.new ≡ length addrs.old }
 {
     let mut left = 0;
     for at in 0..addrs.len() {
         let addr = addrs[at];
-        if !feed_in_batch(geometry, lists, histograms, addr) {
-            if !feed_in_batch(next_geometry, next_lists, next_histograms, addr) {
+        if !feed_in_batch(*geometry, lists, histograms, addr) {
+            if !feed_in_batch(*next_geometry, next_lists, next_histograms, addr) {
                 addrs[left] = addr;
                 left += 1;
             }

@@ -134,7 +134,7 @@ impl Profile {
         ensures within { result ≤ length addrs.new }
         ensures length { length addrs.new ≡ length addrs.old }
     {
-        let (geometry, histograms) = (self.geometry, &mut self.histograms);
+        let (geometry, histograms) = (&self.geometry, &mut self.histograms);
         match &mut self.lists {
             KeptLists::InRows(lists) => feed_each(geometry, lists, histograms, addrs),
             KeptLists::InSlots(lists) => feed_each(geometry, lists, histograms, addrs),
@@ -159,37 +159,37 @@ impl Profile {
     {
         match (&mut self.lists, &mut next.lists) {
             (KeptLists::InRows(lists), KeptLists::InRows(next_lists)) => feed_each_to_two(
-                self.geometry,
+                &self.geometry,
                 lists,
                 &mut self.histograms,
-                next.geometry,
+                &next.geometry,
                 next_lists,
                 &mut next.histograms,
                 addrs,
             ),
             (KeptLists::InSlots(lists), KeptLists::InSlots(next_lists)) => feed_each_to_two(
-                self.geometry,
+                &self.geometry,
                 lists,
                 &mut self.histograms,
-                next.geometry,
+                &next.geometry,
                 next_lists,
                 &mut next.histograms,
                 addrs,
             ),
             (KeptLists::InGroups(lists), KeptLists::InGroups(next_lists)) => feed_each_to_two(
-                self.geometry,
+                &self.geometry,
                 lists,
                 &mut self.histograms,
-                next.geometry,
+                &next.geometry,
                 next_lists,
                 &mut next.histograms,
                 addrs,
             ),
             (KeptLists::Long(lists), KeptLists::Long(next_lists)) => feed_each_to_two(
-                self.geometry,
+                &self.geometry,
                 lists,
                 &mut self.histograms,
-                next.geometry,
+                &next.geometry,
                 next_lists,
                 &mut next.histograms,
                 addrs,

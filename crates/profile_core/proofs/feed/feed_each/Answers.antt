@@ -13,10 +13,10 @@ loop-at-preserved g c =
     let now = c.loop-at.addrs in
     let old = c.args.addrs.now in
     let v : ProfileState =
-    profile_of c.args.geometry (g.L.SetLists.view c.args.lists.now) c.args.histograms.now in
+    profile_of c.args.geometry.now (g.L.SetLists.view c.args.lists.now) c.args.histograms.now in
     let fed = c.feed_in_batch.ensures in
     let state : ProfileState =
-    profile_of c.args.geometry (g.L.SetLists.view c.feed_in_batch.new.lists)
+    profile_of c.args.geometry.now (g.L.SetLists.view c.feed_in_batch.new.lists)
     c.feed_in_batch.new.histograms in
     let inside : c.loop-at.at < length old = omega (
       arith,
