@@ -18,6 +18,6 @@ pub mod Sweeping
 pub mod Catching
 pub mod Batching
 pub mod BatchLoops
-pub mod FewReferences
+pub mod OneReference
 pub mod WorkLaws
 mod Examples

@@ -14,10 +14,6 @@ use std::marker::Model;
 /// How many references wait at most. With fewer, waits for memory overlap less.
 pub(crate) const BATCH: usize = 4096;
 
-/// How many references at most are fed one at a time. To give each profile a copy of one takes
-/// longer than to feed it, as where a flush follows each reference. With two or more it does not.
-const FEW: usize = 1;
-
 /// The addresses of references that wait to be fed: the first `len` of `addrs`. `led` has room for
 /// those of them that some profiles are fed and others are not.
 #[derive(Drop)]
@@ -87,7 +83,8 @@ impl Batch {
     }
 }
 
-/// Feeds the first `count` of some references: few of them one at a time.
+/// Feeds the first `count` of some references. One alone is fed as it is: to give each profile a
+/// copy of it takes longer, as where a flush follows each reference. With two or more it does not.
 fn feed_first(profiles: &mut [PairProfile], addrs: &mut [u64], led: &mut [u64], count: usize)
     requires few { AllByRecursion
         (λ x. fed_of x.profile + count ≤ MAX_REFERENCES) profiles.old }
@@ -96,22 +93,10 @@ fn feed_first(profiles: &mut [PairProfile], addrs: &mut [u64], led: &mut [u64], 
     requires led { AreAlwaysLed profiles.old }
     ensures { profiles.new ≡ profiles_after_batch (take count addrs.old) profiles.old }
 {
-    if count <= FEW {
-        feed_few(profiles, &addrs[..count]);
+    if count == 1 {
+        feed_at_once(profiles, addrs[0]);
     } else {
         feed_each(profiles, &mut addrs[..count], &mut led[..count]);
-    }
-}
-
-/// Feeds references, each to all profiles before the next.
-fn feed_few(profiles: &mut [PairProfile], addrs: &[u64])
-    requires few { AllByRecursion
-        (λ x. fed_of x.profile + length addrs.now ≤ MAX_REFERENCES) profiles.old }
-    requires led { AreAlwaysLed profiles.old }
-    ensures { profiles.new ≡ profiles_after_batch addrs.now profiles.old }
-{
-    for addr in addrs {
-        feed_at_once(profiles, *addr);
     }
 }
 
