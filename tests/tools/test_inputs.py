@@ -2,6 +2,7 @@
 
 import gzip
 import shutil
+from pathlib import Path
 
 import trace_base
 from base import EXAMPLES, TOOLS, TOP, ToolTest, needs
@@ -131,6 +132,37 @@ class StandardOutput(InputTest):
             line = f'PATH="$PWD/on the path:$PATH"; "$0" {word} >> "{place}"'
             name = word if "/" in word else f"{self.folder}/on the path/program"
             self.kept("lab/lab-trace", line, f"{name} is standard output too", 125, place)
+
+
+class OfTrace(InputTest):
+    """The program, by its path and by its name on the path, a script, standard input, and a map,
+    which it writes: each is `input`, of which None stands for a compiled program."""
+
+    READ = {
+        "./input": (None, "the program"), "input": (None, "the program"),
+        "./input -x": ("#!/bin/sh\n", "the program"), "sort < input": ("0 10\n", "standard input"),
+        "--map input sort": ("00400000-00401000 r-xp 00000000 08:01 1 /bin/sort\n", "--map"),
+    }
+
+    def spared(self, options, told):
+        """It is spared beside these options, whatever it is. NAME stands for what it is."""
+        for words, (text, name) in self.READ.items():
+            with self.subTest(options=options, words=words):
+                self.write("input", Path("/bin/true").read_bytes() if text is None else text)
+                (self.folder / "input").chmod(0o755)
+                line = f'PATH="$PWD:$PATH"; "$0" {options} {words}'
+                explained = f"{told}; 'trace --help' explains the arguments"
+                self.kept("trace", line, explained.replace("NAME", name), 125)
+
+    def test_what_is_read(self):
+        self.spared("-o input", "--output and NAME are one file")
+
+    def test_a_fault_before(self):
+        """One that is found before it is known what is read."""
+        self.spared("-o input --kind x", "--kind is u, d or i")
+        self.spared("--output=input --bogus=1", "--bogus is no option")
+        self.spared("-o input --with lackey --map m", "--from, --to, --during, --libraries, "
+                    "--any-version and --map are for QEMU")
 
 
 @needs("binutils", "llvm")

@@ -104,9 +104,16 @@ class WholeTrace:
                 put_last(line.encode())
             return
         kind = os.stat(self.output).st_mode
-        if stat.S_ISFIFO(kind) or stat.S_ISREG(kind):
+        if stat.S_ISFIFO(kind) or stat.S_ISREG(kind) and self.is_taken():
             # a pipe is opened so that it waits for no reader
             flags = os.O_RDWR if stat.S_ISFIFO(kind) else os.O_WRONLY | os.O_TRUNC
             file = os.open(self.output, flags)
             os.write(file, line.encode())
             os.close(file)
+
+    def is_taken(self):
+        """Whether a simulator would take the file for the trace: it is empty, or begins as one. A
+        program or a map, named by mistake, does not. What standard input reads is left too."""
+        with open(self.output, "rb") as file:
+            start = file.read(2).strip()
+        return start in (b"", b"0", b"1", b"2", b"3", b"4") and not tool.is_same(0, self.output)
