@@ -1,9 +1,9 @@
 """Random cases for tests/fuzz on both sides of each size at which the program works in another way.
 
-It keeps lists of few, of some and of many blocks in different ways, as it does the sets of a cache
-by how many there are, and it feeds the profiles of a sweep some thousands of references at a time.
+It keeps lists of few, of some and of many blocks in different ways, a sweep also those of up to
+4,096 sets and of more, and it feeds the profiles of a sweep some thousands of references at a time.
 A place is a command and one of these sizes. The sets of a case are filled, so that blocks are
-evicted where a size is one of lists.
+evicted from lists of that size.
 """
 
 import collections
@@ -11,19 +11,22 @@ import re
 
 import model
 
-WAYS = 11, 12, 16, 17, 31, 32, 63, 64, 127, 128, 255, 256
+WAYS = 11, 12, 16, 17, 31, 32, 127, 128, 255, 256, 257
 SETS = 4096, 8192
+# with more than 4,096 of them a sweep keeps lists of 32 to 255 ways in another way again
+OF_MANY = "ways of 8,192 sets"
 # references of a sweep between two flushes
 REFERENCES = 4095, 4096, 4097
 COMMANDS = "sweep", "csim", "din", "log"
 PLACES = [
     *((command, "ways", ways) for ways in WAYS for command in COMMANDS),
     *((command, "sets", sets) for sets in SETS for command in COMMANDS),
+    *(("sweep", OF_MANY, ways) for ways in (31, 32)),
     *(("sweep", "references", count) for count in REFERENCES for _ in range(2)),
 ]
-# between two blocks: neighbours, powers of two, and distances at which the program's marks of
-# blocks, which are products by the golden ratio, lie close together
-STEPS = 1, 1, 1, 3, 16, 1024, 4181, 6765
+# between two blocks: neighbours, powers of two, and distances at which sixteen blocks of a list in
+# slots have one to three marks (mark_of in slotted_rows.rt); at most others they have 14 or more
+STEPS = 1, 1, 1, 3, 16, 1024, 126_543, 774_080
 
 
 # ---- traces
@@ -109,8 +112,8 @@ def span(low, high):
 
 
 def sweep_of_ways(rng, ways, format):
-    """The deepest row of each pair has so many ways. Or it has so many of the pairs in the middle,
-    and half or twice as many of others, which hold as many bytes."""
+    """The deepest row of each pair has so many ways; or only that of the pairs in the middle has,
+    and those of the others have half or twice as many, where all hold as many bytes."""
     bits, sets = rng.choice((0, 4, 6)), 2 ** rng.choice((0, 0, 1, 2))
     bsizes = span(2**bits, 2 ** (bits + rng.choice((0, 0, 1, 2))))
     touched = rng.sample(range(sets), min(sets, rng.choice((1, 2))))
@@ -123,8 +126,10 @@ def sweep_of_ways(rng, ways, format):
     return of_sweep(format, bsizes, counts, assoc), trace
 
 
-def sweep_of_sets(rng, sets, format):
-    bits, ways = rng.choice((0, 4, 6)), rng.choice((1, 2, 4, 8, 11, 12, 16, 17, 33))
+def sweep_of_sets(rng, sets, format, ways=None):
+    """Without a number of ways one of several."""
+    bits = rng.choice((0, 4, 6))
+    ways = ways or rng.choice((1, 2, 4, 8, 11, 12, 16, 17, 33))
     low = rng.choice((sets, sets, sets // 2, 1024))
     bsizes = span(2**bits, 2 ** (bits + rng.choice((0, 0, 1))))
     assoc = span(max(1, ways - rng.choice((0, 1, 7))), ways)
@@ -172,7 +177,8 @@ def of_system(rng, command, bits, sets, ways, format):
     return [command, *words, *(["--seed", "7"] * (rng.random() < 0.3))]
 
 
-SWEEPS = {"ways": sweep_of_ways, "sets": sweep_of_sets, "references": sweep_of_references}
+SWEEPS = {"ways": sweep_of_ways, "sets": sweep_of_sets, "references": sweep_of_references,
+          OF_MANY: lambda rng, ways, format: sweep_of_sets(rng, 8192, format, ways)}
 
 
 def case_at(rng, place):
@@ -224,6 +230,8 @@ def places_of_sweep(job, text, out):
             found.add(("sweep", "sets", int(sets)))
             if deepest[int(bsize), int(sets)] == int(ways):
                 found.add(("sweep", "ways", int(ways)))
+                if int(sets) == 8192:
+                    found.add(("sweep", OF_MANY, int(ways)))
     if out and text.count(b"\n") >= min(REFERENCES):
         counts, entries = [0], model.read(job["format"], text)[0]
         for event in model.events_of(entries, job["kind"]):
