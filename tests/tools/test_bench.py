@@ -3,6 +3,7 @@
 import os
 import re
 import shutil
+import subprocess
 import unittest
 
 import base
@@ -145,14 +146,44 @@ class Faults(Bench):
         self.assertEqual((ran.returncode, ran.stdout.decode().split()[5]), (1, "usual"))
         self.assertRegex(ran.stderr.decode(), r"\Abench/run: other: .* ended with status 1\n\Z")
 
+    def test_a_table_that_cannot_be_written(self):
+        """On a full device, in a pipe that nobody reads, and where output is closed; whether Python
+        holds output or not."""
+        reader, writer = os.pipe()
+        os.close(reader)
+        self.addCleanup(os.close, writer)
+        full = open("/dev/full", "wb")
+        self.addCleanup(full.close)
+        for output, after, told in (
+            (full, "", "No space left on device"), (writer, "", "Broken pipe"),
+            (subprocess.DEVNULL, ">&-", "Bad file descriptor"),
+        ):
+            for unbuffered in ("", "1"):
+                with self.subTest(told, PYTHONUNBUFFERED=unbuffered):
+                    words = "bash", "-c", f'exec "$0" old new {after}', RUN
+                    given = self.in_folder(PYTHONUNBUFFERED=unbuffered)
+                    given |= {"stdout": output, "stderr": subprocess.PIPE, "timeout": 20}
+                    ran = subprocess.run(words, **given)
+                    wanted = f"bench/run: standard output: {told}\n", 1
+                    self.assertEqual((ran.stderr.decode(), ran.returncode), wanted)
+
+    def test_a_fault_of_no_file(self):
+        """It has no place: there is no folder for what the programs write."""
+        lines = ("import runpy, sys, tempfile", "sys.argv = sys.argv[1:]",
+                 "def refuse(*_): raise FileNotFoundError(2, 'No usable temporary directory')",
+                 "tempfile.TemporaryFile = refuse", "runpy.run_path(sys.argv[0], None, '__main__')")
+        ran = self.run_command("python3", "-c", "\n".join(lines), RUN, "old", "new")
+        told = "bench/run: No usable temporary directory\n"
+        self.assertEqual((ran.stderr.decode(), ran.returncode), (told, 1))
+
 
 class WrongInput(Bench):
     def test_arguments(self):
         for told, *more in (
             ("argument --turns: '6' is no number from 7 on", "--turns", "6"),
             ("argument --turns: 'x' is no number from 7 on", "--turns", "x"),
-            ("argument SEED: '4294967296' is no number of 0 to 4294967295", 2**32),
-            ("argument SEED: 'x' is no number of 0 to 4294967295", "x"),
+            ("argument SEED: '4294967296' is no number from 0 to 4294967295", 2**32),
+            ("argument SEED: 'x' is no number from 0 to 4294967295", "x"),
             ("unrecognized arguments: --bogus", "--bogus"),
         ):
             with self.subTest(more):
