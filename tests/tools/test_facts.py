@@ -1,6 +1,7 @@
 """Numbers, options and statuses that documents tell, against what they are of."""
 
 import csv
+import importlib
 import itertools
 import os
 import re
@@ -64,7 +65,7 @@ class Manual(base.ToolTest):
 
     def test_memory(self):
         """The pages of the libraries tell what the manual tells, which tests/limits measures."""
-        limits, page = base.script("limits"), "CALLING.md"
+        limits, page = importlib.import_module("limits_memory"), "CALLING.md"
         cost = section((base.TOP / "crates/profile_core" / page).read_text(), "Cost")
         told, said = (re.findall(limits.FORMULA, it) for it in (section(MANUAL, "Limits"), cost))
         self.assertEqual(len(told), 5)

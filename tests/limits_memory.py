@@ -1,0 +1,167 @@
+"""What tests/limits judges of the bytes that a run asks for: the formulas of the manual, and runs
+that must ask for as many as these give."""
+
+import re
+import sys
+
+import common
+
+POWERS = [2**power for power in range(21)]
+WAYS, PAIRS = 65_536, len(POWERS) ** 2
+# bytes by which a table of eight pairs, and of all, may differ from the formulas: the program lists
+# its pairs
+LISTED, ALL_LISTED = 4096, 2**20
+ALL = ["sweep", "--bsize", "1-1m", "--sets", "1-1m", "--assoc", "1", "--size", "1-1024g"]
+# sentences of the manual on memory, with their numbers and formulas
+NUMBER, FORMULA = r"([\d.,]+)", r"`([\d.*+ SA-]+)`"
+ROWS = f"`sweep` takes {FORMULA} bytes for each"
+GROUPS = (
+    f"If S is more than {NUMBER} and A is {NUMBER} to {NUMBER}, it takes {FORMULA} bytes more, but "
+    f"{FORMULA} of the pair's bytes are written only as"
+)
+SLOTS = (
+    f"If S is at most {NUMBER} and A is {NUMBER} to {NUMBER}, it takes {FORMULA} bytes, of which "
+    f"{NUMBER} for each set are written only when"
+)
+LONG_LISTS = (
+    f"If A is {NUMBER} or more, it takes at most {FORMULA} bytes: {NUMBER} MB for one set of "
+    f"65,536 ways, {NUMBER} MB for the largest pair"
+)
+BATCH = f"All pairs together take {NUMBER} KiB more"
+# of docs/speed.md
+ALL_PAIRS = f"Sweeping all {PAIRS} pairs with one way takes {NUMBER} MB"
+BUFFERS = f"a run has two buffers of {NUMBER} KiB, and a sweep {NUMBER} KiB for references"
+CACHES = (
+    f"`csim`, `din` and `log` take {NUMBER} bytes per line of a cache and {NUMBER} per set; `din` "
+    f"and `log` with {NUMBER} ways or more take {NUMBER} bytes? more per line; `csim` with more "
+    f"than {NUMBER} ways takes, in place of {NUMBER} bytes, at most {NUMBER} bytes for each line "
+    f"after the first {NUMBER} of a set, and {NUMBER} more per set"
+)
+
+
+def told_by_the_manual(sentence, page="docs/manual.md"):
+    """The numbers of a sentence of the manual, and its formulas as they stand."""
+    text = " ".join((common.TOP / page).read_text().split())
+    found = re.search(sentence, text)
+    if not found:
+        print(f"{page} does not say {sentence}\n0 passed, 1 failed")
+        sys.exit(1)
+    return [it if re.search("[SA]", it) else float(it.replace(",", "")) for it in found.groups()]
+
+
+def value(formula, sets, ways):
+    return eval(formula, {"S": sets, "A": ways})
+
+
+def told_of_pair(sets, ways):
+    """The bytes of a pair of a sweep, for so many sets and the most lines per set."""
+    [formula], [deep, most, *_] = told_by_the_manual(ROWS), told_by_the_manual(LONG_LISTS)
+    many, group_from, group_to, more, _ = told_by_the_manual(GROUPS)
+    few, slots_from, slots_to, slots, _ = told_by_the_manual(SLOTS)
+    if ways >= deep:
+        formula = most
+    elif sets <= few and slots_from <= ways <= slots_to:
+        formula = slots
+    elif sets > many and group_from <= ways <= group_to:
+        formula = f"{formula} + {more}"
+    return value(formula, sets, ways)
+
+
+def told_of_cache(command, sets, ways):
+    """The bytes of a cache of din, log or csim, for so many sets and lines per set."""
+    line, set_, wide, more, *far = told_by_the_manual(CACHES)
+    searched, instead, line_far, near, set_far = far
+    of_set = line * ways + set_
+    if command == "csim" and ways > searched:
+        of_set += (line_far - instead) * (ways - near) + set_far
+    elif command != "csim" and ways >= wide:
+        of_set += more * ways
+    return sets * of_set
+
+
+def pair(sets, ways):
+    """A sweep of one pair, and its bytes."""
+    words = ["sweep", "--bsize", "16", "--sets", f"{sets}", "--assoc", f"{ways}"]
+    return [*words, "--size", "0-1g"], told_of_pair(sets, ways)
+
+
+def cache(command, sets, ways):
+    """A run of one cache, and its bytes."""
+    if command == "csim":
+        words = ["-s", f"{sets.bit_length() - 1}", "-E", f"{ways}", "-b", "4", "-t", "/dev/stdin"]
+    else:
+        words = ["-l1-ubsize", "16", "-l1-usets", f"{sets}", "-l1-uassoc", f"{ways}"]
+    return [command, *words], told_of_cache(command, sets, ways)
+
+
+def blocks(sets, tags=range(1)):
+    """References to each of these sets, of up to 4,096, by so many blocks, at each block size up to
+    4,096: the twelve digits of a set stand in the address twice, so any twelve of them tell one."""
+    return b"".join(b"0 %x\n" % (tag << 24 | set_ * 4097) for tag in tags for set_ in sets)
+
+
+def far_blocks(sets, tags=range(1)):
+    """The same of any number of sets, by blocks of 16 bytes."""
+    return b"".join(b"0 %x\n" % (tag << 40 | set_ << 4) for tag in tags for set_ in sets)
+
+
+def bytes_of_pairs(limits, told):
+    """On both sides of each bound between two ways of keeping lists."""
+    for sets, ways in (
+        (1, 1), (2**20, 1), (1024, 2), (4096, 11), (4096, 17), (4096, 31), (4096, 32), (4096, 255),
+        (8192, 12), (8192, 16), (8192, 31), (16, 12), (4096, 12), (4096, 16), (8192, 32),
+        (8192, 255),
+    ):
+        name = f"a sweep with S = {sets} and A = {ways}"
+        limits.takes(name, pair(sets, ways), pair(16, 1), told)
+    seen = {}
+    for sets, ways, least in (
+        (1, 256, 0.92), (16_384, 256, 0.87), (1, WAYS, 0.995), (64, WAYS, 0.995),
+    ):
+        name = f"a sweep with S = {sets} and A = {ways}"
+        seen[sets, ways] = limits.takes(name, pair(sets, ways), pair(16, 1), told, least=least)
+    *_, one, largest = told_by_the_manual(LONG_LISTS)
+    for name, sets, most, digit in (
+        ("one set of 65,536 ways", 1, one, 0.1), ("the largest pair", 64, largest, 1),
+    ):
+        megabytes = seen[sets, WAYS] / 1e6
+        good, name = most - digit < megabytes <= most, f"{name}: as the manual tells in MB"
+        limits.judge(name, good, f"not {most:g} MB", f"{megabytes:.2f} MB")
+
+
+def bytes_of_tables(limits, told):
+    """A pair counts with its greatest associativity, and only if it has a row. Of the first sizes,
+    with blocks of 16 bytes, each cache has 2^11 to 2^15 lines, so each pair has a row."""
+    words = ["sweep", "--bsize", "16", "--sets", "64-8k", "--assoc", "1-64", "--size", "32k-512k"]
+    eight = [(sets, min(64, 2**15 // sets)) for sets in POWERS[6:14]]
+    for name, table, pairs, slack in (
+        ("a table of eight pairs", words, eight, LISTED),
+        ("its first row, of one pair", [*words, "--rows", "1"], eight[:1], LISTED),
+        ("all pairs", ALL, [(sets, 1) for sets in POWERS for _ in POWERS], ALL_LISTED),
+    ):
+        run = table, sum(told_of_pair(sets, ways) for sets, ways in pairs)
+        seen = limits.takes(name, run, pair(16, 1), told, slack=slack)
+    [most] = told_by_the_manual(ALL_PAIRS, "docs/speed.md")
+    limits.judge("MB of all pairs with one way", abs(seen / 1e6 - most) <= 0.5, f"not {most:g}")
+
+
+def bytes_of_caches(limits, told):
+    """The same of caches, of which those of csim may have long lists too."""
+    for command, sets, ways, least in (
+        ("din", 2**20, 1, None), ("din", 1024, 127, None), ("din", 1024, 128, None),
+        ("din", 1, WAYS, None), ("log", 1024, 127, None), ("log", 1024, 128, None),
+        ("csim", 2**20, 1, None), ("csim", 1024, 256, None), ("csim", 1024, 257, 0.996),
+        ("csim", 1, WAYS, 0.996), ("csim", 64, WAYS, 0.996),
+    ):
+        name = f"{command} with S = {sets} and A = {ways}"
+        small = cache(command, 16, 1)
+        limits.takes(name, cache(command, sets, ways), small, told, least=least)
+
+
+def bytes_of_buffers(limits, large):
+    [batch] = told_by_the_manual(BATCH)
+    [buffer, same] = told_by_the_manual(BUFFERS, "docs/speed.md")
+    runs = pair(1, 1)[0], cache("din", 1, 1)[0], ["--help"]
+    sweep, din, none = (limits.asked(arguments, large)[0] / 1024 for arguments in runs)
+    limits.equal("KiB of two buffers", din - none, 2 * buffer)
+    limits.equal("KiB of references that wait", (sweep - din, same), (batch, batch))
