@@ -78,7 +78,7 @@ class Manual(base.ToolTest):
             f"{line:g} bytes for each line and {set_:g} for each set",
             f"{wide:g} ways or more takes {more:g} byte more for each line",
             f"more than {searched:g} ways takes this for {near:g} ways, at most {far:g} bytes for "
-            f"each way more, and {set_far:g} more for each set",
+            f"each line more, and {set_far:g} more for each set",
         ):
             self.assertIn(part, text)
         self.assertIn(f"at most {far:g} bytes per block", lists)
