@@ -18,8 +18,8 @@ THREE = "--bsize 16 --sets 1-4 --assoc 1-2 --size 64-1k".split()
 TRACE = EXAMPLES / "sort.din"
 
 # Runs the tasks of a job at once, and a job that depends on another only where all tasks of that
-# one ended well. Each job is noted with its options. A task that is
-# to be spoiled does nothing; before another one a script may run.
+# one ended well. Each job is noted with its options. A task that is to be spoiled does nothing;
+# before another one a script may run.
 SBATCH = """#!/bin/bash
 set -eu
 note=$(dirname "$0") tasks= after=

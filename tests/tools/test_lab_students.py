@@ -7,8 +7,8 @@ import shlex
 from lab_base import LAB, StudentTest
 
 # By mistake of student.c: a trace, a cache, and why; where grade can't know, the line that is told.
-# In wide.trace four bases differ in bits 40 to 46 and 48 to 63: more bits than are told would tell
-# them apart, and how few would depends on the numbers drawn, '..'.
+# In wide.trace four bases differ in bits 40 to 46 and 48 to 63: with more bits than are told they
+# differ. From how few on the results are the same depends on the numbers drawn: '..'.
 WRONG = """
 LINES_OF_8       rows   1,9,3   the array has 8 lines for a set, and more run into the next set
 LINES_OF_64      rows   1,65,3  the array has 64 lines for a set, and more run into the next set

@@ -1,5 +1,5 @@
-"""What tools do where their output fails, whatever PYTHONUNBUFFERED is: as most containers set it,
-Python holds no output, and else it writes what it holds as it ends."""
+"""What tools do where their output fails, whether PYTHONUNBUFFERED is set, as in most containers,
+or not. With it Python holds no output back; without it Python writes what it held as it ends."""
 
 import shutil
 

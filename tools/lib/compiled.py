@@ -14,7 +14,8 @@ class Make(Helper):
 
     def kill(self):
         if self.is_running:
-            with contextlib.suppress(ProcessLookupError, ChildProcessError):  # not noted its end
+            # it may have ended, and that is not noted yet
+            with contextlib.suppress(ProcessLookupError, ChildProcessError):
                 os.killpg(self.number, signal.SIGTERM)
                 os.waitpid(self.number, 0)
             self.is_running = False
