@@ -24,5 +24,5 @@ pub mod Fronts
 pub mod Batches
 pub mod Runs
 pub mod HitSums
-pub mod StackLemmas
+pub mod LongListLemmas
 mod ProfileRows

@@ -5,10 +5,10 @@ use Rattle.std.specs.List.{remove}
 use Rattle.profile_core.specs.declared.recency.Touch.TheVariants.{Behind, New}
 use Rattle.profile_core.specs.declared.slotted_rows.Slots.{Slots}
 use Rattle.profile_core.specs.internal.Moves.{index_of, is_front, is_second, touch_of}
+use Rattle.profile_core.specs.internal.Moves.{rest_touch_of}
 use Rattle.profile_core.specs.internal.Rows.{RowsValue, row_for, with_row}
 use Rattle.profile_core.specs.internal.Slab.{IsBroughtInRow}
 use Rattle.profile_core.specs.internal.SlottedRows.{slots_at, slotted_rows, IsSlotted}
-use Rattle.profile_core.specs.internal.Stacks.{rest_touch_of}
 use Rattle.profile_core.specs.internal.Slots.{listed}
 use Rattle.profile_core.proofs.Feeding.{FoundAt, FoundNowhere, found_behind, found_nowhere}
 use Rattle.profile_core.proofs.SlotLemmas.{length-listed}

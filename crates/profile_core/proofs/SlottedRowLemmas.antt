@@ -10,9 +10,8 @@ use Rattle.std.proofs.lemmas.List.FromFn.{length-map-range_with_len, get_or-map-
 use Rattle.profile_core.specs.declared.recency.Touch.TheVariants.{Behind, New}
 use Rattle.profile_core.specs.declared.slotted_rows.Slots.{Slots}
 use Rattle.profile_core.specs.internal.Moves.{index_of, is_in, is_front, is_second, move_to_front}
-use Rattle.profile_core.specs.internal.Moves.{touch_of}
+use Rattle.profile_core.specs.internal.Moves.{touch_of, rest_touch_of}
 use Rattle.profile_core.specs.internal.Slab.{IsBroughtInRow}
-use Rattle.profile_core.specs.internal.Stacks.{rest_touch_of}
 use Rattle.profile_core.specs.internal.Slots.{listed}
 use Rattle.profile_core.specs.internal.SlottedRows.{slots_at, slotted_row, slotted_rows}
 use Rattle.profile_core.specs.internal.SlottedRows.{ArePlaced, IsSlotted}

@@ -1,6 +1,7 @@
 pub mod Fronts
 pub mod GroupedRows
 pub mod KeptLists
+pub mod LongLists
 pub mod Moves
 pub mod PlainRows
 pub mod ProfileStandsFor
@@ -9,4 +10,3 @@ pub mod Slab
 pub mod Slots
 pub mod SlottedRows
 pub mod State
-pub mod Stacks

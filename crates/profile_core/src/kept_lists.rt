@@ -5,10 +5,10 @@ ghost use Rattle.profile_core.specs.internal.KeptLists.{lists_of};
 ghost use Rattle.profile_core.specs.internal.Moves.{is_front};
 
 use crate::grouped_rows::GroupedRows;
+use crate::long_lists::{DEEP, LongLists};
 use crate::plain_rows::PlainRows;
 use crate::recency::RecencyLists;
 use crate::slotted_rows::SlottedRows;
-use crate::stacks::{DEEP, Stacks};
 use std::alloc::{AllocError, Global};
 
 /// With more sets than this, a start would clear more memory than most traces reach.
@@ -31,7 +31,7 @@ pub enum KeptLists {
     InRows(RecencyLists<PlainRows>),
     InSlots(RecencyLists<SlottedRows>),
     InGroups(RecencyLists<GroupedRows>),
-    Long(Stacks),
+    Long(LongLists),
 }
 
 impl KeptLists {
@@ -44,7 +44,7 @@ impl KeptLists {
             lists_of r ≡ record { depth = depth; lists = replicate sets [] }) }
     {
         if depth >= DEEP {
-            return Ok(KeptLists::Long(Stacks::new(alloc, sets, depth)?));
+            return Ok(KeptLists::Long(LongLists::new(alloc, sets, depth)?));
         }
         if sets > MANY_SETS && depth >= MANY_WAYS {
             let rows = GroupedRows::new(alloc, sets, depth - 1)?;

@@ -7,6 +7,7 @@ mod grouped_rows;
 mod histograms;
 mod kept_lists;
 pub mod laws;
+mod long_lists;
 mod plain_rows;
 pub mod profile;
 mod recency;
@@ -14,6 +15,5 @@ mod row;
 mod rows;
 mod set_lists;
 mod slotted_rows;
-mod stacks;
 
 pub use profile::{MAX_REFERENCES, Profile};

@@ -6,9 +6,8 @@ ghost use Rattle.std.specs.Prelude.{slice_index, slice_index_or, ◌==◌, IfOk,
 ghost use Rattle.std.specs.Prelude.{ℕ};
 ghost use Rattle.std.specs.Simd.Lanes.{mask_l};
 ghost use Rattle.std.specs.List.{remove};
-ghost use Rattle.profile_core.specs.internal.Moves.{index_of, touch_of};
+ghost use Rattle.profile_core.specs.internal.Moves.{index_of, touch_of, rest_touch_of};
 ghost use Rattle.profile_core.specs.internal.Rows.{blank_rows};
-ghost use Rattle.profile_core.specs.internal.Stacks.{rest_touch_of};
 ghost use Rattle.profile_core.specs.internal.Slots.{mark_of, listed, IsOrder};
 ghost use Rattle.profile_core.specs.internal.SlottedRows.{no_slots, ArePlaced};
 

@@ -3,14 +3,13 @@ use Rattle.std.proofs.Common.{◌≡◌, ◌∙◌, ◌+◌, ◌-◌, ◌≤◌,
 use Rattle.std.proofs.Common.{subst}
 use Rattle.std.proofs.Common.{sym, vec_capacity, take, List}
 use Rattle.std.specs.List.{remove}
-use Rattle.profile_core.specs.internal.Moves.{index_of}
+use Rattle.profile_core.specs.internal.Moves.{index_of, rest_touch_of}
 use Rattle.std.specs.Vec.{with_items}
 use Rattle.std.proofs.lemmas.List.{get_or_read, with_items_is}
 use Rattle.profile_core.specs.declared.slotted_rows.Slots.{Slots}
 use Rattle.profile_core.specs.internal.Slab.{IsBroughtInRow}
 use Rattle.profile_core.specs.internal.Rows.{list_in_row, with_row}
 use Rattle.profile_core.specs.internal.Slots.{listed}
-use Rattle.profile_core.specs.internal.Stacks.{rest_touch_of}
 use Rattle.profile_core.specs.internal.SlottedRows.{no_slots, slots_at}
 use Rattle.profile_core.proofs.SlottedPlaces.{RowIn, HasRow, IsReady, within, stride_is, ready_row}
 use Rattle.profile_core.proofs.SlottedPlaces.{first_row}

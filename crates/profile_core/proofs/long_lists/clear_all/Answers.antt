@@ -2,8 +2,8 @@
 use Rattle.std.proofs.Common.{◌∙◌, set, ap, sym}
 use Rattle.std.proofs.Common.{arith}
 use Rattle.std.proofs.lemmas.List.Edits.{map_over_more}
-use Rattle.profile_core.specs.internal.Stacks.{empty_deep}
-use Rattle.profile_core.proofs.stacks.clear_all.Goals as goal
+use Rattle.profile_core.specs.internal.LongLists.{empty_deep}
+use Rattle.profile_core.proofs.long_lists.clear_all.Goals as goal
 
 pub loop-list-preserved : goal.loop-list-preserved
 loop-list-preserved c =

@@ -3,11 +3,11 @@ use Rattle.std.proofs.Common.{◌≡◌, ◌+◌, ◌<◌, ◌∙◌, ℕ, List,
 use Rattle.std.proofs.Common.{ap, arith, true}
 use Rattle.profile_core.specs.internal.Moves.{is_front, is_second, is_in}
 use Rattle.profile_core.specs.internal.Slab.{Lists, lists_after_touch}
-use Rattle.profile_core.specs.internal.Stacks.{whole_lists}
-use Rattle.profile_core.proofs.StackLemmas.{length-joined, front_is, second_is, second_in}
-use Rattle.profile_core.proofs.StackLemmas.{stays_stacked, stays_lists}
-use Rattle.profile_core.proofs.stacks.Stacks.bring_second.Goals as goal
-use Rattle.profile_core.proofs.stacks.Stacks.bring_second.Goals.{After-self}
+use Rattle.profile_core.specs.internal.LongLists.{whole_lists}
+use Rattle.profile_core.proofs.LongListLemmas.{length-joined, front_is, second_is, second_in}
+use Rattle.profile_core.proofs.LongListLemmas.{stays_split, stays_lists}
+use Rattle.profile_core.proofs.long_lists.LongLists.bring_second.Goals as goal
+use Rattle.profile_core.proofs.long_lists.LongLists.bring_second.Goals.{After-self}
 
 lt : (c : After-self) → c.args.set < length c.self.inside.near.lists
 lt c =
@@ -50,7 +50,7 @@ inside c = second_in c.args.block (get_or c.self.inside.near.lists c.args.set []
 pub invariant_of-self : goal.invariant_of-self
 invariant_of-self c =
     let at = (goal.at.invariant_of-self c).After-self in
-    stays_stacked c.self.invariant c.args.block c.args.set (lt at) (inl (inside at))
+    stays_split c.self.invariant c.args.block c.args.set (lt at) (inl (inside at))
     c.bring_second.new.self c.bring_second.ensures
 
 pub returns : goal.returns

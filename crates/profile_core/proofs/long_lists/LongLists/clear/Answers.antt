@@ -4,10 +4,10 @@ use Rattle.std.specs.Prelude.{replicate}
 use Rattle.std.specs.Vec.{with_items}
 use Rattle.std.proofs.lemmas.List.{with_items_is, length-map}
 use Rattle.profile_core.specs.internal.Slab.{Lists}
-use Rattle.profile_core.specs.internal.Stacks.{whole_lists, empty_deep}
-use Rattle.profile_core.proofs.StackLemmas.{stacked_cleared, cleared_lists}
-use Rattle.profile_core.proofs.stacks.Stacks.clear.Goals as goal
-use Rattle.profile_core.proofs.stacks.Stacks.clear.Goals.{After-clear_all}
+use Rattle.profile_core.specs.internal.LongLists.{whole_lists, empty_deep}
+use Rattle.profile_core.proofs.LongListLemmas.{split_cleared, cleared_lists}
+use Rattle.profile_core.proofs.long_lists.LongLists.clear.Goals as goal
+use Rattle.profile_core.proofs.long_lists.LongLists.clear.Goals.{After-clear_all}
 
 far_is : (c : After-clear_all) → (with_items c.self.inside.far c.clear_all.new.far).items ≡ map
     empty_deep c.self.inside.far.items
@@ -26,7 +26,7 @@ far_is c =
 pub invariant_of-self : goal.invariant_of-self
 invariant_of-self c =
     let at = (goal.at.invariant_of-self c).After-clear_all in
-    stacked_cleared c.self.invariant c.clear.new.self
+    split_cleared c.self.invariant c.clear.new.self
     (with_items c.self.inside.far c.clear_all.new.far).items c.clear.ensures (far_is at)
 
 pub returns : goal.returns

@@ -2,9 +2,9 @@
 use Rattle.std.proofs.Common.{◌+◌, ◌*◌, ◌≤◌, length, ap, arith}
 use Rattle.std.specs.List.{sum_by}
 use Rattle.deep_list.specs.Deep.{Deep}
-use Rattle.profile_core.proofs.StackLemmas.{length-joined, sum-joined, far_few, far_held}
-use Rattle.profile_core.proofs.stacks.Stacks.held.Goals as goal
-use Rattle.profile_core.proofs.stacks.Stacks.held.Goals.{After-deref, After-held_by}
+use Rattle.profile_core.proofs.LongListLemmas.{length-joined, sum-joined, far_few, far_held}
+use Rattle.profile_core.proofs.long_lists.LongLists.held.Goals as goal
+use Rattle.profile_core.proofs.long_lists.LongLists.held.Goals.{After-deref, After-held_by}
 
 behind : (c : After-deref) → sum_by (λ (d : Deep). length d.blocks) c.deref.result.now ≤ length
     c.self.inside.near.lists * c.self.inside.beyond
@@ -18,7 +18,7 @@ pub held_by-requires : goal.held_by-requires
 held_by-requires c = omega (
   arith,
   behind (goal.at.held_by-requires c).After-deref,
-  c.self.invariant.all_small,
+  c.self.invariant.small,
 )
 
 pub overflow_add-result : goal.overflow_add-result
@@ -28,7 +28,7 @@ overflow_add-result c =
       behind (goal.at.overflow_add-result c).After-deref,
       c.held_by.ensures,
       c.held.ensures.at_most,
-      c.self.invariant.all_small,
+      c.self.invariant.small,
     )
 
 pub returns-clause-value : goal.returns-clause-value

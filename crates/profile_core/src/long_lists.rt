@@ -1,10 +1,11 @@
-//! A recency list for each set, the most recent block first: its first blocks in a row, and those
-//! behind them, if lists may be long, in a list that is not walked.
+//! A recency list for each set, the most recent block first, for lists that may be long: the first
+//! blocks of each stand in a row, and those behind them in a list that is not walked.
 ghost use Rattle.std.specs.Prelude.{◌≡◌, ◌*◌, ◌^◌, ◌<◌, ◌≤◌, [], ◌∷◌, true, false, length};
-ghost use Rattle.std.specs.Prelude.{replicate, sum_by, map, IfOk, IsTrue, ◌↔◌, slice_index_or};
+ghost use Rattle.std.specs.Prelude.{replicate, sum_by, map, IfOk, slice_index_or};
 ghost use Rattle.deep_list.specs.Deep.{list_after_exchange};
 ghost use Rattle.profile_core.specs.internal.Moves.{is_in, is_front, is_second, touch_of};
-ghost use Rattle.profile_core.specs.internal.Stacks.{rest_touch_of, in_row_of, empty_deep};
+ghost use Rattle.profile_core.specs.internal.Moves.{rest_touch_of};
+ghost use Rattle.profile_core.specs.internal.LongLists.{in_row_of, empty_deep};
 ghost use Rattle.profile_core.specs.internal.Slab.{lists_after_touch};
 
 use crate::plain_rows::PlainRows;
@@ -14,11 +15,11 @@ use deep_list::DeepList;
 use std::alloc::{AllocError, Global};
 use std::marker::Model;
 
-/// The least depth at which blocks stand behind rows too: with fewer blocks a walk over all costs
+/// The least depth at which lists are kept in this way: with fewer blocks a walk over all costs
 /// less.
 pub const DEEP: usize = 256;
 
-/// How many blocks of a list stand in its row then.
+/// How many blocks of a list stand in its row.
 const ROW: usize = 64;
 
 /// What a row tells of a block that comes to its front: where it stands in the list, or, if it is
@@ -29,58 +30,43 @@ enum InRow {
     Full(usize, u64),
 }
 
-/// The lists of all sets. If they are not deep, each stands in its row of `near`. Else `near` has
-/// the first `ROW` blocks of each, and `far` a list for each set, of up to `beyond` blocks more.
+/// The lists of all sets: `near` has the first `ROW` blocks of each, and `far` a list for each set,
+/// of up to `beyond` blocks more.
 #[derive(Drop)]
-pub struct Stacks {
+pub struct LongLists {
     near: RecencyLists<PlainRows>,
     beyond: usize,
     far: Vec<DeepList>,
 }
 
-impl Model for Stacks {
+impl Model for LongLists {
     ghost use Rattle.std.specs.Prelude.{◌+◌};
     ghost use Rattle.profile_core.specs.internal.Slab.{Lists};
-    ghost use Rattle.profile_core.specs.internal.Stacks.{whole_lists, IsStacked};
+    ghost use Rattle.profile_core.specs.internal.LongLists.{whole_lists, AreSplit};
 
     ghost Value = { Lists };
 
-    ghost view = { λ s. record {
-      depth = s.near.depth + s.beyond;
+    ghost view = { λ l. record {
+      depth = l.near.depth + l.beyond;
       lists =
-          whole_lists s.near.lists s.far.items;
+          whole_lists l.near.lists l.far.items;
     } };
 
-    ghost invariant = { λ s. IsStacked s.near s.beyond s.far.items };
+    ghost invariant = { λ l. AreSplit l.near l.beyond l.far.items };
 }
 
-impl Stacks {
+impl LongLists {
     /// Empty lists for a number of sets.
-    pub fn new(alloc: Global, sets: usize, depth: usize) -> Result<Stacks, AllocError>
-        requires some { 1 ≤ depth }
+    pub fn new(alloc: Global, sets: usize, depth: usize) -> Result<LongLists, AllocError>
+        requires deep { DEEP ≤ depth }
         requires filled { 1 ≤ sets }
         requires small { sets * depth ≤ 2 ^ 22 }
         ensures { IfOk result (λ r. r ≡ record { depth = depth; lists = replicate sets [] }) }
     {
-        if depth < DEEP {
-            return Ok(Stacks {
-                near: near_lists(alloc, sets, depth)?,
-                beyond: 0,
-                far: Vec::new(alloc),
-            });
-        }
         let beyond = depth - ROW;
-        let near = near_lists(alloc, sets, ROW)?;
+        let near = near_lists(alloc, sets)?;
         let far = far_lists(alloc, sets, beyond)?;
-        Ok(Stacks { near, beyond, far })
-    }
-
-    /// Whether all lists stand in their rows alone.
-    #[inline(always)]
-    pub fn in_rows(&self) -> bool
-        ensures { IsTrue result ↔ (self.now.depth < DEEP) }
-    {
-        self.beyond == 0
+        Ok(LongLists { near, beyond, far })
     }
 
     /// Whether a block is the front of a set's list. Only block 0 has to look at the length. A
@@ -116,24 +102,10 @@ impl Stacks {
     }
 
     /// Brings a block that is neither the front nor the second of a set's list to the front,
-    /// wherever it is. All lists stand in their rows alone.
+    /// wherever it is.
     #[inline(always)]
     pub fn bring(&mut self, set: usize, block: u64) -> Touch
         requires within { set < length self.old.lists }
-        requires shallow { self.old.depth < DEEP }
-        requires behind { is_front block (slice_index_or self.old.lists set []) ≡ false }
-        requires further { is_second block (slice_index_or self.old.lists set []) ≡ false }
-        ensures found { result ≡ touch_of block (slice_index_or self.old.lists set []) }
-        ensures moved { self.new ≡ lists_after_touch self.old set block }
-    {
-        self.near.bring(set, block)
-    }
-
-    /// The same, where lists may be longer than their rows.
-    #[inline(always)]
-    pub fn bring_far(&mut self, set: usize, block: u64) -> Touch
-        requires within { set < length self.old.lists }
-        requires deep { DEEP ≤ self.old.depth }
         requires behind { is_front block (slice_index_or self.old.lists set []) ≡ false }
         requires further { is_second block (slice_index_or self.old.lists set []) ≡ false }
         ensures found { result ≡ touch_of block (slice_index_or self.old.lists set []) }
@@ -162,21 +134,7 @@ impl Stacks {
     }
 }
 
-/// Empty lists that stand in rows.
-fn near_lists(
-    alloc: Global,
-    sets: usize,
-    depth: usize,
-) -> Result<RecencyLists<PlainRows>, AllocError>
-    requires some { 1 ≤ depth }
-    requires small { sets * depth ≤ 2 ^ 22 }
-    ensures { IfOk result (λ r. r ≡ record { depth = depth; lists = replicate sets [] }) }
-{
-    let rows = PlainRows::new(alloc, sets, depth - 1)?;
-    RecencyLists::new(alloc, rows, sets)
-}
-
-impl SetLists for Stacks {
+impl SetLists for LongLists {
     ghost view = { λ s. s };
 
     #[inline(always)]
@@ -196,11 +154,7 @@ impl SetLists for Stacks {
 
     #[inline(always)]
     fn bring(&mut self, set: usize, block: u64) -> Touch {
-        if self.in_rows() {
-            self.bring(set, block)
-        } else {
-            self.bring_far(set, block)
-        }
+        self.bring(set, block)
     }
 
     fn clear(&mut self) {
@@ -253,7 +207,16 @@ fn bring_near(near: &mut RecencyLists<PlainRows>, set: usize, block: u64) -> InR
     }
 }
 
-/// A list for the blocks behind each row.
+/// An empty list in a row for each set.
+fn near_lists(alloc: Global, sets: usize) -> Result<RecencyLists<PlainRows>, AllocError>
+    requires { sets * ROW ≤ 2 ^ 22 }
+    ensures { IfOk result (λ near. near ≡ record { depth = ROW; lists = replicate sets [] }) }
+{
+    let rows = PlainRows::new(alloc, sets, ROW - 1)?;
+    RecencyLists::new(alloc, rows, sets)
+}
+
+/// An empty list for the blocks behind each row.
 fn far_lists(alloc: Global, sets: usize, beyond: usize) -> Result<Vec<DeepList>, AllocError>
     requires some { 1 ≤ beyond }
     requires small { beyond ≤ 2 ^ 22 }

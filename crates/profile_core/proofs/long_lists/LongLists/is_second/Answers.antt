@@ -1,8 +1,8 @@
 -- The second of a list is that of its row.
 use Rattle.std.proofs.Common.{◌<◌, ◌∙◌, [], length, get_or, ap, arith}
 use Rattle.profile_core.specs.internal.Moves.{is_second}
-use Rattle.profile_core.proofs.StackLemmas.{length-joined, second_is}
-use Rattle.profile_core.proofs.stacks.Stacks.is_second.Goals as goal
+use Rattle.profile_core.proofs.LongListLemmas.{length-joined, second_is}
+use Rattle.profile_core.proofs.long_lists.LongLists.is_second.Goals as goal
 
 pub is_second-requires : goal.is_second-requires
 is_second-requires c =

@@ -3,15 +3,15 @@ use Rattle.std.proofs.Common.{◌≡◌, ◌+◌, ◌<◌, ◌∙◌, ℕ, List,
 use Rattle.std.proofs.Common.{ap, arith, false}
 use Rattle.deep_list.specs.Deep.{Deep, list_after_exchange}
 use Rattle.profile_core.specs.internal.Moves.{is_front, is_second, is_in, move_to_front, touch_of}
+use Rattle.profile_core.specs.internal.Moves.{rest_touch_of}
 use Rattle.profile_core.specs.internal.Slab.{Lists, lists_after_touch}
-use Rattle.profile_core.specs.internal.Stacks.{whole_lists, nothing, rest_touch_of}
-use Rattle.profile_core.proofs.StackLemmas.{length-joined, front_is, second_is, some_beyond}
-use Rattle.profile_core.proofs.StackLemmas.{two_near, stays_stacked, stays_lists, settled_stays}
-use Rattle.profile_core.proofs.StackLemmas.{settled_touch, IsFull, full_is, far_read, last_apart}
-use Rattle.profile_core.proofs.StackLemmas.{held_small, rest_small, full_touch, full_stacked}
-use Rattle.profile_core.proofs.StackLemmas.{full_lists}
-use Rattle.profile_core.proofs.stacks.Stacks.bring_far.Goals as goal
-use Rattle.profile_core.proofs.stacks.Stacks.bring_far.Goals.{After-self, After-index_mut}
+use Rattle.profile_core.specs.internal.LongLists.{whole_lists, nothing}
+use Rattle.profile_core.proofs.LongListLemmas.{length-joined, front_is, second_is, stays_split}
+use Rattle.profile_core.proofs.LongListLemmas.{stays_lists, settled_stays, settled_touch, IsFull}
+use Rattle.profile_core.proofs.LongListLemmas.{full_is, far_read, last_apart, held_small, rest_small}
+use Rattle.profile_core.proofs.LongListLemmas.{full_touch, full_split, full_lists}
+use Rattle.profile_core.proofs.long_lists.LongLists.bring.Goals as goal
+use Rattle.profile_core.proofs.long_lists.LongLists.bring.Goals.{After-self, After-index_mut}
 
 lt : (c : After-self) → c.args.set < length c.self.inside.near.lists
 lt c =
@@ -64,13 +64,9 @@ moved c near' far' is lists =
     }) is ∙ ap made lists
     ∙ ap (λ v. lists_after_touch v c.args.set c.args.block) c.self.view_is
 
-some : (c : After-self) → (c.self.inside.beyond ≡ 0 → ⊥)
-some c = some_beyond c.self.invariant c.args.self.now c.self.view_is c.requires.deep
-
 pub bring_near-requires-clause-two : goal.bring_near-requires-clause-two
 bring_near-requires-clause-two c =
-    let at = (goal.at.bring_near-requires-clause-two c).After-self in
-    two_near c.self.invariant (some at)
+    (goal.at.bring_near-requires-clause-two c).After-self.self.invariant.two
 
 pub bring_near-requires-clause-within : goal.bring_near-requires-clause-within
 bring_near-requires-clause-within c = lt (goal.at.bring_near-requires-clause-within c).After-self
@@ -85,7 +81,7 @@ bring_near-requires-clause-further c =
 pub invariant_of-self : goal.invariant_of-self
 invariant_of-self c =
     let at = (goal.at.invariant_of-self c).After-self in
-    stays_stacked c.self.invariant c.args.block c.args.set (lt at)
+    stays_split c.self.invariant c.args.block c.args.set (lt at)
     (settled_stays c.self.invariant c.args.block c.args.set (lt at) c.in-Settled.touch
     c.in-Settled.ensures.found)
     c.bring_near.new.near c.in-Settled.ensures.moved
@@ -116,7 +112,6 @@ full c =
       length-joined c.self.inside.near.lists c.self.inside.far.items,
     ) in
     full_is c.self.invariant c.args.block c.args.set c.in-Full.held c.in-Full.last lt
-    (some_beyond c.self.invariant c.args.self.now c.self.view_is c.requires.deep)
     c.in-Full.ensures.found
 
 read : (c : After-index_mut) → c.index_mut.result.now ≡ get_or c.self.inside.far.items
@@ -140,7 +135,7 @@ exchange-requires-clause-short c =
 pub invariant_of-self-in-Full : goal.invariant_of-self-in-Full
 invariant_of-self-in-Full c =
     let at = (goal.at.invariant_of-self-in-Full c).After-index_mut in
-    full_stacked (full at) c.exchange.new.rest
+    full_split (full at) c.exchange.new.rest
     (c.exchange.ensures.moved ∙ ap (λ d. list_after_exchange d c.args.block c.in-Full.last)
     (read at)) c.bring_near.new.near c.in-Full.ensures.moved
 

@@ -8,21 +8,21 @@ use Rattle.std.specs.Prelude.{replicate, map}
 use Rattle.std.proofs.Math.Nat.{suc-mul, mul-le-mul_right}
 use Rattle.std.specs.List.{remove, sum_by}
 use Rattle.std.proofs.lemmas.Bool.{ltb-true, ltb-false, eqb-true, cases_eq}
-use Rattle.std.proofs.lemmas.List.{take_all, take_at, length-take-le, take_more, nil_from_length}
+use Rattle.std.proofs.lemmas.List.{take_all, take_at, length-take-le, take_more}
 use Rattle.std.proofs.lemmas.List.{get_or_read, length-replicate, length-map}
 use Rattle.std.proofs.lemmas.List.{append_assoc}
 use Rattle.std.proofs.lemmas.List.Edits.{remove-append_left, remove-append_right}
 use Rattle.std.proofs.lemmas.List.Sums.{sum_by-cons}
 use Rattle.deep_list.specs.Deep.{Deep, IsOnce, list_after_exchange}
 use Rattle.profile_core.specs.internal.Moves.{index_of, is_in, is_front, is_second, move_to_front}
-use Rattle.profile_core.specs.internal.Moves.{touch_of}
+use Rattle.profile_core.specs.internal.Moves.{touch_of, rest_touch_of}
 use Rattle.profile_core.specs.declared.recency.Touch.TheVariants.{Behind, New}
 use Rattle.profile_core.specs.declared.recency.Touch.{Touch}
-use Rattle.profile_core.specs.declared.stacks.InRow.TheVariants.{Settled, Full}
+use Rattle.profile_core.specs.declared.long_lists.InRow.TheVariants.{Settled, Full}
 use Rattle.profile_core.specs.internal.Slab.{Lists, lists_after_touch}
 use Rattle.profile_core.proofs.Shifting.{length-remove}
-use Rattle.profile_core.specs.internal.Stacks.{whole_lists, nothing, rest_of, in_row_of}
-use Rattle.profile_core.specs.internal.Stacks.{rest_touch_of, empty_deep, IsStacked}
+use Rattle.profile_core.specs.internal.LongLists.{whole_lists, nothing, rest_of, in_row_of}
+use Rattle.profile_core.specs.internal.LongLists.{empty_deep, AreSplit}
 
 -- the list of set k
 pub joined_at : (near : List (List ℕ)) (far : List Deep) (k : ℕ) → k < length near →
@@ -37,12 +37,6 @@ pub length-joined : (near : List (List ℕ)) (far : List Deep) →
 length-joined [] far = refl
 length-joined (xs ∷ near) [] = refl
 length-joined (xs ∷ near) (d ∷ far) = ap suc (length-joined near far)
-
-pub joined_none : (near : List (List ℕ)) (far : List Deep) → length far ≡ 0 →
-    whole_lists near far ≡ near
-joined_none [] far none = refl
-joined_none (xs ∷ near) [] none = refl
-joined_none (xs ∷ near) (d ∷ far) none = absurd (omega (arith, none))
 
 -- the first blocks of a list changed, and those behind them too
 pub joined-set_near : (near : List (List ℕ)) (far : List Deep) (k : ℕ) (xs : List ℕ) →
@@ -291,7 +285,7 @@ second-append x [] ys h = sym (ap (is_second x) (h (omega arith)))
 second-append x (y ∷ []) ys h = sym (ap (is_front x) (h (omega arith)))
 second-append x (y ∷ z ∷ xs) ys h = refl
 
-module _ {near : Lists} {beyond : ℕ} {far : List Deep} (s : IsStacked near beyond far) where
+module _ {near : Lists} {beyond : ℕ} {far : List Deep} (s : AreSplit near beyond far) where
   abbrev pub row_of : ℕ → List ℕ
   row_of k = get_or near.lists k []
 
@@ -300,17 +294,9 @@ module _ {near : Lists} {beyond : ℕ} {far : List Deep} (s : IsStacked near bey
   rest_behind k short = none_of (rest_of far k)
       (λ some. absurd (omega (arith, s.full k some, short)))
 
-  two_of : (k : ℕ) → (rest_of far k ≢ []) → 2 ≤ near.depth
-  two_of k some =
-      elim s.sets [
-        | inl none ↦ absurd (some (nil_from_length (rest_of far k)
-            (omega (arith, s.rest_short k, none.0))))
-        | inr all ↦ all.2
-      ]
-
   rest_two : (k : ℕ) → length (row_of k) < 2 → rest_of far k ≡ []
   rest_two k short = none_of (rest_of far k)
-      (λ some. absurd (omega (arith, s.full k some, two_of k some, short)))
+      (λ some. absurd (omega (arith, s.full k some, s.two, short)))
 
   pub whole_at : (k : ℕ) → k < length near.lists → get_or (whole_lists near.lists far) k [] ≡ row_of
       k ++ rest_of far k
@@ -327,14 +313,14 @@ module _ {near : Lists} {beyond : ℕ} {far : List Deep} (s : IsStacked near bey
       ap (is_second x) (sym (whole_at k lt))
 
   -- the list of set k written anew
-  pub stacked_after : (k : ℕ) (xs ys : List ℕ) (far' : List Deep) → k < length near.lists →
+  pub split_after : (k : ℕ) (xs ys : List ℕ) (far' : List Deep) → k < length near.lists →
       length far' ≡ length far
       → ((j : ℕ) → (j ≡ k → ⊥) → get_or far' j nothing ≡ get_or far j nothing) → rest_of far' k ≡ ys
       → (k < length far → (get_or far' k nothing).cap ≡ beyond) → length xs ≤ near.depth →
       length ys ≤ beyond
       → (ys ≢ [] → length xs ≡ near.depth) → IsOnce (xs ++ ys) →
-      IsStacked (record { depth = near.depth; lists = set near.lists k xs }) beyond far'
-  stacked_after k xs ys far' lt long others at cap_at short rest_short full once =
+      AreSplit (record { depth = near.depth; lists = set near.lists k xs }) beyond far'
+  split_after k xs ys far' lt long others at cap_at short rest_short full once =
       let here : get_or (set near.lists k xs) k [] ≡ xs = get_or-set_same near.lists k xs [] lt in
       let R : ℕ → Type 0 = λ j. length (get_or (set near.lists k xs) j []) ≤ near.depth in
       let T : ℕ → Type 0 = λ j. length (rest_of far' j) ≤ beyond in
@@ -344,13 +330,10 @@ module _ {near : Lists} {beyond : ℕ} {far : List Deep} (s : IsStacked near bey
       let C : ℕ → Type 0 = λ j. j < length far' → (get_or far' j nothing).cap ≡ beyond in
       let L : List ℕ → Type 0 = IsOnce in
       record {
-        sets = elim s.sets [
-          | inl none ↦ inl (none.0, long ∙ none.1)
-          | inr all ↦ inr (all.0, long ∙ all.1 ∙ sym (length-set near.lists k xs), all.2)
-        ];
-        small = s.small;
-        all_small = let M : ℕ → Type 0 = λ n. n * (near.depth + beyond) ≤ 2 ^ 22 in
-            subst M (sym (length-set near.lists k xs)) s.all_small;
+        far_len = long ∙ s.far_len ∙ sym (length-set near.lists k xs);
+        two = s.two;
+        small = let M : ℕ → Type 0 = λ n. n * (near.depth + beyond) ≤ 2 ^ 22 in
+            subst M (sym (length-set near.lists k xs)) s.small;
         caps = λ j. elim (cases_eq j k) [
           | inl same ↦ subst C (sym same) (λ within. cap_at (omega (arith, within, long)))
           | inr other ↦ λ within. ap (λ d. d.cap) (others j other) ∙
@@ -381,8 +364,6 @@ module _ {near : Lists} {beyond : ℕ} {far : List Deep} (s : IsStacked near bey
               ∙ ap (λ d. row_of j ++ d.blocks) (others j other)))
               (s.once j)
         ];
-        shallow = s.shallow;
-        deep = s.deep;
       }
 
   -- a block that comes to the front of its row, and no other leaves the row
@@ -392,27 +373,16 @@ module _ {near : Lists} {beyond : ℕ} {far : List Deep} (s : IsStacked near bey
 
     -- in the row, or a new block of a list that is all in its row
     abbrev pub StaysIn : Type 0
-    StaysIn = (is_in x (row_of k) ≡ true) ⊎ (((length (row_of k) < near.depth) ⊎ (beyond ≡ 0)) ×
+    StaysIn = (is_in x (row_of k) ≡ true) ⊎ ((length (row_of k) < near.depth) ×
         (is_in x (row_of k) ≡ false))
 
-    rest_nothing : (length (row_of k) < near.depth) ⊎ (beyond ≡ 0) → rest_of far k ≡ []
-    rest_nothing h = elim h [
-      | inl short ↦ rest_behind k short
-      | inr none ↦
-          nil_from_length (rest_of far k) (omega (arith, s.rest_short k, none))
-    ]
-
-    new_moved : (length (row_of k) < near.depth) ⊎ (beyond ≡ 0) →
+    new_moved : length (row_of k) < near.depth →
         take (near.depth + beyond) (move_to_front x (row_of k)) ≡ after
-    new_moved h =
-        elim h [
-          | inl short ↦
-              let le : length (move_to_front x (row_of k)) ≤ near.depth =
-              omega (arith, length-remove_le (row_of k) (index_of x (row_of k)), short) in
-              take_all (near.depth + beyond) (move_to_front x (row_of k)) (omega (arith, le)) ∙
-              sym (take_all near.depth (move_to_front x (row_of k)) le)
-          | inr none ↦ ap (λ n. take n (move_to_front x (row_of k))) (omega (arith, none))
-        ]
+    new_moved short =
+        let le : length (move_to_front x (row_of k)) ≤ near.depth =
+        omega (arith, length-remove_le (row_of k) (index_of x (row_of k)), short) in
+        take_all (near.depth + beyond) (move_to_front x (row_of k)) (omega (arith, le)) ∙
+        sym (take_all near.depth (move_to_front x (row_of k)) le)
 
     pub stays_moved : StaysIn → take (near.depth + beyond)
         (move_to_front x (row_of k ++ rest_of far k)) ≡ after ++ rest_of far k
@@ -421,10 +391,10 @@ module _ {near : Lists} {beyond : ℕ} {far : List Deep} (s : IsStacked near bey
           | inl inside ↦ near_moved near.depth beyond x (row_of k) (rest_of far k) inside
               (s.short k) (s.rest_short k)
           | inr new ↦ ap (λ zs. take (near.depth + beyond) (move_to_front x (row_of k ++ zs)))
-              (rest_nothing new.0)
+              (rest_behind k new.0)
               ∙ ap (λ zs. take (near.depth + beyond) (move_to_front x zs)) (append-nil (row_of k)) ∙
               new_moved new.0 ∙ sym (append-nil after)
-              ∙ ap (λ zs. after ++ zs) (sym (rest_nothing new.0))
+              ∙ ap (λ zs. after ++ zs) (sym (rest_behind k new.0))
         ]
 
     after_long : StaysIn → rest_of far k ≢ [] → length after ≡ near.depth
@@ -440,16 +410,16 @@ module _ {near : Lists} {beyond : ℕ} {far : List Deep} (s : IsStacked near bey
               ) in
               ap length (take_all near.depth (move_to_front x (row_of k)) (omega (arith, long))) ∙
               long
-          | inr new ↦ absurd (some (rest_nothing new.0))
+          | inr new ↦ absurd (some (rest_behind k new.0))
         ]
 
-    pub stays_stacked : StaysIn → (near' : Lists) → near' ≡ lists_after_touch near k x →
-        IsStacked near' beyond far
-    stays_stacked h near' is =
-        let P : Lists → Type 0 = λ v. IsStacked v beyond far in
+    pub stays_split : StaysIn → (near' : Lists) → near' ≡ lists_after_touch near k x →
+        AreSplit near' beyond far
+    stays_split h near' is =
+        let P : Lists → Type 0 = λ v. AreSplit v beyond far in
         let L : List ℕ → Type 0 = IsOnce in
         subst P (sym is)
-        (stacked_after k after (rest_of far k) far lt refl (λ j other. refl) refl (s.caps k)
+        (split_after k after (rest_of far k) far lt refl (λ j other. refl) refl (s.caps k)
         (length-take_le near.depth (move_to_front x (row_of k)))
         (s.rest_short k) (after_long h)
         (subst L (stays_moved h) (once_moved x (near.depth + beyond) (row_of k ++ rest_of far k)
@@ -489,8 +459,12 @@ full_at true b2 t' h l held last e = absurd (cc)
 full_at false true t' h l held last e = absurd (cc)
 full_at false false t' h l held last e = (refl, refl, cc, cc)
 
+-- one set's list is not longer than all
+pub depth_small : (sets depth : ℕ) → 1 ≤ sets → sets * depth ≤ 2 ^ 22 → depth ≤ 2 ^ 22
+depth_small sets depth some small = omega (arith, mul-le-mul_right depth some, small)
+
 -- a row that tells where the block stands
-module _ {near : Lists} {beyond : ℕ} {far : List Deep} (s : IsStacked near beyond far) (x k : ℕ)
+module _ {near : Lists} {beyond : ℕ} {far : List Deep} (s : AreSplit near beyond far) (x k : ℕ)
     (lt : k < length near.lists) where
   pub stays_touch : StaysIn s x k lt → touch_of x (row_of s k) ≡ touch_of x
       (get_or (whole_lists near.lists far) k [])
@@ -499,7 +473,7 @@ module _ {near : Lists} {beyond : ℕ} {far : List Deep} (s : IsStacked near bey
         | inl inside ↦ near_touch near.depth beyond x (row_of s k) (rest_of far k) inside
             (s.short k) (s.rest_short k)
         | inr new ↦ ap (touch_of x) (sym (append-nil (row_of s k)) ∙ ap (λ zs. row_of s k ++ zs)
-            (sym (rest_nothing s x k lt new.0)))
+            (sym (rest_behind s k new.0)))
       ]
       ∙ ap (touch_of x) (sym (whole_at s k lt))
 
@@ -512,7 +486,7 @@ module _ {near : Lists} {beyond : ℕ} {far : List Deep} (s : IsStacked near bey
       elim at.0 [
         | inl inside ↦ inl inside
         | inr new ↦
-            inr (inl (ltb-true (length (row_of s k)) near.depth new.0), new.1)
+            inr (ltb-true (length (row_of s k)) near.depth new.0, new.1)
       ]
 
   pub settled_touch : (t : Touch) → Settled t ≡ in_row_of near.depth x (row_of s k) →
@@ -526,26 +500,24 @@ module _ {near : Lists} {beyond : ℕ} {far : List Deep} (s : IsStacked near bey
 -- a full row, of which the last block falls out: that block goes to the front of the others, and x
 -- out of them
 pub record IsFull (near : Lists) (beyond : ℕ) (far : List Deep) (x k held last : ℕ) : Type 0 where
-  pub stacked : IsStacked near beyond far
+  pub split : AreSplit near beyond far
   pub is_set : k < length near.lists
-  pub some : 1 ≤ beyond
   pub absent : is_in x (get_or near.lists k []) ≡ false
   pub full : length (get_or near.lists k []) ≡ near.depth
   pub held_is : held ≡ length (get_or near.lists k [])
   pub last_is : last ≡ get_or (get_or near.lists k []) (near.depth - 1) 0
 
-pub full_is : {near : Lists} {beyond : ℕ} {far : List Deep} (s : IsStacked near beyond far)
+pub full_is : {near : Lists} {beyond : ℕ} {far : List Deep} (s : AreSplit near beyond far)
     (x k held last : ℕ) → k < length near.lists
-    → (beyond ≡ 0 → ⊥) → Full held last ≡ in_row_of near.depth x (get_or near.lists k []) →
+    → Full held last ≡ in_row_of near.depth x (get_or near.lists k []) →
     IsFull near beyond far x k held last
-full_is {near} {beyond} {far} s x k held last lt some e =
+full_is {near} {beyond} {far} s x k held last lt e =
     let row : List ℕ = get_or near.lists k [] in
     let at = full_at (is_in x row) (ltb (length row) near.depth) (touch_of x row) held last
     (length row) (get_or row (near.depth - 1) 0) e in
     record {
-      stacked = s;
+      split = s;
       is_set = lt;
-      some = omega (arith, some);
       absent = at.0;
       full = omega (arith, s.short k, ltb-false (length row) near.depth at.1);
       held_is = at.2;
@@ -564,14 +536,10 @@ module _ {near : Lists} {beyond : ℕ} {far : List Deep} {x k held last : ℕ}
   left = take beyond (last ∷ remove rest (index_of x rest))
 
   two : 2 ≤ near.depth
-  two = elim f.stacked.sets [ inl none ↦ absurd (omega (arith, none.0, f.some)) | inr all ↦ all.2 ]
+  two = f.split.two
 
   pub within_far : k < length far
-  within_far = elim f.stacked.sets [
-    | inl none ↦ absurd (omega (arith, none.0, f.some))
-    | inr all ↦
-        omega (arith, all.1, f.is_set)
-  ]
+  within_far = omega (arith, f.split.far_len, f.is_set)
 
   -- the list behind the row, as it is read
   pub far_read : (d : Deep) → d ≡ get_or far k d → d ≡ get_or far k nothing
@@ -580,13 +548,17 @@ module _ {near : Lists} {beyond : ℕ} {far : List Deep} {x k held last : ℕ}
   pub last_apart : is_in last rest ≡ false
   last_apart =
       ap (λ y. is_in y rest) f.last_is
-      ∙ once_apart row rest (near.depth - 1) (f.stacked.once k) (omega (arith, f.full, two))
+      ∙ once_apart row rest (near.depth - 1) (f.split.once k) (omega (arith, f.full, two))
+
+  small : near.depth + beyond ≤ 2 ^ 22
+  small = depth_small (length near.lists) (near.depth + beyond) (omega (arith, f.is_set))
+      f.split.small
 
   pub held_small : held ≤ 2 ^ 22
-  held_small = omega (arith, f.held_is, f.full, f.stacked.small)
+  held_small = omega (arith, f.held_is, f.full, small)
 
   pub rest_small : length rest ≤ 2 ^ 22
-  rest_small = omega (arith, f.stacked.rest_short k, f.stacked.small)
+  rest_small = omega (arith, f.split.rest_short k, small)
 
   moved : take (near.depth + beyond) (move_to_front x (row ++ rest)) ≡ take near.depth
       (move_to_front x row) ++ left
@@ -615,32 +587,32 @@ module _ {near : Lists} {beyond : ℕ} {far : List Deep} {x k held last : ℕ}
             (New (length row + length rest))) none
             ∙ far_new near.depth beyond x row rest f.absent f.full two none
       ]
-      ∙ ap (touch_of x) (sym (whole_at f.stacked k f.is_set))
+      ∙ ap (touch_of x) (sym (whole_at f.split k f.is_set))
 
   module _ (d' : Deep) (put : d' ≡ list_after_exchange (get_or far k nothing) x last) where
     cap_is : (get_or far k nothing).cap ≡ beyond
-    cap_is = f.stacked.caps k within_far
+    cap_is = f.split.caps k within_far
 
     blocks_are : d'.blocks ≡ left
     blocks_are = ap (λ d. d.blocks) put ∙
         ap (λ n. take n (last ∷ remove rest (index_of x rest))) cap_is
 
-    pub full_stacked : (near' : Lists) → near' ≡ lists_after_touch near k x →
-        IsStacked near' beyond (set far k d')
-    full_stacked near' is =
-        let P : Lists → Type 0 = λ v. IsStacked v beyond (set far k d') in
+    pub full_split : (near' : Lists) → near' ≡ lists_after_touch near k x →
+        AreSplit near' beyond (set far k d')
+    full_split near' is =
+        let P : Lists → Type 0 = λ v. AreSplit v beyond (set far k d') in
         let L : List ℕ → Type 0 = IsOnce in
         let same : get_or (set far k d') k nothing ≡ d' =
         get_or-set_same far k d' nothing within_far in
         subst P (sym is)
-        (stacked_after f.stacked k (take near.depth (move_to_front x row)) left (set far k d')
+        (split_after f.split k (take near.depth (move_to_front x row)) left (set far k d')
         f.is_set (length-set far k d')
         (λ j other. get_or-set_other far k j d' nothing other)
         (ap (λ d. d.blocks) same ∙ blocks_are)
         (λ within. ap (λ d. d.cap) same ∙ ap (λ d. d.cap) put ∙ cap_is) (omega (arith, row_long))
         (length-take_le beyond (last ∷ remove rest (index_of x rest)))
         (λ some. row_long) (subst L moved (once_moved x (near.depth + beyond) (row ++ rest)
-        (f.stacked.once k))))
+        (f.split.once k))))
 
     pub full_lists : (near' : Lists) → near' ≡ lists_after_touch near k x →
         whole_lists near'.lists (set far k d')
@@ -654,38 +626,7 @@ module _ {near : Lists} {beyond : ℕ} {far : List Deep} {x k held last : ℕ}
         zs)) blocks_are
         ∙ ap (set (whole_lists near.lists far) k)
         (sym moved ∙ ap (λ zs. take (near.depth + beyond) (move_to_front x zs))
-        (sym (whole_at f.stacked k f.is_set)))
-
--- whether blocks may stand behind rows, by the depth
-pub none_beyond : {near : Lists} {beyond : ℕ} {far : List Deep}
-    (s : IsStacked near beyond far) (v : Lists)
-    → record { depth = near.depth + beyond; lists = whole_lists near.lists far } ≡ v →
-    v.depth < 256 → beyond ≡ 0
-none_beyond {near} {beyond} {far} s v is le =
-    elim s.sets [
-      | inl none ↦ none.0
-      | inr all ↦
-          absurd (omega (arith, s.deep all.0, ap (λ w. w.depth) is, le))
-    ]
-
-pub some_beyond : {near : Lists} {beyond : ℕ} {far : List Deep}
-    (s : IsStacked near beyond far) (v : Lists)
-    → record { depth = near.depth + beyond; lists = whole_lists near.lists far } ≡ v →
-    256 ≤ v.depth → (beyond ≡ 0 → ⊥)
-some_beyond s v is lt none = omega (arith, s.shallow none, ap (λ w. w.depth) is, lt, none)
-
-pub two_near : {near : Lists} {beyond : ℕ} {far : List Deep} (s : IsStacked near beyond far) →
-    (beyond ≡ 0 → ⊥) → 2 ≤ near.depth
-two_near s some = elim s.sets [ inl none ↦ absurd (some none.0) | inr all ↦ all.2 ]
-
--- where all blocks are in their rows
-pub all_stay : {near : Lists} {beyond : ℕ} {far : List Deep} (s : IsStacked near beyond far)
-    (x k : ℕ) (lt : k < length near.lists) → beyond ≡ 0
-    → StaysIn s x k lt
-all_stay s x k lt none = elim (is_or (is_in x (row_of s k))) [
-  | inl inside ↦ inl inside
-  | inr absent ↦ inr (inr none, absent)
-]
+        (sym (whole_at f.split k f.is_set)))
 
 -- lists with no blocks
 nils : (n k : ℕ) → get_or {A = List ℕ} (replicate n []) k [] ≡ []
@@ -701,29 +642,24 @@ joined_empty (suc n) (d ∷ far) none =
     ap (λ ys. ys ∷ whole_lists (replicate n []) far) (none 0) ∙
     ap (λ ls. [] ∷ ls) (joined_empty n far (λ k. none (suc k)))
 
-pub stacked_none : (near : Lists) (beyond n : ℕ) (far : List Deep) → near.lists ≡ replicate n [] →
+pub split_none : (near : Lists) (beyond n : ℕ) (far : List Deep) → near.lists ≡ replicate n [] →
     ((k : ℕ) → rest_of far k ≡ [])
     → ((k : ℕ) → k < length far → (get_or far k nothing).cap ≡ beyond)
-    → ((beyond ≡ 0) × (length far ≡ 0)) ⊎ ((1 ≤ beyond) × (length far ≡ length near.lists) ×
-    (2 ≤ near.depth))
-    → near.depth + beyond ≤ 2 ^ 22 → length near.lists * (near.depth + beyond) ≤ 2 ^ 22 →
-    (beyond ≡ 0 → near.depth < 256)
-    → (1 ≤ beyond → 256 ≤ near.depth + beyond) → IsStacked near beyond far
-stacked_none near beyond n far none rest caps sets small all_small shallow deep =
+    → length far ≡ length near.lists → 2 ≤ near.depth
+    → length near.lists * (near.depth + beyond) ≤ 2 ^ 22 → AreSplit near beyond far
+split_none near beyond n far none rest caps far_len two small =
     let row : (k : ℕ) → get_or near.lists k [] ≡ [] =
     λ k. ap (λ ls. get_or ls k []) none ∙ nils n k in
     let L : List ℕ → Type 0 = IsOnce in
     record {
-      sets = sets;
+      far_len = far_len;
+      two = two;
       small = small;
-      all_small = all_small;
       caps = caps;
       short = λ k. omega (arith, ap length (row k));
       rest_short = λ k. omega (arith, ap length (rest k));
       full = λ k some. absurd (some (rest k));
       once = λ k. subst L (sym (ap (λ xs. xs ++ rest_of far k) (row k) ∙ rest k)) tt;
-      shallow = shallow;
-      deep = deep;
     }
 
 -- emptied
@@ -736,11 +672,11 @@ emptied_at (d ∷ far) (suc k) = emptied_at far k
 pub emptied_rest : (far : List Deep) (k : ℕ) → rest_of (map empty_deep far) k ≡ []
 emptied_rest far k = ap (λ d. d.blocks) (emptied_at far k)
 
-pub stacked_cleared : {near : Lists} {beyond : ℕ} {far : List Deep} → IsStacked near beyond far →
+pub split_cleared : {near : Lists} {beyond : ℕ} {far : List Deep} → AreSplit near beyond far →
     (near' : Lists) (far' : List Deep)
     → near' ≡ record { depth = near.depth; lists = replicate (length near.lists) [] } →
-    far' ≡ map empty_deep far → IsStacked near' beyond far'
-stacked_cleared {near} {beyond} {far} s near' far' is far_is =
+    far' ≡ map empty_deep far → AreSplit near' beyond far'
+split_cleared {near} {beyond} {far} s near' far' is far_is =
     let lists : near'.lists ≡ replicate (length near.lists) [] = ap (λ v. v.lists) is in
     let depth : near'.depth ≡ near.depth = ap (λ v. v.depth) is in
     let count : length near'.lists ≡ length near.lists = ap length lists ∙
@@ -748,17 +684,12 @@ stacked_cleared {near} {beyond} {far} s near' far' is far_is =
     let long : length far' ≡ length far = ap length far_is ∙ length-map far empty_deep in
     let M : ℕ → Type 0 = λ n. n * (near'.depth + beyond) ≤ 2 ^ 22 in
     let N : ℕ → Type 0 = λ n. length near.lists * (n + beyond) ≤ 2 ^ 22 in
-    stacked_none near' beyond (length near.lists) far' lists (λ k. ap (λ ds. rest_of ds k) far_is ∙
+    split_none near' beyond (length near.lists) far' lists (λ k. ap (λ ds. rest_of ds k) far_is ∙
     emptied_rest far k)
     (λ k lt. ap (λ ds. (get_or ds k nothing).cap) far_is ∙ ap (λ d. d.cap) (emptied_at far k) ∙
     s.caps k (omega (arith, lt, long)))
-    (elim s.sets [
-      | inl none ↦ inl (none.0, long ∙ none.1)
-      | inr all ↦ inr (all.0, long ∙ all.1 ∙ sym count, omega (arith, all.2, depth))
-    ])
-    (omega (arith, s.small, depth)) (subst M (sym count) (subst N (sym depth) s.all_small))
-    (λ none. omega (arith, s.shallow none, depth))
-    (λ some. omega (arith, s.deep some, depth))
+    (long ∙ s.far_len ∙ sym count) (omega (arith, s.two, depth))
+    (subst M (sym count) (subst N (sym depth) s.small))
 
 pub cleared_lists : (near near' : Lists) (far far' : List Deep) →
     near' ≡ record { depth = near.depth; lists = replicate (length near.lists) [] }
@@ -799,16 +730,12 @@ far_sum (d ∷ far) b h =
       suc-mul (length far) b,
     )
 
-module _ {near : Lists} {beyond : ℕ} {far : List Deep} (s : IsStacked near beyond far) where
+module _ {near : Lists} {beyond : ℕ} {far : List Deep} (s : AreSplit near beyond far) where
   pub far_few : length far ≤ length near.lists
-  far_few = elim s.sets [ inl none ↦ omega (arith, none.1) | inr all ↦ omega (arith, all.1) ]
+  far_few = omega (arith, s.far_len)
 
   pub far_held : sum_by (λ (d : Deep). length d.blocks) far ≤ length near.lists * beyond
   far_held = omega (arith, far_sum far beyond s.rest_short, mul-le-mul_right beyond far_few)
-
--- one set's lists are not more than all
-pub depth_small : (sets depth : ℕ) → 1 ≤ sets → sets * depth ≤ 2 ^ 22 → depth ≤ 2 ^ 22
-depth_small sets depth some small = omega (arith, mul-le-mul_right depth some, small)
 
 empty_at : (n cap k : ℕ) → k < n →
     get_or {A = Deep} (replicate n (record { cap = cap; blocks = [] })) k nothing ≡ record {
@@ -825,11 +752,11 @@ empty_rest zero cap k = refl
 empty_rest (suc n) cap zero = refl
 empty_rest (suc n) cap (suc k) = empty_rest n cap k
 
-pub stacked_new : (near : Lists) (sets beyond : ℕ) (far : List Deep) →
+pub split_new : (near : Lists) (sets beyond : ℕ) (far : List Deep) →
     near ≡ record { depth = 64; lists = replicate sets [] }
-    → far ≡ replicate sets (record { cap = beyond; blocks = [] }) → 1 ≤ sets →
-    sets * (64 + beyond) ≤ 2 ^ 22 → 256 ≤ 64 + beyond → IsStacked near beyond far
-stacked_new near sets beyond far is far_is filled small deep =
+    → far ≡ replicate sets (record { cap = beyond; blocks = [] }) →
+    sets * (64 + beyond) ≤ 2 ^ 22 → AreSplit near beyond far
+split_new near sets beyond far is far_is small =
     let lists : near.lists ≡ replicate sets [] = ap (λ v. v.lists) is in
     let depth : near.depth ≡ 64 = ap (λ v. v.depth) is in
     let count : length near.lists ≡ sets = ap length lists ∙ length-replicate sets [] in
@@ -837,14 +764,12 @@ stacked_new near sets beyond far is far_is filled small deep =
     let long : length far ≡ sets = ap length far_is ∙ length-replicate sets e in
     let M : ℕ → Type 0 = λ n. n * (near.depth + beyond) ≤ 2 ^ 22 in
     let N : ℕ → Type 0 = λ n. sets * (n + beyond) ≤ 2 ^ 22 in
-    stacked_none near beyond sets far lists (λ k. ap (λ ds. rest_of ds k) far_is ∙
+    split_none near beyond sets far lists (λ k. ap (λ ds. rest_of ds k) far_is ∙
     empty_rest sets beyond k)
     (λ k lt. ap (λ ds. (get_or ds k nothing).cap) far_is ∙
     ap (λ d. d.cap) (empty_at sets beyond k (omega (arith, lt, long))))
-    (inr (omega (arith, deep), long ∙ sym count, omega (arith, depth)))
-    (omega (arith, depth_small sets (64 + beyond) filled small, depth))
+    (long ∙ sym count) (omega (arith, depth))
     (subst M (sym count) (subst N (sym depth) small))
-    (λ none. absurd (omega (arith, none, deep))) (λ some. omega (arith, deep, depth))
 
 pub new_lists : (near : Lists) (sets beyond : ℕ) (far : List Deep) →
     near ≡ record { depth = 64; lists = replicate sets [] }

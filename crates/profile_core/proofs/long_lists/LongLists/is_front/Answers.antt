@@ -1,8 +1,8 @@
 -- The front of a list is that of its row.
 use Rattle.std.proofs.Common.{◌<◌, ◌∙◌, [], length, get_or, ap, arith}
 use Rattle.profile_core.specs.internal.Moves.{is_front}
-use Rattle.profile_core.proofs.StackLemmas.{length-joined, front_is}
-use Rattle.profile_core.proofs.stacks.Stacks.is_front.Goals as goal
+use Rattle.profile_core.proofs.LongListLemmas.{length-joined, front_is}
+use Rattle.profile_core.proofs.long_lists.LongLists.is_front.Goals as goal
 
 pub is_front-requires-clause-within : goal.is_front-requires-clause-within
 is_front-requires-clause-within c =
