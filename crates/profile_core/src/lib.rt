@@ -5,6 +5,7 @@
 mod feed;
 mod grouped_rows;
 mod histograms;
+mod hit_sums;
 mod kept_lists;
 pub mod laws;
 mod long_lists;

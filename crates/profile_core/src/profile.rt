@@ -13,6 +13,7 @@ ghost use Rattle.profile_core.specs.internal.ProfileStandsFor.{ProfileStandsFor}
 
 use crate::feed::{feed_each, feed_each_to_two, feed_one};
 use crate::histograms::Histograms;
+pub use crate::hit_sums::HitSums;
 use crate::kept_lists::KeptLists;
 use cache_core::{Counts, Geometry};
 use std::alloc::{AllocError, Global};
@@ -40,29 +41,6 @@ impl Model for Profile {
     ghost view = { λ p. profile_of p.geometry (lists_of p.lists) p.histograms };
 
     ghost invariant = { λ p. AreSound p.geometry (lists_of p.lists) p.histograms };
-}
-
-/// The sums of a profile's histograms up to an associativity, which only rises: `hits` of the `fed`
-/// references hit in a cache of `ways` lines per set, and `free_misses` missed while their set had
-/// a free line.
-#[derive(Clone, Copy, Debug)]
-pub struct HitSums {
-    ways: usize,
-    hits: u64,
-    free_misses: u64,
-    fed: u64,
-}
-
-impl Model for HitSums {
-    ghost use Rattle.profile_core.specs.internal.State.{HitSumsState};
-
-    ghost Value = { HitSumsState };
-
-    ghost view = { λ t.
-        record { ways = t.ways; hits = t.hits; free_misses = t.free_misses; fed = t.fed } };
-
-    ghost inverse = { λ t.
-        record { ways = t.ways; hits = t.hits; free_misses = t.free_misses; fed = t.fed } };
 }
 
 impl Profile {
