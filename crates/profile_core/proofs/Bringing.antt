@@ -1,13 +1,13 @@
 -- A list y ∷ ys that gets a block x in front, which is not its front already: where x stood, how
 -- many comparisons find
 -- that, and the row that holds the list then.
-use Rattle.std.proofs.Common.{◌≡◌, ℕ, zero, suc, ◌+◌, ◌-◌, ◌<◌, ◌≤◌, ◌⊎◌, inl, inr, Bool, true}
+use Rattle.std.proofs.Common.{◌≡◌, ℕ, zero, suc, ◌+◌, ◌-◌, ◌<◌, ◌≤◌, Bool, true}
 use Rattle.std.proofs.Common.{false, cond, eqb, ltb, List, [], ◌∷◌, ◌++◌, length, take, drop}
 use Rattle.std.proofs.Common.{get_or, set, refl, sym, ◌∙◌, ap, arith, add-one, ◌^◌, length-take}
 use Rattle.std.proofs.Common.{length-append, length-drop, length-set}
 use Rattle.std.specs.List.{remove}
 use Rattle.std.proofs.lemmas.Bool.Decides.{nat_tests}
-use Rattle.std.proofs.lemmas.Bool.{ltb-true, ne_eqb}
+use Rattle.std.proofs.lemmas.Bool.{ltb-true}
 use Rattle.std.proofs.lemmas.List.{take_all, take_at, length-take-le}
 use Rattle.cache_core.proofs.Lists.{list_any_is}
 use Rattle.profile_core.specs.declared.recency.Touch.TheVariants.{Behind, New}
@@ -165,23 +165,11 @@ module _ {x y h : ℕ} {rest after : List ℕ} (s : IsShifted x y h rest after) 
             ap (λ n. take (n + 1) (move_to_front x list)) (sym long);
       }
 
--- Whether x is the front of a row's list: by the front f, which is 0 where the list is empty,
--- unless both are 0.
-pub front_of_some : (x len f : ℕ) (rest : List ℕ) → (len ≡ 0 → f ≡ 0) → (x ≡ 0 → ⊥) ⊎
-    (len ≡ 0 → ⊥) → eqb f x ≡ is_front x (take len (f ∷ rest))
-front_of_some x zero f rest blank (inl other) = ne_eqb f x (λ e. other (sym e ∙ blank refl))
-front_of_some x zero f rest blank (inr some) = absurd (some refl)
-front_of_some x (suc len) f rest blank some = refl
-
-pub front_of_other : (x len f : ℕ) (rest : List ℕ) → (f ≡ x → ⊥) →
-    false ≡ is_front x (take len (f ∷ rest))
-front_of_other x zero f rest other = refl
-front_of_other x (suc len) f rest other = sym (ne_eqb f x other)
-
-pub front_of_none : (x len f : ℕ) (rest : List ℕ) → len ≡ 0 →
-    false ≡ is_front x (take len (f ∷ rest))
-front_of_none x zero f rest none = refl
-front_of_none x (suc len) f rest none = absurd (omega (arith, none))
+-- The first number of a row's list, or 0: it is the front f, which is 0 where the list is empty.
+pub first_of_row : (len f : ℕ) (rest : List ℕ) → (len ≡ 0 → f ≡ 0) →
+    f ≡ get_or (take len (f ∷ rest)) 0 0
+first_of_row zero f rest blank = blank refl
+first_of_row (suc len) f rest blank = refl
 
 -- Whether x is the second of a row's list: by the first entry behind the front, where the list has
 -- two blocks.

@@ -4,7 +4,7 @@ use Rattle.std.proofs.Common.{Bool, true, false, cond, eqb, ltb, ◌||◌, List,
 use Rattle.std.proofs.Common.{length, take, drop, get_or, set, refl, sym, ◌∙◌, ap, subst, arith}
 use Rattle.std.proofs.Common.{append-nil, length-append, length-set, length-take}
 use Rattle.std.proofs.Common.{length-drop, get_or-set_same, get_or-set_other}
-use Rattle.std.specs.Prelude.{replicate, map}
+use Rattle.std.specs.Prelude.{◌↔◌, replicate, map}
 use Rattle.std.proofs.Math.Nat.{suc-mul, mul-le-mul_right}
 use Rattle.std.specs.List.{remove, sum_by}
 use Rattle.std.proofs.lemmas.Bool.{ltb-true, ltb-false, eqb-true, cases_eq}
@@ -279,6 +279,14 @@ front-append : (x : ℕ) (xs ys : List ℕ) → (length xs < 2 → ys ≡ []) �
 front-append x [] ys h = sym (ap (is_front x) (h (omega arith)))
 front-append x (y ∷ xs) ys h = refl
 
+first-append : (xs ys : List ℕ) → (length xs < 2 → ys ≡ []) → get_or xs 0 0 ≡ get_or (xs ++ ys) 0 0
+first-append [] ys h = sym (ap (λ zs. get_or zs 0 0) (h (omega arith)))
+first-append (y ∷ xs) ys h = refl
+
+some-append : (xs ys : List ℕ) → (length xs < 2 → ys ≡ []) → 0 < length (xs ++ ys) → 0 < length xs
+some-append [] ys h some = absurd (omega (arith, some, ap length (h (omega arith))))
+some-append (y ∷ xs) ys h some = omega arith
+
 second-append : (x : ℕ) (xs ys : List ℕ) → (length xs < 2 → ys ≡ []) →
     is_second x xs ≡ is_second x (xs ++ ys)
 second-append x [] ys h = sym (ap (is_second x) (h (omega arith)))
@@ -306,6 +314,20 @@ module _ {near : Lists} {beyond : ℕ} {far : List Deep} (s : AreSplit near beyo
       (get_or (whole_lists near.lists far) k [])
   front_is x k lt = front-append x (row_of k) (rest_of far k) (rest_two k) ∙
       ap (is_front x) (sym (whole_at k lt))
+
+  pub first_is : (k : ℕ) → k < length near.lists → get_or (row_of k) 0 0 ≡ get_or
+      (get_or (whole_lists near.lists far) k []) 0 0
+  first_is k lt = first-append (row_of k) (rest_of far k) (rest_two k) ∙
+      ap (λ xs. get_or xs 0 0) (sym (whole_at k lt))
+
+  pub some_is : (k : ℕ) → k < length near.lists → (0 < length (row_of k)) ↔
+      (0 < length (get_or (whole_lists near.lists far) k []))
+  some_is k lt =
+      let whole = ap length (whole_at k lt) in
+      let both = length-append (row_of k) (rest_of far k) in (
+        λ some. omega (arith, whole, both, some),
+        λ some. some-append (row_of k) (rest_of far k) (rest_two k) (omega (arith, whole, some)),
+      )
 
   pub second_is : (x k : ℕ) → k < length near.lists → is_second x (row_of k) ≡ is_second x
       (get_or (whole_lists near.lists far) k [])

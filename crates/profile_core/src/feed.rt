@@ -20,19 +20,17 @@ use cache_core::Geometry;
 
 /// Feeds a reference by its block, unless it finds that in front of its set's list. Returns whether
 /// it does. What has to be done for another stands apart, so that the path of the many references
-/// that find their block in front stays short. `past_first` may say that it is not block 0.
+/// that find their block in front stays short.
 #[inline(always)]
 pub fn feed_one(
     geometry: Geometry,
     lists: &mut KeptLists,
     histograms: &mut Histograms,
     block: u64,
-    past_first: bool,
 ) -> bool
     requires sound { AreSound geometry (lists_of lists.old) histograms.old }
     requires few { fed_of (profile_of geometry (lists_of lists.old) histograms.old)
         < MAX_REFERENCES }
-    requires known { past_first ≡ true → 1 ≤ block }
     ensures sound { AreSound geometry (lists_of lists.new) histograms.new }
     ensures front { result
         ≡ is_front_of (profile_of geometry (lists_of lists.old) histograms.old) block }
@@ -40,7 +38,7 @@ pub fn feed_one(
         ≡ after_unless_front (profile_of geometry (lists_of lists.old) histograms.old) block }
 {
     let set = geometry.set_of_block(block) as usize;
-    if lists.is_front(set, block, past_first) {
+    if lists.is_front(set, block) {
         return true;
     }
     feed_behind_apart(&geometry, lists, histograms, set, block);
@@ -147,7 +145,7 @@ fn feed_in_batch<L: SetLists>(
 {
     let block = geometry.block_of(addr);
     let set = geometry.set_of(addr) as usize;
-    if lists.is_front(set, block, false) {
+    if lists.is_front(set, block) {
         return true;
     }
     feed_behind(geometry, lists, histograms, set, block);

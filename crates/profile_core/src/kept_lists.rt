@@ -1,6 +1,6 @@
 //! The ways of keeping lists that a profile has.
 ghost use Rattle.std.specs.Prelude.{◌≡◌, ◌*◌, ◌^◌, ◌≤◌, ◌<◌, [], IfOk, replicate, length, sum_by};
-ghost use Rattle.std.specs.Prelude.{true, slice_index_or};
+ghost use Rattle.std.specs.Prelude.{slice_index, slice_index_or, IsTrue, ◌↔◌};
 ghost use Rattle.profile_core.specs.internal.KeptLists.{lists_of};
 ghost use Rattle.profile_core.specs.internal.Moves.{is_front};
 
@@ -58,35 +58,43 @@ impl KeptLists {
         Ok(KeptLists::InRows(RecencyLists::new(alloc, rows, sets)?))
     }
 
-    /// Whether a block is the front of a set's list. A caller that knows that the block is not
-    /// block 0 says so by `past_first`, and spares the test.
+    /// Whether a block is the front of a set's list.
     #[inline(always)]
-    pub fn is_front(&self, set: usize, block: u64, past_first: bool) -> bool
-        requires within { set < length (lists_of self.now).lists }
-        requires known { past_first ≡ true → 0 < block }
+    pub fn is_front(&self, set: usize, block: u64) -> bool
+        requires { set < length (lists_of self.now).lists }
         ensures { result ≡ is_front block (slice_index_or (lists_of self.now).lists set []) }
     {
         // Only for block 0 has the program to ask in which way the lists are kept: the others are
         // compared with the fronts alone, which stand at the same place in each.
-        if past_first || block != 0 {
-            self.has_front(set, block, true)
-        } else {
-            self.has_front(set, block, false)
+        self.front(set) == block && (block != 0 || self.has_block(set))
+    }
+
+    /// The front of a set's list, or 0 if the list is empty.
+    #[inline(always)]
+    fn front(&self, set: usize) -> u64
+        requires { set < length (lists_of self.now).lists }
+        ensures { result ≡ slice_index (slice_index_or (lists_of self.now).lists set []) 0 }
+    {
+        match self {
+            KeptLists::InRows(lists) => lists.front(set),
+            KeptLists::InSlots(lists) => lists.front(set),
+            KeptLists::InGroups(lists) => lists.front(set),
+            KeptLists::Long(lists) => lists.front(set),
         }
     }
 
-    /// The same, by the way in which the lists are kept.
+    /// Whether a set's list has a block.
     #[inline(always)]
-    fn has_front(&self, set: usize, block: u64, past_first: bool) -> bool
-        requires within { set < length (lists_of self.now).lists }
-        requires known { past_first ≡ true → 0 < block }
-        ensures { result ≡ is_front block (slice_index_or (lists_of self.now).lists set []) }
+    fn has_block(&self, set: usize) -> bool
+        requires { set < length (lists_of self.now).lists }
+        ensures { IsTrue result
+            ↔ (0 < length (slice_index_or (lists_of self.now).lists set [])) }
     {
         match self {
-            KeptLists::InRows(lists) => lists.is_front(set, block, past_first),
-            KeptLists::InSlots(lists) => lists.is_front(set, block, past_first),
-            KeptLists::InGroups(lists) => lists.is_front(set, block, past_first),
-            KeptLists::Long(lists) => lists.is_front(set, block, past_first),
+            KeptLists::InRows(lists) => lists.has_block(set),
+            KeptLists::InSlots(lists) => lists.has_block(set),
+            KeptLists::InGroups(lists) => lists.has_block(set),
+            KeptLists::Long(lists) => lists.has_block(set),
         }
     }
 

@@ -1,7 +1,8 @@
 //! A recency list for each set, the most recent block first, for lists that may be long: the first
 //! blocks of each stand in a row, and those behind them in a list that is not walked.
 ghost use Rattle.std.specs.Prelude.{◌≡◌, ◌*◌, ◌^◌, ◌<◌, ◌≤◌, [], ◌∷◌, true, false, length};
-ghost use Rattle.std.specs.Prelude.{replicate, sum_by, map, IfOk, slice_index_or};
+ghost use Rattle.std.specs.Prelude.{replicate, sum_by, map, IfOk, IsTrue, ◌↔◌, slice_index};
+ghost use Rattle.std.specs.Prelude.{slice_index_or};
 ghost use Rattle.deep_list.specs.Deep.{list_after_exchange};
 ghost use Rattle.profile_core.specs.internal.Moves.{is_in, is_front, is_second, touch_of};
 ghost use Rattle.profile_core.specs.internal.Moves.{rest_touch_of};
@@ -69,16 +70,22 @@ impl LongLists {
         Ok(LongLists { near, beyond, far })
     }
 
-    /// Whether a block is the front of a set's list. Only block 0 has to look at the length. A
-    /// caller that knows that the block is not block 0 says so by `past_first`, and spares the
-    /// test.
+    /// The front of a set's list, or 0 if the list is empty.
     #[inline(always)]
-    pub fn is_front(&self, set: usize, block: u64, past_first: bool) -> bool
-        requires within { set < length self.now.lists }
-        requires known { past_first ≡ true → 0 < block }
-        ensures { result ≡ is_front block (slice_index_or self.now.lists set []) }
+    pub fn front(&self, set: usize) -> u64
+        requires { set < length self.now.lists }
+        ensures { result ≡ slice_index (slice_index_or self.now.lists set []) 0 }
     {
-        self.near.is_front(set, block, past_first)
+        self.near.front(set)
+    }
+
+    /// Whether a set's list has a block.
+    #[inline(always)]
+    pub fn has_block(&self, set: usize) -> bool
+        requires { set < length self.now.lists }
+        ensures { IsTrue result ↔ (0 < length (slice_index_or self.now.lists set [])) }
+    {
+        self.near.has_block(set)
     }
 
     /// Whether a block is the second of a set's list.
@@ -138,8 +145,13 @@ impl SetLists for LongLists {
     ghost view = { λ s. s };
 
     #[inline(always)]
-    fn is_front(&self, set: usize, block: u64, past_first: bool) -> bool {
-        self.is_front(set, block, past_first)
+    fn front(&self, set: usize) -> u64 {
+        self.front(set)
+    }
+
+    #[inline(always)]
+    fn has_block(&self, set: usize) -> bool {
+        self.has_block(set)
     }
 
     #[inline(always)]

@@ -79,25 +79,22 @@ impl Profile {
         ensures one_more { fed_of self.new ≡ fed_of self.old + 1 }
     {
         let block = self.geometry.block_of(addr);
-        if self.feed_block_unless_front(block, false) {
+        if self.feed_block_unless_front(block) {
             self.count_fronts(1);
         }
     }
 
     /// Feeds one reference by its address, unless it finds its block in front: such a reference
     /// changes nothing but two numbers, and is left to be counted by `count_fronts`. Returns
-    /// whether it does. A caller may say by `past_first` that the address is 2^20 or more, and so
-    /// not in block 0 at any block size: then one test serves all the profiles that an address is
-    /// fed to.
+    /// whether it does.
     #[inline(always)]
-    pub fn feed_unless_front(&mut self, addr: u64, past_first: bool) -> bool
+    pub fn feed_unless_front(&mut self, addr: u64) -> bool
         requires few { fed_of self.old < MAX_REFERENCES }
-        requires known { past_first ≡ true → 2 ^ 20 ≤ addr }
         ensures front { result ≡ is_front_of self.old (block_of self.old.geometry addr) }
         ensures step { self.new ≡ after_unless_front self.old (block_of self.old.geometry addr) }
     {
         let block = self.geometry.block_of(addr);
-        self.feed_block_unless_front(block, past_first)
+        self.feed_block_unless_front(block)
     }
 
     /// Feeds references by their addresses, one after the other, but for those that find their
@@ -179,17 +176,15 @@ impl Profile {
         }
     }
 
-    /// Feeds one reference by its block, unless it finds it in front. `past_first` may say that it
-    /// is not block 0.
+    /// Feeds one reference by its block, unless it finds it in front.
     #[inline(always)]
-    fn feed_block_unless_front(&mut self, block: u64, past_first: bool) -> bool
+    fn feed_block_unless_front(&mut self, block: u64) -> bool
         requires few { fed_of self.old < MAX_REFERENCES }
-        requires known { past_first ≡ true → 1 ≤ block }
         ensures front { result ≡ is_front_of self.old block }
         ensures step { self.new ≡ after_unless_front self.old block }
     {
         let (lists, histograms) = (&mut self.lists, &mut self.histograms);
-        feed_one(self.geometry, lists, histograms, block, past_first)
+        feed_one(self.geometry, lists, histograms, block)
     }
 
     /// Counts so many references that find their block in front, each with the comparison that

@@ -2,7 +2,7 @@
 //! blocks in rows.
 
 ghost use Rattle.std.specs.Prelude.{◌≡◌, ◌*◌, ◌^◌, ◌<◌, ◌≤◌, [], true, false, length};
-ghost use Rattle.std.specs.Prelude.{slice_index, MatchOption, ◌-◌};
+ghost use Rattle.std.specs.Prelude.{slice_index, MatchOption, ◌-◌, IsTrue, ◌↔◌};
 ghost use Rattle.std.specs.Prelude.{sum_by, replicate, IfOk, slice_index_or, ◌+◌};
 ghost use Rattle.cache_core.specs.internal.Touched.{Covers, ListsFilled};
 ghost use Rattle.profile_core.specs.internal.Moves.{is_front, is_second, touch_of};
@@ -70,23 +70,22 @@ impl<R: RowStore> RecencyLists<R> {
         })
     }
 
-    /// Whether a block is the front of a set's list. Only block 0 has to look at the length. A
-    /// caller that knows that the block is not block 0 says so by `past_first`, and spares the
-    /// test.
+    /// The front of a set's list, or 0 if the list is empty.
     #[inline(always)]
-    pub fn is_front(&self, set: usize, block: u64, past_first: bool) -> bool
-        requires within { set < length self.now.lists }
-        requires known { past_first ≡ true → 0 < block }
-        ensures { result ≡ is_front block (slice_index_or self.now.lists set []) }
+    pub fn front(&self, set: usize) -> u64
+        requires { set < length self.now.lists }
+        ensures { result ≡ slice_index (slice_index_or self.now.lists set []) 0 }
     {
-        if self.fronts[set] != block {
-            return false;
-        }
-        if past_first || block != 0 {
-            true
-        } else {
-            self.lens[set] != 0
-        }
+        self.fronts[set]
+    }
+
+    /// Whether a set's list has a block.
+    #[inline(always)]
+    pub fn has_block(&self, set: usize) -> bool
+        requires { set < length self.now.lists }
+        ensures { IsTrue result ↔ (0 < length (slice_index_or self.now.lists set [])) }
+    {
+        self.lens[set] != 0
     }
 
     /// Whether a block is the second of a set's list.
@@ -182,8 +181,13 @@ impl<R: RowStore> SetLists for RecencyLists<R> {
     ghost view = { λ r. r };
 
     #[inline(always)]
-    fn is_front(&self, set: usize, block: u64, past_first: bool) -> bool {
-        self.is_front(set, block, past_first)
+    fn front(&self, set: usize) -> u64 {
+        self.front(set)
+    }
+
+    #[inline(always)]
+    fn has_block(&self, set: usize) -> bool {
+        self.has_block(set)
     }
 
     #[inline(always)]

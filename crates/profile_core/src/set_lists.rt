@@ -1,6 +1,6 @@
 //! What a profile needs of its lists, in whatever way they are kept.
 ghost use Rattle.std.specs.Prelude.{◌≡◌, ◌*◌, ◌<◌, ◌≤◌, [], true, false, length, replicate, sum_by};
-ghost use Rattle.std.specs.Prelude.{slice_index_or};
+ghost use Rattle.std.specs.Prelude.{slice_index, slice_index_or, IsTrue, ◌↔◌};
 ghost use Rattle.profile_core.specs.internal.Moves.{is_front, is_second, touch_of};
 ghost use Rattle.profile_core.specs.internal.Slab.{Lists, lists_after_touch};
 
@@ -11,13 +11,26 @@ pub trait SetLists: Drop {
     /// The lists that it stands for.
     ghost view: { Self → Lists };
 
-    /// Whether a block is the front of a set's list. Only block 0 has to look at the length. A
-    /// caller that knows that the block is not block 0 says so by `past_first`, and spares the
-    /// test.
-    fn is_front(&self, set: usize, block: u64, past_first: bool) -> bool
-        requires within { set < length (view self.now).lists }
-        requires known { past_first ≡ true → 0 < block }
-        ensures { result ≡ is_front block (slice_index_or (view self.now).lists set []) };
+    /// The front of a set's list, or 0 if the list is empty. So it tells whether a block is the
+    /// front, but for block 0.
+    fn front(&self, set: usize) -> u64
+        requires { set < length (view self.now).lists }
+        ensures { result ≡ slice_index (slice_index_or (view self.now).lists set []) 0 };
+
+    /// Whether a set's list has a block: what has to be known of block 0.
+    fn has_block(&self, set: usize) -> bool
+        requires { set < length (view self.now).lists }
+        ensures { IsTrue result ↔ (0 < length (slice_index_or (view self.now).lists set [])) };
+
+    /// Whether a block is the front of a set's list. Only for block 0 does it ask whether there is
+    /// one.
+    #[inline(always)]
+    fn is_front(&self, set: usize, block: u64) -> bool
+        requires { set < length (view self.now).lists }
+        ensures { result ≡ is_front block (slice_index_or (view self.now).lists set []) }
+    {
+        self.front(set) == block && (block != 0 || self.has_block(set))
+    }
 
     /// Whether a block is the second of a set's list.
     fn is_second(&self, set: usize, block: u64) -> bool

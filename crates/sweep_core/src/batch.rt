@@ -111,7 +111,7 @@ fn feed_at_once(profiles: &mut [PairProfile], addr: u64)
     while next < profiles.len() {
         let pair = &mut profiles[next];
         next += 1;
-        if pair.profile.feed_unless_front(addr, false) {
+        if pair.profile.feed_unless_front(addr) {
             next += pair.implied;
         }
     }

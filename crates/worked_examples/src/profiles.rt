@@ -192,7 +192,7 @@ fn feed_unless_fronts(rt: &impl Abort, profile: &mut Profile, addrs: &[u64]) -> 
     let mut fronts = 0u64;
     for addr in addrs {
         assert!(rt; profile.fed() < MAX_REFERENCES);
-        if profile.feed_unless_front(*addr, false) {
+        if profile.feed_unless_front(*addr) {
             fronts = fronts.saturating_add(1);
         }
     }
