@@ -258,6 +258,18 @@ fronts_after v x y h = grind (
   cases_eq,
 )
 
+-- a reference finds its block in front where the one before was to it too
+pub front_again : (v : ProfileState) (x : ℕ) → IsFit v →
+    is_front_of (after_unless_front v x) x ≡ true
+front_again v x h =
+    cases (λ b. is_front_of v x ≡ b → is_front_of (cond b v (after_reference v x)) x ≡ true)
+    (is_front_of v x)
+    (λ t is. is)
+    (λ f is. fronts_after v x x h
+    ∙ ap (λ b. cond b (eqb x x) (is_front_of v x)) (eq-eqb (set_of_block v.geometry x) _ refl)
+    ∙ eq-eqb x x refl)
+    refl
+
 leads_reference : (v w : ProfileState) → IsFit v → IsFit w → IsFiner v.geometry w.geometry →
     Leads v w → (y : ℕ)
     → Leads (after_reference v (block_of v.geometry y)) (after_reference w (block_of w.geometry y))

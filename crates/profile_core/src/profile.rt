@@ -70,6 +70,13 @@ impl Profile {
         })
     }
 
+    /// The number of block bits: its caches have blocks of `2^b` bytes.
+    pub fn block_bits(&self) -> u64
+        ensures { result ≡ self.now.geometry.b }
+    {
+        self.geometry.b()
+    }
+
     /// Feeds one reference by its address; whether it reads or writes is ignored. Takes no
     /// memory and cannot fail. At most `MAX_REFERENCES` may be fed.
     #[inline(always)]

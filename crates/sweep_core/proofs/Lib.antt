@@ -19,5 +19,6 @@ pub mod Catching
 pub mod Batching
 pub mod BatchLoops
 pub mod OneReference
+pub mod Repeated
 pub mod WorkLaws
 mod Examples

@@ -6,10 +6,12 @@ ghost use Rattle.sweep_core.specs.internal.Pass.{pair_after_flush};
 ghost use Rattle.sweep_core.specs.internal.Pass.{kept_events, profiles_after, state_after, Feeds};
 ghost use Rattle.sweep_core.specs.internal.Implied.{IsLinked, IsFresh};
 ghost use Rattle.sweep_core.specs.internal.Implied.{FedAtMost, profiles_with_fronts};
-ghost use Rattle.sweep_core.specs.internal.Batches.{AreWaiting, profiles_after_batch};
+ghost use Rattle.sweep_core.specs.internal.Batches.{AreWaiting, AreNoFiner, finest_bits};
+ghost use Rattle.sweep_core.specs.internal.Batches.{profiles_after_batch};
 
 use crate::batch::Batch;
 use crate::profiles::PairProfile;
+use cache_core::MAX_BITS;
 use profile_core::MAX_REFERENCES;
 use trace_core::{Entry, Kind, Lines, Ref, Source, TraceFault, refs_of};
 
@@ -60,13 +62,14 @@ fn read_entries<S: Source>(
     ensures waiting { AreWaiting fed.new batch.new profiles.new }
     ensures few { fed.new ≤ MAX_REFERENCES }
 {
+    let bits = finest_bits(profiles);
     while let Some((_, entry)) = lines.next(source)? {
         match entry {
             Entry::Item(item) => {
                 let (first, second) = refs_of(item);
-                feed_kept(profiles, batch, kind, first, fed);
+                feed_kept(profiles, batch, bits, kind, first, fed);
                 if let Some(second) = second {
-                    feed_kept(profiles, batch, kind, second, fed);
+                    feed_kept(profiles, batch, bits, kind, second, fed);
                 }
             }
             Entry::Flush => {
@@ -90,29 +93,44 @@ fn catch_up(profiles: &mut [PairProfile], fed: u64)
     }
 }
 
+/// The bits of the smallest block of some profiles.
+fn finest_bits(profiles: &[PairProfile]) -> u64
+    ensures { result ≡ finest_bits profiles.now }
+{
+    let mut bits = MAX_BITS;
+    for pair in profiles {
+        bits = bits.min(pair.profile.block_bits());
+    }
+    bits
+}
+
 /// Has a reference wait to be fed if it is of a kind, which is one more of those fed. Where no more
-/// may wait, those that do are fed first.
+/// may wait, those that do are fed first. `bits` are those of the smallest block.
 #[inline(always)]
 fn feed_kept(
     profiles: &mut [PairProfile],
     batch: &mut Batch,
+    bits: u64,
     kind: Kind,
     reference: Ref,
     fed: &mut u64,
 )
     requires few { fed.old < MAX_REFERENCES }
     requires waiting { AreWaiting fed.old batch.old profiles.old }
+    requires small { bits ≤ MAX_BITS }
+    requires finest { AreNoFiner bits profiles.old }
     ensures caught { profiles_with_fronts fed.new (profiles_after_batch batch.new profiles.new)
         ≡ profiles_after (kept_events kind (reference ∷ []))
         (profiles_with_fronts fed.old (profiles_after_batch batch.old profiles.old)) }
     ensures waiting { AreWaiting fed.new batch.new profiles.new }
+    ensures finest { AreNoFiner bits profiles.new }
     ensures more { fed.new ≤ fed.old + 1 }
 {
     if kind.keeps(reference.access) {
         if batch.is_full() {
             batch.feed(profiles);
         }
-        batch.push(reference.addr);
+        batch.push(reference.addr, bits);
         *fed += 1;
     }
 }

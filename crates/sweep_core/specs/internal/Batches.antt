@@ -1,5 +1,6 @@
 -- References that are fed to profiles many at a time.
 use Rattle.std.specs.Prelude.{⊤, ℕ, Bool, false, ◌==◌, ◌≤◌, ◌<◌, ◌+◌, ◌-◌, min, List, [], ◌∷◌, ◌≡◌}
+use Rattle.std.specs.Prelude.{◌++◌, ◌/◌, ◌^◌, ◌&&◌, nat_lt, fold, if◌then◌else◌}
 use Rattle.std.specs.Prelude.{length, take, map, slice_index_or, slice_set}
 use Rattle.std.specs.List.{AllByRecursion}
 use Rattle.profile_core.specs.internal.State.{ProfileState}
@@ -29,6 +30,25 @@ AreAlwaysLed (x ∷ xs) = (x.implied ≤ length xs) × AllByRecursion
 abbrev pub leads_rest : List PairProfile → Bool
 leads_rest [] = false
 leads_rest (x ∷ xs) = x.implied == length xs
+
+-- whether an address lies in the block of the last of some others, a block of 2^bits bytes
+abbrev pub is_in_last_block : ℕ → List ℕ → ℕ → Bool
+is_in_last_block bits addrs addr =
+    nat_lt 0 (length addrs) && slice_index_or addrs (length addrs - 1) 0 / 2 ^ bits
+    == addr / 2 ^ bits
+
+-- the addresses that wait, and one more, unless it lies in the block of the last
+abbrev pub with_waiting : ℕ → List ℕ → ℕ → List ℕ
+with_waiting bits addrs addr =
+    if is_in_last_block bits addrs addr then addrs else addrs ++ addr ∷ []
+
+-- no block of some profiles is smaller than 2^bits bytes
+abbrev pub AreNoFiner : ℕ → List PairProfile → Type 0
+AreNoFiner bits xs = AllByRecursion (λ x. bits ≤ x.profile.geometry.b) xs
+
+-- the bits of the smallest block of some profiles
+abbrev pub finest_bits : List PairProfile → ℕ
+finest_bits xs = fold (λ bits x. min bits x.profile.geometry.b) 20 xs
 
 -- Profiles that may be fed all of n references but some that found their block in front, and any
 -- others then.

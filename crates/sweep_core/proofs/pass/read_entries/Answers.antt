@@ -8,12 +8,13 @@ use Rattle.trace_core.proofs.WholeTraces.{holds-less, reads-end, reads-fault, re
 use Rattle.trace_core.proofs.WholeTraces.{reads-none}
 use Rattle.sweep_core.specs.internal.Pass.{profiles_after, pair_after_flush}
 use Rattle.sweep_core.specs.internal.Implied.{profiles_with_fronts, FedAtMost}
-use Rattle.sweep_core.specs.internal.Batches.{AreWaiting, profiles_after_batch}
+use Rattle.sweep_core.specs.internal.Batches.{AreWaiting, AreNoFiner, profiles_after_batch}
 use Rattle.sweep_core.proofs.Passes.{all_after-nil, fed-both, fed-more, fed-one}
 use Rattle.sweep_core.proofs.Catching.{fresh-few, caught-none, caught-flush}
 use Rattle.sweep_core.proofs.Catching.{few-flush}
 use Rattle.sweep_core.proofs.Batching.{fed-nil, waiting-none, waiting-behind}
 use Rattle.sweep_core.proofs.Batching.{waiting-few, waiting-led}
+use Rattle.sweep_core.proofs.Repeated.{finest-small, finest-finer, no-finer-fed, no-finer-flushed}
 use Rattle.sweep_core.proofs.pass.read_entries.Goals as goal
 
 pub loop-entry-init : goal.loop-entry-init
@@ -30,6 +31,7 @@ loop-entry-init g c =
         omega (arith, c.requires.none),
       ),
       omega (arith, ap (λ p. p.lines) c.requires.begun),
+      subst (λ n. AreNoFiner n xs) (sym c.finest_bits-bits.ensures) (finest-finer xs),
     )
 
 pub loop-entry-preserved-in-Some-second : goal.loop-entry-preserved-in-Some-second
@@ -59,6 +61,7 @@ loop-entry-preserved-in-Some-second g c =
         ),
       ),
       omega (arith, c.next.ensures.within, c.next.ensures.limited),
+      second.finest,
     )
 
 pub loop-entry-preserved-in_default-second : goal.loop-entry-preserved-in_default-second
@@ -78,7 +81,17 @@ loop-entry-preserved-in_default-second g c =
         omega (arith, so_far.holds.2, one.more, length-append es (c.in-Some.entry ∷ [])),
       ),
       omega (arith, c.next.ensures.within, c.next.ensures.limited),
+      one.finest,
     )
+
+-- no block is larger than 2^20 bytes
+pub feed_kept-requires-clause-small : goal.feed_kept-requires-clause-small
+feed_kept-requires-clause-small g c =
+    omega (arith, c.finest_bits-bits.ensures, finest-small c.args.profiles.now)
+
+pub feed_kept-requires-in-Some-second-clause-small : goal.feed_kept-requires-in-Some-second-clause-small
+feed_kept-requires-in-Some-second-clause-small g c =
+    omega (arith, c.finest_bits-bits.ensures, finest-small c.args.profiles.now)
 
 -- at a flush those that wait are fed first
 pub feed-requires-clause-few : goal.feed-requires-clause-few
@@ -97,6 +110,7 @@ loop-entry-preserved g c =
     let so_far = c.loop-entry.invariant.0 in
     let es = entries_of so_far.read in
     let n = c.loop-entry.fed in
+    let bits = c.finest_bits-bits.result in
     let xs = profiles_after_batch c.loop-entry.batch c.loop-entry.profiles in
     let flushed : c.flush.new.profiles ≡ map pair_after_flush xs = c.flush.ensures ∙
     ap (map pair_after_flush) c.feed.ensures.fed in
@@ -119,6 +133,8 @@ loop-entry-preserved g c =
         omega (arith, so_far.holds.2, length-append es (c.in-Some.entry ∷ [])),
       ),
       omega (arith, c.next.ensures.within, c.next.ensures.limited),
+      subst (AreNoFiner bits) (sym flushed) (no-finer-flushed bits xs
+          (no-finer-fed bits c.loop-entry.batch c.loop-entry.profiles c.loop-entry.invariant.2)),
     )
 
 pub returns-in_err-entry-clause-fed : goal.returns-in_err-entry-clause-fed

@@ -7,7 +7,7 @@ use Rattle.trace_core.specs.declared.limits.TheConstants.{MAX_LINES}
 use Rattle.trace_core.proofs.WholeTraces.{Reads}
 use Rattle.sweep_core.specs.internal.Pass.{profiles_after}
 use Rattle.sweep_core.specs.internal.Implied.{profiles_with_fronts}
-use Rattle.sweep_core.specs.internal.Batches.{AreWaiting, profiles_after_batch}
+use Rattle.sweep_core.specs.internal.Batches.{AreWaiting, AreNoFiner, profiles_after_batch}
 use Rattle.sweep_core.proofs.pass.read_entries.Given as goal
 
 -- the entries that were read were fed or wait, at most two references each
@@ -18,7 +18,7 @@ invariant-loop-entry g l =
     (λ es. (profiles_with_fronts l.fed (profiles_after_batch l.batch l.profiles)
     ≡ profiles_after (flat_map (events_of l.kind) es) l.fn.profiles)
     × AreWaiting l.fed l.batch l.profiles × (l.fed ≤ 2 * length es))
-    × (l.lines.lines ≤ MAX_LINES)
+    × (l.lines.lines ≤ MAX_LINES) × AreNoFiner l.bits l.profiles
 
 abbrev pub decreases-loop-entry : goal.decreases-loop-entry
 decreases-loop-entry g l = l.lines.limit - l.lines.lines
