@@ -89,7 +89,8 @@ pub feed_kept-requires-clause-small : goal.feed_kept-requires-clause-small
 feed_kept-requires-clause-small g c =
     omega (arith, c.finest_bits-bits.ensures, finest-small c.args.profiles.now)
 
-pub feed_kept-requires-in-Some-second-clause-small : goal.feed_kept-requires-in-Some-second-clause-small
+pub feed_kept-requires-in-Some-second-clause-small :
+    goal.feed_kept-requires-in-Some-second-clause-small
 feed_kept-requires-in-Some-second-clause-small g c =
     omega (arith, c.finest_bits-bits.ensures, finest-small c.args.profiles.now)
 
