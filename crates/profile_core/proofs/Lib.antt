@@ -24,5 +24,7 @@ pub mod Fronts
 pub mod Batches
 pub mod Runs
 pub mod HitSums
+pub mod ListParts
 pub mod LongListLemmas
+pub mod LongListBringing
 mod ProfileRows

@@ -7,9 +7,10 @@ use Rattle.profile_core.specs.internal.Moves.{rest_touch_of}
 use Rattle.profile_core.specs.internal.Slab.{Lists, lists_after_touch}
 use Rattle.profile_core.specs.internal.LongLists.{whole_lists, nothing}
 use Rattle.profile_core.proofs.LongListLemmas.{length-joined, front_is, second_is, stays_split}
-use Rattle.profile_core.proofs.LongListLemmas.{stays_lists, settled_stays, settled_touch, IsFull}
-use Rattle.profile_core.proofs.LongListLemmas.{full_is, far_read, last_apart, held_small}
-use Rattle.profile_core.proofs.LongListLemmas.{rest_small, full_touch, full_split, full_lists}
+use Rattle.profile_core.proofs.LongListLemmas.{stays_lists}
+use Rattle.profile_core.proofs.LongListBringing.{settled_stays, settled_touch, IsFull, full_is}
+use Rattle.profile_core.proofs.LongListBringing.{far_read, last_apart, held_small, rest_small}
+use Rattle.profile_core.proofs.LongListBringing.{full_touch, full_split, full_lists}
 use Rattle.profile_core.proofs.long_lists.LongLists.bring.Goals as goal
 use Rattle.profile_core.proofs.long_lists.LongLists.bring.Goals.{After-self, After-index_mut}
 

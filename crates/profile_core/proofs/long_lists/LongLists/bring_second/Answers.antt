@@ -4,8 +4,9 @@ use Rattle.std.proofs.Common.{ap, arith, true}
 use Rattle.profile_core.specs.internal.Moves.{is_front, is_second, is_in}
 use Rattle.profile_core.specs.internal.Slab.{Lists, lists_after_touch}
 use Rattle.profile_core.specs.internal.LongLists.{whole_lists}
-use Rattle.profile_core.proofs.LongListLemmas.{length-joined, front_is, second_is, second_in}
-use Rattle.profile_core.proofs.LongListLemmas.{stays_split, stays_lists}
+use Rattle.profile_core.proofs.ListParts.{second_in}
+use Rattle.profile_core.proofs.LongListLemmas.{length-joined, front_is, second_is, stays_split}
+use Rattle.profile_core.proofs.LongListLemmas.{stays_lists}
 use Rattle.profile_core.proofs.long_lists.LongLists.bring_second.Goals as goal
 use Rattle.profile_core.proofs.long_lists.LongLists.bring_second.Goals.{After-self}
 
