@@ -18,7 +18,7 @@ const MANY_SETS: usize = 4096;
 const MANY_WAYS: usize = 32;
 
 /// With so many ways at least, and 16 at most, blocks stand in slots: with fewer it costs less to
-/// move them, and a list of more would not fit the lanes of a vector.
+/// move them. The lanes of a vector have room for a list of 18, its first two blocks apart.
 const SLOTTED_FROM: usize = 12;
 
 const SLOTTED_TO: usize = 16;

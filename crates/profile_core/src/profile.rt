@@ -258,8 +258,8 @@ impl Profile {
     /// How many comparisons of a block with an entry of its set's list are counted: those of a walk
     /// over the list up to the block, or over all of it if the block isn't there. That is the cost
     /// of the stack algorithm, by which spaces are compared. Fewer may be made, never more: for a
-    /// reference that `count_fronts` counts one is counted and none made, and in a list of 256 ways
-    /// or more most blocks are found without a walk.
+    /// reference that `count_fronts` counts one is counted and none made, and with 12 to 16 ways
+    /// and up to 4,096 sets, or 256 ways and more, most blocks are found without a walk.
     pub fn probes(&self) -> u64
         ensures value { result ≡ self.now.probes }
         ensures trace { (es : List Event) → ProfileStandsFor es self.now
