@@ -184,14 +184,19 @@ class Sums(ToolTest):
         self.write("tests/cases/one.cases", "== one\n$ cachesim --help\n>~ sweep\n")
         (self.folder / "examples").mkdir()
         run = self.folder / "tests/run", "--program", PROGRAM
+        one = f"tests/run: 1 cases, {self.common.sum_of('one')}"
         ran = self.run_command(*run)
         self.assertEqual(ran.returncode, 1)
-        self.assertEqual(ran.stdout.decode(), "FAILED tests/run: 1 cases: kept is 3 cases; after a "
-                         "look, tests/ledger --write keeps what was run\n1 passed, 1 failed\n")
+        told = (f"FAILED {one}: kept is 3 cases; after a look, tests/ledger --write keeps what was "
+                "run\n1 passed, 1 failed\n")
+        self.assertEqual(ran.stdout.decode(), told)
         (self.folder / "docs").mkdir()
         self.write("docs/proofs.md", "## Promises\n")
         self.assertEqual(self.run_command(self.folder / "tests/ledger", "--write").returncode, 0)
         kept = (self.folder / "tests/sums").read_text().splitlines()
-        self.assertEqual(kept[:2], ["tests/limits: 9 cases", "tests/run: 1 cases"])
+        self.assertEqual(kept[:2], ["tests/limits: 9 cases", one])
         self.assertEqual(self.run_command(*run).returncode, 0)
         self.assertEqual(self.run_command(*run, "one").returncode, 0)
+        # another case of the same file in its place
+        self.write("tests/cases/one.cases", "== two\n$ cachesim --help\n>~ sweep\n")
+        self.assertEqual(self.run_command(*run).returncode, 1)
