@@ -56,14 +56,17 @@ class Compiling(ToolTest):
         words = ("make", "-s", "-C", self.folder, "out/to-din", "out/by-line")
         made = [self.folder / word for word in words[-2:]]
         self.good(self.run_command(*words))
-        before = [part.stat().st_ino for part in made]
         self.later(self.folder / "lib/by_line/by-line-trace.h", made[1])
+        self.assertEqual(self.kept(made, *words), [True, False])
+        # other words for the compiler
+        self.assertEqual(self.kept(made, *words, "CFLAGS=-O0"), [False, False])
+
+    def kept(self, made, *words):
+        """Which parts a make leaves. A part that takes the place of another was there beside it, so
+        it has another number; that of one before may have been given again."""
+        before = [part.stat().st_ino for part in made]
         self.good(self.run_command(*words))
-        kept = [part.stat().st_ino == number for part, number in zip(made, before)]
-        self.assertEqual(kept, [True, False])
-        self.good(self.run_command(*words, "CFLAGS=-O0"))  # other words for the compiler
-        kept = [part.stat().st_ino == number for part, number in zip(made, before)]
-        self.assertEqual(kept, [False, False])
+        return [part.stat().st_ino == number for part, number in zip(made, before)]
 
     @staticmethod
     def later(source, made):
