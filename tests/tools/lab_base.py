@@ -18,9 +18,10 @@ STUDENTS = TOP / "tests/tools/lab"
 
 def is_running(program):
     """Whether a process runs a program."""
-    for link in pathlib.Path("/proc").glob("[0-9]*/exe"):
+    # a process may end meanwhile, so that its link is not looked for before it is read
+    for number in filter(str.isdecimal, os.listdir("/proc")):
         with contextlib.suppress(OSError):
-            if os.readlink(link) == str(program):
+            if os.readlink(f"/proc/{number}/exe") == str(program):
                 return True
     return False
 
