@@ -15,7 +15,7 @@ ALL = ["sweep", "--bsize", "1-1m", "--sets", "1-1m", "--assoc", "1", "--size", "
 # sentences of the manual on memory, with their numbers and formulas
 NUMBER, FORMULA = r"([\d.,]+)", r"`([\d.*+ SA-]+)`"
 ROWS = f"`sweep` takes {FORMULA} bytes for each"
-GROUPS = (
+SPARSE = (
     f"If S is more than {NUMBER} and A is {NUMBER} to {NUMBER}, it takes {FORMULA} bytes more, but "
     f"{FORMULA} of the pair's bytes are written only as"
 )
@@ -56,13 +56,13 @@ def value(formula, sets, ways):
 def told_of_pair(sets, ways):
     """The bytes of a pair of a sweep, for so many sets and the most lines per set."""
     [formula], [deep, most, *_] = told_by_the_manual(ROWS), told_by_the_manual(LONG_LISTS)
-    many, group_from, group_to, more, _ = told_by_the_manual(GROUPS)
+    many, sparse_from, sparse_to, more, _ = told_by_the_manual(SPARSE)
     few, slots_from, slots_to, slots, _ = told_by_the_manual(SLOTS)
     if ways >= deep:
         formula = most
     elif sets <= few and slots_from <= ways <= slots_to:
         formula = slots
-    elif sets > many and group_from <= ways <= group_to:
+    elif sets > many and sparse_from <= ways <= sparse_to:
         formula = f"{formula} + {more}"
     return value(formula, sets, ways)
 

@@ -71,7 +71,7 @@ module _ {x y h : ℕ} {rest after : List ℕ} (s : IsShifted x y h rest after) 
   abbrev others : List ℕ
   others = remove list (index_of x list)
 
-  size : length (take h rest) ≡ h
+  pub size : length (take h rest) ≡ h
   size = length-take-le h rest s.within
 
   passed : after ≡ take h others

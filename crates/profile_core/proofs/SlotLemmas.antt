@@ -6,13 +6,13 @@ use Rattle.std.proofs.Common.{get_or-set_same, get_or-set_other, length-take}
 use Rattle.std.proofs.lemmas.Bool.{false≢true, cases_lt, ne_eqb, lt-ltb, le-ltb, eq-eqb}
 use Rattle.std.proofs.lemmas.List.Folds.{list_any_at}
 use Rattle.std.proofs.lemmas.List.{get_or_past, ext_get_or, length-map, length-take-le, get_or-take}
-use Rattle.std.proofs.lemmas.List.{get_or-map, length-set}
+use Rattle.std.proofs.lemmas.List.{get_or-map, length-set, take-take, take-map}
 use Rattle.std.proofs.lemmas.List.Edits.{get_or-remove_below, get_or-remove_above}
 use Rattle.std.proofs.lemmas.Simd.{swz_l, put_chunk_whole}
 use Rattle.std.specs.Simd.Lanes.{sel_l, top, zip2, put_chunk}
 use Rattle.std.specs.List.{remove}
 use Rattle.profile_core.specs.declared.recency.Touch.TheVariants.{Behind, New}
-use Rattle.profile_core.specs.declared.slotted_rows.TheConstants.{TURNS, FIRST_LANE}
+use Rattle.profile_core.specs.declared.slotted_rests.TheConstants.{TURNS, FIRST_LANE}
 use Rattle.profile_core.specs.internal.Moves.{index_of, is_in, touch_of}
 use Rattle.profile_core.specs.internal.Slots.{mark_of, listed, IsOrder}
 use Rattle.profile_core.proofs.Emptying.{zero_at}
@@ -30,6 +30,13 @@ listed_at order numbers len k le lt =
     get_or-map (λ s. get_or numbers s 0) (take len order) k 0 0
     (omega (arith, length-take-le len order le))
     ∙ ap (λ s. get_or numbers s 0) (get_or-take len order k 0 lt)
+
+-- the numbers in the first slots
+pub listed_take : (order numbers : List ℕ) (n m : ℕ) → n ≤ m →
+    listed order numbers n ≡ take n (listed order numbers m)
+listed_take order numbers n m le =
+    ap (map (λ s. get_or numbers s 0)) (sym (take-take n m order le)) ∙
+    sym (take-map (λ s. get_or numbers s 0) n (take m order))
 
 -- where a block is found, and where it is not
 pub found_at : (x p : ℕ) (xs : List ℕ) → p < length xs →

@@ -1,12 +1,14 @@
 pub mod Fronts
-pub mod GroupedRows
 pub mod KeptLists
 pub mod LongLists
 pub mod Moves
+pub mod Places
 pub mod PlainRows
 pub mod ProfileStandsFor
 pub mod Rows
 pub mod Slab
 pub mod Slots
-pub mod SlottedRows
+pub mod SlottedRests
+pub mod SparseRests
+pub mod SplitRows
 pub mod State

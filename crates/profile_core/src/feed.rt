@@ -10,11 +10,10 @@ ghost use Rattle.profile_core.specs.internal.State.{profile_of, AreSound};
 ghost use Rattle.profile_core.specs.internal.Fronts.{is_front_of, after_unless_front};
 ghost use Rattle.profile_core.specs.internal.Fronts.{after_batch, fed_of_batch};
 
-use crate::grouped_rows::GroupedRows;
 use crate::histograms::Histograms;
 use crate::kept_lists::KeptLists;
 use crate::profile::MAX_REFERENCES;
-use crate::recency::{RecencyLists, Touch};
+use crate::recency::Touch;
 use crate::set_lists::SetLists;
 use cache_core::Geometry;
 
@@ -193,7 +192,7 @@ fn feed_otherwise(
     match lists {
         KeptLists::InSlots(lists) => feed_by_parts(geometry, lists, histograms, set, block),
         KeptLists::InRows(lists) => feed_by_parts(geometry, lists, histograms, set, block),
-        KeptLists::InGroups(lists) => feed_in_groups(geometry, lists, histograms, set, block),
+        KeptLists::InSparseRows(lists) => feed_by_parts(geometry, lists, histograms, set, block),
         KeptLists::Long(lists) => feed_by_parts(geometry, lists, histograms, set, block),
     }
 }
@@ -219,25 +218,6 @@ fn feed_by_parts<L: SetLists>(
     } else {
         feed_further_apart(geometry, lists, histograms, set, block);
     }
-}
-
-/// The same for rows in groups, apart from the other ways: it may have to add a group, and saves
-/// registers for this.
-#[inline(never)]
-fn feed_in_groups(
-    geometry: &Geometry,
-    lists: &mut RecencyLists<GroupedRows>,
-    histograms: &mut Histograms,
-    set: usize,
-    block: u64,
-)
-    requires sound { AreSound geometry.now lists.old histograms.old }
-    requires next { IsNext (profile_of geometry.now lists.old histograms.old) set block }
-    ensures sound { AreSound geometry.now lists.new histograms.new }
-    ensures step { profile_of geometry.now lists.new histograms.new
-        ≡ after_reference (profile_of geometry.now lists.old histograms.old) block }
-{
-    feed_behind(*geometry, lists, histograms, set, block);
 }
 
 /// Feeds a reference to a block that is not the front of its set's list, or not in it at all.

@@ -4,11 +4,12 @@ ghost use Rattle.std.specs.Prelude.{slice_index, slice_index_or, IsTrue, ◌↔�
 ghost use Rattle.profile_core.specs.internal.KeptLists.{lists_of};
 ghost use Rattle.profile_core.specs.internal.Moves.{is_front};
 
-use crate::grouped_rows::GroupedRows;
 use crate::long_lists::{DEEP, LongLists};
 use crate::plain_rows::PlainRows;
 use crate::recency::RecencyLists;
-use crate::slotted_rows::SlottedRows;
+use crate::slotted_rests::SlottedRests;
+use crate::sparse_rests::SparseRests;
+use crate::split_rows::SplitRows;
 use std::alloc::{AllocError, Global};
 
 /// With more sets than this, a start would clear more memory than most traces reach.
@@ -23,14 +24,15 @@ const SLOTTED_FROM: usize = 12;
 
 const SLOTTED_TO: usize = 16;
 
-/// The lists of all sets, in one of these ways: each list in a row, where the rows stand in the
-/// order of the sets, in slots or in groups; or, where lists may be long, only the first blocks of
-/// each in a row, and the others in a deep list.
+/// The lists of all sets, in one of these ways: each list in a row, and the rows in the order of the
+/// sets; or only its second block there, and the others in slots or in a rest that its set takes as
+/// it needs one; or, where lists may be long, the first blocks of each in a row, and the others in a
+/// deep list.
 #[derive(Drop)]
 pub enum KeptLists {
     InRows(RecencyLists<PlainRows>),
-    InSlots(RecencyLists<SlottedRows>),
-    InGroups(RecencyLists<GroupedRows>),
+    InSlots(RecencyLists<SplitRows<SlottedRests>>),
+    InSparseRows(RecencyLists<SplitRows<SparseRests>>),
     Long(LongLists),
 }
 
@@ -47,11 +49,13 @@ impl KeptLists {
             return Ok(KeptLists::Long(LongLists::new(alloc, sets, depth)?));
         }
         if sets > MANY_SETS && depth >= MANY_WAYS {
-            let rows = GroupedRows::new(alloc, sets, depth - 1)?;
-            return Ok(KeptLists::InGroups(RecencyLists::new(alloc, rows, sets)?));
+            let rests = SparseRests::new(alloc, sets, depth - 2)?;
+            let rows = SplitRows::new(alloc, rests, sets)?;
+            return Ok(KeptLists::InSparseRows(RecencyLists::new(alloc, rows, sets)?));
         }
         if depth >= SLOTTED_FROM && depth <= SLOTTED_TO && sets <= MANY_SETS {
-            let rows = SlottedRows::new(alloc, sets, depth - 1)?;
+            let rests = SlottedRests::new(alloc, sets, depth - 2)?;
+            let rows = SplitRows::new(alloc, rests, sets)?;
             return Ok(KeptLists::InSlots(RecencyLists::new(alloc, rows, sets)?));
         }
         let rows = PlainRows::new(alloc, sets, depth - 1)?;
@@ -78,7 +82,7 @@ impl KeptLists {
         match self {
             KeptLists::InRows(lists) => lists.front(set),
             KeptLists::InSlots(lists) => lists.front(set),
-            KeptLists::InGroups(lists) => lists.front(set),
+            KeptLists::InSparseRows(lists) => lists.front(set),
             KeptLists::Long(lists) => lists.front(set),
         }
     }
@@ -93,7 +97,7 @@ impl KeptLists {
         match self {
             KeptLists::InRows(lists) => lists.has_block(set),
             KeptLists::InSlots(lists) => lists.has_block(set),
-            KeptLists::InGroups(lists) => lists.has_block(set),
+            KeptLists::InSparseRows(lists) => lists.has_block(set),
             KeptLists::Long(lists) => lists.has_block(set),
         }
     }
@@ -107,7 +111,7 @@ impl KeptLists {
         match self {
             KeptLists::InRows(lists) => lists.clear(),
             KeptLists::InSlots(lists) => lists.clear(),
-            KeptLists::InGroups(lists) => lists.clear(),
+            KeptLists::InSparseRows(lists) => lists.clear(),
             KeptLists::Long(lists) => lists.clear(),
         }
     }
@@ -121,7 +125,7 @@ impl KeptLists {
         match self {
             KeptLists::InRows(lists) => lists.held(),
             KeptLists::InSlots(lists) => lists.held(),
-            KeptLists::InGroups(lists) => lists.held(),
+            KeptLists::InSparseRows(lists) => lists.held(),
             KeptLists::Long(lists) => lists.held(),
         }
     }

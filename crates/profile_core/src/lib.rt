@@ -3,7 +3,6 @@
 #![tactic(auto)]
 
 mod feed;
-mod grouped_rows;
 mod histograms;
 mod hit_sums;
 mod kept_lists;
@@ -12,9 +11,12 @@ mod long_lists;
 mod plain_rows;
 pub mod profile;
 mod recency;
+mod rests;
 mod row;
 mod rows;
 mod set_lists;
-mod slotted_rows;
+mod slotted_rests;
+mod sparse_rests;
+mod split_rows;
 
 pub use profile::{MAX_REFERENCES, Profile};

@@ -47,9 +47,9 @@ impl Profile {
     /// A profile of caches of `2^s` sets of 1 to `depth` lines of `2^b` bytes. It takes all its
     /// memory here: 8 bytes for each of `depth * 2^s` blocks, 4 and a quarter for each set, and 16
     /// for each associativity and 8 more. With more than 4,096 sets and a depth of 32 to 255 it
-    /// takes half a byte more for each set, and eight rows. With a depth of 12 to 16 and up to
-    /// 4,096 sets it takes 184 and a quarter for each set, of which 160 are not written before
-    /// the set has three blocks. With a depth of 256 or more it takes at most 21.6 bytes for each
+    /// takes 4 bytes more for each set, and a row. With a depth of 12 to 16 and up to 4,096 sets
+    /// it takes 184 and a quarter for each set, of which 160 are not written before the set has
+    /// three blocks. With a depth of 256 or more it takes at most 21.6 bytes for each
     /// block. Where memory is refused, nothing is kept.
     pub fn new(alloc: Global, b: u64, s: u64, depth: u64) -> Result<Profile, AllocError>
         requires { IsGeometry (geometry_value s depth b) }
@@ -120,7 +120,7 @@ impl Profile {
         match &mut self.lists {
             KeptLists::InRows(lists) => feed_each(geometry, lists, histograms, addrs),
             KeptLists::InSlots(lists) => feed_each(geometry, lists, histograms, addrs),
-            KeptLists::InGroups(lists) => feed_each(geometry, lists, histograms, addrs),
+            KeptLists::InSparseRows(lists) => feed_each(geometry, lists, histograms, addrs),
             KeptLists::Long(lists) => feed_each(geometry, lists, histograms, addrs),
         }
     }
@@ -158,15 +158,16 @@ impl Profile {
                 &mut next.histograms,
                 addrs,
             ),
-            (KeptLists::InGroups(lists), KeptLists::InGroups(next_lists)) => feed_each_to_two(
-                &self.geometry,
-                lists,
-                &mut self.histograms,
-                &next.geometry,
-                next_lists,
-                &mut next.histograms,
-                addrs,
-            ),
+            (KeptLists::InSparseRows(lists), KeptLists::InSparseRows(next_lists)) =>
+                feed_each_to_two(
+                    &self.geometry,
+                    lists,
+                    &mut self.histograms,
+                    &next.geometry,
+                    next_lists,
+                    &mut next.histograms,
+                    addrs,
+                ),
             (KeptLists::Long(lists), KeptLists::Long(next_lists)) => feed_each_to_two(
                 &self.geometry,
                 lists,

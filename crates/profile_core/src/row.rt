@@ -1,9 +1,9 @@
-//! A list in its row: its front, and the blocks behind it.
+//! A list in its row, or in the rest of it: how its blocks are shifted.
 
-ghost use Rattle.std.specs.Prelude.{◌≡◌, ◌<◌, ◌∷◌, false, nat_eq, length, take};
+ghost use Rattle.std.specs.Prelude.{◌≡◌, ◌+◌, ◌-◌, ◌^◌, ◌<◌, ◌≤◌, ◌∷◌, false, nat_eq, length, take};
 ghost use Rattle.std.specs.List.{remove};
 ghost use Rattle.profile_core.specs.internal.Moves.{index_of, is_front, is_second, touch_of};
-ghost use Rattle.profile_core.specs.internal.Moves.{shifted_of};
+ghost use Rattle.profile_core.specs.internal.Moves.{shifted_of, rest_touch_of};
 ghost use Rattle.profile_core.specs.internal.Slab.{IsRow, IsBroughtInRow};
 
 use crate::recency::Touch;
@@ -39,6 +39,41 @@ pub fn bring_in_row(front: &mut u64, rest: &mut [u64], len: &mut u32, block: u64
                 *len += 1;
             }
             Touch::New(held)
+        }
+    }
+}
+
+/// Brings a block to the front of a list whose first two blocks stand elsewhere, and which it is
+/// neither of: `rest` begins with the others. `second` goes in front of these. The list may grow by
+/// one, if the rest is longer.
+#[inline(always)]
+pub fn bring_behind(rest: &mut [u64], second: u64, len: &mut u32, block: u64) -> Touch
+    requires some { 0 < length rest.old }
+    requires small { length rest.old ≤ 2 ^ 26 }
+    requires two { 2 ≤ len.old }
+    requires fits { len.old ≤ length rest.old + 2 }
+    requires other { nat_eq second block ≡ false }
+    ensures found { result ≡ rest_touch_of 2 block (take (len.old - 2) rest.old) }
+    ensures two { 2 ≤ len.new }
+    ensures fits { len.new ≤ length rest.old + 2 }
+    ensures moved { let list = take (len.old - 2) rest.old in
+        take (len.new - 2) rest.new
+        ≡ take (length rest.old) (second ∷ remove list (index_of block list)) }
+{
+    let count = *len as usize;
+    let held = count - 2;
+    if held > 0 && rest[0] == block {
+        rest[0] = second;
+        return Touch::Behind(2);
+    }
+    match shift_past(&mut rest[..held], second, block) {
+        Shifted::Found(distance) => Touch::Behind(distance + 1),
+        Shifted::Out(last) => {
+            if held < rest.len() {
+                rest[held] = last;
+                *len += 1;
+            }
+            Touch::New(count)
         }
     }
 }

@@ -1,11 +1,16 @@
 -- The rows of all sets, however they are stored.
 use Rattle.std.specs.Prelude.{ℕ, ◌≡◌, ◌<◌, List, [], ◌∷◌, length, take, replicate, slice_index_or}
-use Rattle.std.specs.Prelude.{slice_set}
+use Rattle.std.specs.Prelude.{slice_set, map}
+use Rattle.std.specs.List.{range_with_len}
 
 -- a row of `stride` numbers for each set
 pub record RowsValue : Type 0 where
   pub stride : ℕ
   pub rows : List (List ℕ)
+
+-- a row for each of m sets
+unfoldable pub rows_of : ℕ → (ℕ → List ℕ) → List (List ℕ)
+rows_of m row = map row (range_with_len 0 m)
 
 -- rows of zeros for so many sets
 abbrev pub blank_rows : ℕ → ℕ → RowsValue

@@ -7,8 +7,9 @@ use Rattle.std.proofs.lemmas.List.{with_items_is}
 use Rattle.profile_core.specs.internal.Moves.{is_front, is_second, touch_of}
 use Rattle.profile_core.specs.internal.Slab.{IsRow, IsBroughtInRow}
 use Rattle.profile_core.specs.internal.Rows.{row_for, with_row, list_in_row}
-use Rattle.profile_core.proofs.PlainRowLemmas.{RowIn, IsPut, stride_is, ends, slab_small, row_is}
-use Rattle.profile_core.proofs.PlainRowLemmas.{row_size, row_put, put_is}
+use Rattle.profile_core.proofs.PlainRowLemmas.{RowIn, IsPut, ends, slab_small, row_size}
+use Rattle.profile_core.proofs.PlainRowLemmas.{plain_put}
+use Rattle.profile_core.proofs.RowsOf.{stride_is, row_is, put_is}
 use Rattle.profile_core.proofs.plain_rows.PlainRowsRowStore.bring.Goals as goal
 use Rattle.profile_core.proofs.plain_rows.PlainRowsRowStore.bring.Goals.{After-self}
 use Rattle.profile_core.proofs.plain_rows.PlainRowsRowStore.bring.Goals.{After-deref_mut}
@@ -17,8 +18,7 @@ use Rattle.profile_core.proofs.plain_rows.PlainRowsRowStore.bring.Goals.{After-b
 row : (c : After-self) → RowIn c.self.inside c.args.set c.args.self.now
 row c = record {
   sound = c.self.invariant;
-  seen = c.self.view_is;
-  is_set = c.requires.within;
+  row = record { seen = c.self.view_is; is_set = c.requires.within };
 }
 
 pub overflow_mul-start : goal.overflow_mul-start
@@ -52,7 +52,7 @@ lent c r =
     let n = c.self.inside.stride in
     let start = c.args.set * n in
     ap (λ j. take j (drop start c.deref_mut.result.now)) (omega arith)
-    ∙ ap (λ es. take n (drop start es)) c.deref_mut.ensures.value ∙ sym (row_is r)
+    ∙ ap (λ es. take n (drop start es)) c.deref_mut.ensures.value ∙ sym (row_is r.row)
 
 pub bring_in_row-requires-clause-row : goal.bring_in_row-requires-clause-row
 bring_in_row-requires-clause-row c =
@@ -103,7 +103,7 @@ put c r lent =
     let items = with_items_is slab after
     (same_len_mid start (start + n - start) now new c.bring_in_row.auto.rest ∙
     c.deref_mut.ensures.len) in
-    row_put r new long (items ∙ whole)
+    plain_put r new long (items ∙ whole)
 
 pub invariant_of-self : goal.invariant_of-self
 invariant_of-self c =
@@ -116,7 +116,7 @@ returns-clause-moved c =
     let at = goal.at.returns-clause-moved c in
     let r = row at.After-self in
     let lent = lent at.After-deref_mut r in
-    let is = put_is (put at.After-bring_in_row r lent) c.requires.within in
+    let is = put_is c.args.self.now (put at.After-bring_in_row r lent).seen c.requires.within in
     subst (λ rest. IsBroughtInRow c.args.block (list_in_row c.args.self.now c.args.set
     c.args.front.now c.args.len.now) c.bring_in_row.new.front rest c.bring_in_row.new.len) (sym is)
     (subst (λ rest. IsBroughtInRow c.args.block (take c.args.len.now (c.args.front.now ∷ rest))
@@ -128,12 +128,12 @@ returns-clause-long c =
     let at = goal.at.returns-clause-long c in
     let r = row at.After-self in
     let lent = lent at.After-deref_mut r in
-    ap length (put_is (put at.After-bring_in_row r lent) c.requires.within)
-    ∙ c.bring_in_row.auto.rest ∙ ap length lent ∙ row_size r ∙ stride_is r
+    ap length (put_is c.args.self.now (put at.After-bring_in_row r lent).seen c.requires.within)
+    ∙ c.bring_in_row.auto.rest ∙ ap length lent ∙ row_size r ∙ stride_is r.row
 
 pub returns-clause-others : goal.returns-clause-others
 returns-clause-others c =
     let at = goal.at.returns-clause-others c in
     let r = row at.After-self in
     let p = put at.After-bring_in_row r (lent at.After-deref_mut r) in
-    p.seen ∙ ap (with_row c.args.self.now c.args.set) (sym (put_is p c.requires.within))
+    p.seen ∙ ap (with_row c.args.self.now c.args.set) (sym (put_is c.args.self.now p.seen c.requires.within))

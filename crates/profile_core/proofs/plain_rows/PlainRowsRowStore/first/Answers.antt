@@ -1,14 +1,14 @@
 -- The first number of a row.
 use Rattle.std.proofs.Common.{arith}
-use Rattle.profile_core.proofs.PlainRowLemmas.{RowIn, stride_is, ends, slab_small, entry_read}
+use Rattle.profile_core.proofs.PlainRowLemmas.{RowIn, ends, slab_small, entry_read}
+use Rattle.profile_core.proofs.RowsOf.{stride_is}
 use Rattle.profile_core.proofs.plain_rows.PlainRowsRowStore.first.Goals as goal
 use Rattle.profile_core.proofs.plain_rows.PlainRowsRowStore.first.Goals.{After-self}
 
 row : (c : After-self) → RowIn c.self.inside c.args.set c.args.self.now
 row c = record {
   sound = c.self.invariant;
-  seen = c.self.view_is;
-  is_set = c.requires.within;
+  row = record { seen = c.self.view_is; is_set = c.requires.within };
 }
 
 pub overflow_mul-set : goal.overflow_mul-set
@@ -19,9 +19,9 @@ overflow_mul-set c =
 pub index-requires : goal.index-requires
 index-requires c =
     let r = row (goal.at.index-requires c).After-self in
-    omega (arith, ends r, c.requires.some, stride_is r, c.self.inside.slab.ok.0)
+    omega (arith, ends r, c.requires.some, stride_is r.row, c.self.inside.slab.ok.0)
 
 pub returns : goal.returns
 returns c =
     let r = row (goal.at.returns c).After-self in
-    entry_read r (omega (arith, c.requires.some, stride_is r)) (omega arith) c.index.ensures
+    entry_read r (omega (arith, c.requires.some, stride_is r.row)) (omega arith) c.index.ensures

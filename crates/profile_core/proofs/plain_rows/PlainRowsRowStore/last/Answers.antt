@@ -1,15 +1,15 @@
 -- The last number of a row.
 use Rattle.std.proofs.Common.{◌-◌, ◌∙◌, get_or, ap, arith}
 use Rattle.profile_core.specs.internal.Rows.{row_for}
-use Rattle.profile_core.proofs.PlainRowLemmas.{RowIn, stride_is, ends, slab_small, entry_read}
+use Rattle.profile_core.proofs.PlainRowLemmas.{RowIn, ends, slab_small, entry_read}
+use Rattle.profile_core.proofs.RowsOf.{stride_is}
 use Rattle.profile_core.proofs.plain_rows.PlainRowsRowStore.last.Goals as goal
 use Rattle.profile_core.proofs.plain_rows.PlainRowsRowStore.last.Goals.{After-self}
 
 row : (c : After-self) → RowIn c.self.inside c.args.set c.args.self.now
 row c = record {
   sound = c.self.invariant;
-  seen = c.self.view_is;
-  is_set = c.requires.within;
+  row = record { seen = c.self.view_is; is_set = c.requires.within };
 }
 
 pub overflow_mul-set : goal.overflow_mul-set
@@ -25,12 +25,12 @@ overflow_add-set c =
 pub index-requires : goal.index-requires
 index-requires c =
     let r = row (goal.at.index-requires c).After-self in
-    omega (arith, ends r, c.requires.some, stride_is r, c.self.inside.slab.ok.0)
+    omega (arith, ends r, c.requires.some, stride_is r.row, c.self.inside.slab.ok.0)
 
 pub returns : goal.returns
 returns c =
     let r = row (goal.at.returns c).After-self in
     let some = c.requires.some in
-    entry_read r (omega (arith, some, stride_is r)) (omega (arith, some, stride_is r))
+    entry_read r (omega (arith, some, stride_is r.row)) (omega (arith, some, stride_is r.row))
     c.index.ensures
-    ∙ ap (λ n. get_or (row_for c.args.self.now c.args.set) (n - 1) 0) (stride_is r)
+    ∙ ap (λ n. get_or (row_for c.args.self.now c.args.set) (n - 1) 0) (stride_is r.row)

@@ -1,0 +1,18 @@
+-- Rows of zeros.
+use Rattle.std.proofs.Common.{◌≡◌}
+use Rattle.std.specs.Prelude.{replicate}
+use Rattle.profile_core.proofs.SplitRowLemmas.{new_split, new_rows}
+use Rattle.profile_core.proofs.split_rows.SplitRows.new.Goals as goal
+use Rattle.profile_core.proofs.split_rows.SplitRows.new.Goals.{In_ok-vec}
+use Rattle.profile_core.proofs.split_rows.SplitRows.new.Given.{Over}
+
+none : (g : Over) (c : In_ok-vec g) → c.in_ok-vec.field-0.items ≡ replicate c.args.sets 0
+none g c = c.in_ok-vec.ensures.items_if_clones_equal (λ y e. e)
+
+pub invariant_of-result : goal.invariant_of-result
+invariant_of-result g c = new_split c.args.sets (none g (goal.at.invariant_of-result g c).In_ok-vec)
+    c.requires.blank c.requires.some c.requires.small
+
+pub returns : goal.returns
+returns g c =
+    new_rows c.args.sets (none g (goal.at.returns g c).In_ok-vec) c.requires.blank

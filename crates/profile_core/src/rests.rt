@@ -1,0 +1,45 @@
+//! What a set's row has behind its first number, in whatever way it is stored.
+ghost use Rattle.std.specs.Prelude.{◌≡◌, ◌+◌, ◌-◌, ◌<◌, ◌≤◌, ◌∷◌, false, nat_eq, length, take};
+ghost use Rattle.std.specs.Prelude.{slice_index};
+ghost use Rattle.std.specs.List.{remove};
+ghost use Rattle.profile_core.specs.internal.Moves.{index_of, rest_touch_of};
+ghost use Rattle.profile_core.specs.internal.Rows.{RowsValue, row_for, with_row};
+
+use crate::recency::Touch;
+
+/// The rests of rows, `stride` numbers each, one for each set. A set's list begins with two blocks
+/// that stand elsewhere; what is behind them its rest begins with.
+pub trait RestStore: Drop {
+    /// What contracts see of it: the rests, as rows.
+    ghost view: { Self → RowsValue };
+
+    /// How many numbers a rest has.
+    fn stride(&self) -> usize
+        ensures { result ≡ (view self.now).stride };
+
+    /// The last number of a set's rest.
+    fn last(&self, set: usize) -> u64
+        requires within { set < length (view self.now).rows }
+        requires some { 0 < (view self.now).stride }
+        ensures { result ≡ slice_index (row_for (view self.now) set) ((view self.now).stride - 1) };
+
+    /// Takes a block out of a set's list of `len` blocks, if it is there, and puts `second` in front
+    /// of the rest. The block is neither the first nor the second of the list. The list may grow by
+    /// one, if the rest is longer. No other rest changes.
+    fn bring(&mut self, set: usize, second: u64, len: &mut u32, block: u64) -> Touch
+        requires within { set < length (view self.old).rows }
+        requires some { 0 < (view self.old).stride }
+        requires two { 2 ≤ len.old }
+        requires fits { len.old ≤ (view self.old).stride + 2 }
+        requires other { nat_eq second block ≡ false }
+        ensures found { result
+            ≡ rest_touch_of 2 block (take (len.old - 2) (row_for (view self.old) set)) }
+        ensures two { 2 ≤ len.new }
+        ensures fits { len.new ≤ (view self.old).stride + 2 }
+        ensures moved { let rest = take (len.old - 2) (row_for (view self.old) set) in
+            take (len.new - 2) (row_for (view self.new) set)
+            ≡ take (view self.old).stride (second ∷ remove rest (index_of block rest)) }
+        ensures long { length (row_for (view self.new) set) ≡ (view self.old).stride }
+        ensures others { view self.new
+            ≡ with_row (view self.old) set (row_for (view self.new) set) };
+}

@@ -1,0 +1,114 @@
+//! Rests that sets take as they need them: most sets of a large cache never do, and to clear theirs
+//! would take longer than many a trace.
+
+ghost use Rattle.std.specs.Prelude.{◌≡◌, ◌+◌, ◌*◌, ◌/◌, ◌^◌, ◌<◌, ◌≤◌, ◌++◌, length, take, ℕ, IfOk};
+ghost use Rattle.std.specs.Prelude.{slice_index, vec_len, vec_capacity};
+ghost use Rattle.profile_core.specs.internal.Rows.{blank_rows};
+ghost use Rattle.profile_core.specs.internal.SparseRests.{sparse_rest, IsSparse};
+
+use crate::recency::Touch;
+use crate::rests::RestStore;
+use crate::row::bring_behind;
+use std::alloc::{AllocError, Global};
+use std::marker::Model;
+
+/// A rest for each set. `numbers` begins with a rest that stays blank, and stands for all that were
+/// never written; that of a set is added behind when it is first written. `places` has for each set
+/// which of them it has, 0 if none of its own. All memory is taken by `new`, but what a set never
+/// writes is not cleared.
+#[derive(Drop)]
+pub struct SparseRests {
+    stride: usize,
+    places: Vec<u32>,
+    numbers: Vec<u64>,
+}
+
+impl Model for SparseRests {
+    ghost use Rattle.std.specs.Prelude.{vec_capacity, length};
+    ghost use Rattle.profile_core.specs.internal.Rows.{RowsValue, rows_of};
+    ghost use Rattle.profile_core.specs.internal.SparseRests.{sparse_rest, IsSparse};
+
+    ghost Value = { RowsValue };
+
+    ghost view = { λ r. record {
+      stride = r.stride;
+      rows = rows_of (length r.places.items) (sparse_rest r.stride r.places.items r.numbers.items);
+    } };
+
+    ghost invariant = { λ r.
+        IsSparse r.stride r.places.items r.numbers.items (vec_capacity r.numbers) };
+}
+
+impl SparseRests {
+    /// Rests of zeros for a number of sets.
+    pub fn new(alloc: Global, sets: usize, stride: usize) -> Result<SparseRests, AllocError>
+        requires some { 1 ≤ stride }
+        requires small { (sets + 1) * stride ≤ 2 ^ 26 }
+        ensures { IfOk result (λ r. r ≡ blank_rows sets stride) }
+    {
+        let mut numbers = Vec::with_capacity(alloc, (sets + 1) * stride)?;
+        numbers.resize(stride, 0)?;
+        Ok(SparseRests {
+            stride,
+            places: vec![in alloc; 0; sets]?,
+            numbers,
+        })
+    }
+}
+
+impl RestStore for SparseRests {
+    ghost view = { λ r. r };
+
+    #[inline(always)]
+    fn stride(&self) -> usize {
+        self.stride
+    }
+
+    fn last(&self, set: usize) -> u64 {
+        self.numbers[self.places[set] as usize * self.stride + self.stride - 1]
+    }
+
+    #[inline(always)]
+    fn bring(&mut self, set: usize, second: u64, len: &mut u32, block: u64) -> Touch {
+        let (places, numbers) = (&mut self.places, &mut self.numbers);
+        let start = own_rest(self.stride, places, numbers, set) * self.stride;
+        let end = start + self.stride;
+        bring_behind(&mut self.numbers[start..end], second, len, block)
+    }
+}
+
+/// Which rest a set has, once it has one of its own, which may be written.
+#[inline(always)]
+fn own_rest(stride: usize, places: &mut [u32], numbers: &mut Vec<u64>, set: usize) -> usize
+    requires within { set < length places.old }
+    requires sound { IsSparse stride places.old numbers.old.items (vec_capacity numbers.old) }
+    ensures which { result ≡ slice_index places.new set }
+    ensures own { 0 < result }
+    ensures sound { IsSparse stride places.new numbers.new.items (vec_capacity numbers.new) }
+    ensures same { (k : ℕ) → sparse_rest stride places.new numbers.new.items k
+        ≡ sparse_rest stride places.old numbers.old.items k }
+{
+    if places[set] == 0 {
+        places[set] = take_rest(numbers, stride);
+    }
+    places[set] as usize
+}
+
+/// Adds a rest of `stride` numbers, blank as the first is. Returns which it is.
+#[cold]
+#[inline(never)]
+fn take_rest(numbers: &mut Vec<u64>, stride: usize) -> u32
+    requires some { 0 < stride }
+    requires first { stride ≤ vec_len numbers.old }
+    requires room { vec_len numbers.old + stride ≤ vec_capacity numbers.old }
+    requires few { vec_len numbers.old ≤ 2 ^ 26 }
+    ensures which { result ≡ vec_len numbers.old / stride }
+    ensures more { numbers.new.items ≡ numbers.old.items ++ take stride numbers.old.items }
+    ensures room { vec_capacity numbers.old ≤ vec_capacity numbers.new }
+{
+    let taken = numbers.len() / stride;
+    let Ok(()) = numbers.extend_from_within(0..stride) else {
+        unreachable!()
+    };
+    taken as u32
+}
