@@ -16,8 +16,9 @@ use Rattle.profile_core.specs.internal.Moves.{touch_of}
 use Rattle.profile_core.specs.internal.Slab.{Lists}
 use Rattle.profile_core.specs.internal.State.{ProfileState, IsSound, list_of, one_more_at}
 use Rattle.profile_core.specs.internal.State.{after_reference, fed_of, weighed, compared_behind}
-use Rattle.profile_core.specs.internal.State.{distances_of}
+use Rattle.profile_core.specs.internal.State.{distances_of, empty}
 use Rattle.profile_core.proofs.Bringing.{absent_at}
+use Rattle.profile_core.proofs.Emptying.{zero_at}
 use Rattle.profile_core.proofs.Shifting.{other_front, index_behind, index-le}
 use Rattle.profile_core.proofs.Weighing.{weighed-zeros, sum-zeros}
 
@@ -209,6 +210,24 @@ pub no_list : (n k : ℕ) → length (get_or {A = List ℕ} (replicate n []) k [
 no_list zero k = refl
 no_list (suc n) zero = refl
 no_list (suc n) (suc k) = no_list n k
+
+-- a profile that was fed nothing
+pub new_is : (g : GeometryValue) (lists : Lists) (behind missed : List ℕ) →
+    lists.lists ≡ replicate (2 ^ g.s) [] → behind ≡ replicate g.e 0 →
+    missed ≡ replicate (g.e + 1) 0 →
+    record {
+      geometry = g;
+      lists = lists.lists;
+      distances = distances_of 0 behind missed;
+      misses_by_occupancy = missed;
+      probes = 0;
+    } ≡ empty g
+new_is g lists behind missed sets near far =
+    let none : 0 - compared_behind behind missed ≡ get_or behind 0 0 =
+    omega (arith, ap (λ ns. get_or ns 0 0) near, zero_at g.e 0) in
+    let same : distances_of 0 behind missed ≡ replicate g.e 0 =
+    ap (λ n. set behind 0 n) none ∙ set-get_or behind 0 0 ∙ near in
+    cc (sets, same, far)
 
 pub new_sound : (g : GeometryValue) (lists : Lists) (behind missed : List ℕ) → lists.depth ≡ g.e →
     lists.lists ≡ replicate (2 ^ g.s) []

@@ -48,11 +48,6 @@ impl KeptLists {
         if depth >= DEEP {
             return Ok(KeptLists::Long(LongLists::new(alloc, sets, depth)?));
         }
-        if sets > MANY_SETS && depth >= MANY_WAYS {
-            let rests = SparseRests::new(alloc, sets, depth - 2)?;
-            let rows = SplitRows::new(alloc, rests, sets)?;
-            return Ok(KeptLists::InSparseRows(RecencyLists::new(alloc, rows, sets)?));
-        }
         if depth >= SLOTTED_FROM && depth <= SLOTTED_TO && sets <= MANY_SETS {
             let rests = SlottedRests::new(alloc, sets, depth - 2)?;
             let rows = SplitRows::new(alloc, rests, sets)?;
@@ -60,6 +55,23 @@ impl KeptLists {
         }
         let rows = PlainRows::new(alloc, sets, depth - 1)?;
         Ok(KeptLists::InRows(RecencyLists::new(alloc, rows, sets)?))
+    }
+
+    /// Empty lists as `new` makes them, but for many sets with many ways each set takes the memory
+    /// of its list when it needs that: nothing is cleared for those that a trace doesn't reach.
+    pub fn sparse(alloc: Global, sets: usize, depth: usize) -> Result<KeptLists, AllocError>
+        requires some { 1 ≤ depth }
+        requires filled { 1 ≤ sets }
+        requires small { sets * depth ≤ 2 ^ 22 }
+        ensures { IfOk result (λ r.
+            lists_of r ≡ record { depth = depth; lists = replicate sets [] }) }
+    {
+        if sets > MANY_SETS && depth >= MANY_WAYS && depth < DEEP {
+            let rests = SparseRests::new(alloc, sets, depth - 2)?;
+            let rows = SplitRows::new(alloc, rests, sets)?;
+            return Ok(KeptLists::InSparseRows(RecencyLists::new(alloc, rows, sets)?));
+        }
+        KeptLists::new(alloc, sets, depth)
     }
 
     /// Whether a block is the front of a set's list.

@@ -1,12 +1,13 @@
 //! A profile: one pass over references that counts for every associativity up to a depth.
 ghost use Rattle.std.specs.Prelude.{◌≡◌, ◌+◌, ◌-◌, ◌*◌, ◌^◌, ◌<◌, ◌≤◌, List, IfOk, true, false};
-ghost use Rattle.std.specs.Prelude.{length, take, drop, sum};
+ghost use Rattle.std.specs.Prelude.{length, take, drop, sum, replicate, []};
 ghost use Rattle.trace_core.specs.declared.events.Event.{Event};
 ghost use Rattle.cache_core.specs.Geometry.{IsGeometry, geometry_value, block_of};
 ghost use Rattle.cache_core.specs.Windows.{occurrences, counts, probes, held};
 ghost use Rattle.profile_core.specs.internal.State.{empty, after_reference, after_flush};
 ghost use Rattle.profile_core.specs.internal.State.{fed_of, held_of, counts_at, hit_sums_at};
 ghost use Rattle.profile_core.specs.internal.State.{weighed};
+ghost use Rattle.profile_core.specs.internal.KeptLists.{lists_of};
 ghost use Rattle.profile_core.specs.internal.Fronts.{is_front_of, after_unless_front, after_fronts};
 ghost use Rattle.profile_core.specs.internal.Fronts.{is_refined, after_batch, fed_of_batch};
 ghost use Rattle.profile_core.specs.internal.ProfileStandsFor.{ProfileStandsFor};
@@ -46,13 +47,41 @@ impl Model for Profile {
 impl Profile {
     /// A profile of caches of `2^s` sets of 1 to `depth` lines of `2^b` bytes. It takes all its
     /// memory here: 8 bytes for each of `depth * 2^s` blocks, 4 and a quarter for each set, and 16
-    /// for each associativity and 8 more. With more than 4,096 sets and a depth of 32 to 255 it
-    /// takes 4 bytes more for each set, and a row. With a depth of 12 to 16 and up to 4,096 sets
-    /// it takes 184 and a quarter for each set, of which 160 are not written before the set has
-    /// three blocks. With a depth of 256 or more it takes at most 21.6 bytes for each
-    /// block. Where memory is refused, nothing is kept.
+    /// for each associativity and 8 more. With a depth of 12 to 16 and up to 4,096 sets it takes
+    /// 184 and a quarter for each set, of which 160 are not written before the set has three
+    /// blocks. With a depth of 256 or more it takes at most 21.6 bytes for each block. Where memory
+    /// is refused, nothing is kept.
     pub fn new(alloc: Global, b: u64, s: u64, depth: u64) -> Result<Profile, AllocError>
         requires { IsGeometry (geometry_value s depth b) }
+        ensures { IfOk result (λ profile. profile ≡ empty (geometry_value s depth b)) }
+    {
+        let lists = KeptLists::new(alloc, 1 << s, depth as usize)?;
+        Profile::with_lists(alloc, b, s, depth, lists)
+    }
+
+    /// A profile as `new` makes it, for traces that reach few of many sets. With more than 4,096
+    /// sets and a depth of 32 to 255 it takes 4 bytes more for each set, and a row, but clears only
+    /// 20 and a quarter for each set; the memory of a set is cleared when that has three blocks. A
+    /// sweep makes such profiles. Fed by itself, one reference after the other, such a profile
+    /// takes up to a third more time.
+    pub fn new_sparse(alloc: Global, b: u64, s: u64, depth: u64) -> Result<Profile, AllocError>
+        requires { IsGeometry (geometry_value s depth b) }
+        ensures { IfOk result (λ profile. profile ≡ empty (geometry_value s depth b)) }
+    {
+        let lists = KeptLists::sparse(alloc, 1 << s, depth as usize)?;
+        Profile::with_lists(alloc, b, s, depth, lists)
+    }
+
+    /// A profile with these lists, which are empty.
+    fn with_lists(
+        alloc: Global,
+        b: u64,
+        s: u64,
+        depth: u64,
+        lists: KeptLists,
+    ) -> Result<Profile, AllocError>
+        requires geometry { IsGeometry (geometry_value s depth b) }
+        requires none { lists_of lists ≡ record { depth = depth; lists = replicate (2 ^ s) [] } }
         ensures { IfOk result (λ profile. profile ≡ empty (geometry_value s depth b)) }
     {
         let Some(geometry) = Geometry::new(s, depth, b) else {
@@ -61,7 +90,7 @@ impl Profile {
         let depth = depth as usize;
         Ok(Profile {
             geometry,
-            lists: KeptLists::new(alloc, 1 << s, depth)?,
+            lists,
             histograms: Histograms {
                 probes: 0,
                 behind: vec![in alloc; 0; depth]?,

@@ -46,7 +46,7 @@ pub(crate) fn make_profiles(
             first,
             rows: count,
             implied: 0,
-            profile: Profile::new(alloc, bits_of(first.bsize), bits_of(first.sets), depth)?,
+            profile: Profile::new_sparse(alloc, bits_of(first.bsize), bits_of(first.sets), depth)?,
         })?;
     }
     link(&mut made);

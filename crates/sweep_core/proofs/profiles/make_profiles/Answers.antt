@@ -20,8 +20,8 @@ loop-rows-init c =
 pub loop-rows-smaller : goal.loop-rows-smaller
 loop-rows-smaller c = begins-shorter c.in-Some.ensures.rows
 
-pub new-requires : goal.new-requires
-new-requires c =
+pub new_sparse-requires : goal.new_sparse-requires
+new_sparse-requires c =
     rw (c.bits_of.ensures, c.bits_of-in-Some.ensures)
     (geometry-of c.args.request.now.space _
     (space-limited c.args.request.now.space c.take_pair.ensures.limits)
@@ -35,7 +35,7 @@ loop-rows-preserved c =
     (making-more r c.loop-rows.invariant c.in-Some.ensures.rows _ refl refl
     (new-fed r _ c.in-Some.ensures.rows.some c.in-Some.ensures.depth later
     (space-limited r.space c.take_pair.ensures.limits)
-    c.bits_of-in-Some.ensures c.bits_of.ensures c.in_ok-new.ensures))
+    c.bits_of-in-Some.ensures c.bits_of.ensures c.in_ok-new_sparse.ensures))
 
 -- what is made is linked
 items : (c : After-link) → take c.loop-rows.made.len (c.link.new.profiles ++
