@@ -7,8 +7,8 @@ ghost use Rattle.cache_core.specs.Order.{position_of};
 ghost use Rattle.cache_core.specs.internal.Fingerprints.{fingerprint_of, AreFingerprints};
 ghost use Rattle.cache_core.specs.internal.Order.{NoneBefore};
 
-use crate::cache::find_block;
 use crate::outcome::Slot;
+use crate::walk::find_block;
 use std::simd::prelude::*;
 
 /// How many slots of a set, the first, have no fingerprint. Most blocks are found among them, and

@@ -18,18 +18,18 @@ use Rattle.cache_core.proofs.fingerprinted.access_by_rows.Goals.{
 }
 
 abbrev block : After-find_block-at → ℕ
-block c = block_of c.args.cache.now.design.geometry c.args.reference.addr
+block c = block_of c.args.sets.now.design.geometry c.args.reference.addr
 
 abbrev slots : After-find_block-at → List Slot
-slots c = slots_of c.args.cache.now.sets
-    (set_of c.args.cache.now.design.geometry c.args.reference.addr)
+slots c = slots_of c.args.sets.now.sets
+    (set_of c.args.sets.now.design.geometry c.args.reference.addr)
 
 set_is : (c : After-find_block-at) →
-    c.set_of-set.result ≡ set_of c.args.cache.now.design.geometry c.args.reference.addr
+    c.set_of-set.result ≡ set_of c.args.sets.now.design.geometry c.args.reference.addr
 set_is c = c.set_of-set.ensures.value
     ∙ ap (λ g. set_of g c.args.reference.addr) c.geometry-geometry.ensures
 
-ways_are : (c : After-find_block-at) → c.e-ways.result ≡ c.args.cache.now.design.geometry.e
+ways_are : (c : After-find_block-at) → c.e-ways.result ≡ c.args.sets.now.design.geometry.e
 ways_are c = c.e-ways.ensures.value ∙ ap (λ (g : GeometryValue). g.e) c.geometry-geometry.ensures
 
 -- the first slots of the set were looked through
@@ -70,8 +70,8 @@ access_far-requires-clause-none c =
 pub returns-then-start-rows-2-clause-rows : goal.returns-then-start-rows-2-clause-rows
 returns-then-start-rows-2-clause-rows c =
     let at = (goal.at.returns-then-start-rows-2-clause-rows c).After-find_block-at in
-    rows_with c.args.cache.now.design c.access_far.new.cache.design c.args.cache.now.sets
-    c.access_far.new.cache.sets (set_of c.args.cache.now.design.geometry c.args.reference.addr)
+    rows_with c.args.sets.now.design c.access_far.new.sets.design c.args.sets.now.sets
+    c.access_far.new.sets.sets (set_of c.args.sets.now.design.geometry c.args.reference.addr)
     c.set_of-set.result c.e-ways.result c.args.rows.now c.access_far.new.row
     c.access_far.ensures.step.design (set_is at) (ways_are at) c.if-start-rows-2.true
     c.requires.rows c.access_far.ensures.step.others c.access_far.ensures.row
@@ -86,12 +86,12 @@ pub returns-clause-rows : goal.returns-clause-rows
 returns-clause-rows c =
     let at = (goal.at.returns-clause-rows c).After-find_block-at in
     let begins = ap (λ n. n * c.e-ways.result) (set_is at)
-    ∙ ap (λ n. set_of c.args.cache.now.design.geometry c.args.reference.addr * n) (ways_are at) in
+    ∙ ap (λ n. set_of c.args.sets.now.design.geometry c.args.reference.addr * n) (ways_are at) in
     let looked = looked_through (block at) (slots at) _ _ _ _ (found at) (of_row at) (of_none at)
     (λ missed full. grind (arith, c.else-is_none.either, c.is_none.ensures, missed)) in
     subst (λ (d : Design). AreRows d.geometry.e c.access_at.new.self.sets c.args.rows.now)
     (sym c.access_at.ensures.step.design)
-    (rows_near (contents_of policy_of random_numbers_of c.args.cache.now)
+    (rows_near (contents_of policy_of random_numbers_of c.args.sets.now)
     (contents_of policy_of random_numbers_of c.access_at.new.self) c.args.policy c.args.reference _
     c.args.rows.now c.find_block-at.result c.requires.policy c.requires.rows
     c.access_at.ensures.step looked.0 (λ lt. looked.1 (rw begins lt)))
