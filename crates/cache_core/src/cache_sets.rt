@@ -94,7 +94,7 @@ impl<P: Replacement> CacheSets<P> {
     /// Makes one access, by a caller that has found the index of its block in its set. Also returns
     /// the index of the slot that it placed, if it placed one.
     #[inline(always)]
-    pub(crate) fn access_at(&mut self, reference: Ref, at: Option<usize>) -> (Outcome, usize)
+    pub(crate) fn access_at(&mut self, reference: Ref, at: Option<usize>) -> (Outcome, Option<usize>)
         requires { at ≡ position_of (block_of self.old.design.geometry reference.addr)
             (slots_of self.old.sets (set_of self.old.design.geometry reference.addr)) }
         ensures step { Accesses (contents_of P.policy P.words self.old) reference result.0
@@ -188,7 +188,7 @@ fn visit_slab<P: Replacement>(
     touched: &mut TouchedSets,
     reference: Ref,
     at: Option<usize>,
-) -> (Outcome, usize)
+) -> (Outcome, Option<usize>)
     requires slab { IsCacheSlab design slots.old filled.old }
     requires touched { Covers touched.old filled.old }
     requires at { at ≡ position_of (block_of design.geometry reference.addr)
@@ -213,10 +213,10 @@ fn visit_slab<P: Replacement>(
     let start = number * ways;
     let set = &mut slots[start..start + ways];
     let before = filled[number];
-    let (outcome, count, way) = visit(design, policy, set, before as usize, reference, at);
+    let (outcome, count, placed) = visit(design, policy, set, before as usize, reference, at);
     filled[number] = count as u32;
     touched.add_grown(number, before, count as u32);
-    (outcome, way)
+    (outcome, placed)
 }
 
 /// One access to the first slot of its set, in the slab of all sets, if its block is there and it

@@ -196,11 +196,11 @@ fn access_far(
     let passing = fingerprint(slots[NEAR - 1].block);
     let last = slots.len().min(geometry.e() as usize - 1);
     let at = find_far(row, slots, block);
-    let (outcome, way) = sets.access_at(reference, at);
+    let (outcome, placed) = sets.access_at(reference, at);
     match at {
         Some(at) => follow_touch(policy, row, at, passing),
         None => {
-            if outcome.placed {
+            if let Some(way) = placed {
                 follow_placing(policy, row, last, way, passing, fingerprint(block));
             }
         }

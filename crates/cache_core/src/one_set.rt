@@ -22,7 +22,7 @@ pub(crate) fn visit<P: Replacement>(
     filled: usize,
     reference: Ref,
     at: Option<usize>,
-) -> (Outcome, usize, usize)
+) -> (Outcome, usize, Option<usize>)
     requires at { at ≡ position_of (block_of design.geometry reference.addr) (take filled set.old) }
     requires filled { filled ≤ length set.old }
     requires ways { length set.old ≡ design.geometry.e }
@@ -42,14 +42,14 @@ pub(crate) fn visit<P: Replacement>(
     let dirty = dirties_line(design.write, reference.access);
     if let Some(at) = at {
         use_slot(policy, &mut set[..filled], at, dirty);
-        return (hit_outcome(design.write, reference), filled, at);
+        return (hit_outcome(design.write, reference), filled, None);
     }
     if !allocates_line(design.allocate, reference.access) {
-        return (passing_outcome(reference), filled, 0);
+        return (passing_outcome(reference), filled, None);
     }
     let (way, evicted) = policy.place(set, filled, Slot { block, dirty });
     let outcome = placing_outcome(design, reference, block, evicted);
-    (outcome, (filled + 1).min(set.len()), way)
+    (outcome, (filled + 1).min(set.len()), Some(way))
 }
 
 /// Uses the slot at an index, and marks it dirty if it is to be.
