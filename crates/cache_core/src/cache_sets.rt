@@ -94,7 +94,11 @@ impl<P: Replacement> CacheSets<P> {
     /// Makes one access, by a caller that has found the index of its block in its set. Also returns
     /// the index of the slot that it placed, if it placed one.
     #[inline(always)]
-    pub(crate) fn access_at(&mut self, reference: Ref, at: Option<usize>) -> (Outcome, Option<usize>)
+    pub(crate) fn access_at(
+        &mut self,
+        reference: Ref,
+        at: Option<usize>,
+    ) -> (Outcome, Option<usize>)
         requires { at ≡ position_of (block_of self.old.design.geometry reference.addr)
             (slots_of self.old.sets (set_of self.old.design.geometry reference.addr)) }
         ensures step { Accesses (contents_of P.policy P.words self.old) reference result.0

@@ -61,15 +61,6 @@ fn find_between(slots: &[Slot], from: usize, next: usize, block: u64) -> Option<
     Some(from + passed)
 }
 
-/// Brings a byte to the front of a row, in place of that at an index.
-pub(crate) fn bring(row: &mut [u8], at: usize, byte: u8)
-    requires { at < length row.old }
-    ensures { row.new ≡ byte ∷ remove row.old at }
-{
-    row[at] = byte;
-    row[..=at].rotate_right(1);
-}
-
 /// The fingerprint of a block. Of one product alone, some strides would put all blocks on one
 /// fingerprint; of two, blocks at equal distances have many fingerprints.
 #[inline(always)]

@@ -25,6 +25,7 @@ pub mod simulation;
 pub mod stats;
 pub mod system;
 mod system_cache;
+mod to_front;
 pub mod touched;
 mod walk;
 
