@@ -55,7 +55,7 @@ impl<P> Model for CacheSets<P> {
 
 impl<P: Replacement> CacheSets<P> {
     ghost use Rattle.cache_core.specs.Slab.{contents_of};
-    ghost use Rattle.cache_core.specs.internal.Slab.{empty_sets};
+    ghost use Rattle.cache_core.specs.internal.Slab.{empty_sets, AccessesInFront};
 
     /// The sets of an empty cache. They take all their memory here, and that alone can fail.
     pub(crate) fn new(
@@ -124,15 +124,7 @@ impl<P: Replacement> CacheSets<P> {
     /// most do, and returns its outcome. Of another access it does nothing.
     #[inline(always)]
     pub(crate) fn access_in_front(&mut self, reference: Ref) -> Option<Outcome>
-        ensures step { IfSome result (λ outcome.
-            Accesses (contents_of P.policy P.words self.old) reference outcome
-            (contents_of P.policy P.words self.new)) }
-        ensures dirty { IfSome result (λ outcome.
-            DirtiesByWrites self.old.sets reference outcome self.new.sets) }
-        ensures answers { is_some result
-            ≡ hits_in_front self.old.design self.old.sets reference }
-        ensures outcome { IfSome result (λ outcome. outcome ≡ hit_in_front) }
-        ensures kept { result ≡ None → self.new ≡ self.old }
+        ensures { AccessesInFront P.policy P.words self.old reference result self.new }
     {
         visit_front(self.design, &mut self.slots, &self.filled, reference)
     }

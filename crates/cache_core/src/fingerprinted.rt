@@ -5,7 +5,7 @@ ghost use Rattle.cache_core.specs.Geometry.{IsGeometry, block_of, set_of};
 ghost use Rattle.cache_core.specs.Outcomes.{hit_in_front};
 ghost use Rattle.cache_core.specs.Order.{Accesses, FlushesCache, slots_of};
 ghost use Rattle.cache_core.specs.Slab.{contents_of};
-ghost use Rattle.cache_core.specs.internal.Slab.{empty_sets};
+ghost use Rattle.cache_core.specs.internal.Slab.{empty_sets, AccessesInFront};
 ghost use Rattle.cache_core.specs.internal.Order.{DirtiesByWrites, NoneBefore, hits_in_front};
 ghost use Rattle.cache_core.specs.internal.SystemCaches.{policy_of, random_numbers_of};
 ghost use Rattle.cache_core.specs.internal.Fingerprints.{AreRows, HasFingerprints};
@@ -100,15 +100,7 @@ impl FingerprintedCache {
     /// and returns its outcome. Of another access it does nothing.
     #[inline(always)]
     pub(crate) fn access_in_front(&mut self, reference: Ref) -> Option<Outcome>
-        ensures step { IfSome result (λ outcome.
-            Accesses (contents_of policy_of random_numbers_of self.old) reference outcome
-            (contents_of policy_of random_numbers_of self.new)) }
-        ensures dirty { IfSome result (λ outcome.
-            DirtiesByWrites self.old.sets reference outcome self.new.sets) }
-        ensures answers { is_some result
-            ≡ hits_in_front self.old.design self.old.sets reference }
-        ensures outcome { IfSome result (λ outcome. outcome ≡ hit_in_front) }
-        ensures kept { result ≡ None → self.new ≡ self.old }
+        ensures { AccessesInFront policy_of random_numbers_of self.old reference result self.new }
     {
         self.sets.access_in_front(reference)
     }
