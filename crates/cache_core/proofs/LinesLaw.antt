@@ -9,22 +9,22 @@ use Rattle.trace_core.specs.declared.events.Ref.{Ref}
 use Rattle.trace_core.specs.declared.events.Event.{Event}
 use Rattle.trace_core.specs.declared.events.Event.TheVariants as event
 use Rattle.cache_core.specs.declared.arrival.Arrival.{Arrival}
-use Rattle.cache_core.specs.declared.arrival.Arrival.TheVariants.{Cache, Bypassed}
+use Rattle.cache_core.specs.declared.arrival.Arrival.TheVariants.{Cache}
 use Rattle.cache_core.specs.declared.plan.PlannedCache.{PlannedCache}
 use Rattle.cache_core.specs.declared.plan.CacheName.{CacheName}
 use Rattle.cache_core.specs.declared.plan.CacheName.TheVariants.{L1I, L1D, L1U, L2U}
 use Rattle.cache_core.specs.Machine.{run, step, with_effects}
 use Rattle.cache_core.specs.Plans.{PlannedCaches}
-use Rattle.cache_core.specs.Systems.{machine_of, is_taken_by, events_for, first_level_references}
-use Rattle.cache_core.specs.Systems.{below, is_taken}
-use Rattle.cache_core.specs.Arrivals.{cache_arrivals, first_level_arrivals, all_arrivals_below}
+use Rattle.cache_core.specs.Systems.{machine_of, is_taken_by, events_for}
+use Rattle.cache_core.specs.Systems.{below}
+use Rattle.cache_core.specs.Arrivals.{cache_arrivals, first_level_arrivals}
 use Rattle.cache_core.specs.Arrivals.{at_memory, references_passed, lower_arrivals, arrivals_of}
 use Rattle.cache_core.specs.Arrivals.{arrivals_from, arrivals_below}
 use Rattle.cache_core.specs.LogLaws.{is_same, planned_of, events_at, lines_at, access_line}
 use Rattle.cache_core.specs.LogLaws.{access_lines, LinesLaw, GrowthLaw}
 use Rattle.cache_core.proofs.Pushes.{with_effects_push, with_effects_flush}
-use Rattle.cache_core.proofs.SystemPushes.{events_taken, events_left, events_flush, below_push}
-use Rattle.cache_core.proofs.SystemPushes.{below_flush, with_refs, with_refs-cons, untaken_sent}
+use Rattle.cache_core.proofs.SystemPushes.{events_taken, events_left, events_flush}
+use Rattle.cache_core.proofs.SystemPushes.{below_flush}
 use Rattle.cache_core.proofs.LogParts.{OnlyAt, quiet_memory, quiet_flushes, at_first, at_lower}
 use Rattle.cache_core.proofs.LogParts.{whole_log, told_lower}
 

@@ -1,9 +1,8 @@
 -- What arrives at memory is what the last level sends; what is bypassed is what no cache takes.
 use Rattle.std.proofs.Common.{◌≡◌, ℕ, not, ◌||◌, ◌&&◌, Bool, true, false, cond, List, [], ◌∷◌, ◌++◌}
-use Rattle.std.proofs.Common.{Option, Some, None, refl, sym, ap, ◌∙◌, append_assoc, append-nil}
+use Rattle.std.proofs.Common.{Option, Some, None, refl, sym, ap, ◌∙◌, append-nil}
 use Rattle.std.specs.Prelude.{flat_map, filter, is_some, is_none}
 use Rattle.std.proofs.Math.Path.{fun_ext}
-use Rattle.std.proofs.lemmas.Grind.{flat_map-append}
 use Rattle.std.proofs.lemmas.List.Elements.{filter-append}
 use Rattle.trace_core.specs.declared.events.Ref.{Ref}
 use Rattle.trace_core.specs.declared.events.Event.{Event}
@@ -18,9 +17,8 @@ use Rattle.cache_core.specs.Systems.{first_level_references, below, is_taken, to
 use Rattle.cache_core.specs.Arrivals.{cache_arrivals, arrivals_below, all_arrivals_below, at_memory}
 use Rattle.cache_core.specs.Arrivals.{references_passed, lower_arrivals, arrivals_of}
 use Rattle.cache_core.specs.LogLaws.{refs_at_memory, refs_past, is_left_out, MemoryLaw, BypassedLaw}
-use Rattle.cache_core.proofs.SystemPushes.{references_push, references_flush, below_push}
+use Rattle.cache_core.proofs.SystemPushes.{references_push, references_flush}
 use Rattle.cache_core.proofs.SystemPushes.{below_flush, memory_push, memory_flush, memory_nil}
-use Rattle.cache_core.proofs.SystemPushes.{with_refs, with_refs-cons, untaken_sent}
 use Rattle.cache_core.proofs.LogParts.{none_then, quiet_arrives, quiet_below, quiet_flushes}
 use Rattle.cache_core.proofs.LogParts.{at_lower, whole_log, told_lower}
 

@@ -1,9 +1,9 @@
 -- A cache's sets in one array of slots: each has a segment of as many slots as it has ways, and the
 -- first of them are filled.
 -- What only helps the proofs.
-use Rattle.std.specs.Prelude.{◌≡◌, ◌<◌, ◌≤◌, ℕ, ◌*◌, ◌^◌, List, [], ◌∷◌, Option, length, take, drop}
-use Rattle.std.specs.Prelude.{All, replicate, None, IfSome, is_some}
-use Rattle.cache_core.specs.Geometry.{GeometryValue, IsGeometry}
+use Rattle.std.specs.Prelude.{◌≡◌, ℕ, ◌^◌, List, [], Option}
+use Rattle.std.specs.Prelude.{replicate, None, IfSome, is_some}
+use Rattle.cache_core.specs.Geometry.{GeometryValue}
 use Rattle.trace_core.specs.declared.events.Ref.{Ref}
 use Rattle.cache_core.specs.declared.outcome.Slot.{Slot}
 use Rattle.cache_core.specs.declared.outcome.Outcome.{Outcome}

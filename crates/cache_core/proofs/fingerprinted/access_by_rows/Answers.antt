@@ -1,6 +1,6 @@
 -- The rows follow the slots of the set that is accessed.
 use Rattle.std.proofs.Common.{◌≡◌, ◌≤◌, ◌<◌, ◌*◌, ap, sym, ◌∙◌, arith, subst, length, min, take}
-use Rattle.std.proofs.Common.{ℕ, List, None}
+use Rattle.std.proofs.Common.{ℕ, List}
 use Rattle.cache_core.specs.declared.design.Design.{Design}
 use Rattle.cache_core.specs.declared.outcome.Slot.{Slot}
 use Rattle.cache_core.specs.Geometry.{GeometryValue, block_of, set_of}

@@ -1,6 +1,4 @@
 -- A reference that finds its block in the first slot of its set is a step that sends nothing down.
-use Rattle.std.proofs.Common.{Some, refl, arith}
-use Rattle.cache_core.specs.internal.SystemSteps.{nothing_down}
 use Rattle.cache_core.proofs.SystemLaw.{step_in_front, step_law}
 use Rattle.cache_core.proofs.system.System.step.Goals as goal
 
