@@ -1,9 +1,8 @@
 //! One cache, under any policy. A block is searched for slot by slot.
-ghost use Rattle.std.specs.Prelude.{◌≡◌, ◌<◌, ◌*◌, ◌^◌, IfOk, IfSome, None, is_some};
+ghost use Rattle.std.specs.Prelude.{◌≡◌, ◌<◌, ◌*◌, ◌^◌, IfOk, IfSome};
 ghost use Rattle.cache_core.specs.Geometry.{IsGeometry};
-ghost use Rattle.cache_core.specs.Outcomes.{hit_in_front};
 ghost use Rattle.cache_core.specs.Order.{Accesses, FlushesCache};
-ghost use Rattle.cache_core.specs.internal.Order.{DirtiesByWrites, hits_in_front};
+ghost use Rattle.cache_core.specs.internal.Order.{DirtiesByWrites};
 
 use crate::cache_sets::CacheSets;
 use crate::design::{AllocMode, WriteMode};

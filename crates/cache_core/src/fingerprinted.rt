@@ -1,12 +1,11 @@
 //! A cache of a system. Where its sets have many ways, a block is searched for by fingerprints.
-ghost use Rattle.std.specs.Prelude.{◌≡◌, ◌≤◌, ◌<◌, ◌+◌, ◌*◌, ◌^◌, length, None, Some};
-ghost use Rattle.std.specs.Prelude.{IfOk, IfSome, Option, is_some, if◌then◌else◌};
+ghost use Rattle.std.specs.Prelude.{◌≡◌, ◌≤◌, ◌<◌, ◌+◌, ◌*◌, ◌^◌, length, Some};
+ghost use Rattle.std.specs.Prelude.{IfOk, IfSome, if◌then◌else◌};
 ghost use Rattle.cache_core.specs.Geometry.{IsGeometry, block_of, set_of};
-ghost use Rattle.cache_core.specs.Outcomes.{hit_in_front};
 ghost use Rattle.cache_core.specs.Order.{Accesses, FlushesCache, slots_of};
 ghost use Rattle.cache_core.specs.Slab.{contents_of};
 ghost use Rattle.cache_core.specs.internal.Slab.{empty_sets, AccessesInFront};
-ghost use Rattle.cache_core.specs.internal.Order.{DirtiesByWrites, NoneBefore, hits_in_front};
+ghost use Rattle.cache_core.specs.internal.Order.{DirtiesByWrites, NoneBefore};
 ghost use Rattle.cache_core.specs.internal.SystemCaches.{policy_of, random_numbers_of};
 ghost use Rattle.cache_core.specs.internal.Fingerprints.{AreRows, HasFingerprints};
 ghost use Rattle.cache_core.specs.internal.Fingerprints.{row_touched, row_placed};

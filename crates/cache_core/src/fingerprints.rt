@@ -1,7 +1,6 @@
 //! The fingerprints of the blocks of one set: a byte for each slot behind the first sixteen, so
 //! that a block is searched for sixteen slots at once.
-ghost use Rattle.std.specs.Prelude.{◌≡◌, ◌≢◌, ◌≤◌, ◌<◌, ◌∷◌, ◌==◌, not, length, take, remove};
-ghost use Rattle.std.specs.Prelude.{None};
+ghost use Rattle.std.specs.Prelude.{◌≡◌, ◌≢◌, ◌≤◌, ◌<◌, ◌==◌, not, length, take, None};
 ghost use Rattle.std.specs.List.{prefix_len};
 ghost use Rattle.cache_core.specs.Order.{position_of};
 ghost use Rattle.cache_core.specs.internal.Fingerprints.{fingerprint_of, AreFingerprints};
