@@ -83,33 +83,18 @@ first_level_grows i d u ref down i' d' u' f = by_unified (is_some u) f
   where
     by_fetch : (b : Bool) → AccessesSplit b i d u ref down i' d' u' → FirstGrows down i d u i' d' u'
     by_fetch true g =
-        let x = first_grows i ref down i' g.0 in
-        rw (g.1, g.2) record {
-          counts = omega (arith, x.counts, one_way down);
-          copies =
-              omega (arith, x.copies);
-          sends = first_sends i ref down i' g.0;
-        }
+        rw (g.1, g.2)
+        (grind (arith, first_grows i ref down i' g.0, first_sends i ref down i' g.0, one_way down))
     by_fetch false g =
-        let x = first_grows d ref down d' g.0 in
-        rw (g.1, g.2) record {
-          counts = omega (arith, x.counts, one_way down);
-          copies =
-              omega (arith, x.copies);
-          sends = first_sends d ref down d' g.0;
-        }
+        rw (g.1, g.2)
+        (grind (arith, first_grows d ref down d' g.0, first_sends d ref down d' g.0, one_way down))
 
     by_unified : (b : Bool) → MatchBool b (AccessesUnified i d u ref down i' d' u')
         (AccessesSplit (is_fetch ref.access) i d u ref down i' d' u') →
         FirstGrows down i d u i' d' u'
     by_unified true g =
-        let x = first_grows u ref down u' g.0 in
-        rw (g.1, g.2) record {
-          counts = omega (arith, x.counts, one_way down);
-          copies =
-              omega (arith, x.copies);
-          sends = first_sends u ref down u' g.0;
-        }
+        rw (g.1, g.2)
+        (grind (arith, first_grows u ref down u' g.0, first_sends u ref down u' g.0, one_way down))
     by_unified false g = by_fetch (is_fetch ref.access) g
 
 -- so many references arrive below

@@ -423,15 +423,15 @@ module _ (d : Design) (policy : Option Repl) (name : Repl) (numbers rest : ℕ �
 
   -- a row after a miss that places its block
   pub row_after_placing : (last way : ℕ) → position_of block slots ≡ None →
-      outcome.placed ≡ true → 16 ≤ length slots → last ≡ min (length slots) (d.geometry.e - 1) →
-      HoldsPlaced block outcome way new →
+      16 ≤ length slots → last ≡ min (length slots) (d.geometry.e - 1) →
+      HoldsPlaced block outcome (Some way) new →
       HasFingerprints d.geometry.e new (row_placed (rules name).placed
       (if is_random (rules name).victim then way else last) (passing_of slots)
       (fingerprint_of block) row)
-  row_after_placing last way missed placed some end held =
+  row_after_placing last way missed some end held =
       row_of_placing d.geometry.e last way (numbers 0) block (is_dirtied d.write ref.access)
-      slots new row r some missed end (held placed) name outcome.evicted
-      (fills missed placed).order
+      slots new row r some missed end held.1 name outcome.evicted
+      (fills missed (sym held.0)).order
 
   -- a miss that places nothing
   stays_by : (allocated : Bool) → outcome.placed ≡ false →
@@ -449,11 +449,11 @@ module _ (d : Design) (policy : Option Repl) (name : Repl) (numbers rest : ℕ �
   row_after_passing missed passed = rw (slots_stay missed passed) r
 
   -- the way of the block that was placed
-  pub way_within : (way : ℕ) → position_of block slots ≡ None → outcome.placed ≡ true →
-      16 ≤ length slots → HoldsPlaced block outcome way new → way < length row
-  way_within way missed placed some held =
-      let there = block_there new way block (held placed) in
-      let after = row_after_placing (min (length slots) (d.geometry.e - 1)) way missed placed some
+  pub way_within : (way : ℕ) → position_of block slots ≡ None → 16 ≤ length slots →
+      HoldsPlaced block outcome (Some way) new → way < length row
+  way_within way missed some held =
+      let there = block_there new way block held.1 in
+      let after = row_after_placing (min (length slots) (d.geometry.e - 1)) way missed some
       refl held in
       omega (arith, there.0, after.within, r.room)
 

@@ -159,7 +159,7 @@ module _ (block : ℕ) (slots : List Slot) (near start bytes : ℕ) (at : Option
       (λ (le : bytes ≤ start). of_none le)
       (cases_lt start bytes)
 
-  pub found_in_all : at ≡ position_of block slots
+  found_in_all : at ≡ position_of block slots
   found_in_all = by at refl
     where
       by : (o : Option ℕ) → at ≡ o → at ≡ position_of block slots
@@ -172,7 +172,7 @@ module _ (block : ℕ) (slots : List Slot) (near start bytes : ℕ) (at : Option
       by None e = found ∙ ap (position_of block)
           (ap (λ n. take n slots) (ends e) ∙ take_all (length slots) slots (omega arith))
 
-  pub found_near : start < bytes → IsNear at slots
+  found_near : start < bytes → IsNear at slots
   found_near lt = by at refl
     where
       by : (o : Option ℕ) → at ≡ o → IsNear o slots
@@ -186,9 +186,8 @@ module _ (block : ℕ) (slots : List Slot) (near start bytes : ℕ) (at : Option
           absurd (omega (arith, lt, looked e full)))
           (cases_lt (length slots) 16)
 
-pub something_found : (at : Option ℕ) → at ≡ None → is_some at ≡ true → ⊥
-something_found None e is = absurd (cc)
-something_found (Some k) e is = absurd (cc)
+  pub looked_through : (at ≡ position_of block slots) × (start < bytes → IsNear at slots)
+  looked_through = (found_in_all, found_near)
 
 -- the rows after an access that looks at no fingerprint
 pub rows_near : (old new : Contents) (name : Repl) (ref : Ref) (outcome : Outcome)

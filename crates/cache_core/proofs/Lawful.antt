@@ -49,28 +49,27 @@ set_removed s i y h = cc (
   remove_split (take i s) y (drop (suc i) s) i (omega (arith, h, length-take i s)),
 )
 
+-- an element written over another, and then brought to the front
+pub brought : {X : Type 0} (s : List X) (at : ℕ) (x : X) (r : List X) → at < length s →
+    r ≡ drop (length (take (at + 1) (set s at x)) - 1) (take (at + 1) (set s at x))
+    ++ take (length (take (at + 1) (set s at x)) - 1) (take (at + 1) (set s at x)) →
+    r ++ drop (at + 1) (set s at x) ≡ x ∷ remove s at
+brought s at x r h e = cc (
+  to_front (set s at x) at r x (omega (arith, h, length-set s at x)) e,
+  get_or-set_same s at x x h,
+  set_removed s at x h,
+)
+
 -- a slot put in front of the first n, where the last one leaves if these are all
-pub new_in_front : (s : List Slot) (n last : ℕ) (new d : Slot) (r : List Slot) → n ≤ length s →
+pub new_in_front : (s : List Slot) (n last : ℕ) (new d : Slot) → n ≤ length s →
     0 < length s → last ≡ min n (length s - 1) →
-    r ≡ drop (length (take (last + 1) (set s last new)) - 1) (take (last + 1) (set s last new))
-    ++ take (length (take (last + 1) (set s last new)) - 1) (take (last + 1) (set s last new)) →
     TakesIn (Some Lru) 0 (length s) (take n s) new (then_some (eqb n (length s)) (get_or s last d))
-    (take (n + 1) (r ++ drop (last + 1) (set s last new)))
-new_in_front s n last new d r h some l e =
-    rw whole (⊎_elim (λ t. full t.0 t.1) (λ f. room f.0 f.1) (eqb_tells n (length s)))
+    (take (n + 1) (new ∷ remove s last))
+new_in_front s n last new d h some l =
+    ⊎_elim (λ t. full t.0 t.1) (λ f. room f.0 f.1) (eqb_tells n (length s))
   where
     within : last < length s
     within = omega (arith, l)
-
-    split : remove (set s last new) last ≡ remove s last
-    split = set_removed s last new within
-
-    whole : r ++ drop (last + 1) (set s last new) ≡ new ∷ remove s last
-    whole = cc (
-      to_front (set s last new) last r d (omega (arith, within, length-set s last new)) e,
-      get_or-set_same s last new d within,
-      split,
-    )
 
     full : eqb n (length s) ≡ true → n ≡ length s →
         TakesIn (Some Lru) 0 (length s) (take n s) new

@@ -9,24 +9,24 @@ use Rattle.trace_core.specs.declared.events.Ref.{Ref}
 use Rattle.trace_core.specs.declared.events.Event.{Event}
 use Rattle.trace_core.specs.declared.events.Event.TheVariants as event
 use Rattle.cache_core.specs.declared.arrival.Arrival.{Arrival}
-use Rattle.cache_core.specs.declared.arrival.Arrival.TheVariants.{Cache, Bypassed}
+use Rattle.cache_core.specs.declared.arrival.Arrival.TheVariants.{Cache}
 use Rattle.cache_core.specs.declared.plan.PlannedCache.{PlannedCache}
 use Rattle.cache_core.specs.declared.plan.CacheName.{CacheName}
 use Rattle.cache_core.specs.declared.plan.CacheName.TheVariants.{L1I, L1D, L1U, L2U}
 use Rattle.cache_core.specs.Machine.{run, step, with_effects}
 use Rattle.cache_core.specs.Plans.{PlannedCaches}
-use Rattle.cache_core.specs.Systems.{machine_of, is_taken_by, events_for, first_level_references}
-use Rattle.cache_core.specs.Systems.{below, is_taken}
-use Rattle.cache_core.specs.Arrivals.{cache_arrivals, first_level_arrivals, all_arrivals_below}
+use Rattle.cache_core.specs.Systems.{machine_of, is_taken_by, events_for}
+use Rattle.cache_core.specs.Systems.{below}
+use Rattle.cache_core.specs.Arrivals.{cache_arrivals, first_level_arrivals}
 use Rattle.cache_core.specs.Arrivals.{at_memory, references_passed, lower_arrivals, arrivals_of}
-use Rattle.cache_core.specs.Arrivals.{arrivals_from}
+use Rattle.cache_core.specs.Arrivals.{arrivals_from, arrivals_below}
 use Rattle.cache_core.specs.LogLaws.{is_same, planned_of, events_at, lines_at, access_line}
 use Rattle.cache_core.specs.LogLaws.{access_lines, LinesLaw, GrowthLaw}
 use Rattle.cache_core.proofs.Pushes.{with_effects_push, with_effects_flush}
-use Rattle.cache_core.proofs.SystemPushes.{events_taken, events_left, events_flush, below_push}
-use Rattle.cache_core.proofs.SystemPushes.{below_flush, with_refs, with_refs-cons, untaken_sent}
+use Rattle.cache_core.proofs.SystemPushes.{events_taken, events_left, events_flush}
+use Rattle.cache_core.proofs.SystemPushes.{below_flush}
 use Rattle.cache_core.proofs.LogParts.{OnlyAt, quiet_memory, quiet_flushes, at_first, at_lower}
-use Rattle.cache_core.proofs.LogParts.{whole_log}
+use Rattle.cache_core.proofs.LogParts.{whole_log, told_lower}
 
 pub same : (name : CacheName) → is_same name name ≡ true
 same L1I = refl
@@ -96,54 +96,28 @@ module _ (seed : ℕ) (name : CacheName) where
   )
 
 -- the second level
-below_shown : (seed : ℕ) (second : Option PlannedCache) (before : List Event) (refs : List Ref) →
-    access_lines seed L2U second (with_refs before refs)
+below_push_shown : (seed : ℕ) (second : Option PlannedCache) (before : List Event) (ref : Ref) →
+    access_lines seed L2U second (before ++ event.Reference ref ∷ [])
     ≡ access_lines seed L2U second before ++ flat_map (lines_at L2U)
-    (all_arrivals_below seed second before refs)
-below_shown seed second before [] = ap (access_lines seed L2U second) (append-nil before) ∙
-    sym (append-nil (access_lines seed L2U second before))
-below_shown seed second before (ref ∷ refs) =
-    let more = before ++ event.Reference ref ∷ [] in
+    (arrivals_below seed second before ref)
+below_push_shown seed second before ref =
     let one = cache_arrivals seed L2U second before ref in
-    let memory = at_memory (references_passed seed second before ref) in
-    let later = all_arrivals_below seed second more refs in
-    let seen : flat_map (lines_at L2U) (one ++ memory) ≡ one =
-    flat_map-append (lines_at L2U) one memory ∙ ap (λ lines. flat_map (lines_at L2U) one ++ lines)
-    (quiet_memory (lines_at L2U) (λ r. refl) (references_passed seed second before ref))
+    let passed = references_passed seed second before ref in
+    let seen : flat_map (lines_at L2U) (one ++ at_memory passed) ≡ one =
+    flat_map-append (lines_at L2U) one (at_memory passed)
+    ∙ ap (λ lines. flat_map (lines_at L2U) one ++ lines)
+    (quiet_memory (lines_at L2U) (λ r. refl) passed)
     ∙ append-nil (flat_map (lines_at L2U) one) ∙ all_shown seed L2U second before ref in
-    ap (access_lines seed L2U second) (sym (with_refs-cons before ref refs)) ∙
-    below_shown seed second more refs
-    ∙ ap (λ lines. lines ++ flat_map (lines_at L2U) later) (lines_push seed L2U second before ref)
-    ∙ append_assoc (access_lines seed L2U second before) one (flat_map (lines_at L2U) later)
-    ∙ ap (λ lines. access_lines seed L2U second before ++ lines)
-    (sym (flat_map-append (lines_at L2U) (one ++ memory) later ∙
-    ap (λ lines. lines ++ flat_map (lines_at L2U) later) seen))
+    lines_push seed L2U second before ref
+    ∙ ap (λ lines. access_lines seed L2U second before ++ lines) (sym seen)
 
 module _ (plan : PlannedCaches) (seed : ℕ) where
   lower_shown : (earlier : List Event) (ref : Ref) →
       access_lines seed L2U plan.second (below plan seed (earlier ++ event.Reference ref ∷ []))
       ≡ access_lines seed L2U plan.second (below plan seed earlier) ++ flat_map (lines_at L2U)
       (lower_arrivals plan seed earlier ref)
-  lower_shown earlier ref = ap (access_lines seed L2U plan.second)
-      (below_push plan seed earlier ref) ∙ by_test (is_taken plan ref) refl
-    where
-      down : List Ref
-      down = first_level_references plan seed earlier ref
-
-      before : List Event
-      before = below plan seed earlier
-
-      by_test : (b : Bool) → is_taken plan ref ≡ b →
-          access_lines seed L2U plan.second (with_refs before down)
-          ≡ access_lines seed L2U plan.second before
-          ++ flat_map (lines_at L2U) (cond b (all_arrivals_below seed plan.second before down)
-          (Bypassed ref ∷ []))
-      by_test true t = below_shown seed plan.second before down
-      by_test false t = cc (
-        untaken_sent plan seed earlier ref t,
-        append-nil before,
-        append-nil (access_lines seed L2U plan.second before),
-      )
+  lower_shown = told_lower (lines_at L2U) seed plan (access_lines seed L2U plan.second)
+      (below_push_shown seed plan.second) (λ r. refl)
 
   abbrev whole : CacheName → List Event → List Arrival
   whole name events = access_lines seed name (planned_of plan name)

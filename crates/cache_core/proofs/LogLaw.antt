@@ -104,32 +104,19 @@ module _ (log : List Arrival) (s : Stats) where
   written L1U dirty = omega (arith, one_more L1U dirty log)
   written L2U dirty = omega (arith, one_more L2U dirty log)
 
+  flushed : (name : CacheName) (dirty : ℕ) (held : Option CacheStats) →
+      option_map (counts_after name log) (option_map (stats_after_flush dirty) held)
+      ≡ option_map (λ c. stats_after_flush (sum (dirty ∷ flat_map (dirty_at name) log))
+      (fold count_line c (flat_map (lines_at name) log))) held
+  flushed name dirty held =
+      one_flush dirty (flat_map (dirty_at name) log) (flat_map (lines_at name) log) held
+
   emptied : (name : CacheName) (dirty : ℕ) →
       after log (stats_after_arrival s (Flush name dirty)) ≡ after (Flush name dirty ∷ log) s
-  emptied L1I dirty = grind (
-    arith,
-    one_flush dirty (flat_map (dirty_at L1I) log)
-        (flat_map (lines_at L1I) log) s.l1i,
-    written L1I dirty,
-  )
-  emptied L1D dirty = grind (
-    arith,
-    one_flush dirty (flat_map (dirty_at L1D) log)
-        (flat_map (lines_at L1D) log) s.l1d,
-    written L1D dirty,
-  )
-  emptied L1U dirty = grind (
-    arith,
-    one_flush dirty (flat_map (dirty_at L1U) log)
-        (flat_map (lines_at L1U) log) s.l1u,
-    written L1U dirty,
-  )
-  emptied L2U dirty = grind (
-    arith,
-    one_flush dirty (flat_map (dirty_at L2U) log)
-        (flat_map (lines_at L2U) log) s.l2u,
-    written L2U dirty,
-  )
+  emptied L1I dirty = grind (arith, flushed L1I dirty s.l1i, written L1I dirty)
+  emptied L1D dirty = grind (arith, flushed L1D dirty s.l1d, written L1D dirty)
+  emptied L1U dirty = grind (arith, flushed L1U dirty s.l1u, written L1U dirty)
+  emptied L2U dirty = grind (arith, flushed L2U dirty s.l2u, written L2U dirty)
 
   reached : (ref : Ref) → after log (stats_after_arrival s (Memory ref)) ≡ after
       (Memory ref ∷ log) s

@@ -21,6 +21,7 @@ use Rattle.cache_core.specs.Systems.{is_taken}
 use Rattle.cache_core.specs.Arrivals.{cache_arrivals, first_level_arrivals, arrivals_below}
 use Rattle.cache_core.specs.Arrivals.{all_arrivals_below, at_memory, references_passed, flushes}
 use Rattle.cache_core.specs.Arrivals.{lower_arrivals, arrivals_of, arrivals_from, arrivals}
+use Rattle.cache_core.proofs.SystemPushes.{below_push, with_refs, with_refs-cons, untaken_sent}
 
 -- of four lists all but one are empty
 pub only_first : {X : Type 0} (a b c d : List X) → b ≡ [] → c ≡ [] → d ≡ [] → a ++ b ++ c ++ d ≡ a
@@ -237,3 +238,42 @@ module _ {X : Type 0} (p : Arrival → List X) (plan : PlannedCaches) (seed : �
   pub whole_log : (events : List Event) → flat_map p (arrivals plan seed events) ≡ whole events
   whole_log events = ap (λ xs. xs ++ flat_map p (arrivals plan seed events)) (sym none) ∙
       from [] events
+
+-- What is told of the references below the first level grows by what a reader picks from the lines
+-- of each.
+module _ {X : Type 0} (p : Arrival → List X) (seed : ℕ) (plan : PlannedCaches)
+    (told : List Event → List X)
+    (one : (before : List Event) (ref : Ref) → told (before ++ event.Reference ref ∷ [])
+    ≡ told before ++ flat_map p (arrivals_below seed plan.second before ref)) where
+  told_below : (before : List Event) (refs : List Ref) → told (with_refs before refs)
+      ≡ told before ++ flat_map p (all_arrivals_below seed plan.second before refs)
+  told_below before [] = ap told (append-nil before) ∙ sym (append-nil (told before))
+  told_below before (ref ∷ refs) =
+      let more = before ++ event.Reference ref ∷ [] in
+      let here = arrivals_below seed plan.second before ref in
+      let later = all_arrivals_below seed plan.second more refs in
+      ap told (sym (with_refs-cons before ref refs)) ∙ told_below more refs
+      ∙ ap (λ xs. xs ++ flat_map p later) (one before ref)
+      ∙ append_assoc (told before) (flat_map p here) (flat_map p later)
+      ∙ ap (λ xs. told before ++ xs) (sym (flat_map-append p here later))
+
+  pub told_lower : ((ref : Ref) → p (Bypassed ref) ≡ []) → (earlier : List Event) (ref : Ref) →
+      told (below plan seed (earlier ++ event.Reference ref ∷ []))
+      ≡ told (below plan seed earlier) ++ flat_map p (lower_arrivals plan seed earlier ref)
+  told_lower quiet earlier ref =
+      ap told (below_push plan seed earlier ref) ∙ by_test (is_taken plan ref) refl
+    where
+      before : List Event
+      before = below plan seed earlier
+
+      by_test : (b : Bool) → is_taken plan ref ≡ b →
+          told (with_refs before (first_level_references plan seed earlier ref))
+          ≡ told before ++ flat_map p (cond b (all_arrivals_below seed plan.second before
+          (first_level_references plan seed earlier ref)) (Bypassed ref ∷ []))
+      by_test true t = told_below before (first_level_references plan seed earlier ref)
+      by_test false t = cc (
+        untaken_sent plan seed earlier ref t,
+        append-nil before,
+        append-nil (told before),
+        quiet ref,
+      )

@@ -1,9 +1,8 @@
 -- What arrives at memory is what the last level sends; what is bypassed is what no cache takes.
 use Rattle.std.proofs.Common.{◌≡◌, ℕ, not, ◌||◌, ◌&&◌, Bool, true, false, cond, List, [], ◌∷◌, ◌++◌}
-use Rattle.std.proofs.Common.{Option, Some, None, refl, sym, ap, ◌∙◌, append_assoc, append-nil}
+use Rattle.std.proofs.Common.{Option, Some, None, refl, sym, ap, ◌∙◌, append-nil}
 use Rattle.std.specs.Prelude.{flat_map, filter, is_some, is_none}
 use Rattle.std.proofs.Math.Path.{fun_ext}
-use Rattle.std.proofs.lemmas.Grind.{flat_map-append}
 use Rattle.std.proofs.lemmas.List.Elements.{filter-append}
 use Rattle.trace_core.specs.declared.events.Ref.{Ref}
 use Rattle.trace_core.specs.declared.events.Event.{Event}
@@ -18,11 +17,10 @@ use Rattle.cache_core.specs.Systems.{first_level_references, below, is_taken, to
 use Rattle.cache_core.specs.Arrivals.{cache_arrivals, arrivals_below, all_arrivals_below, at_memory}
 use Rattle.cache_core.specs.Arrivals.{references_passed, lower_arrivals, arrivals_of}
 use Rattle.cache_core.specs.LogLaws.{refs_at_memory, refs_past, is_left_out, MemoryLaw, BypassedLaw}
-use Rattle.cache_core.proofs.SystemPushes.{references_push, references_flush, below_push}
+use Rattle.cache_core.proofs.SystemPushes.{references_push, references_flush}
 use Rattle.cache_core.proofs.SystemPushes.{below_flush, memory_push, memory_flush, memory_nil}
-use Rattle.cache_core.proofs.SystemPushes.{with_refs, with_refs-cons, untaken_sent}
 use Rattle.cache_core.proofs.LogParts.{none_then, quiet_arrives, quiet_below, quiet_flushes}
-use Rattle.cache_core.proofs.LogParts.{at_lower, whole_log}
+use Rattle.cache_core.proofs.LogParts.{at_lower, whole_log, told_lower}
 
 abbrev at : List Arrival → List Ref
 at xs = flat_map refs_at_memory xs
@@ -39,48 +37,17 @@ one_at seed second before ref =
     (quiet_arrives refs_at_memory seed L2U second before ref (λ r h v. refl))
     ∙ all_at (references_passed seed second before ref)
 
-memory_below : (seed : ℕ) (second : Option PlannedCache) (before : List Event) (refs : List Ref) →
-    to_memory seed second (with_refs before refs) ≡ to_memory seed second before ++
-    at (all_arrivals_below seed second before refs)
-memory_below seed second before [] = ap (to_memory seed second) (append-nil before) ∙
-    sym (append-nil (to_memory seed second before))
-memory_below seed second before (ref ∷ refs) =
-    let more = before ++ event.Reference ref ∷ [] in
-    let later = all_arrivals_below seed second more refs in
-    ap (to_memory seed second) (sym (with_refs-cons before ref refs)) ∙
-    memory_below seed second more refs
-    ∙ ap (λ xs. xs ++ at later) (memory_push seed second before ref)
-    ∙ append_assoc (to_memory seed second before) (references_passed seed second before ref)
-    (at later)
-    ∙ ap (λ xs. to_memory seed second before ++ xs)
-    (sym (flat_map-append refs_at_memory (arrivals_below seed second before ref) later ∙
-    ap (λ xs. xs ++ at later) (one_at seed second before ref)))
-
 module _ (plan : PlannedCaches) (seed : ℕ) where
   abbrev whole : List Event → List Ref
   whole events = to_memory seed plan.second (below plan seed events)
 
   lower : (earlier : List Event) (ref : Ref) → whole (earlier ++ event.Reference ref ∷ []) ≡ whole
       earlier ++ at (lower_arrivals plan seed earlier ref)
-  lower earlier ref = ap (to_memory seed plan.second) (below_push plan seed earlier ref) ∙
-      by_test (is_taken plan ref) refl
-    where
-      down : List Ref
-      down = first_level_references plan seed earlier ref
-
-      before : List Event
-      before = below plan seed earlier
-
-      by_test : (b : Bool) → is_taken plan ref ≡ b →
-          to_memory seed plan.second (with_refs before down)
-          ≡ whole earlier ++ at (cond b (all_arrivals_below seed plan.second before down)
-          (Bypassed ref ∷ []))
-      by_test true t = memory_below seed plan.second before down
-      by_test false t = cc (
-        untaken_sent plan seed earlier ref t,
-        append-nil before,
-        append-nil (whole earlier),
-      )
+  lower = told_lower refs_at_memory seed plan (to_memory seed plan.second)
+      (λ before ref. memory_push seed plan.second before ref
+      ∙ ap (λ xs. to_memory seed plan.second before ++ xs)
+      (sym (one_at seed plan.second before ref)))
+      (λ r. refl)
 
   more : (earlier : List Event) (e : Event) → whole (earlier ++ e ∷ []) ≡ whole earlier ++
       at (arrivals_of plan seed earlier e)

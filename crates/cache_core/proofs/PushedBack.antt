@@ -234,7 +234,7 @@ module _ (g : GeometryValue) (events : List Event) (ref : Ref) (old near : Cache
   block_is far s = sym (placed.block_is ∙ ap (λ (v : GeometryValue). block_of v ref.addr)
       (geometry_is far s))
 
-  pub push_within : (far : Option DeepSetsValue) →
+  push_within : (far : Option DeepSetsValue) →
       LruSetsStandFor g events (record { near = old; far = far }) →
       IfSome far (λ d. set < length d.lists)
   push_within None s = tt
@@ -246,13 +246,19 @@ module _ (g : GeometryValue) (events : List Event) (ref : Ref) (old near : Cache
     set_at (Some deep) s,
   )
 
-  pub push_apart : (far : Option DeepSetsValue) →
+  push_apart : (far : Option DeepSetsValue) →
       LruSetsStandFor g events (record { near = old; far = far }) →
       IfSome far (λ d. has_block victim.block (get_or d.lists set []) ≡ false)
   push_apart None s = tt
   push_apart (Some deep) s =
       subst (λ j. has_block victim.block (get_or deep.lists j []) ≡ false) (set_at (Some deep) s)
       (apart g events ref old near deep outcome s access victim leaves)
+
+  pub push_fits : (far : Option DeepSetsValue) →
+      LruSetsStandFor g events (record { near = old; far = far }) →
+      IfSome far (λ d. set < length d.lists)
+      × IfSome far (λ d. has_block victim.block (get_or d.lists set []) ≡ false)
+  push_fits far s = (push_within far s, push_apart far s)
 
   pub follows_push : (far : Option DeepSetsValue) →
       LruSetsStandFor g events (record { near = old; far = far }) →

@@ -1,7 +1,7 @@
 -- A new system, a step, a flush and a run of a system, as its caches see them and as their machines
 -- see them.
 use Rattle.std.proofs.Common.{◌≡◌, ℕ, ◌+◌, not, Bool, List, [], ◌∷◌, ◌++◌, Option, Some, None, sym}
-use Rattle.std.proofs.Common.{◌∙◌, ap, subst, arith, length, length-append}
+use Rattle.std.proofs.Common.{◌∙◌, ap, subst, arith, length, length-append, refl}
 use Rattle.std.specs.Prelude.{sum, count_by, is_none, MatchOption}
 use Rattle.std.proofs.lemmas.List.Sums.{sum_by_push}
 use Rattle.trace_core.specs.declared.events.Ref.{Ref}
@@ -19,7 +19,7 @@ use Rattle.cache_core.specs.Systems.{flush_counts, flush_copybacks, is_taken}
 use Rattle.cache_core.specs.internal.SystemSteps.{SystemValue, present_refs, AccessesFirstLevel}
 use Rattle.cache_core.specs.internal.SystemSteps.{AllDescend, StepsSystem, FlushesSystem}
 use Rattle.cache_core.specs.internal.SystemSteps.{EmptiesCache, IsNewSystemCache, IsNewCache}
-use Rattle.cache_core.specs.internal.SystemSteps.{IsNewSystem}
+use Rattle.cache_core.specs.internal.SystemSteps.{IsNewSystem, nothing_down}
 use Rattle.cache_core.specs.internal.SystemStands.{SystemStandsFor, NewSystemLaw, StepLaw}
 use Rattle.cache_core.specs.internal.SystemStands.{SystemFlushLaw}
 use Rattle.cache_core.proofs.RunLaw.{start_law, flush_run}
@@ -153,6 +153,18 @@ step_law plan seed events old ref new p s t =
     stands_kept plan seed (events ++ event.Reference ref ∷ []) new
     (kept_step plan seed events ref old new p (kept_of plan seed events old s) t)
     (omega (arith, t.steps, s.steps, length-append events (event.Reference ref ∷ [])))
+
+-- the step of a reference that finds its block in front, which sends nothing down
+pub step_in_front : (old : SystemValue) (ref : Ref) (i d u : Option SystemCache) →
+    AccessesFirstLevel old.i old.d old.u ref (Some nothing_down) i d u →
+    StepsSystem old ref (record old { i = i; d = d; u = u; steps = old.steps + 1 })
+step_in_front old ref i d u first = record {
+  down = Some nothing_down;
+  first = first;
+  lower = (refl, refl);
+  bypassed = omega arith;
+  steps = refl;
+}
 
 -- a flush
 record Emptied (m : Machine) (events : List Event) (dirty : ℕ) (new : SystemCache) : Type 0 where

@@ -1,18 +1,17 @@
 -- What a cache holds, each set in its policy's order, and one access to it.
-use Rattle.std.specs.Prelude.{◌≡◌, ◌≢◌, ◌<◌, ◌≤◌, ℕ, ◌+◌, ◌-◌, ◌%◌, Bool, true, false, List, []}
+use Rattle.std.specs.Prelude.{◌≡◌, ◌≢◌, ◌<◌, ℕ, ◌+◌, ◌-◌, ◌%◌, Bool, true, false, List, []}
 use Rattle.std.specs.Prelude.{◌∷◌, ◌++◌, Option, Some, None, if◌then◌else◌, ◌==◌, length}
 use Rattle.std.specs.Prelude.{MatchOption, MatchBool, slice_get, slice_set, slice_index_or, remove}
 use Rattle.std.specs.Prelude.{position, sum_by, count_by, replicate, IsPermutation, unwrap_or}
 use Rattle.std.specs.Option.{option_map}
 use Rattle.trace_core.specs.declared.events.Ref.{Ref}
-use Rattle.trace_core.specs.Events.{is_write, one_if}
 use Rattle.cache_core.specs.declared.outcome.Slot.{Slot}
 use Rattle.cache_core.specs.declared.outcome.Outcome.{Outcome}
 use Rattle.cache_core.specs.declared.design.Design.{Design}
 use Rattle.cache_core.specs.declared.design.Repl.{Repl}
 use Rattle.cache_core.specs.Geometry.{block_of, set_of}
 use Rattle.cache_core.specs.Outcomes.{outcome_of, on_hit, on_placing, on_passing, is_dirtied}
-use Rattle.cache_core.specs.Outcomes.{is_allocated, through_writes}
+use Rattle.cache_core.specs.Outcomes.{is_allocated}
 use Rattle.cache_core.specs.Rules.{Place, InFront, InPlace, Victim, Last, Drawn, rules, is_random}
 
 -- the slot at an index comes to the front, or stays where it is

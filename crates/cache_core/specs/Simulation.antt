@@ -1,13 +1,9 @@
 -- An LRU cache with its counts, and the lists of events that it stands for.
-use Rattle.std.specs.Prelude.{◌≡◌, ◌≤◌, ℕ, ◌+◌, List, if◌then◌else◌}
-use Rattle.trace_core.specs.declared.events.Event.{Event}
-use Rattle.cache_core.specs.declared.outcome.Counts.{Counts}
+use Rattle.std.specs.Prelude.{if◌then◌else◌}
 use Rattle.cache_core.specs.declared.simulation.Lookup.{Lookup}
 use Rattle.cache_core.specs.declared.simulation.Lookup.TheVariants.{Hit, Miss, MissEviction}
-use Rattle.cache_core.specs.declared.simulation.Simulation.{Simulation}
 use Rattle.cache_core.specs.Geometry.{GeometryValue}
-use Rattle.cache_core.specs.internal.LruSets.{LruSetsStandFor}
-use Rattle.cache_core.specs.Windows.{Occurrence, is_hit, is_evict, counts}
+use Rattle.cache_core.specs.Windows.{Occurrence, is_hit, is_evict}
 
 -- how a reference goes in an LRU cache
 abbrev pub lookup_at : GeometryValue → Occurrence → Lookup

@@ -1,8 +1,8 @@
 -- A cache's sets in one array of slots: each has a segment of as many slots as it has ways, and the
 -- first of them are filled.
 use Rattle.std.specs.Prelude.{◌≡◌, ◌<◌, ◌≤◌, ℕ, ◌*◌, ◌^◌, List, [], ◌∷◌, Option, length, take, drop}
-use Rattle.std.specs.Prelude.{All, replicate}
-use Rattle.cache_core.specs.Geometry.{GeometryValue, IsGeometry}
+use Rattle.std.specs.Prelude.{All}
+use Rattle.cache_core.specs.Geometry.{IsGeometry}
 use Rattle.cache_core.specs.declared.outcome.Slot.{Slot}
 use Rattle.cache_core.specs.declared.design.Design.{Design}
 use Rattle.cache_core.specs.declared.design.Repl.{Repl}

@@ -1,15 +1,7 @@
 -- What a cache holds, as what a machine holds after a list of events.
-use Rattle.std.specs.Prelude.{◌≡◌, ◌≢◌, ◌<◌, ◌≤◌, ℕ, ◌+◌, List, [], ◌∷◌, ◌++◌, Some, map, length}
-use Rattle.std.specs.Prelude.{replicate, ◌^◌}
-use Rattle.trace_core.specs.declared.events.Ref.{Ref}
-use Rattle.trace_core.specs.declared.events.Event.{Event}
-use Rattle.trace_core.specs.declared.events.Event.TheVariants as event
-use Rattle.cache_core.specs.declared.outcome.Outcome.{Outcome}
-use Rattle.cache_core.specs.Machine.{Machine, MachineState, Line, run, slot_of, lines_of_set, step}
-use Rattle.cache_core.specs.Machine.{dirty_count}
-use Rattle.cache_core.specs.Order.{Contents, Accesses, FlushesCache, slots_of}
-use Rattle.cache_core.specs.Outcomes.{outcome_of}
-use Rattle.cache_core.specs.Rules.{Place, InFront, InPlace, rules}
+use Rattle.std.specs.Prelude.{◌≡◌, ◌≢◌, ◌<◌, ℕ, ◌+◌, List, [], ◌∷◌}
+use Rattle.cache_core.specs.Machine.{Line}
+use Rattle.cache_core.specs.Rules.{Place, InFront, InPlace}
 
 -- keys that fall from one line to the next, the first below a number
 abbrev pub Falls : ℕ → List Line → Type 0

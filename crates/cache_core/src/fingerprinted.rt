@@ -1,23 +1,24 @@
 //! A cache of a system. Where its sets have many ways, a block is searched for by fingerprints.
-ghost use Rattle.std.specs.Prelude.{◌≡◌, ◌≤◌, ◌<◌, ◌+◌, ◌*◌, ◌^◌, length, None, Some};
-ghost use Rattle.std.specs.Prelude.{IfOk, IfSome, Option, is_some, if◌then◌else◌};
+ghost use Rattle.std.specs.Prelude.{◌≡◌, ◌≤◌, ◌<◌, ◌+◌, ◌*◌, ◌^◌, length, Some};
+ghost use Rattle.std.specs.Prelude.{IfOk, IfSome, if◌then◌else◌};
 ghost use Rattle.cache_core.specs.Geometry.{IsGeometry, block_of, set_of};
-ghost use Rattle.cache_core.specs.Outcomes.{hit_in_front};
 ghost use Rattle.cache_core.specs.Order.{Accesses, FlushesCache, slots_of};
 ghost use Rattle.cache_core.specs.Slab.{contents_of};
-ghost use Rattle.cache_core.specs.internal.Slab.{empty_sets};
-ghost use Rattle.cache_core.specs.internal.Order.{DirtiesByWrites, NoneBefore, hits_in_front};
+ghost use Rattle.cache_core.specs.internal.Slab.{empty_sets, AccessesInFront};
+ghost use Rattle.cache_core.specs.internal.Order.{DirtiesByWrites, NoneBefore};
 ghost use Rattle.cache_core.specs.internal.SystemCaches.{policy_of, random_numbers_of};
 ghost use Rattle.cache_core.specs.internal.Fingerprints.{AreRows, HasFingerprints};
 ghost use Rattle.cache_core.specs.internal.Fingerprints.{row_touched, row_placed};
 ghost use Rattle.cache_core.specs.Rules.{rules, is_random};
 
-use crate::cache::{Cache, find_block};
+use crate::cache_sets::CacheSets;
 use crate::chosen_policy::ChosenPolicy;
 use crate::design::{AllocMode, Repl, WriteMode};
-use crate::fingerprints::{NEAR, bring, find_far, fingerprint};
+use crate::fingerprints::{NEAR, find_far, fingerprint};
 use crate::geometry::Geometry;
 use crate::outcome::Outcome;
+use crate::to_front::bring;
+use crate::walk::find_block;
 use std::alloc::{AllocError, Global};
 use std::marker::Model;
 use trace_core::Ref;
@@ -30,7 +31,7 @@ const FINGERPRINTED_WAYS: u64 = 128;
 /// There are none if its sets have few ways.
 #[derive(Drop)]
 pub(crate) struct FingerprintedCache {
-    cache: Cache<ChosenPolicy>,
+    sets: CacheSets<ChosenPolicy>,
     policy: Repl,
     rows: Vec<u8>,
 }
@@ -45,10 +46,10 @@ impl Model for FingerprintedCache {
     ghost use Rattle.cache_core.specs.internal.SystemCaches.{policy_of};
     ghost use Rattle.cache_core.specs.internal.Fingerprints.{AreRows};
 
-    ghost view = { λ f. f.cache };
+    ghost view = { λ f. f.sets };
 
-    ghost invariant = { λ f. (policy_of f.cache.policy ≡ Some f.policy)
-        × AreRows f.cache.design.geometry.e f.cache.sets f.rows.items };
+    ghost invariant = { λ f. (policy_of f.sets.policy ≡ Some f.policy)
+        × AreRows f.sets.design.geometry.e f.sets.sets f.rows.items };
 }
 
 impl FingerprintedCache {
@@ -68,7 +69,7 @@ impl FingerprintedCache {
         ensures limits { IsGeometry geometry }
     {
         let name = policy.name();
-        let cache = Cache::new(alloc, geometry, policy, write, allocate)?;
+        let sets = CacheSets::new(alloc, geometry, policy, write, allocate)?;
         let bytes = if geometry.e() < FINGERPRINTED_WAYS {
             0
         } else {
@@ -76,7 +77,7 @@ impl FingerprintedCache {
         };
         let rows = vec![in alloc; 0; bytes as usize]?;
         Ok(FingerprintedCache {
-            cache,
+            sets,
             policy: name,
             rows,
         })
@@ -91,24 +92,16 @@ impl FingerprintedCache {
         ensures victim { IfSome result.evicted
             (λ slot. slot.block * 2 ^ self.old.design.geometry.b < 2 ^ 64) }
     {
-        access_by_rows(&mut self.cache, self.policy, &mut self.rows, reference)
+        access_by_rows(&mut self.sets, self.policy, &mut self.rows, reference)
     }
 
     /// Makes an access that finds its block in the first slot of its set and sends nothing down,
     /// and returns its outcome. Of another access it does nothing.
     #[inline(always)]
     pub(crate) fn access_in_front(&mut self, reference: Ref) -> Option<Outcome>
-        ensures step { IfSome result (λ outcome.
-            Accesses (contents_of policy_of random_numbers_of self.old) reference outcome
-            (contents_of policy_of random_numbers_of self.new)) }
-        ensures dirty { IfSome result (λ outcome.
-            DirtiesByWrites self.old.sets reference outcome self.new.sets) }
-        ensures answers { is_some result
-            ≡ hits_in_front self.old.design self.old.sets reference }
-        ensures outcome { IfSome result (λ outcome. outcome ≡ hit_in_front) }
-        ensures kept { result ≡ None → self.new ≡ self.old }
+        ensures { AccessesInFront policy_of random_numbers_of self.old reference result self.new }
     {
-        self.cache.access_in_front(reference)
+        self.sets.access_in_front(reference)
     }
 
     /// Its geometry.
@@ -116,7 +109,7 @@ impl FingerprintedCache {
     pub(crate) fn geometry(&self) -> Geometry
         ensures { result ≡ self.now.design.geometry }
     {
-        self.cache.geometry()
+        self.sets.geometry()
     }
 
     /// Empties the cache, and returns how many dirty lines it held.
@@ -124,7 +117,7 @@ impl FingerprintedCache {
         ensures { FlushesCache (contents_of policy_of random_numbers_of self.old) result
             (contents_of policy_of random_numbers_of self.new) }
     {
-        self.cache.flush()
+        self.sets.flush()
     }
 }
 
@@ -133,25 +126,25 @@ impl FingerprintedCache {
 /// no fingerprint moves.
 #[inline(always)]
 fn access_by_rows(
-    cache: &mut Cache<ChosenPolicy>,
+    sets: &mut CacheSets<ChosenPolicy>,
     policy: Repl,
     rows: &mut [u8],
     reference: Ref,
 ) -> Outcome
-    requires policy { policy_of cache.old.policy ≡ Some policy }
-    requires rows { AreRows cache.old.design.geometry.e cache.old.sets rows.old }
-    ensures step { Accesses (contents_of policy_of random_numbers_of cache.old) reference result
-        (contents_of policy_of random_numbers_of cache.new) }
-    ensures dirty { DirtiesByWrites cache.old.sets reference result cache.new.sets }
+    requires policy { policy_of sets.old.policy ≡ Some policy }
+    requires rows { AreRows sets.old.design.geometry.e sets.old.sets rows.old }
+    ensures step { Accesses (contents_of policy_of random_numbers_of sets.old) reference result
+        (contents_of policy_of random_numbers_of sets.new) }
+    ensures dirty { DirtiesByWrites sets.old.sets reference result sets.new.sets }
     ensures victim { IfSome result.evicted
-        (λ slot. slot.block * 2 ^ cache.old.design.geometry.b < 2 ^ 64) }
-    ensures rows { AreRows cache.new.design.geometry.e cache.new.sets rows.new }
+        (λ slot. slot.block * 2 ^ sets.old.design.geometry.b < 2 ^ 64) }
+    ensures rows { AreRows sets.new.design.geometry.e sets.new.sets rows.new }
 {
-    let geometry = cache.geometry();
+    let geometry = sets.geometry();
     let set = geometry.set_of(reference.addr) as usize;
     let ways = geometry.e() as usize;
     let start = set * ways;
-    let slots = cache.slots(reference);
+    let slots = sets.slots(reference);
     let near = if start < rows.len() {
         slots.len().min(NEAR)
     } else {
@@ -159,9 +152,9 @@ fn access_by_rows(
     };
     let at = find_block(&slots[..near], geometry.block_of(reference.addr));
     if at.is_none() && near == NEAR && start < rows.len() {
-        return access_far(cache, policy, &mut rows[start..start + ways], reference);
+        return access_far(sets, policy, &mut rows[start..start + ways], reference);
     }
-    cache.access_at(reference, at).0
+    sets.access_at(reference, at).0
 }
 
 /// One access whose block is not among the first slots of its set, which are filled. It is
@@ -169,37 +162,37 @@ fn access_by_rows(
 /// path of the many references whose block is among the first stays short.
 #[inline(never)]
 fn access_far(
-    cache: &mut Cache<ChosenPolicy>,
+    sets: &mut CacheSets<ChosenPolicy>,
     policy: Repl,
     row: &mut [u8],
     reference: Ref,
 ) -> Outcome
-    requires policy { policy_of cache.old.policy ≡ Some policy }
-    requires far { 16 ≤ length (slots_of cache.old.sets
-        (set_of cache.old.design.geometry reference.addr)) }
-    requires none { NoneBefore (block_of cache.old.design.geometry reference.addr)
-        (slots_of cache.old.sets (set_of cache.old.design.geometry reference.addr)) 16 }
-    requires row { HasFingerprints cache.old.design.geometry.e
-        (slots_of cache.old.sets (set_of cache.old.design.geometry reference.addr)) row.old }
-    ensures step { Accesses (contents_of policy_of random_numbers_of cache.old) reference result
-        (contents_of policy_of random_numbers_of cache.new) }
-    ensures dirty { DirtiesByWrites cache.old.sets reference result cache.new.sets }
+    requires policy { policy_of sets.old.policy ≡ Some policy }
+    requires far { 16 ≤ length (slots_of sets.old.sets
+        (set_of sets.old.design.geometry reference.addr)) }
+    requires none { NoneBefore (block_of sets.old.design.geometry reference.addr)
+        (slots_of sets.old.sets (set_of sets.old.design.geometry reference.addr)) 16 }
+    requires row { HasFingerprints sets.old.design.geometry.e
+        (slots_of sets.old.sets (set_of sets.old.design.geometry reference.addr)) row.old }
+    ensures step { Accesses (contents_of policy_of random_numbers_of sets.old) reference result
+        (contents_of policy_of random_numbers_of sets.new) }
+    ensures dirty { DirtiesByWrites sets.old.sets reference result sets.new.sets }
     ensures victim { IfSome result.evicted
-        (λ slot. slot.block * 2 ^ cache.old.design.geometry.b < 2 ^ 64) }
-    ensures row { HasFingerprints cache.new.design.geometry.e
-        (slots_of cache.new.sets (set_of cache.old.design.geometry reference.addr)) row.new }
+        (λ slot. slot.block * 2 ^ sets.old.design.geometry.b < 2 ^ 64) }
+    ensures row { HasFingerprints sets.new.design.geometry.e
+        (slots_of sets.new.sets (set_of sets.old.design.geometry reference.addr)) row.new }
 {
-    let geometry = cache.geometry();
+    let geometry = sets.geometry();
     let block = geometry.block_of(reference.addr);
-    let slots = cache.slots(reference);
+    let slots = sets.slots(reference);
     let passing = fingerprint(slots[NEAR - 1].block);
     let last = slots.len().min(geometry.e() as usize - 1);
     let at = find_far(row, slots, block);
-    let (outcome, way) = cache.access_at(reference, at);
+    let (outcome, placed) = sets.access_at(reference, at);
     match at {
         Some(at) => follow_touch(policy, row, at, passing),
         None => {
-            if outcome.placed {
+            if let Some(way) = placed {
                 follow_placing(policy, row, last, way, passing, fingerprint(block));
             }
         }

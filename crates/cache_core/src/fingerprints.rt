@@ -1,14 +1,13 @@
 //! The fingerprints of the blocks of one set: a byte for each slot behind the first sixteen, so
 //! that a block is searched for sixteen slots at once.
-ghost use Rattle.std.specs.Prelude.{◌≡◌, ◌≢◌, ◌≤◌, ◌<◌, ◌∷◌, ◌==◌, not, length, take, remove};
-ghost use Rattle.std.specs.Prelude.{None};
+ghost use Rattle.std.specs.Prelude.{◌≡◌, ◌≢◌, ◌≤◌, ◌<◌, ◌==◌, not, length, take, None};
 ghost use Rattle.std.specs.List.{prefix_len};
 ghost use Rattle.cache_core.specs.Order.{position_of};
 ghost use Rattle.cache_core.specs.internal.Fingerprints.{fingerprint_of, AreFingerprints};
 ghost use Rattle.cache_core.specs.internal.Order.{NoneBefore};
 
-use crate::cache::find_block;
 use crate::outcome::Slot;
+use crate::walk::find_block;
 use std::simd::prelude::*;
 
 /// How many slots of a set, the first, have no fingerprint. Most blocks are found among them, and
@@ -59,15 +58,6 @@ fn find_between(slots: &[Slot], from: usize, next: usize, block: u64) -> Option<
     }
     let passed = find_block(&slots[from..end], block)?;
     Some(from + passed)
-}
-
-/// Brings a byte to the front of a row, in place of that at an index.
-pub(crate) fn bring(row: &mut [u8], at: usize, byte: u8)
-    requires { at < length row.old }
-    ensures { row.new ≡ byte ∷ remove row.old at }
-{
-    row[at] = byte;
-    row[..=at].rotate_right(1);
 }
 
 /// The fingerprint of a block. Of one product alone, some strides would put all blocks on one

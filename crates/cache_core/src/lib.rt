@@ -4,14 +4,18 @@
 
 pub mod arrival;
 pub mod cache;
+mod cache_sets;
 mod chosen_policy;
 mod deep_sets;
 pub mod design;
+mod effects;
+mod emptying;
 mod fingerprinted;
 mod fingerprints;
 pub mod geometry;
 pub mod laws;
 mod lru_sets;
+mod one_set;
 pub mod outcome;
 pub mod plan;
 pub mod powers;
@@ -21,7 +25,9 @@ pub mod simulation;
 pub mod stats;
 pub mod system;
 mod system_cache;
+mod to_front;
 pub mod touched;
+mod walk;
 
 pub use arrival::{Arrival, MAX_ARRIVALS, Observer, Victim};
 pub use cache::Cache;

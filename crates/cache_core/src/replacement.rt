@@ -5,6 +5,7 @@ ghost use Rattle.cache_core.specs.Order.{Touches, TakesIn, random_numbers_after}
 
 use crate::design::Repl;
 use crate::outcome::Slot;
+use crate::to_front::bring;
 use rand_core::utils::NextWord;
 use rand_pcg::Pcg32;
 use std::marker::Model;
@@ -87,8 +88,7 @@ fn put_in_front(set: &mut [Slot], filled: usize, new: Slot) -> Option<Slot>
 {
     let last = filled.min(set.len() - 1);
     let gone = (filled == set.len()).then_some(set[last]);
-    set[last] = new;
-    set[..=last].rotate_right(1);
+    bring(set, last, new);
     gone
 }
 

@@ -1,20 +1,16 @@
 -- What a cache holds, each set in its policy's order, and one access to it.
 -- What only helps the proofs.
-use Rattle.std.specs.Prelude.{◌≡◌, ◌≢◌, ◌<◌, ◌≤◌, ℕ, ◌+◌, ◌-◌, ◌%◌, Bool, true, false, List, []}
-use Rattle.std.specs.Prelude.{◌∷◌, ◌++◌, Option, Some, None, if◌then◌else◌, ◌==◌, length}
-use Rattle.std.specs.Prelude.{MatchOption, MatchBool, slice_get, slice_set, slice_index_or, remove}
-use Rattle.std.specs.Prelude.{position, sum_by, count_by, replicate, IsPermutation, unwrap_or}
+use Rattle.std.specs.Prelude.{◌≡◌, ◌<◌, ◌≤◌, ℕ, ◌+◌, Bool, false, List, []}
+use Rattle.std.specs.Prelude.{◌∷◌, Option, Some, if◌then◌else◌, ◌==◌, length}
+use Rattle.std.specs.Prelude.{IfSome, is_some, slice_get, slice_index_or}
 use Rattle.std.specs.Option.{option_map}
 use Rattle.trace_core.specs.declared.events.Ref.{Ref}
 use Rattle.trace_core.specs.Events.{is_write, one_if}
 use Rattle.cache_core.specs.declared.outcome.Slot.{Slot}
 use Rattle.cache_core.specs.declared.outcome.Outcome.{Outcome}
 use Rattle.cache_core.specs.declared.design.Design.{Design}
-use Rattle.cache_core.specs.declared.design.Repl.{Repl}
 use Rattle.cache_core.specs.Geometry.{block_of, set_of}
-use Rattle.cache_core.specs.Outcomes.{outcome_of, on_hit, on_placing, on_passing, is_dirtied}
-use Rattle.cache_core.specs.Outcomes.{is_allocated, through_writes}
-use Rattle.cache_core.specs.Rules.{Place, InFront, InPlace, Victim, Last, Drawn, rules, is_random}
+use Rattle.cache_core.specs.Outcomes.{through_writes}
 use Rattle.cache_core.specs.Order.{slots_of, dirty_slots, is_dirty}
 
 -- whether the first of these slots holds a block
@@ -35,10 +31,10 @@ DirtiesByWrites old ref outcome new =
     dirty_slots new + one_if (is_dirty outcome.evicted) ≤ dirty_slots old + one_if
     (is_write ref.access)
 
--- if a slot was placed, that at an index holds its block
-abbrev pub HoldsPlaced : ℕ → Outcome → ℕ → List Slot → Type 0
-HoldsPlaced block outcome way slots = outcome.placed ≡ true →
-    option_map (λ slot. slot.block) (slice_get slots way) ≡ Some block
+-- an index is told exactly if a slot was placed, and the slot there holds its block
+abbrev pub HoldsPlaced : ℕ → Outcome → Option ℕ → List Slot → Type 0
+HoldsPlaced block outcome placed slots = (is_some placed ≡ outcome.placed)
+    × IfSome placed (λ at. option_map (λ slot. slot.block) (slice_get slots at) ≡ Some block)
 
 -- no slot before an index holds a block
 abbrev pub NoneBefore : ℕ → List Slot → ℕ → Type 0

@@ -1,6 +1,6 @@
 -- An LRU cache with its counts, and the lists of events that it stands for.
 -- What only helps the proofs.
-use Rattle.std.specs.Prelude.{◌≡◌, ◌≤◌, ℕ, ◌+◌, List, if◌then◌else◌}
+use Rattle.std.specs.Prelude.{◌≡◌, ◌≤◌, ℕ, ◌+◌, List}
 use Rattle.trace_core.specs.declared.events.Event.{Event}
 use Rattle.cache_core.specs.declared.outcome.Counts.{Counts}
 use Rattle.cache_core.specs.declared.simulation.Lookup.{Lookup}
@@ -8,7 +8,7 @@ use Rattle.cache_core.specs.declared.simulation.Lookup.TheVariants.{Hit, Miss, M
 use Rattle.cache_core.specs.declared.simulation.Simulation.{Simulation}
 use Rattle.cache_core.specs.Geometry.{GeometryValue}
 use Rattle.cache_core.specs.internal.LruSets.{LruSetsStandFor}
-use Rattle.cache_core.specs.Windows.{Occurrence, is_hit, is_evict, counts}
+use Rattle.cache_core.specs.Windows.{counts}
 
 -- the counts with one more lookup
 abbrev pub counts_with : Counts → Lookup → Counts

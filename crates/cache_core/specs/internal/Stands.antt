@@ -1,6 +1,6 @@
 -- What a cache holds, as what a machine holds after a list of events.
 -- What only helps the proofs.
-use Rattle.std.specs.Prelude.{◌≡◌, ◌≢◌, ◌<◌, ◌≤◌, ℕ, ◌+◌, List, [], ◌∷◌, ◌++◌, Some, map, length}
+use Rattle.std.specs.Prelude.{◌≡◌, ◌≤◌, ℕ, ◌+◌, List, [], ◌∷◌, ◌++◌, Some, map, length}
 use Rattle.std.specs.Prelude.{replicate, ◌^◌}
 use Rattle.trace_core.specs.declared.events.Ref.{Ref}
 use Rattle.trace_core.specs.declared.events.Event.{Event}
@@ -10,7 +10,7 @@ use Rattle.cache_core.specs.Machine.{Machine, MachineState, Line, run, slot_of, 
 use Rattle.cache_core.specs.Machine.{dirty_count}
 use Rattle.cache_core.specs.Order.{Contents, Accesses, FlushesCache, slots_of}
 use Rattle.cache_core.specs.Outcomes.{outcome_of}
-use Rattle.cache_core.specs.Rules.{Place, InFront, InPlace, rules}
+use Rattle.cache_core.specs.Rules.{Place, rules}
 use Rattle.cache_core.specs.Stands.{InOrder, Distinct}
 
 -- Each set holds the slots of the machine's lines of it, in their order, and the random numbers

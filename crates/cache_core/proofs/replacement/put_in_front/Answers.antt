@@ -1,9 +1,9 @@
--- A prefix turned right by one brings the new slot to the front.
+-- The new slot comes to the front.
 use Rattle.cache_core.proofs.Lawful.{new_in_front}
 use Rattle.cache_core.proofs.replacement.put_in_front.Goals as goal
 
 pub returns-clause-order : goal.returns-clause-order
 returns-clause-order c =
-    rw c.then_some-gone.ensures
-    (new_in_front c.args.set.now c.args.filled c.min-last.result c.args.new _ _
-    c.requires.filled c.requires.some c.min-last.ensures c.rotate_right.ensures.after)
+    rw (c.then_some-gone.ensures, c.bring.ensures)
+    (new_in_front c.args.set.now c.args.filled c.min-last.result c.args.new _
+    c.requires.filled c.requires.some c.min-last.ensures)

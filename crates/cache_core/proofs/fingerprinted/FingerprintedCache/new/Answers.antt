@@ -12,9 +12,9 @@ use Rattle.cache_core.proofs.fingerprinted.FingerprintedCache.new.Goals.{
 pub invariant_of-result : goal.invariant_of-result
 invariant_of-result c = (
   grind arith,
-  rows_made c.in_ok-cache.cache.design.geometry.e (2 ^ c.args.geometry.s)
-      c.if-e-lt-FINGERPRINTED_WAYS.bytes c.in_ok-cache.cache.sets c.in_ok-rows.rows.items
-      c.in_ok-cache.ensures.empty (grind (arith, length-replicate))
+  rows_made c.in_ok-sets.sets.design.geometry.e (2 ^ c.args.geometry.s)
+      c.if-e-lt-FINGERPRINTED_WAYS.bytes c.in_ok-sets.sets.sets c.in_ok-rows.rows.items
+      c.in_ok-sets.ensures.empty (grind (arith, length-replicate))
       (elim c.if-e-lt-FINGERPRINTED_WAYS.branch [
         | then-e-lt-FINGERPRINTED_WAYS w ↦ inl (w.bytes-is)
         | else-e-lt-FINGERPRINTED_WAYS w ↦ inr (grind arith, grind arith)

@@ -8,7 +8,7 @@ use Rattle.cache_core.specs.LruLaws.{occurrence_after}
 use Rattle.cache_core.specs.internal.LruSets.{LruSetsStandFor}
 use Rattle.cache_core.specs.Simulation.{lookup_at}
 use Rattle.cache_core.proofs.LruSetsLaw.{follows_hit, follows_miss}
-use Rattle.cache_core.proofs.PushedBack.{IsPlaced, push_within, push_apart, follows_push}
+use Rattle.cache_core.proofs.PushedBack.{IsPlaced, push_fits, follows_push}
 use Rattle.cache_core.proofs.lru_sets.LruSets.access_further.Goals as goal
 use Rattle.cache_core.proofs.lru_sets.LruSets.access_further.Goals.{After-block_of, After-push_back}
 
@@ -55,36 +55,23 @@ placed c = record {
       c.geometry-geometry.ensures;
 }
 
-pub push_back-requires-clause-within : goal.push_back-requires-clause-within
-push_back-requires-clause-within c =
+pub push_back-requires : goal.push_back-requires
+push_back-requires c =
     let run = c.self.invariant in
-    push_within run.0 run.1 c.args.reference c.self.inside.near c.access-outcome.new.self
+    let fits = push_fits run.0 run.1 c.args.reference c.self.inside.near c.access-outcome.new.self
     c.access-outcome.result c.access-outcome.ensures.step
     c.in-Some.victim c.in-Some.is c.set_of-set.result c.block_of.result
-    (placed c) c.self.inside.far run.2
-
-pub push_back-requires-clause-apart : goal.push_back-requires-clause-apart
-push_back-requires-clause-apart c =
-    let run = c.self.invariant in
-    push_apart run.0 run.1 c.args.reference c.self.inside.near c.access-outcome.new.self
-    c.access-outcome.result c.access-outcome.ensures.step
-    c.in-Some.victim c.in-Some.is c.set_of-set.result c.block_of.result
-    (placed c) c.self.inside.far run.2
+    (placed (goal.at.push_back-requires c).After-block_of) c.self.inside.far run.2 in
+    record { within = fits.0; apart = fits.1 }
 
 -- the sets with the block pushed back
-pushed : (c : After-push_back) (g : GeometryValue) (events : List Event) →
+pushed : (c : After-push_back) → IsPlaced c.self.inside.near.design.geometry c.args.reference
+    c.set_of-set.result c.block_of.result → (g : GeometryValue) (events : List Event) →
     LruSetsStandFor g events (record { near = c.self.inside.near; far = c.self.inside.far }) →
     LruSetsStandFor g (events ++ event.Reference c.args.reference ∷ [])
     (record { near = c.access-outcome.new.self; far = c.push_back.new.far })
     × (c.push_back.result ≡ lookup_at g (occurrence_after g events c.args.reference))
-pushed c g events s =
-    let place : IsPlaced c.self.inside.near.design.geometry c.args.reference c.set_of-set.result
-    c.block_of.result = record {
-      set_is = c.set_of-set.ensures.value ∙
-          ap (λ (v : GeometryValue). set_of v c.args.reference.addr) c.geometry-geometry.ensures;
-      block_is = c.block_of.ensures.value ∙
-          ap (λ (v : GeometryValue). block_of v c.args.reference.addr) c.geometry-geometry.ensures;
-    } in
+pushed c place g events s =
     let after = follows_push g events c.args.reference c.self.inside.near c.access-outcome.new.self
     c.access-outcome.result
     c.access-outcome.ensures.step c.in-Some.victim c.in-Some.is c.set_of-set.result
@@ -97,13 +84,14 @@ pushed c g events s =
     )
 
 pub returns-in-Some : goal.returns-in-Some
-returns-in-Some c = λ g events stands. pushed c g events (subst (LruSetsStandFor g events)
-    (sym c.self.view_is) stands)
+returns-in-Some c = λ g events stands.
+    pushed c (placed (goal.at.returns-in-Some c).After-block_of) g events
+    (subst (LruSetsStandFor g events) (sym c.self.view_is) stands)
 
 pub invariant_of-self-in-Some : goal.invariant_of-self-in-Some
 invariant_of-self-in-Some c =
     let run = c.self.invariant in (
       run.0,
       run.1 ++ event.Reference c.args.reference ∷ [],
-      (pushed c run.0 run.1 run.2).0,
+      (pushed c (placed (goal.at.invariant_of-self-in-Some c).After-block_of) run.0 run.1 run.2).0,
     )

@@ -1,6 +1,6 @@
 -- A reference that finds its block in the first slot of its set is a step that sends nothing down,
 -- and is seen once.
-use Rattle.std.proofs.Common.{◌≡◌, List, [], ◌∷◌, ◌++◌, Some, None, true, arith, refl, sym, ap, ◌∙◌}
+use Rattle.std.proofs.Common.{◌≡◌, List, [], ◌∷◌, ◌++◌, Some, None, true, arith, sym, ap, ◌∙◌}
 use Rattle.std.proofs.Common.{subst, append-nil}
 use Rattle.cache_core.specs.declared.arrival.Arrival.{Arrival}
 use Rattle.cache_core.specs.declared.arrival.Arrival.TheVariants.{Cache}
@@ -9,7 +9,7 @@ use Rattle.cache_core.specs.internal.SystemStands.{SystemStandsFor}
 use Rattle.cache_core.specs.internal.SystemSteps.{nothing_down}
 use Rattle.cache_core.proofs.Counters.{first_level_grows}
 use Rattle.cache_core.proofs.Observed.{seen_below}
-use Rattle.cache_core.proofs.SystemLaw.{step_law, step_sends}
+use Rattle.cache_core.proofs.SystemLaw.{step_in_front, step_law, step_sends}
 use Rattle.cache_core.proofs.system.System.step_observed.Goals as goal
 
 pub invariant_of-self : goal.invariant_of-self
@@ -21,14 +21,9 @@ invariant_of-self g c =
 pub returns-then-access_first_level_in_front-clause-stands
     : goal.returns-then-access_first_level_in_front-clause-stands
 returns-then-access_first_level_in_front-clause-stands g c = λ plan seed events good stands.
-    step_law plan seed events _ c.args.reference _ good stands (rw (← c.self.view_is) record {
-      down = Some nothing_down;
-      first = rw c.if-access_first_level_in_front.true
-          at c.access_first_level_in_front.ensures.value;
-      lower = (refl, refl);
-      bypassed = omega arith;
-      steps = refl;
-    })
+    step_law plan seed events _ c.args.reference _ good stands (rw (← c.self.view_is)
+    (step_in_front _ c.args.reference _ _ _ (rw c.if-access_first_level_in_front.true
+    at c.access_first_level_in_front.ensures.value)))
 
 pub returns-then-access_first_level_in_front-clause-seen
     : goal.returns-then-access_first_level_in_front-clause-seen

@@ -2,7 +2,7 @@
 use Rattle.std.proofs.Common.{arith, false}
 use Rattle.cache_core.specs.declared.outcome.Slot.{Slot}
 use Rattle.cache_core.proofs.FingerprintsLaw.{found_at, found_nowhere}
-use Rattle.cache_core.proofs.cache.find_block.Goals as goal
+use Rattle.cache_core.proofs.walk.find_block.Goals as goal
 
 abbrev none : Slot
 none = record { block = 0; dirty = false }

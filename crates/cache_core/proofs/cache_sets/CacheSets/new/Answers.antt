@@ -2,8 +2,8 @@
 use Rattle.std.proofs.Common.{replicate, ◌^◌, ◌∙◌, ap, ◌≡◌, arith}
 use Rattle.cache_core.proofs.Slabs.{slab_made, sets_of-empty}
 use Rattle.cache_core.proofs.TouchedSets.{covers_none}
-use Rattle.cache_core.proofs.cache.Cache.new.Goals as goal
-use Rattle.cache_core.proofs.cache.Cache.new.Given.{Over}
+use Rattle.cache_core.proofs.cache_sets.CacheSets.new.Goals as goal
+use Rattle.cache_core.proofs.cache_sets.CacheSets.new.Given.{Over}
 
 none_filled : (g : Over) (c : goal.In_ok-touched g) → c.in_ok-filled.filled.items ≡ replicate
     (2 ^ c.args.geometry.s) 0

@@ -6,8 +6,8 @@ use Rattle.cache_core.proofs.TouchedSets.{covers_change}
 use Rattle.cache_core.proofs.Slabs.{IsWritten, slab_read, slab_kept, slab_access, length-sets_of}
 use Rattle.cache_core.proofs.Slabs.{set_read_back}
 use Rattle.cache_core.proofs.DirtyLaw.{slab_dirty}
-use Rattle.cache_core.proofs.cache.visit_slab.Goals as goal
-use Rattle.cache_core.proofs.cache.visit_slab.Given.{Over}
+use Rattle.cache_core.proofs.cache_sets.visit_slab.Goals as goal
+use Rattle.cache_core.proofs.cache_sets.visit_slab.Given.{Over}
 
 pub visit-count-requires-clause-addresses : goal.visit-count-requires-clause-addresses
 visit-count-requires-clause-addresses g c = grind (arith, slab_read, length-sets_of)

@@ -2,8 +2,8 @@
 use Rattle.std.proofs.Common.{true, arith, sym, subst}
 use Rattle.cache_core.specs.Slab.{Addressable}
 use Rattle.cache_core.proofs.Addresses.{marked_fits, touched_fits}
-use Rattle.cache_core.proofs.cache.use_slot.Goals as goal
-use Rattle.cache_core.proofs.cache.use_slot.Goals.{then-dirty, else-dirty}
+use Rattle.cache_core.proofs.one_set.use_slot.Goals as goal
+use Rattle.cache_core.proofs.one_set.use_slot.Goals.{then-dirty, else-dirty}
 
 pub returns-clause-addresses : goal.returns-clause-addresses
 returns-clause-addresses g c = λ b fit.

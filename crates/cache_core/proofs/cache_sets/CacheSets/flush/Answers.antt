@@ -3,8 +3,8 @@ use Rattle.std.proofs.Common.{◌≡◌, ◌++◌, ◌^◌, ◌∙◌, arith, sy
 use Rattle.std.proofs.Common.{replicate}
 use Rattle.cache_core.proofs.Slabs.{slab_made, sets_of-empty, length-sets_of, none_filled}
 use Rattle.cache_core.proofs.TouchedSets.{covers_none}
-use Rattle.cache_core.proofs.cache.Cache.flush.Goals as goal
-use Rattle.cache_core.proofs.cache.Cache.flush.Given.{Over}
+use Rattle.cache_core.proofs.cache_sets.CacheSets.flush.Goals as goal
+use Rattle.cache_core.proofs.cache_sets.CacheSets.flush.Given.{Over}
 
 none_left : (g : Over) (c : goal.After-self-1 g) →
     take c.self.inside.filled.len (c.empty_slab.new.filled ++ drop (length c.empty_slab.new.filled)

@@ -2,12 +2,12 @@
 use Rattle.std.proofs.Common.{arith, take-take, sym, ◌∙◌}
 use Rattle.cache_core.proofs.FrontLaw.{front_kept, front_access, front_dirty}
 use Rattle.cache_core.proofs.FrontLaw.{passed_on, told_in_front}
-use Rattle.cache_core.proofs.cache.visit_front.Goals.{then-is_some-via-then-is_some}
-use Rattle.cache_core.proofs.cache.visit_front.Goals.{
+use Rattle.cache_core.proofs.cache_sets.visit_front.Goals.{then-is_some-via-then-is_some}
+use Rattle.cache_core.proofs.cache_sets.visit_front.Goals.{
   then-is_some-via-else-is_some+then-not-is_in_front,
 }
 use Rattle.cache_core.specs.Slab.{sets_of}
-use Rattle.cache_core.proofs.cache.visit_front.Goals as goal
+use Rattle.cache_core.proofs.cache_sets.visit_front.Goals as goal
 
 pub returns-clause-slab : goal.returns-clause-slab
 returns-clause-slab c =

@@ -1,7 +1,7 @@
 -- The filled slots of a set are the first of its segment.
 use Rattle.std.proofs.Common.{arith, refl, sym, ◌*◌, ◌+◌, ◌-◌, ◌≡◌, get_or}
 use Rattle.cache_core.proofs.Slabs.{get_or-sets_of}
-use Rattle.cache_core.proofs.cache.segment.Goals as goal
+use Rattle.cache_core.proofs.cache_sets.segment.Goals as goal
 
 pub returns-clause-slots : goal.returns-clause-slots
 returns-clause-slots c =

@@ -1,7 +1,7 @@
 -- One listed set after another is emptied, and its dirty slots are counted.
 use Rattle.std.proofs.Common.{arith, ap, ◌∙◌, replicate}
 use Rattle.cache_core.proofs.SlabFlush.{dirty_few, one_emptied, none_left, all_counted}
-use Rattle.cache_core.proofs.cache.empty_listed.Goals as goal
+use Rattle.cache_core.proofs.emptying.empty_listed.Goals as goal
 
 pub loop-number-preserved : goal.loop-number-preserved
 loop-number-preserved c =

@@ -1,7 +1,7 @@
 -- No slot before the index holds the block.
 use Rattle.std.proofs.Common.{◌-◌, ◌≤◌, length}
 use Rattle.cache_core.specs.internal.Order.{NoneBefore}
-use Rattle.cache_core.proofs.cache.find_block.Given as goal
+use Rattle.cache_core.proofs.walk.find_block.Given as goal
 
 abbrev pub invariant-loop-at : goal.invariant-loop-at
 invariant-loop-at l = (l.at ≤ length l.slots) × NoneBefore l.block l.slots l.at
