@@ -4,7 +4,7 @@ import collections
 import re
 import shutil
 
-from base import TOP, ToolTest, needs, script
+from base import TOP, ToolTest, script
 
 SOURCE = """\
 //! Half of a number.
@@ -96,7 +96,6 @@ def goal_of(path):
     return re.search(r"^goal: (.*)$", path.read_text(), re.M)[1]
 
 
-@needs("git")
 class Mutants(ToolTest):
     def setUp(self):
         super().setUp()
@@ -107,6 +106,7 @@ class Mutants(ToolTest):
             shutil.copy(TOP / "tests" / name, self.top / "tests")
         (self.top / "crates/low/src/lib.rt").write_text(SOURCE)
         (self.top / "crates.txt").write_text("low:\n")
+        (self.top / "HANDLES").write_text("Handles allowed: none.\n")
         self.mutant = self.top / "tests/mutants/low/a_third.edit"
         self.mutant.write_text("goal: Half::of value\n" + EDIT)
         (self.folder / "rt").write_text(RT)
@@ -115,8 +115,6 @@ class Mutants(ToolTest):
         self.stored = self.top / "crates/low/proofs/lib/Half/of/Answers.antt"
         self.stored.parent.mkdir(parents=True)
         self.stored.write_text("an answer\n")
-        self.run_command("git", "init", "-q", self.top)
-        self.run_command("git", "-C", self.top, "add", "crates", "crates.txt")
 
     def tried(self, said, *arguments):
         """The last two lines, and the status, where the prover says this of the mutant."""
