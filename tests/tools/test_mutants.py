@@ -241,6 +241,30 @@ class Mutants(ToolTest):
             lines, status = self.tried("", "--list", "no_half")
             self.assertEqual((lines[-1][-len(told) - 10:], status), (f"(FAILED: {told})", 1))
 
+    def test_a_control_that_was_not_tried(self):
+        """Not since its edit or its function was changed: the gate, which lists all, sees that."""
+        gate = self.top / "crates/low/must-fail/no_half.edit"
+        source, edit = self.top / "crates/low/src/lib.rt", EDIT + "right:         number >> 1\n"
+        again = ("FAILED: these edits or their functions have changed since their controls were "
+                 "tried: tests/try-mutants --controls no_half")
+        clause = SOURCE.replace("result ≡", "result + 0 ≡")
+        for text, code in ((edit, SOURCE), (edit.replace("/ 3", "/ 3 + 0"), SOURCE),
+                           (edit, clause)):
+            gate.write_text(text)
+            source.write_text(code)
+            (self.folder / "control").write_text(IN_CODE + REFUSED)
+            for said in (IN_CODE + REFUSED, PROVED):
+                lines, status = self.tried("", "--list", "low")
+                self.assertEqual((lines[-1], status), (again, 1))
+                (self.folder / "control").write_text(said)
+                self.tried(IN_CODE + REFUSED, "--controls", "no_half")
+            self.assertEqual(self.tried("", "--list")[1], 0)
+        source.write_text("// another\n" + clause.replace("{\n ", "{ // half\n "))
+        self.assertEqual(self.tried("", "--list")[1], 0)
+        gate.unlink()
+        self.tried(PROVED, "--controls")
+        self.assertEqual((self.top / "tests/controls").read_text(), "")
+
     def test_a_change_without_its_right(self):
         """It is in the control as it is in the mutant."""
         self.mutant.write_text("goal: Half::of value\nfile: src/lib.rt\nold:         number / 2\n"
@@ -319,6 +343,7 @@ class Mutants(ToolTest):
         gate = self.top / "crates/low/must-fail/no_half.edit"
         gate.write_text(EDIT + "right:         number >> 1\n")
         (self.folder / "control").write_text(PROVED)
+        self.tried(PROVED, "--controls")
         lines, _ = self.tried("", "--list")
         self.assertEqual(lines, [
             "low a_third: Half::of: a third. Refused at: Half::of value",
