@@ -261,9 +261,9 @@ class Mutants(ToolTest):
             self.assertEqual(self.tried("", "--list")[1], 0)
         source.write_text("// another\n" + clause.replace("{\n ", "{ // half\n "))
         self.assertEqual(self.tried("", "--list")[1], 0)
-        gate.unlink()
-        self.tried(PROVED, "--controls")
-        self.assertEqual((self.top / "tests/controls").read_text(), "")
+        gate.rename(gate.with_stem("half"))
+        self.tried(IN_CODE + REFUSED, "--controls")
+        self.assertRegex((self.top / "tests/controls").read_text(), r"^low half: \w+\n$")
 
     def test_a_change_without_its_right(self):
         """It is in the control as it is in the mutant."""
