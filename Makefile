@@ -23,8 +23,8 @@
 #
 # What proves or builds needs the kit's command rt, on the path or by RT=/its/path. make test, make
 # refusals and make strain need Python 3 and a C compiler too, make strain Valgrind, and make
-# mutants Python 3 and a checkout of git. make test-tools and make deb name the Debian packages that
-# they miss. make install and make uninstall put DESTDIR in front of PREFIX, if it is given.
+# mutants Python 3. make test-tools and make deb name the Debian packages that they miss. make
+# install and make uninstall put DESTDIR in front of PREFIX, if it is given.
 
 PREFIX ?= /usr/local
 PROGRAM := crates/cachesim/out/cachesim

@@ -134,9 +134,10 @@ class Sum:
 
 
 def kept_sums():
-    """The lines of tests/sums by what they are of."""
+    """What tests/sums keeps of the runs of each script."""
     lines = SUMS.read_text().splitlines() if SUMS.exists() else ()
-    return dict(line.split(": ", 1) for line in lines)
+    ran = (line for line in lines if re.match(r"tests/[\w-]+: \d+ cases", line))
+    return dict(line.split(": ", 1) for line in ran)
 
 
 def sum_of(text):

@@ -32,6 +32,15 @@ def function_at(text):
     return within + function
 
 
+def text_of_function(text, part):
+    """The function, with its contract and without its comments, that has this part; elsewhere all
+    from the function before it, or the source's beginning, to the part."""
+    place = text.find(part) + len(part)
+    *_, head = re.finditer(r"^( *)(?:[\w()]+ )*fn \w+|\A()", text[:place], re.M)
+    end = text.find(f"\n{head[1] or ''}}}\n", head.end())
+    return " ".join(re.sub("//.*", "", text[head.start():max(end, place)]).split())
+
+
 def function_of_line(path, number):
     """The function that this line belongs to, or that the attribute in it belongs to."""
     lines = path.read_text().split("\n")

@@ -42,7 +42,7 @@ PACKAGES = {
     "slurm-wlm": "slurmctld",
     "xz-utils": "xz",
     **{name: name for name in (
-        "chromium fish flake8 g++ gcc git lintian lowdown parallel pv rustc shellcheck valgrind "
+        "chromium fish flake8 g++ gcc lintian lowdown parallel pv rustc shellcheck valgrind "
         "zsh zstd").split()},
 }
 # a C compiler for another machine, and its library

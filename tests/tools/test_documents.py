@@ -131,15 +131,21 @@ class Callers(unittest.TestCase):
             self.assertTrue(any(text in file for file in code), f"{page} prints another caller")
 
     def test_quoted_clauses(self):
-        quoted = 0
+        """Each is one of the function that it stands under."""
+        quoted, contracts = 0, base.script("ledger").Contracts().of
         for page in self.PAGES:
             code = [path.read_text() for path in sorted((page.parent / "src").glob("**/*.rt"))]
             code = squeezed("\n".join(code))
             for line in "".join(self.blocks(page, "text")).splitlines():
-                kind, _, text = line.partition(": ")
-                is_clause = line.startswith("  ")
-                wanted = f"{kind}{{{text}}}" if is_clause else re.sub(r"^fn \w+::", "fn ", line)
-                self.assertIn(squeezed(wanted), code, f"{page}: {line}")
+                if line.startswith("fn "):
+                    called = re.match(r"fn ([\w:]+)", line)[1]
+                    of = contracts[f"{page.parent.name}::{called}"]
+                    of = {(it.is_condition, it.name, squeezed(it.text)) for it in of}
+                    self.assertIn(squeezed(re.sub(r"^fn \w+::", "fn ", line)), code)
+                else:
+                    kind, name, text = re.match(r"  (\w+) ?(\w*): (.*)", line).groups()
+                    wanted = kind == "requires", name, squeezed(text)
+                    self.assertIn(wanted, of, f"{page}: {called} has no such clause: {line}")
                 quoted += 1
         self.assertGreaterEqual(quoted, 40)
 

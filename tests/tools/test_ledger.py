@@ -24,7 +24,7 @@ class TheLedger(ToolTest):
         for name in ("crates", "tests/cases", "tests/mutants"):
             shutil.copytree(TOP / name, self.folder / name, ignore=ignored, dirs_exist_ok=True)
         for name in ("tests/ledger", "tests/common.py", "tests/documents.py", "docs/proofs.md",
-                     "docs/cookbook.md"):
+                     "docs/cookbook.md", "docs/speed.md", "README.md", "HANDLES", ".ci/run"):
             (self.folder / name).parent.mkdir(exist_ok=True)
             shutil.copy(TOP / name, self.folder / name)
         self.assertEqual(self.run_command(self.folder / "tests/ledger", "--write").returncode, 0)
@@ -121,6 +121,15 @@ class TheLedger(ToolTest):
                          "FAILED docs/cookbook.md: new")
         self.fails_after("../docs/proofs.md", r"Feeding never fails \|.*?\n", "",
                          "FAILED docs/proofs.md: new")
+        for file, old, new in (
+            ("HANDLES", "none", "Threads"), (".ci/run", "exec make .*", "exec tests/run"),
+            ("tests/documents.py", "if matches", "if True or matches"),
+            ("README.md", "exactly one row", "one row"), ("docs/speed.md", "ways", "way"),
+            ("crates/cache_core/CALLING.md", "16 lines", "15 lines"),
+        ):
+            self.fails_after(f"../{file}", old, new, f"FAILED {file}: new")
+        self.fails_after("cache_core/src/geometry.rt", "/// ", "/// Not ",
+                         "FAILED crates/cache_core/src: new")
         rows = f"FAILED crates/{ROWS}: new or changed"
         self.fails_after(ROWS, r"nine_held : .*?refl\n", "", rows)
         held = r"(nine_held : .*?) ∷ 5 ∷ \[\]\) ≡ 1 ∷ 3 ∷ 4"

@@ -4,7 +4,7 @@ import collections
 import re
 import shutil
 
-from base import TOP, ToolTest, needs, script
+from base import TOP, ToolTest, script
 
 SOURCE = """\
 //! Half of a number.
@@ -96,7 +96,6 @@ def goal_of(path):
     return re.search(r"^goal: (.*)$", path.read_text(), re.M)[1]
 
 
-@needs("git")
 class Mutants(ToolTest):
     def setUp(self):
         super().setUp()
@@ -107,6 +106,7 @@ class Mutants(ToolTest):
             shutil.copy(TOP / "tests" / name, self.top / "tests")
         (self.top / "crates/low/src/lib.rt").write_text(SOURCE)
         (self.top / "crates.txt").write_text("low:\n")
+        (self.top / "HANDLES").write_text("Handles allowed: none.\n")
         self.mutant = self.top / "tests/mutants/low/a_third.edit"
         self.mutant.write_text("goal: Half::of value\n" + EDIT)
         (self.folder / "rt").write_text(RT)
@@ -115,8 +115,6 @@ class Mutants(ToolTest):
         self.stored = self.top / "crates/low/proofs/lib/Half/of/Answers.antt"
         self.stored.parent.mkdir(parents=True)
         self.stored.write_text("an answer\n")
-        self.run_command("git", "init", "-q", self.top)
-        self.run_command("git", "-C", self.top, "add", "crates", "crates.txt")
 
     def tried(self, said, *arguments):
         """The last two lines, and the status, where the prover says this of the mutant."""
@@ -243,6 +241,30 @@ class Mutants(ToolTest):
             lines, status = self.tried("", "--list", "no_half")
             self.assertEqual((lines[-1][-len(told) - 10:], status), (f"(FAILED: {told})", 1))
 
+    def test_a_control_that_was_not_tried(self):
+        """Not since its edit or its function was changed: the gate, which lists all, sees that."""
+        gate = self.top / "crates/low/must-fail/no_half.edit"
+        source, edit = self.top / "crates/low/src/lib.rt", EDIT + "right:         number >> 1\n"
+        again = ("FAILED: these edits or their functions have changed since their controls were "
+                 "tried: tests/try-mutants --controls no_half")
+        clause = SOURCE.replace("result ≡", "result + 0 ≡")
+        for text, code in ((edit, SOURCE), (edit.replace("/ 3", "/ 3 + 0"), SOURCE),
+                           (edit, clause)):
+            gate.write_text(text)
+            source.write_text(code)
+            (self.folder / "control").write_text(IN_CODE + REFUSED)
+            for said in (IN_CODE + REFUSED, PROVED):
+                lines, status = self.tried("", "--list", "low")
+                self.assertEqual((lines[-1], status), (again, 1))
+                (self.folder / "control").write_text(said)
+                self.tried(IN_CODE + REFUSED, "--controls", "no_half")
+            self.assertEqual(self.tried("", "--list")[1], 0)
+        source.write_text("// another\n" + clause.replace("{\n ", "{ // half\n "))
+        self.assertEqual(self.tried("", "--list")[1], 0)
+        gate.rename(gate.with_stem("half"))
+        self.tried(IN_CODE + REFUSED, "--controls")
+        self.assertRegex((self.top / "tests/controls").read_text(), r"^low half: \w+\n$")
+
     def test_a_change_without_its_right(self):
         """It is in the control as it is in the mutant."""
         self.mutant.write_text("goal: Half::of value\nfile: src/lib.rt\nold:         number / 2\n"
@@ -321,6 +343,7 @@ class Mutants(ToolTest):
         gate = self.top / "crates/low/must-fail/no_half.edit"
         gate.write_text(EDIT + "right:         number >> 1\n")
         (self.folder / "control").write_text(PROVED)
+        self.tried(PROVED, "--controls")
         lines, _ = self.tried("", "--list")
         self.assertEqual(lines, [
             "low a_third: Half::of: a third. Refused at: Half::of value",

@@ -110,6 +110,18 @@ class Resumed(ParallelTest):
         self.refused(self.resume(trace="none"), 1, "cachesim: cannot open none\n")
         self.assertEqual(self.table(), "")
 
+    def test_each_part_is_synced(self):
+        """So it lasts where the machine ends: all that is there, and one round after the other."""
+        tells = ("import os, runpy, sys; sys.argv = sys.argv[1:]; "
+                 "os.fsync = lambda file: print(os.fstat(file).st_size, file=sys.stderr); "
+                 "sys.path[0] = os.path.dirname(sys.argv[0]); "
+                 "runpy.run_path(sys.argv[0], run_name='__main__')")
+        words = "-BESc", tells, TOOLS / "sweep-parallel", "--resume", "t.csv", 2, DIN, *SMALL
+        ran = self.run_command("/usr/bin/python3", *words)
+        sizes = [int(size) for size in ran.stderr.split()]
+        self.assertEqual((len(sizes), sizes[-1:]), (4, [len(self.table())]))
+        self.assertEqual(sizes, sorted(set(sizes)))
+
     def test_no_room(self):
         """What was written stays, and is continued when there is room."""
         run = f'ulimit -f 8; exec "{TOOLS}/sweep-parallel" --resume t.csv 1 "$@"'

@@ -7,9 +7,8 @@ import shutil
 import base
 from test_tables import table
 
-# Their cost is seconds, but make test is to need no package beyond Python and a C compiler, and
-# test-tools runs the ledger
-ELSEWHERE = {"against_cachegrind", "ledger"}
+# Its cost is seconds, but make test is to need no package beyond Python and a C compiler
+ELSEWHERE = {"against_cachegrind"}
 
 
 class Scripts(base.ToolTest):
@@ -23,7 +22,7 @@ class Scripts(base.ToolTest):
                  if re.fullmatch("seconds|a second|half a minute", takes)}
         self.assertGreater(len(quick), 5)
         gate = (base.TOP / "tests/all").read_text()
-        named = set(re.findall(r'\["([\w-]+)"', gate)) | set(re.findall(r'"tests/([\w-]+)"', gate))
+        named = set(re.findall(r'(?:\[|alone, )"([\w-]+)"', gate))
         self.assertEqual(quick - ELSEWHERE - named, set())
 
     def test_spec_names_reads_all(self):
