@@ -10,12 +10,12 @@ use Rattle.std.proofs.lemmas.List.{take_all, get_or-replicate, length-replicate,
 use Rattle.profile_core.specs.declared.recency.Touch.TheVariants.{Behind, New}
 use Rattle.profile_core.specs.internal.Moves.{index_of, is_in, is_front, is_second, move_to_front}
 use Rattle.profile_core.specs.internal.Moves.{touch_of, rest_touch_of}
-use Rattle.profile_core.specs.internal.Rows.{RowsValue, AreLong, rows_of, row_for, with_row}
+use Rattle.profile_core.specs.internal.Rows.{RowsValue, rows_of, row_for, with_row}
 use Rattle.profile_core.specs.internal.Rows.{blank_rows, list_in_row}
-use Rattle.profile_core.specs.internal.Slab.{IsRow, IsBroughtInRow}
+use Rattle.profile_core.specs.internal.Slab.{IsBroughtInRow}
 use Rattle.profile_core.specs.internal.SplitRows.{split_row, split_rows, AreSplitRows}
 use Rattle.profile_core.proofs.Emptying.{zero_at}
-use Rattle.profile_core.proofs.RowsOf.{HasRow, rows_blank, within, stride_is, row_is, row_put}
+use Rattle.profile_core.proofs.RowsOf.{HasRow, rows_blank, within, row_is, row_put}
 use Rattle.profile_core.proofs.RowsOf.{put_is}
 use Rattle.profile_core.proofs.Shifting.{index_behind, other_front}
 

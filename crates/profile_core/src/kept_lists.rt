@@ -7,6 +7,7 @@ ghost use Rattle.profile_core.specs.internal.Moves.{is_front};
 use crate::long_lists::{DEEP, LongLists};
 use crate::plain_rows::PlainRows;
 use crate::recency::RecencyLists;
+use crate::set_lists::SetLists;
 use crate::slotted_rests::SlottedRests;
 use crate::sparse_rests::SparseRests;
 use crate::split_rows::SplitRows;

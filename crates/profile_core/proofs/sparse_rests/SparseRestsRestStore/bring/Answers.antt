@@ -6,8 +6,8 @@ use Rattle.std.specs.Vec.{with_items}
 use borrow.Rule.Slice.PartMut.{put_mid, same_len_mid}
 use Rattle.std.proofs.lemmas.List.{with_items_is}
 use Rattle.profile_core.specs.internal.Moves.{index_of, rest_touch_of}
-use Rattle.profile_core.specs.internal.Rows.{rows_of, row_for, with_row}
-use Rattle.profile_core.specs.internal.SparseRests.{sparse_rest, IsSparse}
+use Rattle.profile_core.specs.internal.Rows.{row_for, with_row}
+use Rattle.profile_core.specs.internal.SparseRests.{sparse_rest}
 use Rattle.profile_core.proofs.RowsOf.{HasRow, within, stride_is, row_is, put_is}
 use Rattle.profile_core.proofs.SparseRestLemmas.{RestIn, IsReady, ready_rests, rest_ends, rest_long}
 use Rattle.profile_core.proofs.SparseRestLemmas.{IsWritten, written_sound, written_rests}

@@ -1,7 +1,6 @@
 -- The first number of a row, written.
-use Rattle.std.proofs.Common.{◌∙◌, ap, arith, set, sym, get_or}
-use Rattle.std.proofs.lemmas.List.{set-get_or}
-use Rattle.profile_core.specs.internal.Rows.{with_row, row_for}
+use Rattle.std.proofs.Common.{◌∙◌, ap, arith, set, sym}
+use Rattle.profile_core.specs.internal.Rows.{with_row}
 use Rattle.profile_core.proofs.RowsOf.{row_is}
 use Rattle.profile_core.proofs.SplitRowLemmas.{HasSplit, is_first, first_written}
 use Rattle.profile_core.proofs.split_rows.SplitRowsRowStore.put_first.Goals as goal

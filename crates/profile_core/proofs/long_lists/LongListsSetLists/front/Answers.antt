@@ -1,11 +1,10 @@
--- The second of a list is that of its row.
+-- The front of a list is that of its row.
 use Rattle.std.proofs.Common.{◌<◌, ◌∙◌, [], length, get_or, ap, arith}
-use Rattle.profile_core.specs.internal.Moves.{is_second}
-use Rattle.profile_core.proofs.LongListLemmas.{length-joined, second_is}
-use Rattle.profile_core.proofs.long_lists.LongLists.is_second.Goals as goal
+use Rattle.profile_core.proofs.LongListLemmas.{length-joined, first_is}
+use Rattle.profile_core.proofs.long_lists.LongListsSetLists.front.Goals as goal
 
-pub is_second-requires : goal.is_second-requires
-is_second-requires c =
+pub front-requires : goal.front-requires
+front-requires c =
     omega (
       arith,
       c.requires,
@@ -22,5 +21,5 @@ returns c =
       ap (λ v. length v.lists) c.self.view_is,
       length-joined c.self.inside.near.lists c.self.inside.far.items,
     ) in
-    c.is_second.ensures ∙ second_is c.self.invariant c.args.block c.args.set lt ∙
-    ap (λ v. is_second c.args.block (get_or v.lists c.args.set [])) c.self.view_is
+    c.front.ensures ∙ first_is c.self.invariant c.args.set lt ∙
+    ap (λ v. get_or (get_or v.lists c.args.set []) 0 0) c.self.view_is

@@ -2,11 +2,11 @@
 use Rattle.std.proofs.Common.{◌≡◌, ◌+◌, ◌∙◌, get_or, set, sym, ap, refl, arith}
 use Rattle.profile_core.proofs.SlabLemmas.{ListIn, among_fronts, among_rows, front_read}
 use Rattle.profile_core.proofs.Writing.{IsBrought, TouchedIn, some_behind, written_second, brought}
-use Rattle.profile_core.proofs.recency.RecencyLists.bring_second.Goals as goal
-use Rattle.profile_core.proofs.recency.RecencyLists.bring_second.Goals.{After-put_first}
-use Rattle.profile_core.proofs.recency.RecencyLists.bring_second.Goals.{After-replace-second}
-use Rattle.profile_core.proofs.recency.RecencyLists.bring_second.Goals.{After-self}
-use Rattle.profile_core.proofs.recency.RecencyLists.bring_second.Given.{Over}
+use Rattle.profile_core.proofs.recency.RecencyListsSetLists.bring_second.Goals as goal
+use Rattle.profile_core.proofs.recency.RecencyListsSetLists.bring_second.Goals.{After-put_first}
+use Rattle.profile_core.proofs.recency.RecencyListsSetLists.bring_second.Goals.{After-replace-second}
+use Rattle.profile_core.proofs.recency.RecencyListsSetLists.bring_second.Goals.{After-self}
+use Rattle.profile_core.proofs.recency.RecencyListsSetLists.bring_second.Given.{Over}
 
 list : (g : Over) (c : After-self g) → ListIn g.R.RowStore.view c.self.inside c.args.set
     c.args.self.now.lists

@@ -1,10 +1,11 @@
--- The front of a list is that of its row.
+-- The second of a list is that of its row.
 use Rattle.std.proofs.Common.{◌<◌, ◌∙◌, [], length, get_or, ap, arith}
-use Rattle.profile_core.proofs.LongListLemmas.{length-joined, first_is}
-use Rattle.profile_core.proofs.long_lists.LongLists.front.Goals as goal
+use Rattle.profile_core.specs.internal.Moves.{is_second}
+use Rattle.profile_core.proofs.LongListLemmas.{length-joined, second_is}
+use Rattle.profile_core.proofs.long_lists.LongListsSetLists.is_second.Goals as goal
 
-pub front-requires : goal.front-requires
-front-requires c =
+pub is_second-requires : goal.is_second-requires
+is_second-requires c =
     omega (
       arith,
       c.requires,
@@ -21,5 +22,5 @@ returns c =
       ap (λ v. length v.lists) c.self.view_is,
       length-joined c.self.inside.near.lists c.self.inside.far.items,
     ) in
-    c.front.ensures ∙ first_is c.self.invariant c.args.set lt ∙
-    ap (λ v. get_or (get_or v.lists c.args.set []) 0 0) c.self.view_is
+    c.is_second.ensures ∙ second_is c.self.invariant c.args.block c.args.set lt ∙
+    ap (λ v. is_second c.args.block (get_or v.lists c.args.set [])) c.self.view_is

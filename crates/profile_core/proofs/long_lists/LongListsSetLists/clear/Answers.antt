@@ -6,8 +6,8 @@ use Rattle.std.proofs.lemmas.List.{with_items_is, length-map}
 use Rattle.profile_core.specs.internal.Slab.{Lists}
 use Rattle.profile_core.specs.internal.LongLists.{whole_lists, empty_deep}
 use Rattle.profile_core.proofs.LongListLemmas.{split_cleared, cleared_lists}
-use Rattle.profile_core.proofs.long_lists.LongLists.clear.Goals as goal
-use Rattle.profile_core.proofs.long_lists.LongLists.clear.Goals.{After-clear_all}
+use Rattle.profile_core.proofs.long_lists.LongListsSetLists.clear.Goals as goal
+use Rattle.profile_core.proofs.long_lists.LongListsSetLists.clear.Goals.{After-clear_all}
 
 far_is : (c : After-clear_all) → (with_items c.self.inside.far c.clear_all.new.far).items ≡ map
     empty_deep c.self.inside.far.items

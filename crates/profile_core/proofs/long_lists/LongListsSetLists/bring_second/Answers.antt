@@ -7,8 +7,8 @@ use Rattle.profile_core.specs.internal.LongLists.{whole_lists}
 use Rattle.profile_core.proofs.ListParts.{second_in}
 use Rattle.profile_core.proofs.LongListLemmas.{length-joined, front_is, second_is, stays_split}
 use Rattle.profile_core.proofs.LongListLemmas.{stays_lists}
-use Rattle.profile_core.proofs.long_lists.LongLists.bring_second.Goals as goal
-use Rattle.profile_core.proofs.long_lists.LongLists.bring_second.Goals.{After-self}
+use Rattle.profile_core.proofs.long_lists.LongListsSetLists.bring_second.Goals as goal
+use Rattle.profile_core.proofs.long_lists.LongListsSetLists.bring_second.Goals.{After-self}
 
 lt : (c : After-self) → c.args.set < length c.self.inside.near.lists
 lt c =

@@ -1,7 +1,7 @@
 -- A list has a block if its row has one.
 use Rattle.std.proofs.Common.{◌<◌, [], length, get_or, ap, arith}
 use Rattle.profile_core.proofs.LongListLemmas.{length-joined, some_is}
-use Rattle.profile_core.proofs.long_lists.LongLists.has_block.Goals as goal
+use Rattle.profile_core.proofs.long_lists.LongListsSetLists.has_block.Goals as goal
 
 pub has_block-requires : goal.has_block-requires
 has_block-requires c =

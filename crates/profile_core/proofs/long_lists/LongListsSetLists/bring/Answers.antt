@@ -11,8 +11,8 @@ use Rattle.profile_core.proofs.LongListLemmas.{stays_lists}
 use Rattle.profile_core.proofs.LongListBringing.{settled_stays, settled_touch, IsFull, full_is}
 use Rattle.profile_core.proofs.LongListBringing.{far_read, last_apart, held_small, rest_small}
 use Rattle.profile_core.proofs.LongListBringing.{full_touch, full_split, full_lists}
-use Rattle.profile_core.proofs.long_lists.LongLists.bring.Goals as goal
-use Rattle.profile_core.proofs.long_lists.LongLists.bring.Goals.{After-self, After-index_mut}
+use Rattle.profile_core.proofs.long_lists.LongListsSetLists.bring.Goals as goal
+use Rattle.profile_core.proofs.long_lists.LongListsSetLists.bring.Goals.{After-self, After-index_mut}
 
 lt : (c : After-self) → c.args.set < length c.self.inside.near.lists
 lt c =
