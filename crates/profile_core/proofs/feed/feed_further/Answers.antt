@@ -16,9 +16,9 @@ moved : (g : Over) (c : After-bring g) → IsMoved c.args.geometry
     c.args.histograms.now.probes c.args.block c.args.set
     (profile_of c.args.geometry (g.L.SetLists.view c.args.lists.now) c.args.histograms.now)
 moved g c = record {
-  sound = c.requires.sound;
+  sound = c.requires.ready.sound;
   view_is = refl;
-  next = c.requires.next;
+  next = c.requires.ready.next;
   moved = c.bring.ensures.moved;
 }
 
@@ -83,26 +83,20 @@ overflow_add-index_mut-in-New g c =
           c.index_mut-in-New.ensures.value,
     )
 
-pub returns-in-Behind-clause-sound : goal.returns-in-Behind-clause-sound
-returns-in-Behind-clause-sound g c =
-    let at = (goal.at.returns-in-Behind-clause-sound g c).After-bring in
-    found_sound (moved g at) (found g at c.in-Behind.distance c.in-Behind.ensures.found)
-    c.index_mut.ensures.value refl
+pub returns-in-Behind : goal.returns-in-Behind
+returns-in-Behind g c =
+    let at = (goal.at.returns-in-Behind g c).After-bring in
+    let found = found g at c.in-Behind.distance c.in-Behind.ensures.found in
+    record {
+      sound = found_sound (moved g at) found c.index_mut.ensures.value refl;
+      step = found_after (moved g at) found c.index_mut.ensures.value refl;
+    }
 
-pub returns-in-Behind-clause-step : goal.returns-in-Behind-clause-step
-returns-in-Behind-clause-step g c =
-    let at = (goal.at.returns-in-Behind-clause-step g c).After-bring in
-    found_after (moved g at) (found g at c.in-Behind.distance c.in-Behind.ensures.found)
-    c.index_mut.ensures.value refl
-
-pub returns-in-New-clause-sound : goal.returns-in-New-clause-sound
-returns-in-New-clause-sound g c =
-    let at = (goal.at.returns-in-New-clause-sound g c).After-bring in
-    nowhere_sound (moved g at) (nowhere g at c.in-New.held c.in-New.ensures.found)
-    c.index_mut-in-New.ensures.value refl
-
-pub returns-in-New-clause-step : goal.returns-in-New-clause-step
-returns-in-New-clause-step g c =
-    let at = (goal.at.returns-in-New-clause-step g c).After-bring in
-    nowhere_after (moved g at) (nowhere g at c.in-New.held c.in-New.ensures.found)
-    c.index_mut-in-New.ensures.value refl
+pub returns-in-New : goal.returns-in-New
+returns-in-New g c =
+    let at = (goal.at.returns-in-New g c).After-bring in
+    let nowhere = nowhere g at c.in-New.held c.in-New.ensures.found in
+    record {
+      sound = nowhere_sound (moved g at) nowhere c.index_mut-in-New.ensures.value refl;
+      step = nowhere_after (moved g at) nowhere c.index_mut-in-New.ensures.value refl;
+    }

@@ -13,15 +13,15 @@ moved : (g : Over) (c : After-bring_second g) → IsMoved c.args.geometry
     c.args.histograms.now.probes c.args.block c.args.set
     (profile_of c.args.geometry (g.L.SetLists.view c.args.lists.now) c.args.histograms.now)
 moved g c = record {
-  sound = c.requires.sound;
+  sound = c.requires.ready.sound;
   view_is = refl;
-  next = c.requires.next;
+  next = c.requires.ready.next;
   moved = c.bring_second.ensures;
 }
 
 found : (g : Over) (c : After-bring_second g) → FoundAt c.args.block 1
     (get_or (g.L.SetLists.view c.args.lists.now).lists c.args.set [])
-found g c = found_second c.args.block _ c.requires.next.behind c.requires.second
+found g c = found_second c.args.block _ c.requires.ready.next.behind c.requires.second
 
 pub overflow_add-histograms : goal.overflow_add-histograms
 overflow_add-histograms g c =
@@ -39,12 +39,10 @@ overflow_add-index_mut g c =
     let at = (goal.at.overflow_add-index_mut g c).After-bring_second in
     omega (arith, distance_few (moved g at) (found g at) c.index_mut.ensures.value)
 
-pub returns-clause-sound : goal.returns-clause-sound
-returns-clause-sound g c =
-    let at = (goal.at.returns-clause-sound g c).After-bring_second in
-    found_sound (moved g at) (found g at) c.index_mut.ensures.value refl
-
-pub returns-clause-step : goal.returns-clause-step
-returns-clause-step g c =
-    let at = (goal.at.returns-clause-step g c).After-bring_second in
-    found_after (moved g at) (found g at) c.index_mut.ensures.value refl
+pub returns : goal.returns
+returns g c =
+    let at = (goal.at.returns g c).After-bring_second in
+    record {
+      sound = found_sound (moved g at) (found g at) c.index_mut.ensures.value refl;
+      step = found_after (moved g at) (found g at) c.index_mut.ensures.value refl;
+    }
