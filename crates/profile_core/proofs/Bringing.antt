@@ -14,7 +14,7 @@ use Rattle.profile_core.specs.declared.recency.Touch.TheVariants.{Behind, New}
 use Rattle.profile_core.specs.declared.row.Shifted.TheVariants.{Found, Out}
 use Rattle.profile_core.specs.internal.Moves.{index_of, is_front, is_second, move_to_front}
 use Rattle.profile_core.specs.internal.Moves.{touch_of, shifted_of}
-use Rattle.profile_core.specs.internal.Slab.{IsBroughtInRow}
+use Rattle.profile_core.specs.internal.Lists.{IsBroughtInRow}
 use Rattle.profile_core.proofs.Shifting.{other_front, index_behind, index-le, length-remove}
 use Rattle.profile_core.proofs.Shifting.{remove_end}
 

@@ -8,7 +8,7 @@ use Rattle.std.proofs.Math.Nat.{suc-mul}
 use Rattle.std.proofs.lemmas.List.{get_or_read}
 use Rattle.cache_core.specs.Geometry.{GeometryValue, set_of_block}
 use Rattle.profile_core.specs.internal.Moves.{is_front, move_to_front}
-use Rattle.profile_core.specs.internal.Slab.{Lists, lists_after_touch}
+use Rattle.profile_core.specs.internal.Lists.{Lists, lists_after_touch}
 use Rattle.profile_core.specs.internal.State.{ProfileState, IsSound, IsNext, list_of, fed_of}
 use Rattle.profile_core.specs.internal.State.{after_reference, compared_behind, distances_of}
 use Rattle.profile_core.specs.internal.State.{most_references}

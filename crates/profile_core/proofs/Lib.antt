@@ -15,7 +15,7 @@ pub mod Marks
 pub mod SlottedRestLemmas
 pub mod SlottedBehind
 pub mod SplitRowLemmas
-pub mod SlabLemmas
+pub mod ListLemmas
 pub mod Writing
 pub mod Emptying
 pub mod Weighing

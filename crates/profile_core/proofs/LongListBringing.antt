@@ -13,7 +13,7 @@ use Rattle.profile_core.specs.internal.Moves.{rest_touch_of}
 use Rattle.profile_core.specs.declared.recency.Touch.TheVariants.{Behind, New}
 use Rattle.profile_core.specs.declared.recency.Touch.{Touch}
 use Rattle.profile_core.specs.declared.long_lists.InRow.TheVariants.{Settled, Full}
-use Rattle.profile_core.specs.internal.Slab.{Lists, lists_after_touch}
+use Rattle.profile_core.specs.internal.Lists.{Lists, lists_after_touch}
 use Rattle.profile_core.specs.internal.LongLists.{whole_lists, nothing, rest_of, in_row_of}
 use Rattle.profile_core.specs.internal.LongLists.{AreSplit}
 use Rattle.profile_core.proofs.ListParts.{near_touch, once_moved, once_apart, remove_past}

@@ -11,7 +11,7 @@ use Rattle.std.proofs.lemmas.List.{take_all, length-replicate, length-map}
 use Rattle.std.proofs.lemmas.List.Sums.{sum_by-cons}
 use Rattle.deep_list.specs.Deep.{Deep, IsOnce}
 use Rattle.profile_core.specs.internal.Moves.{index_of, is_in, is_front, is_second, move_to_front}
-use Rattle.profile_core.specs.internal.Slab.{Lists, lists_after_touch}
+use Rattle.profile_core.specs.internal.Lists.{Lists, lists_after_touch}
 use Rattle.profile_core.proofs.Shifting.{length-remove}
 use Rattle.profile_core.specs.internal.LongLists.{whole_lists, nothing, rest_of, empty_deep}
 use Rattle.profile_core.specs.internal.LongLists.{AreSplit}

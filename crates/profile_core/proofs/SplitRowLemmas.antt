@@ -12,7 +12,7 @@ use Rattle.profile_core.specs.internal.Moves.{index_of, is_in, is_front, is_seco
 use Rattle.profile_core.specs.internal.Moves.{touch_of, rest_touch_of}
 use Rattle.profile_core.specs.internal.Rows.{RowsValue, rows_of, row_for, with_row}
 use Rattle.profile_core.specs.internal.Rows.{blank_rows, list_in_row}
-use Rattle.profile_core.specs.internal.Slab.{IsBroughtInRow}
+use Rattle.profile_core.specs.internal.Lists.{IsBroughtInRow}
 use Rattle.profile_core.specs.internal.SplitRows.{split_row, split_rows, AreSplitRows}
 use Rattle.profile_core.proofs.Emptying.{zero_at}
 use Rattle.profile_core.proofs.RowsOf.{HasRow, rows_blank, within, row_is, row_put}

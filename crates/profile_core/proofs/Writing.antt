@@ -11,10 +11,10 @@ use Rattle.cache_core.proofs.TouchedSets.{covers_change}
 use Rattle.profile_core.specs.internal.Moves.{is_front, is_second, move_to_front}
 use Rattle.profile_core.specs.declared.recency.RecencyLists.TheInside.{Inside}
 use Rattle.profile_core.specs.internal.Rows.{RowsValue, row_for, with_row}
-use Rattle.profile_core.specs.internal.Slab.{lists_in, IsListed, IsBroughtInRow}
+use Rattle.profile_core.specs.internal.Lists.{lists_in, IsListed, IsBroughtInRow}
 use Rattle.profile_core.proofs.Bringing.{row_exchanged, second_long}
-use Rattle.profile_core.proofs.SlabLemmas.{HasList, list_set, within, among_rows, list_is}
-use Rattle.profile_core.proofs.SlabLemmas.{list_size, row_long}
+use Rattle.profile_core.proofs.ListLemmas.{HasList, list_set, within, among_rows, list_is}
+use Rattle.profile_core.proofs.ListLemmas.{list_size, row_long}
 
 -- what is known where set k is touched: its list, whose length and front are read
 pub record IsTouched (k held front : ℕ) (fronts : List ℕ) (rows : RowsValue) (lens : List ℕ)

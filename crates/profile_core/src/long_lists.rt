@@ -5,7 +5,7 @@ ghost use Rattle.std.specs.Prelude.{map, IfOk, slice_index_or};
 ghost use Rattle.deep_list.specs.Deep.{list_after_exchange};
 ghost use Rattle.profile_core.specs.internal.Moves.{is_in, is_front, is_second, rest_touch_of};
 ghost use Rattle.profile_core.specs.internal.LongLists.{in_row_of, empty_deep};
-ghost use Rattle.profile_core.specs.internal.Slab.{lists_after_touch};
+ghost use Rattle.profile_core.specs.internal.Lists.{lists_after_touch};
 
 use crate::plain_rows::PlainRows;
 use crate::recency::{RecencyLists, Touch};
@@ -40,7 +40,7 @@ pub struct LongLists {
 
 impl Model for LongLists {
     ghost use Rattle.std.specs.Prelude.{◌+◌};
-    ghost use Rattle.profile_core.specs.internal.Slab.{Lists};
+    ghost use Rattle.profile_core.specs.internal.Lists.{Lists};
     ghost use Rattle.profile_core.specs.internal.LongLists.{whole_lists, AreSplit};
 
     ghost Value = { Lists };

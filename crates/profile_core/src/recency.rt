@@ -6,7 +6,7 @@ ghost use Rattle.std.specs.Prelude.{◌-◌, replicate, IfOk, slice_index_or, �
 ghost use Rattle.cache_core.specs.internal.Touched.{Covers, ListsFilled};
 ghost use Rattle.profile_core.specs.internal.Moves.{is_second};
 ghost use Rattle.profile_core.specs.internal.Rows.{AreLong};
-ghost use Rattle.profile_core.specs.internal.Slab.{lists_after_touch};
+ghost use Rattle.profile_core.specs.internal.Lists.{lists_after_touch};
 
 use crate::rows::RowStore;
 use crate::set_lists::SetLists;
@@ -38,7 +38,7 @@ pub struct RecencyLists<R: RowStore> {
 
 impl<R: RowStore> Model for RecencyLists<R> {
     ghost use Rattle.std.specs.Prelude.{◌+◌};
-    ghost use Rattle.profile_core.specs.internal.Slab.{Lists, lists_in, IsListed};
+    ghost use Rattle.profile_core.specs.internal.Lists.{Lists, lists_in, IsListed};
 
     ghost Value = { Lists };
 

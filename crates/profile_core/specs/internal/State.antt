@@ -7,7 +7,7 @@ use Rattle.trace_core.specs.declared.events.Event.TheVariants as event
 use Rattle.cache_core.specs.declared.outcome.Counts.{Counts}
 use Rattle.cache_core.specs.Geometry.{GeometryValue, block_of, set_of_block}
 use Rattle.profile_core.specs.declared.histograms.Histograms.{Histograms}
-use Rattle.profile_core.specs.internal.Slab.{Lists}
+use Rattle.profile_core.specs.internal.Lists.{Lists}
 use Rattle.profile_core.specs.internal.Moves.{index_of, is_in, is_front, move_to_front}
 
 -- for each set a list of at most geometry.e blocks, the most recent first; how many references

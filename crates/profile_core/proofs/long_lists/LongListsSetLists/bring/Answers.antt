@@ -4,7 +4,7 @@ use Rattle.std.proofs.Common.{ap, arith, false}
 use Rattle.deep_list.specs.Deep.{Deep, list_after_exchange}
 use Rattle.profile_core.specs.internal.Moves.{is_front, is_second, is_in, move_to_front, touch_of}
 use Rattle.profile_core.specs.internal.Moves.{rest_touch_of}
-use Rattle.profile_core.specs.internal.Slab.{Lists, lists_after_touch}
+use Rattle.profile_core.specs.internal.Lists.{Lists, lists_after_touch}
 use Rattle.profile_core.specs.internal.LongLists.{whole_lists, nothing}
 use Rattle.profile_core.proofs.LongListLemmas.{length-joined, front_is, second_is, stays_split}
 use Rattle.profile_core.proofs.LongListLemmas.{stays_lists}

@@ -2,7 +2,7 @@
 use Rattle.std.proofs.Common.{◌≡◌, ◌+◌, ◌<◌, ◌∙◌, ℕ, List, inl, [], length, get_or}
 use Rattle.std.proofs.Common.{ap, arith, true}
 use Rattle.profile_core.specs.internal.Moves.{is_front, is_second, is_in}
-use Rattle.profile_core.specs.internal.Slab.{Lists, lists_after_touch}
+use Rattle.profile_core.specs.internal.Lists.{Lists, lists_after_touch}
 use Rattle.profile_core.specs.internal.LongLists.{whole_lists}
 use Rattle.profile_core.proofs.ListParts.{second_in}
 use Rattle.profile_core.proofs.LongListLemmas.{length-joined, front_is, second_is, stays_split}

@@ -3,7 +3,7 @@ use Rattle.std.proofs.Common.{◌≡◌, ◌+◌, ◌∙◌, ℕ, List, [], leng
 use Rattle.std.specs.Prelude.{replicate}
 use Rattle.std.specs.Vec.{with_items}
 use Rattle.std.proofs.lemmas.List.{with_items_is, length-map}
-use Rattle.profile_core.specs.internal.Slab.{Lists}
+use Rattle.profile_core.specs.internal.Lists.{Lists}
 use Rattle.profile_core.specs.internal.LongLists.{whole_lists, empty_deep}
 use Rattle.profile_core.proofs.LongListLemmas.{split_cleared, cleared_lists}
 use Rattle.profile_core.proofs.long_lists.LongListsSetLists.clear.Goals as goal

@@ -5,9 +5,9 @@ use Rattle.std.specs.Vec.{with_items}
 use borrow.Rule.Slice.PartMut.{put_mid, same_len_mid}
 use Rattle.std.proofs.lemmas.List.{with_items_is}
 use Rattle.profile_core.specs.internal.Moves.{is_front, is_second, touch_of}
-use Rattle.profile_core.specs.internal.Slab.{IsRow, IsBroughtInRow}
+use Rattle.profile_core.specs.internal.Lists.{IsRow, IsBroughtInRow}
 use Rattle.profile_core.specs.internal.Rows.{row_for, with_row, list_in_row}
-use Rattle.profile_core.proofs.PlainRowLemmas.{RowIn, IsPut, ends, slab_small, row_size}
+use Rattle.profile_core.proofs.PlainRowLemmas.{RowIn, IsPut, ends, numbers_small, row_size}
 use Rattle.profile_core.proofs.PlainRowLemmas.{plain_put}
 use Rattle.profile_core.proofs.RowsOf.{stride_is, row_is, put_is}
 use Rattle.profile_core.proofs.plain_rows.PlainRowsRowStore.bring.Goals as goal
@@ -24,17 +24,17 @@ row c = record {
 pub overflow_mul-start : goal.overflow_mul-start
 overflow_mul-start c =
     let r = row (goal.at.overflow_mul-start c).After-self in
-    omega (arith, ends r, slab_small r)
+    omega (arith, ends r, numbers_small r)
 
 pub overflow_add-end : goal.overflow_add-end
 overflow_add-end c =
     let r = row (goal.at.overflow_add-end c).After-self in
-    omega (arith, ends r, slab_small r)
+    omega (arith, ends r, numbers_small r)
 
 pub offset_bounds-deref_mut-start : goal.offset_bounds-deref_mut-start
 offset_bounds-deref_mut-start c =
     let r = row (goal.at.offset_bounds-deref_mut-start c).After-self in
-    omega (arith, ends r, slab_small r)
+    omega (arith, ends r, numbers_small r)
 
 pub slice_bounds-bring_in_row-end : goal.slice_bounds-bring_in_row-end
 slice_bounds-bring_in_row-end c = omega (
@@ -85,22 +85,22 @@ put : (c : After-bring_in_row) (r : RowIn c.self.inside c.args.set c.args.self.n
     * c.self.inside.stride) (drop (c.args.set * c.self.inside.stride) c.deref_mut.result.now)
     ≡ row_for c.args.self.now c.args.set →
     IsPut c.self.inside.stride c.self.inside.sets c.args.set
-    (with_items c.self.inside.slab (put_mid (c.args.set * c.self.inside.stride)
+    (with_items c.self.inside.numbers (put_mid (c.args.set * c.self.inside.stride)
     (c.args.set * c.self.inside.stride + c.self.inside.stride - c.args.set
     * c.self.inside.stride) c.deref_mut.result.now c.bring_in_row.new.rest)).items
     c.args.self.now c.bring_in_row.new.rest
 put c r lent =
     let n = c.self.inside.stride in
-    let slab = c.self.inside.slab in
+    let numbers = c.self.inside.numbers in
     let now = c.deref_mut.result.now in
     let start = c.args.set * n in
     let new = c.bring_in_row.new.rest in
     let after = put_mid start (start + n - start) now new in
     let long : length new ≡ n = c.bring_in_row.auto.rest ∙ ap length lent ∙ row_size r in
-    let whole : after ≡ put_mid start n slab.items new =
+    let whole : after ≡ put_mid start n numbers.items new =
     ap (λ j. put_mid start j now new) (omega arith)
     ∙ ap (λ xs. put_mid start n xs new) c.deref_mut.ensures.value in
-    let items = with_items_is slab after
+    let items = with_items_is numbers after
     (same_len_mid start (start + n - start) now new c.bring_in_row.auto.rest ∙
     c.deref_mut.ensures.len) in
     plain_put r new long (items ∙ whole)

@@ -1,6 +1,6 @@
 -- The first number of a row.
 use Rattle.std.proofs.Common.{arith}
-use Rattle.profile_core.proofs.PlainRowLemmas.{RowIn, ends, slab_small, entry_read}
+use Rattle.profile_core.proofs.PlainRowLemmas.{RowIn, ends, numbers_small, entry_read}
 use Rattle.profile_core.proofs.RowsOf.{stride_is}
 use Rattle.profile_core.proofs.plain_rows.PlainRowsRowStore.first.Goals as goal
 use Rattle.profile_core.proofs.plain_rows.PlainRowsRowStore.first.Goals.{After-self}
@@ -14,12 +14,12 @@ row c = record {
 pub overflow_mul-set : goal.overflow_mul-set
 overflow_mul-set c =
     let r = row (goal.at.overflow_mul-set c).After-self in
-    omega (arith, ends r, slab_small r)
+    omega (arith, ends r, numbers_small r)
 
 pub index-requires : goal.index-requires
 index-requires c =
     let r = row (goal.at.index-requires c).After-self in
-    omega (arith, ends r, c.requires.some, stride_is r.row, c.self.inside.slab.ok.0)
+    omega (arith, ends r, c.requires.some, stride_is r.row, c.self.inside.numbers.ok.0)
 
 pub returns : goal.returns
 returns c =

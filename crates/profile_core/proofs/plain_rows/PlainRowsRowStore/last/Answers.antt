@@ -1,7 +1,7 @@
 -- The last number of a row.
 use Rattle.std.proofs.Common.{◌-◌, ◌∙◌, get_or, ap, arith}
 use Rattle.profile_core.specs.internal.Rows.{row_for}
-use Rattle.profile_core.proofs.PlainRowLemmas.{RowIn, ends, slab_small, entry_read}
+use Rattle.profile_core.proofs.PlainRowLemmas.{RowIn, ends, numbers_small, entry_read}
 use Rattle.profile_core.proofs.RowsOf.{stride_is}
 use Rattle.profile_core.proofs.plain_rows.PlainRowsRowStore.last.Goals as goal
 use Rattle.profile_core.proofs.plain_rows.PlainRowsRowStore.last.Goals.{After-self}
@@ -15,17 +15,17 @@ row c = record {
 pub overflow_mul-set : goal.overflow_mul-set
 overflow_mul-set c =
     let r = row (goal.at.overflow_mul-set c).After-self in
-    omega (arith, ends r, slab_small r)
+    omega (arith, ends r, numbers_small r)
 
 pub overflow_add-set : goal.overflow_add-set
 overflow_add-set c =
     let r = row (goal.at.overflow_add-set c).After-self in
-    omega (arith, ends r, slab_small r)
+    omega (arith, ends r, numbers_small r)
 
 pub index-requires : goal.index-requires
 index-requires c =
     let r = row (goal.at.index-requires c).After-self in
-    omega (arith, ends r, c.requires.some, stride_is r.row, c.self.inside.slab.ok.0)
+    omega (arith, ends r, c.requires.some, stride_is r.row, c.self.inside.numbers.ok.0)
 
 pub returns : goal.returns
 returns c =

@@ -2,7 +2,7 @@
 use Rattle.std.proofs.Common.{◌≡◌, ◌+◌, ◌∙◌, take, set, ap, refl, arith}
 use Rattle.profile_core.specs.internal.Moves.{move_to_front}
 use Rattle.cache_core.proofs.TouchedSets.{covers_change}
-use Rattle.profile_core.proofs.SlabLemmas.{ListIn, within, among_fronts}
+use Rattle.profile_core.proofs.ListLemmas.{ListIn, within, among_fronts}
 use Rattle.profile_core.proofs.Writing.{IsBrought, touched_empty, written_first, brought}
 use Rattle.profile_core.proofs.recency.RecencyLists.begin.Goals as goal
 use Rattle.profile_core.proofs.recency.RecencyLists.begin.Goals.{After-add_grown}

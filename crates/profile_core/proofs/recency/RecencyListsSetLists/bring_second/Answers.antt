@@ -1,6 +1,6 @@
 -- The first two blocks of a set's list, exchanged.
 use Rattle.std.proofs.Common.{◌≡◌, ◌+◌, ◌∙◌, get_or, set, sym, ap, refl, arith}
-use Rattle.profile_core.proofs.SlabLemmas.{ListIn, among_fronts, among_rows, front_read}
+use Rattle.profile_core.proofs.ListLemmas.{ListIn, among_fronts, among_rows, front_read}
 use Rattle.profile_core.proofs.Writing.{IsBrought, TouchedIn, some_behind, written_second, brought}
 use Rattle.profile_core.proofs.recency.RecencyListsSetLists.bring_second.Goals as goal
 use Rattle.profile_core.proofs.recency.RecencyListsSetLists.bring_second.Goals.{After-put_first}

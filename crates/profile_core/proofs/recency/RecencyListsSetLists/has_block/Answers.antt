@@ -1,6 +1,6 @@
 -- A list has a block if its length is not 0.
 use Rattle.std.proofs.Common.{ap, arith}
-use Rattle.profile_core.proofs.SlabLemmas.{ListIn, within, list_size, len_read}
+use Rattle.profile_core.proofs.ListLemmas.{ListIn, within, list_size, len_read}
 use Rattle.profile_core.proofs.recency.RecencyListsSetLists.has_block.Goals as goal
 use Rattle.profile_core.proofs.recency.RecencyListsSetLists.has_block.Goals.{After-self}
 use Rattle.profile_core.proofs.recency.RecencyListsSetLists.has_block.Given.{Over}

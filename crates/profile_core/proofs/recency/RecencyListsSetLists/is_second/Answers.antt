@@ -3,7 +3,7 @@ use Rattle.std.proofs.Common.{◌<◌, ◌∙◌, eqb, get_or, sym, ap, arith}
 use Rattle.std.proofs.lemmas.Bool.{le-ltb}
 use Rattle.profile_core.specs.internal.Moves.{is_second}
 use Rattle.profile_core.proofs.Bringing.{second_of_some, second_of_few}
-use Rattle.profile_core.proofs.SlabLemmas.{ListIn, within, among_rows, row_long, list_is, len_read}
+use Rattle.profile_core.proofs.ListLemmas.{ListIn, within, among_rows, row_long, list_is, len_read}
 use Rattle.profile_core.proofs.recency.RecencyListsSetLists.is_second.Goals as goal
 use Rattle.profile_core.proofs.recency.RecencyListsSetLists.is_second.Goals.{After-self}
 use Rattle.profile_core.proofs.recency.RecencyListsSetLists.is_second.Given.{Over}

@@ -1,7 +1,7 @@
 -- A set's list gets a block in front: its front becomes the second, and that goes to the rest.
 use Rattle.std.proofs.Common.{◌≡◌, ◌∙◌, ◌∷◌, ◌<◌, ◌≤◌, ℕ, length, get_or, set, ap, arith, subst, sym}
 use Rattle.std.proofs.lemmas.List.{get_or_read}
-use Rattle.profile_core.specs.internal.Slab.{IsBroughtInRow}
+use Rattle.profile_core.specs.internal.Lists.{IsBroughtInRow}
 use Rattle.profile_core.specs.internal.Rows.{RowsValue, list_in_row, row_for, with_row}
 use Rattle.profile_core.proofs.RowsOf.{row_is, stride_is, put_is}
 use Rattle.profile_core.proofs.SplitRowLemmas.{HasSplit, as_rows, is_first, is_rest, rest_long}
