@@ -15,6 +15,7 @@ pub mod Marks
 pub mod SlottedRestLemmas
 pub mod SlottedBehind
 pub mod SplitRowLemmas
+pub mod Elements
 pub mod ListLemmas
 pub mod Writing
 pub mod Emptying
