@@ -21,17 +21,6 @@ pub record IsFedTo (at fed : ℕ) (v w : ProfileState) (old now : List ℕ) : Ty
   pub count : fed_of w ≤ fed_of v + at
   pub geometry : w.geometry ≡ v.geometry
 
-pub fed_none : (v : ProfileState) (old : List ℕ) → IsFedTo 0 0 v v old old
-fed_none v old = record {
-  step = refl;
-  kept = refl;
-  rest = refl;
-  same_length = refl;
-  few = omega arith;
-  count = omega arith;
-  geometry = refl;
-}
-
 -- one address more
 abbrev pub step_of : ProfileState → ℕ → ProfileState
 step_of w a = after_unless_front w (block_of w.geometry a)
@@ -134,20 +123,6 @@ pub record AreFedTo (at fed : ℕ) (v w v' w' : ProfileState) (old now : List �
   pub next_count : fed_of w' ≤ fed_of v' + at
   pub geometry : w.geometry ≡ v.geometry
   pub next_geometry : w'.geometry ≡ v'.geometry
-
-pub both_none : (v v' : ProfileState) (old : List ℕ) → AreFedTo 0 0 v v v' v' old old
-both_none v v' old = record {
-  step = refl;
-  next_step = refl;
-  kept = refl;
-  rest = refl;
-  same_length = refl;
-  few = omega arith;
-  count = omega arith;
-  next_count = omega arith;
-  geometry = refl;
-  next_geometry = refl;
-}
 
 module _ {at fed : ℕ} {v w v' w' : ProfileState} {old now : List ℕ}
     (so_far : AreFedTo at fed v w v' w' old now) (inside : at < length old) where

@@ -41,13 +41,6 @@ module _ (x : ℕ) (xs : List ℕ) where
       (last ≡ get_or xs (length xs - 1) 0)
   shifted_last last is = grind (arith, out_at, get_or, absent_at, list_any_is, index-le)
 
-  pub touch_found : (distance : ℕ) → Found distance ≡ shifted_of x xs →
-      Behind distance ≡ touch_of x xs
-  touch_found distance is = grind (arith, found_at, get_or)
-
-  pub touch_new : (last : ℕ) → Out last ≡ shifted_of x xs → New (length xs) ≡ touch_of x xs
-  touch_new last is = grind (arith, out_at, get_or)
-
 -- the block that fell out, put behind the others
 put_last : (y h : ℕ) (rest : List ℕ) → h < length rest
     → take (suc h) (set (take h (y ∷ take h rest) ++ drop h rest) h

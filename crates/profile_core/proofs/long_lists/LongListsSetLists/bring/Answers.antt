@@ -65,10 +65,6 @@ moved c near' far' is lists =
     }) is ∙ ap made lists
     ∙ ap (λ v. lists_after_touch v c.args.set c.args.block) c.self.view_is
 
-pub bring_near-requires-clause-two : goal.bring_near-requires-clause-two
-bring_near-requires-clause-two c =
-    (goal.at.bring_near-requires-clause-two c).After-self.self.invariant.two
-
 pub bring_near-requires-clause-within : goal.bring_near-requires-clause-within
 bring_near-requires-clause-within c = lt (goal.at.bring_near-requires-clause-within c).After-self
 

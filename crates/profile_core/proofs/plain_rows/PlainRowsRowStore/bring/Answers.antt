@@ -52,13 +52,6 @@ returns-clause-found c =
     ap (λ rest. touch_of c.args.block (take c.args.len.now (c.args.front.now ∷ rest)))
     (lent r c.deref_mut.ensures.value)
 
-pub invariant_of-self : goal.invariant_of-self
-invariant_of-self c =
-    let r = known c.self.invariant c.self.view_is c.requires.within in
-    let put = put_back c.self.inside.numbers r c.deref_mut.ensures.value c.deref_mut.ensures.len
-    c.bring_in_row.auto.rest in
-    put.sound
-
 pub returns-clause-moved : goal.returns-clause-moved
 returns-clause-moved c =
     let r = known c.self.invariant c.self.view_is c.requires.within in

@@ -18,8 +18,3 @@ pub returns : goal.returns
 returns c =
     let r = known c.self.invariant c.self.view_is c.requires.within in
     (first_put r c.args.number (omega (arith, c.requires.some, stride_is r.row))).seen
-
-pub invariant_of-self : goal.invariant_of-self
-invariant_of-self c =
-    let r = known c.self.invariant c.self.view_is c.requires.within in
-    (first_put r c.args.number (omega (arith, c.requires.some, stride_is r.row))).sound

@@ -21,10 +21,6 @@ pub last-requires-clause-within : goal.last-requires-clause-within
 last-requires-clause-within g c =
     among_rows (known c.self.invariant c.self.view_is c.requires.within)
 
-pub last-requires-clause-some : goal.last-requires-clause-some
-last-requires-clause-some g c =
-    omega (arith, depth_is c.self.view_is, c.requires.two)
-
 pub returns-then-index-stride : goal.returns-then-index-stride
 returns-then-index-stride g c =
     let l = known c.self.invariant c.self.view_is c.requires.within in

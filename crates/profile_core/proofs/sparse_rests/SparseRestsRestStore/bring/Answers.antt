@@ -126,13 +126,6 @@ put c ready own long =
       seen = written_rests ready.sound c.args.set ready.own new long own;
     }))
 
-pub invariant_of-self : goal.invariant_of-self
-invariant_of-self c =
-    let at = goal.at.invariant_of-self c in
-    let b = at.After-deref_mut-2 in
-    (put at.After-bring_behind (ready b) (own b)
-    (long at.After-bring_behind (lent b) (size b))).sound
-
 pub returns-clause-moved : goal.returns-clause-moved
 returns-clause-moved c =
     let at = goal.at.returns-clause-moved c in

@@ -16,10 +16,6 @@ index_mut-requires g c =
     let s = known c.self.invariant c.self.view_is c.requires.within in
     omega (arith, is_first s, c.self.inside.firsts.ok.0)
 
-pub invariant_of-self : goal.invariant_of-self
-invariant_of-self g c = first_sound (known c.self.invariant c.self.view_is c.requires.within)
-    c.replace-second.new.dest
-
 -- the list had one block
 pub returns-then-len-eq1-clause-moved : goal.returns-then-len-eq1-clause-moved
 returns-then-len-eq1-clause-moved g c =
@@ -79,11 +75,6 @@ returns-clause-found g c =
     c.bring.ensures.found ∙ rest_touch s c.args.block c.args.front.now c.replace-second.result
     c.args.len.now (second g at (is_first s))
     (two c.args.len.now c.requires.some c.if-len-eq1.false) c.requires.behind c.requires.further
-
-pub invariant_of-self-2 : goal.invariant_of-self-2
-invariant_of-self-2 g c =
-    written_sound (known c.self.invariant c.self.view_is c.requires.within) _
-    c.bring.ensures.long c.bring.ensures.others c.replace-second.new.dest
 
 pub returns-clause-moved : goal.returns-clause-moved
 returns-clause-moved g c =
