@@ -4,7 +4,7 @@ use Rattle.std.proofs.Common.{ap, arith, subst}
 use Rattle.std.specs.Prelude.{replicate}
 use Rattle.profile_core.specs.internal.Lists.{Lists}
 use Rattle.profile_core.specs.internal.LongLists.{whole_lists}
-use Rattle.profile_core.proofs.LongListLemmas.{depth_small, split_new, new_lists}
+use Rattle.profile_core.proofs.LongListLemmas.{new_lists}
 use Rattle.profile_core.proofs.long_lists.LongLists.new.Goals as goal
 
 pub returns : goal.returns
