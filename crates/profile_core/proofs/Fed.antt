@@ -7,15 +7,16 @@ use Rattle.std.proofs.Common.{length-set, length-take}
 use Rattle.std.proofs.Math.Nat.{suc-mul}
 use Rattle.std.proofs.lemmas.List.{get_or_read}
 use Rattle.cache_core.specs.Geometry.{GeometryValue, set_of_block}
+use Rattle.profile_core.specs.declared.recency.Touch.TheVariants.{Behind, New}
 use Rattle.profile_core.specs.declared.histograms.Histograms.{Histograms}
-use Rattle.profile_core.specs.internal.Moves.{is_front, move_to_front}
+use Rattle.profile_core.specs.internal.Moves.{is_front, move_to_front, touch_of}
 use Rattle.profile_core.specs.internal.Lists.{Lists, lists_after_touch}
 use Rattle.profile_core.specs.internal.State.{ProfileState, IsSound, IsNext, list_of, fed_of}
 use Rattle.profile_core.specs.internal.State.{after_reference, compared_behind, distances_of}
 use Rattle.profile_core.specs.internal.State.{most_references, profile_of, MayBeFed}
 use Rattle.profile_core.proofs.Feeding.{FoundAt, FoundNowhere, behind_front, first-raised}
 use Rattle.profile_core.proofs.Feeding.{raised_behind, sum-distances, after_fed, found_step}
-use Rattle.profile_core.proofs.Feeding.{nowhere_step}
+use Rattle.profile_core.proofs.Feeding.{nowhere_step, found_behind, found_nowhere}
 use Rattle.profile_core.proofs.Weighing.{raised_fits, weighed-raised}
 
 -- the value of a profile, by its fields
@@ -125,6 +126,13 @@ module _ {g : GeometryValue} {was now : Lists} {behind missed : List ℕ} {probe
 
   sets : length now.lists ≡ length was.lists
   sets = ap length moved ∙ length-set was.lists k _
+
+  -- where it was found
+  pub found_of : {distance : ℕ} → Behind distance ≡ touch_of x list → FoundAt x distance list
+  found_of {distance} at = found_behind x distance list at
+
+  pub nowhere_of : {len : ℕ} → New len ≡ touch_of x list → FoundNowhere x len list
+  nowhere_of {len} at = found_nowhere x len list at
 
   -- found at a distance behind the front
   module _ {distance : ℕ} (f : FoundAt x distance list) where
