@@ -5,6 +5,7 @@ use Rattle.std.specs.Prelude.{All, IfSome, replicate}
 use Rattle.std.proofs.lemmas.List.{length-replicate}
 use Rattle.cache_core.specs.internal.Touched.{TouchedValue, Covers, ListsFilled, no_sets}
 use Rattle.cache_core.proofs.TouchedSets.{covers_none}
+use Rattle.profile_core.proofs.Elements.{all_same}
 use Rattle.profile_core.specs.internal.Rows.{RowsValue, AreLong}
 use Rattle.profile_core.specs.internal.Lists.{IsListed}
 
@@ -24,11 +25,6 @@ pub covers_fronts : {fronts : List ℕ} {rows : RowsValue} {lens : List ℕ} {to
 covers_fronts {fronts} {rows} {lens} {touched} l =
     filled_fronts touched.listed fronts lens l.fronts_len l.blank l.covers
 
-pub zero_at : (n k : ℕ) → get_or {A = ℕ} (replicate n 0) k 0 ≡ 0
-zero_at zero k = refl
-zero_at (suc n) zero = refl
-zero_at (suc n) (suc k) = zero_at n k
-
 pub listed_none : (m : ℕ) (fronts : List ℕ) (rows : RowsValue) (lens : List ℕ)
     (before touched : TouchedValue) → fronts ≡ replicate m 0 → lens ≡ replicate m 0 →
     m ≤ length rows.rows → AreLong rows →
@@ -41,7 +37,7 @@ listed_none m fronts rows lens before touched blank none enough long small is =
       rows_len = omega (arith, count, enough);
       long = long;
       small = subst (λ (j : ℕ). j * (rows.stride + 1) ≤ 2 ^ 22) (sym count) small;
-      short = λ k. omega (arith, ap (λ ls. get_or ls k 0) none, zero_at m k);
-      blank = λ k _. ap (λ fs. get_or fs k 0) blank ∙ zero_at m k;
+      short = λ k. omega (arith, ap (λ ls. get_or ls k 0) none, all_same {A = ℕ} m k 0);
+      blank = λ k _. ap (λ fs. get_or fs k 0) blank ∙ all_same {A = ℕ} m k 0;
       covers = covers_none touched before.capacity m lens is none;
     }

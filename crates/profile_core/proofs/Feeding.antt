@@ -17,6 +17,7 @@ use Rattle.profile_core.specs.internal.Lists.{Lists}
 use Rattle.profile_core.specs.internal.State.{ProfileState, IsSound, list_of, one_more_at}
 use Rattle.profile_core.specs.internal.State.{after_reference, fed_of, weighed, compared_behind}
 use Rattle.profile_core.specs.internal.State.{distances_of}
+use Rattle.profile_core.proofs.Elements.{all_same}
 use Rattle.profile_core.proofs.Bringing.{absent_at}
 use Rattle.profile_core.proofs.Shifting.{other_front, index_behind, index-le}
 use Rattle.profile_core.proofs.Weighing.{weighed-zeros, sum-zeros}
@@ -205,11 +206,6 @@ first-zero : (n : ℕ) → 1 ≤ n → take {A = ℕ} 1 (replicate n 0) ≡ 0 �
 first-zero zero some = absurd (omega (arith, some))
 first-zero (suc n) some = refl
 
-pub no_list : (n k : ℕ) → length (get_or {A = List ℕ} (replicate n []) k []) ≡ 0
-no_list zero k = refl
-no_list (suc n) zero = refl
-no_list (suc n) (suc k) = no_list n k
-
 pub new_sound : (g : GeometryValue) (lists : Lists) (behind missed : List ℕ) → lists.depth ≡ g.e →
     lists.lists ≡ replicate (2 ^ g.s) []
     → 1 ≤ g.e → behind ≡ replicate g.e 0 → missed ≡ replicate (g.e + 1) 0 →
@@ -224,7 +220,7 @@ new_sound g lists behind missed depth sets some near far =
       depth = depth;
       set_count = ap length sets ∙ length-replicate (2 ^ g.s) [];
       short = λ k. subst (λ (ls : List (List ℕ)). length (get_or ls k []) ≤ g.e) (sym sets)
-          (omega (arith, no_list (2 ^ g.s) k));
+          (omega (arith, ap length (all_same {A = List ℕ} (2 ^ g.s) k [])));
       behind_count = ap length near ∙ length-replicate g.e 0;
       none_in_front = first;
       occupancy_count = ap length far ∙ length-replicate (g.e + 1) 0;

@@ -6,7 +6,7 @@ use Rattle.std.specs.Prelude.{replicate}
 use Rattle.std.proofs.lemmas.Bool.{cases_eq, ne_eqb}
 use Rattle.std.proofs.lemmas.List.Sums.{sum_by-set, count_by-le-length}
 use Rattle.profile_core.specs.internal.Places.{taken, ArePlaces}
-use Rattle.profile_core.proofs.Emptying.{zero_at}
+use Rattle.profile_core.proofs.Elements.{all_same}
 
 pub taken_few : (places : List ℕ) → taken places ≤ length places
 taken_few places = count_by-le-length (λ p. not (eqb p 0)) places
@@ -18,8 +18,8 @@ taken_none (suc m) = taken_none m
 
 pub none_taken : (m : ℕ) → ArePlaces (replicate m 0)
 none_taken m = record {
-  within = λ k. omega (arith, zero_at m k);
-  apart = λ i k own same. absurd (omega (arith, own, zero_at m i));
+  within = λ k. omega (arith, all_same {A = ℕ} m k 0);
+  apart = λ i k own same. absurd (omega (arith, own, all_same {A = ℕ} m i 0));
 }
 
 -- set k takes one
