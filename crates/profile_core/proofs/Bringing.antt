@@ -82,11 +82,7 @@ module _ {x y h : ℕ} {rest after : List ℕ} (s : IsShifted x y h rest after) 
 
   pub row_found : index_of x list ≤ h → take (suc h) (x ∷ (after ++ drop h rest)) ≡ take
       (length rest + 1) (move_to_front x list)
-  row_found le =
-      let short : length others ≡ h =
-      omega (arith, length-remove list (index_of x list) (omega (arith, size, le)), size) in
-      row_kept (take_all h others (omega (arith, short)) ∙
-      sym (take_all (length rest) others (omega (arith, short, s.within))))
+  row_found le = grind (arith, row_kept, length-remove, size, take_all)
 
   pub row_full : length rest ≤ h → take (suc h) (x ∷ (after ++ drop h rest)) ≡ take
       (length rest + 1) (move_to_front x list)

@@ -149,20 +149,7 @@ module _ (v : ProfileState) (x k : ℕ) (of_set : k ≡ set_of_block v.geometry 
       distances' ≡ one_more_at v.distances distance
       → probes' ≡ v.probes + (distance + 1)
       → record v { lists = lists'; distances = distances'; probes = probes' } ≡ after_reference v x
-  found_step distance probes' lists' distances' found moved raised more =
-      let f : FoundAt x distance xs = subst (λ j. FoundAt x distance (list_of v j)) of_set found in
-      let lists = lists_step lists' moved in
-      let distances : distances' ≡ cond (is_in x xs) (one_more_at v.distances (index_of x xs))
-      v.distances =
-      raised ∙ sym (ap (λ b. cond b (one_more_at v.distances (index_of x xs)) v.distances)
-      f.inside ∙ ap (one_more_at v.distances) f.distance_is) in
-      let missed : v.misses_by_occupancy ≡ cond (is_in x xs) v.misses_by_occupancy
-      (one_more_at v.misses_by_occupancy (length xs)) =
-      sym (ap (λ b. cond b v.misses_by_occupancy (one_more_at v.misses_by_occupancy (length xs)))
-      f.inside) in
-      let probes : probes' ≡ v.probes + min (index_of x xs + 1) (length xs) =
-      omega (arith, more, f.distance_is, f.within) in
-      cc
+  found_step distance probes' lists' distances' found moved raised more = grind arith
 
   pub nowhere_step : (len n probes' : ℕ) (lists' : List (List ℕ)) (distances' : List ℕ) →
       FoundNowhere x len (list_of v k)
@@ -177,22 +164,7 @@ module _ (v : ProfileState) (x k : ℕ) (of_set : k ≡ set_of_block v.geometry 
         probes = probes';
       }
       ≡ after_reference v x
-  nowhere_step len n probes' lists' distances' found moved same read more =
-      let f : FoundNowhere x len xs = subst (λ j. FoundNowhere x len (list_of v j)) of_set found in
-      let lists = lists_step lists' moved in
-      let distances : distances' ≡ cond (is_in x xs) (one_more_at v.distances (index_of x xs))
-      v.distances =
-      same ∙ sym (ap (λ b. cond b (one_more_at v.distances (index_of x xs)) v.distances)
-      f.outside) in
-      let missed : set v.misses_by_occupancy len (n + 1) ≡ cond (is_in x xs) v.misses_by_occupancy
-      (one_more_at v.misses_by_occupancy (length xs)) =
-      ap (λ m. set v.misses_by_occupancy len (m + 1)) read ∙
-      ap (one_more_at v.misses_by_occupancy) f.len_is
-      ∙ sym (ap (λ b. cond b v.misses_by_occupancy (one_more_at v.misses_by_occupancy (length xs)))
-      f.outside) in
-      let probes : probes' ≡ v.probes + min (index_of x xs + 1) (length xs) =
-      omega (arith, more, f.index_is, f.len_is) in
-      cc
+  nowhere_step len n probes' lists' distances' found moved same read more = grind arith
 
   -- the front, which stays
   pub front_step : (distances' : List ℕ) → is_front x (list_of v k) ≡ true →

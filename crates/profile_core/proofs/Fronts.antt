@@ -83,9 +83,7 @@ sum-lift n ds some = omega (
 )
 
 pub fronts_none : (v : ProfileState) → after_fronts 0 v ≡ v
-fronts_none v = ap (λ ds. record v { distances = ds; probes = v.probes + 0 })
-    (lift-none v.distances) ∙ ap (λ n. record v { probes = n })
-    {x = v.probes + 0} {y = v.probes} (omega arith)
+fronts_none v = grind (arith, lift-none)
 
 pub fronts_fronts : (m n : ℕ) (v : ProfileState) →
     after_fronts m (after_fronts n v) ≡ after_fronts (n + m) v

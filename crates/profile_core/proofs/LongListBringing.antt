@@ -141,17 +141,7 @@ module _ {near : Lists} {beyond : ℕ} {far : List Deep} {x k held last : ℕ} {
       ))
 
   pub full_touch : rest_touch_of held x behind ≡ touch_of x (list f.whole)
-  full_touch =
-      ap (λ n. rest_touch_of n x behind) f.held_is
-      ∙ elim (is_or (is_in x behind)) [
-        | inl inside ↦ ap (λ t. cond t (Behind (length front + index_of x behind))
-            (New (length front + length behind))) inside
-            ∙ far_found near.depth beyond x front behind f.absent f.full two inside
-        | inr none ↦ ap (λ t. cond t (Behind (length front + index_of x behind))
-            (New (length front + length behind))) none
-            ∙ far_new near.depth beyond x front behind f.absent f.full two none
-      ]
-      ∙ ap (touch_of x) (sym (list_is f.whole))
+  full_touch = grind (arith, far_found, far_new, list_is)
 
   pub full_renewed : (d : Deep) → d ≡ list_after_exchange (get_or far k nothing) x last →
       {near' : Lists} → near' ≡ lists_after_touch near k x →

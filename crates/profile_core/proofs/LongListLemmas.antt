@@ -164,34 +164,14 @@ module _ {near : Lists} {beyond : ℕ} {far : List Deep} {k : ℕ} {v : Lists}
 
     new_moved : length row < near.depth →
         take (near.depth + beyond) (move_to_front x row) ≡ after
-    new_moved short =
-        let le : length (move_to_front x row) ≤ near.depth =
-        omega (arith, length-remove_le row (index_of x row), short) in
-        take_all (near.depth + beyond) (move_to_front x row) (omega (arith, le)) ∙
-        sym (take_all near.depth (move_to_front x row) le)
+    new_moved short = grind (arith, length-remove_le, take_all)
 
     stays_moved : StaysIn →
         take (near.depth + beyond) (move_to_front x (row ++ rest)) ≡ after ++ rest
-    stays_moved h = elim h [
-      | inl inside ↦ near_moved near.depth beyond x row rest inside (r.sound.short k)
-          (r.sound.rest_short k)
-      | inr new ↦
-          let moved : List ℕ → List ℕ = λ zs. take (near.depth + beyond) (move_to_front x zs) in
-          ap (λ zs. moved (row ++ zs)) (rest_behind new.0) ∙ ap moved (append-nil row) ∙
-          new_moved new.0 ∙ sym (append-nil after) ∙ ap (λ zs. after ++ zs) (sym (rest_behind new.0))
-    ]
+    stays_moved h = grind (arith, near_moved, rest_behind, append-nil, new_moved)
 
     after_long : StaysIn → rest ≢ [] → length after ≡ near.depth
-    after_long h some = elim h [
-      | inl inside ↦
-          let long : length (move_to_front x row) ≡ near.depth = omega (
-            arith,
-            length-remove row (index_of x row) (index-lt x row inside),
-            r.sound.full k some,
-          ) in
-          ap length (take_all near.depth (move_to_front x row) (omega (arith, long))) ∙ long
-      | inr new ↦ absurd (some (rest_behind new.0))
-    ]
+    after_long h some = grind (arith, length-remove, index-lt, take_all, rest_behind)
 
     pub stays : StaysIn → {near' : Lists} → near' ≡ lists_after_touch near k x →
         IsRenewed near' beyond far k x v

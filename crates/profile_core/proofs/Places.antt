@@ -58,38 +58,11 @@ module _ {places : List ℕ} (a : ArePlaces places) {k : ℕ} (lt : k < length p
   place_other j other = get_or-set_other places k j (taken places + 1) 0 other
 
   within_then : (j : ℕ) → get_or places_then j 0 ≤ taken places_then
-  within_then j = elim (cases_eq j k) [
-    | inl same ↦ omega (arith, one_more, ap (λ i. get_or places_then i 0) same, place_here)
-    | inr other ↦ omega (arith, one_more, place_other j other, a.within j)
-  ]
+  within_then j = grind (arith, one_more, place_here, place_other, cases_eq, a.within)
 
   apart_then : (i j : ℕ) → 0 < get_or places_then i 0 →
       get_or places_then i 0 ≡ get_or places_then j 0 → i ≡ j
-  apart_then i j own same = elim (cases_eq i k) [
-    | inl here ↦ elim (cases_eq j k) [
-      | inl there ↦ here ∙ sym there
-      | inr other ↦ absurd (omega (
-        arith,
-        same,
-        ap (λ p. get_or places_then p 0) here,
-        place_here,
-        place_other j other,
-        a.within j,
-      ))
-    ]
-    | inr other ↦ elim (cases_eq j k) [
-      | inl there ↦ absurd (omega (
-        arith,
-        same,
-        ap (λ p. get_or places_then p 0) there,
-        place_here,
-        place_other i other,
-        a.within i,
-      ))
-      | inr besides ↦ a.apart i j (omega (arith, own, place_other i other))
-          (sym (place_other i other) ∙ same ∙ place_other j besides)
-    ]
-  ]
+  apart_then i j own same = grind (arith, place_here, place_other, cases_eq, a.within, a.apart)
 
   pub places_taken : ArePlaces places_then
   places_taken = record { within = within_then; apart = apart_then }

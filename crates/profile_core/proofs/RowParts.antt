@@ -31,10 +31,7 @@ module _ (b n : ℕ) (xs : List ℕ) (ends : b + n ≤ length xs) where
   -- what is read of it
   pub part_read : {i at x : ℕ} → i < n → at ≡ b + i → x ≡ get_or xs at x →
       x ≡ get_or (take n (drop b xs)) i 0
-  part_read {i} {at} {x} lt is read =
-      get_or_read xs at x (omega (arith, lt, is, ends)) read 0
-      ∙ ap (λ j. get_or xs j 0) is
-      ∙ sym (get_or-take n (drop b xs) i 0 lt ∙ get_or-drop b xs i 0)
+  part_read {i} {at} {x} lt is read = grind (arith, get_or_read, get_or-take, get_or-drop)
 
   -- its first number written is the whole part written
   pub part_first : (x : ℕ) → 0 < n → set xs b x ≡ put_mid b n xs (set (take n (drop b xs)) 0 x)

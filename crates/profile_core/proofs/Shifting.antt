@@ -55,16 +55,11 @@ is_absent x xs at = list_any_is (λ y. eqb y x) xs ∙ le-ltb (index_of x xs) (l
 
 pub shifted_found : (x i : ℕ) (xs : List ℕ) → index_of x xs ≡ i → i < length xs →
     Found i ≡ shifted_of x xs
-shifted_found x i xs at lt =
-    ap (λ p. Found p) (sym at) ∙ sym
-    (ap (λ b. cond b (Found (index_of x xs)) (Out (get_or xs (length xs - 1) 0)))
-    (is_found x i xs at lt))
+shifted_found x i xs at lt = grind (arith, is_found)
 
 pub shifted_out : (x last : ℕ) (xs : List ℕ) → index_of x xs ≡ length xs →
     last ≡ get_or xs (length xs - 1) 0 → Out last ≡ shifted_of x xs
-shifted_out x last xs at is =
-    ap (λ l. Out l) is ∙ sym (ap (λ b. cond b (Found (index_of x xs))
-    (Out (get_or xs (length xs - 1) 0))) (is_absent x xs at))
+shifted_out x last xs at is = grind (arith, is_absent)
 
 -- the whole list after the pass
 pub length-remove : (xs : List ℕ) (i : ℕ) → i < length xs → suc (length (remove xs i)) ≡ length xs
@@ -117,9 +112,7 @@ module _ {x y i carried : ℕ} {xs now : List ℕ} (p : IsPassed x y i carried x
     at_is = ap (λ l. get_or l i 0) p.now_is ∙ passed_at y xs i lt
 
     stepped : {put : ℕ} → put ≡ carried → set now i put ≡ take (i + 1) (y ∷ xs) ++ drop (i + 1) xs
-    stepped put =
-        ap (set now i) put ∙ ap (λ l. set l i carried) p.now_is ∙
-        ap (set (take i (y ∷ xs) ++ drop i xs) i) p.carried_is ∙ passed_more y xs i lt
+    stepped put = grind (arith, passed_more)
 
     -- the next is another block
     pub passed_next : {other put : ℕ} → put ≡ carried → other ≡ get_or now i 0 →

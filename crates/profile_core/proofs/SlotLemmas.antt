@@ -51,13 +51,11 @@ found_nowhere x xs others = index_end x xs (λ k h. ne_eqb (get_or xs k 0) x (ot
 
 pub touch_found : (x p : ℕ) (xs : List ℕ) → index_of x xs ≡ p → p < length xs →
     Behind p ≡ touch_of x xs
-touch_found x p xs at lt = ap (λ q. Behind q) (sym at) ∙
-    sym (ap (λ b. cond b (Behind (index_of x xs)) (New (length xs))) (is_found x p xs at lt))
+touch_found x p xs at lt = grind (arith, is_found)
 
 pub touch_new : (x n : ℕ) (xs : List ℕ) → length xs ≡ n → index_of x xs ≡ length xs →
     New n ≡ touch_of x xs
-touch_new x n xs long at = ap (λ q. New q) (sym long) ∙
-    sym (ap (λ b. cond b (Behind (index_of x xs)) (New (length xs))) (is_absent x xs at))
+touch_new x n xs long at = grind (arith, is_absent)
 
 -- a list without x, as far as n
 pub absent_to : (x n : ℕ) (xs : List ℕ) →
@@ -70,10 +68,7 @@ absent_to x n xs others =
 
 pub absent_at : (x n k : ℕ) (xs : List ℕ) → is_in x (take n xs) ≡ false → k < n → k < length xs →
     get_or xs k 0 ≡ x → ⊥
-absent_at x n k xs none lt le at =
-    let lt' : k < length (take n xs) = omega (arith, length-take n xs) in
-    false≢true (sym none ∙ list_any_at (λ y. eqb y x) (take n xs) k 0 lt'
-    (eq-eqb (get_or (take n xs) k 0) x (get_or-take n xs k 0 lt ∙ at)))
+absent_at x n k xs none lt le at = grind (arith, length-take, list_any_at, eq-eqb, get_or-take)
 
 -- where the entry at k stood before that at p came to the front
 abbrev source : ℕ → ℕ → ℕ
@@ -219,11 +214,7 @@ counted_at = let P : ℕ → Type 0 = λ k. get_or counted_slots k 0 ≡ k in
     (refl, (refl, (refl, (refl, (refl, tt))))))))))))))))
 
 counted_within : (k : ℕ) → get_or counted_slots k 0 < 16
-counted_within k =
-    elim (cases_lt k 16) [
-      | inl lt ↦ omega (arith, counted_at k lt)
-      | inr far ↦ omega (arith, get_or_past counted_slots k 0 far)
-    ]
+counted_within k = grind (arith, counted_at, get_or_past)
 
 mark_zero : 0 ≡ mark_of 0
 unfolding mark_of

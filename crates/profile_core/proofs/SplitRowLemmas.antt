@@ -53,15 +53,7 @@ module _ (x y z len : ℕ) (rest : List ℕ) (two : 2 ≤ len) where
     second_other = ne_eqb z x second
 
     pub two_touch : rest_touch_of 2 x others ≡ touch_of x list
-    two_touch =
-        let a = in_two x y z others first second in
-        let b : index_of x (y ∷ z ∷ others) ≡ 2 + index_of x others =
-        behind_two x y z others first second ∙ omega arith in
-        let d : length (y ∷ z ∷ others) ≡ 2 + length others = omega arith in
-        sym (ap (touch_of x) list_is
-        ∙ ap (λ t. cond t (Behind (index_of x (y ∷ z ∷ others))) (New (length (y ∷ z ∷ others)))) a
-        ∙ ap (λ i. cond (is_in x others) (Behind i) (New (length (y ∷ z ∷ others)))) b
-        ∙ ap (λ i. cond (is_in x others) (Behind (2 + index_of x others)) (New i)) d)
+    two_touch = grind (arith, list_is, in_two, behind_two, first, second)
 
     -- the row once x is in front, and y the first number of it
     pub two_brought : (n len' : ℕ) (rest' : List ℕ) → 1 ≤ n → n ≤ 2 ^ 21 → length rest' ≡ n →
@@ -222,8 +214,7 @@ module _ {k : ℕ} {firsts : List ℕ} {rests rows : RowsValue} (r : HasSplit k 
 
   pub rest_touch : rest_touch_of 2 x (take (len - 2) (row_for rests k)) ≡
       touch_of x (list_in_row rows k y len)
-  rest_touch = two_touch x y z len (row_for rests k) two is_behind is_further ∙
-      sym (ap (touch_of x) shape)
+  rest_touch = grind (arith, two_touch, shape)
 
   pub rest_brought : (len' : ℕ) (rest' : List ℕ) → length rest' ≡ rests.stride → 2 ≤ len' →
       len' ≤ rests.stride + 2 →
