@@ -110,9 +110,7 @@ module _ {near : Lists} {beyond : ℕ} {far : List Deep} {x k held last : ℕ} {
   far_read d read = get_or_read far k d (within_far f.whole) read nothing
 
   pub last_apart : is_in last behind ≡ false
-  last_apart =
-      ap (λ y. is_in y behind) f.last_is
-      ∙ once_apart front behind (near.depth - 1) (f.whole.sound.once k) (omega (arith, f.full, two))
+  last_apart = grind (arith, once_apart, f.last_is, f.full, two, f.whole.sound.once)
 
   small : near.depth + beyond ≤ 2 ^ 22
   small = depth_small (length near.lists) (near.depth + beyond) (omega (arith, within f.whole))
@@ -126,19 +124,10 @@ module _ {near : Lists} {beyond : ℕ} {far : List Deep} {x k held last : ℕ} {
 
   moved : take (near.depth + beyond) (move_to_front x (front ++ behind)) ≡ take near.depth
       (move_to_front x front) ++ left
-  moved =
-      far_moved near.depth beyond x front behind f.absent f.full two
-      ∙ ap (λ y. take near.depth (move_to_front x front) ++
-      take beyond (y ∷ remove behind (index_of x behind))) (sym f.last_is)
+  moved = grind (arith, far_moved, f.last_is)
 
   row_long : length (take near.depth (move_to_front x front)) ≡ near.depth
-  row_long =
-      length-take-le near.depth (move_to_front x front)
-      (omega (
-        arith,
-        ap length (remove_past front (index_of x front) (index_absent x front f.absent)),
-        f.full,
-      ))
+  row_long = grind (arith, length-take-le, remove_past, index_absent, f.absent, f.full)
 
   pub full_touch : rest_touch_of held x behind ≡ touch_of x (list f.whole)
   full_touch = grind (arith, far_found, far_new, list_is)

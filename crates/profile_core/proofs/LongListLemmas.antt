@@ -243,11 +243,7 @@ pub cleared_lists : (near near' : Lists) (far far' : List Deep) →
     near' ≡ record { depth = near.depth; lists = replicate (length near.lists) [] }
     → far' ≡ map empty_deep far → whole_lists near'.lists far' ≡ replicate
     (length (whole_lists near.lists far)) []
-cleared_lists near near' far far' is far_is =
-    ap (λ v. whole_lists v.lists far') is ∙
-    ap (whole_lists (replicate (length near.lists) [])) far_is
-    ∙ joined_empty (length near.lists) (map empty_deep far) (emptied_rest far) ∙
-    ap (λ n. replicate n []) (sym (length-joined near.lists far))
+cleared_lists near near' far far' is far_is = grind (arith, joined_empty, emptied_rest, length-joined)
 
 -- how many blocks stand in all lists
 pub sum-joined : (near : List (List ℕ)) (far : List Deep) → length far ≤ length near
@@ -304,7 +300,4 @@ pub new_lists : (near : Lists) (sets beyond : ℕ) (far : List Deep) →
     near ≡ record { depth = 64; lists = replicate sets [] }
     → far ≡ replicate sets (record { cap = beyond; blocks = [] }) →
     whole_lists near.lists far ≡ replicate sets []
-new_lists near sets beyond far is far_is =
-    ap (λ v. whole_lists v.lists far) is ∙ ap (whole_lists (replicate sets [])) far_is
-    ∙ joined_empty sets (replicate sets (record { cap = beyond; blocks = [] }))
-    (empty_rest sets beyond)
+new_lists near sets beyond far is far_is = grind (arith, joined_empty, empty_rest)

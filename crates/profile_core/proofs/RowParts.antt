@@ -22,7 +22,7 @@ part_of b n xs = sym (drop-take b n xs)
 
 pub part_same : (b n : ℕ) (xs ys : List ℕ) → take (b + n) xs ≡ take (b + n) ys →
     take n (drop b xs) ≡ take n (drop b ys)
-part_same b n xs ys same = part_of b n xs ∙ ap (drop b) same ∙ sym (part_of b n ys)
+part_same b n xs ys same = grind (arith, part_of)
 
 module _ (b n : ℕ) (xs : List ℕ) (ends : b + n ≤ length xs) where
   pub part_long : length (take n (drop b xs)) ≡ n
@@ -40,10 +40,7 @@ module _ (b n : ℕ) (xs : List ℕ) (ends : b + n ≤ length xs) where
 
   -- the part written anew
   pub part_here : (new : List ℕ) → length new ≡ n → take n (drop b (put_mid b n xs new)) ≡ new
-  part_here new long =
-      ap (take n) (drop_at (take b xs) (new ++ drop n (drop b xs)) b
-      (length-take-le b xs (omega (arith, ends))))
-      ∙ take_at new (drop n (drop b xs)) n long
+  part_here new long = grind (arith, drop_at, length-take-le, take_at)
 
 -- the row at place p written anew, and that at another place
 pub part_other : (p q n : ℕ) (xs new : List ℕ) → p * n ≤ length xs → length new ≡ n →
@@ -59,8 +56,7 @@ part_other p q n xs new begins long other = elim (cases_lt q p) [
 -- a part as code lends it, and as it is put back
 pub part_lent : (b n : ℕ) {xs now : List ℕ} → now ≡ xs →
     take (b + n - b) (drop b now) ≡ take n (drop b xs)
-part_lent b n {xs} {now} is = ap (λ j. take j (drop b now)) (omega arith) ∙
-    ap (λ ys. take n (drop b ys)) is
+part_lent b n {xs} {now} is = grind arith
 
 pub part_back : {Z : Type 0} (v : Vec ℕ Z) (b n : ℕ) {now : List ℕ} (new : List ℕ) → now ≡ v.items →
     length now ≡ v.len → length new ≡ length (take (b + n - b) (drop b now)) →

@@ -140,9 +140,7 @@ module _ {x y i carried : ℕ} {xs now : List ℕ} (p : IsPassed x y i carried x
 
       pub found_moved : {put : ℕ} → put ≡ carried → set now i put ≡ take (length xs)
           (remove (y ∷ xs) (index_of x (y ∷ xs)))
-      found_moved put = stepped put ∙ moved_found x y i xs found_here lt
-          ∙ ap (λ j. take (length xs) (remove (y ∷ xs) j))
-          (sym (index_behind x y xs (other_front x y xs other)))
+      found_moved put = grind (arith, stepped, moved_found, found_here, index_behind, other_front)
 
   -- all were passed
   module _ (end : length xs ≤ i) (other : is_front x (y ∷ xs) ≡ false) where
@@ -157,5 +155,4 @@ module _ {x y i carried : ℕ} {xs now : List ℕ} (p : IsPassed x y i carried x
         (p.carried_is ∙ ap (λ j. get_or (y ∷ xs) j 0) (omega (arith, end, p.within)))
 
     pub nowhere_moved : now ≡ take (length xs) (remove (y ∷ xs) (index_of x (y ∷ xs)))
-    nowhere_moved = p.now_is ∙ moved_out x y i xs nowhere (omega (arith, end, p.within))
-        ∙ ap (λ j. take (length xs) (remove (y ∷ xs) j)) (sym none_is)
+    nowhere_moved = grind (arith, moved_out, none_is, nowhere, p.now_is, p.within)

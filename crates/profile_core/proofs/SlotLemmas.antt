@@ -42,8 +42,7 @@ listed_take order numbers n m le =
 -- where a block is found, and where it is not
 pub found_at : (x p : ℕ) (xs : List ℕ) → p < length xs →
     ((k : ℕ) → k < p → get_or xs k 0 ≡ x → ⊥) → get_or xs p 0 ≡ x → index_of x xs ≡ p
-found_at x p xs lt others at = index_found x p xs lt (λ k h. ne_eqb (get_or xs k 0) x (others k
-    h)) at
+found_at x p xs lt others at = grind (arith, index_found, ne_eqb)
 
 pub found_nowhere : (x : ℕ) (xs : List ℕ) → ((k : ℕ) → k < length xs → get_or xs k 0 ≡ x → ⊥) →
     index_of x xs ≡ length xs
@@ -60,11 +59,7 @@ touch_new x n xs long at = grind (arith, is_absent)
 -- a list without x, as far as n
 pub absent_to : (x n : ℕ) (xs : List ℕ) →
     ((k : ℕ) → k < n → k < length xs → get_or xs k 0 ≡ x → ⊥) → is_in x (take n xs) ≡ false
-absent_to x n xs others =
-    let lt : (k : ℕ) → k < length (take n xs) → (k < n) × (k < length xs) =
-    λ k h. (omega (arith, length-take n xs), omega (arith, length-take n xs)) in
-    is_absent x (take n xs) (found_nowhere x (take n xs) (λ k h e. others k (lt k h).0 (lt k h).1
-    (sym (get_or-take n xs k 0 (lt k h).0) ∙ e)))
+absent_to x n xs others = grind (arith, is_absent, found_nowhere, get_or-take, length-take)
 
 pub absent_at : (x n k : ℕ) (xs : List ℕ) → is_in x (take n xs) ≡ false → k < n → k < length xs →
     get_or xs k 0 ≡ x → ⊥

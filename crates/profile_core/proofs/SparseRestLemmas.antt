@@ -143,18 +143,7 @@ module _ {n room : ℕ} {places numbers : List ℕ} (a : IsSparse n places numbe
 
   more_same : (j : ℕ) →
       sparse_rest n (places_then a.own lt none) numbers_more j ≡ sparse_rest n places numbers j
-  more_same j = elim (cases_eq j k) [
-    | inl same ↦ ap (λ i. sparse_rest n (places_then a.own lt none) numbers_more i) same
-        ∙ ap (λ p. take n (drop (p * n) numbers_more)) (place_here a.own lt none)
-        ∙ ap (λ xs. take n xs) (drop_at numbers first ((taken places + 1) * n) (a.numbers_len))
-        ∙ take-take n n numbers (omega arith)
-        ∙ sym (at_first n numbers)
-        ∙ ap (λ p. take n (drop (p * n) numbers)) (sym none)
-        ∙ ap (λ i. sparse_rest n places numbers i) (sym same)
-    | inr other ↦ ap (λ p. take n (drop (p * n) numbers_more)) (place_other a.own lt none j other)
-        ∙ part_same (get_or places j 0 * n) n numbers_more numbers
-        (take-append-le (get_or places j 0 * n + n) numbers first (rest_ends a j))
-  ]
+  more_same j = grind (arith, cases_eq, place_here, place_other, drop_at, take-take, at_first, part_same, take-append-le, rest_ends)
 
 -- the same rests, once set k has its own
 pub record IsReady (n k : ℕ) (places numbers : List ℕ) (room : ℕ)
