@@ -10,10 +10,9 @@ use Rattle.std.proofs.lemmas.Bool.Decides.{nat_tests}
 use Rattle.std.proofs.lemmas.Bool.{ltb-true}
 use Rattle.std.proofs.lemmas.List.{take_all, take_at, length-take-le}
 use Rattle.cache_core.proofs.Lists.{list_any_is}
-use Rattle.profile_core.specs.declared.recency.Touch.TheVariants.{Behind, New}
 use Rattle.profile_core.specs.declared.row.Shifted.TheVariants.{Found, Out}
 use Rattle.profile_core.specs.internal.Moves.{index_of, is_front, is_second, move_to_front}
-use Rattle.profile_core.specs.internal.Moves.{touch_of, shifted_of}
+use Rattle.profile_core.specs.internal.Moves.{shifted_of}
 use Rattle.profile_core.specs.internal.Lists.{IsBroughtInRow}
 use Rattle.profile_core.proofs.Shifting.{other_front, index_behind, index-le, length-remove}
 use Rattle.profile_core.proofs.Shifting.{remove_end}

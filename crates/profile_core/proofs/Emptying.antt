@@ -1,6 +1,6 @@
 -- Lists that are all empty: the fronts and the lengths are 0.
-use Rattle.std.proofs.Common.{◌≡◌, ℕ, zero, suc, ◌+◌, ◌*◌, ◌<◌, ◌≤◌, ◌^◌, List, Option}
-use Rattle.std.proofs.Common.{Some, None, length, get_or, refl, sym, subst, ap, ◌∙◌, arith}
+use Rattle.std.proofs.Common.{◌≡◌, ℕ, ◌+◌, ◌*◌, ◌<◌, ◌≤◌, ◌^◌, List, Option}
+use Rattle.std.proofs.Common.{Some, None, length, get_or, sym, subst, ap, ◌∙◌, arith}
 use Rattle.std.specs.Prelude.{All, IfSome, replicate}
 use Rattle.std.proofs.lemmas.List.{length-replicate}
 use Rattle.cache_core.specs.internal.Touched.{TouchedValue, Covers, ListsFilled, no_sets}

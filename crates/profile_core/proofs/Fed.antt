@@ -154,19 +154,11 @@ module _ {g : GeometryValue} {was now : Lists} {behind missed : List ℕ} {probe
 
       weight : compared_behind (set behind distance (n + 1)) missed ≡ compared_behind behind
           missed + (1 + distance)
-      weight = omega (arith, weighed-raised 1 behind distance n distance_fits read)
+      weight = grind (arith, weighed-raised, distance_fits)
 
       pub found_after : state_of g now (set behind distance (n + 1)) missed
           probes' ≡ after_reference v x
-      found_after =
-          let h : ℕ = probes - compared_behind behind missed in
-          let same : probes' - compared_behind (set behind distance (n + 1)) missed ≡ h =
-          omega (arith, weight, more, m.sound.told) in
-          found_step (state_of g was behind missed probes) x k of_set distance probes'
-          now.lists _ f moved
-          (ap (set (set behind distance (n + 1)) 0) same ∙ raised_behind behind distance n h some
-          (get_or_read behind distance n distance_fits read 0)) more
-          ∙ ap (λ w. after_reference w x) m.view_is
+      found_after = grind (arith, found_step, raised_behind, weight, some, moved, of_set, get_or_read, distance_fits, state_of)
 
       pub found_sound : IsSound g now (set behind distance (n + 1)) missed probes'
       found_sound =
@@ -191,13 +183,7 @@ module _ {g : GeometryValue} {was now : Lists} {behind missed : List ℕ} {probe
 
       pub nowhere_after : state_of g now behind (set missed len (n + 1))
           probes' ≡ after_reference v x
-      nowhere_after =
-          let same : probes' - compared_behind behind (set missed len (n + 1)) ≡ probes -
-          compared_behind behind missed =
-          omega (arith, missed_weight, more, m.sound.told) in
-          nowhere_step (state_of g was behind missed probes) x k of_set len n probes' now.lists _ f
-          moved (ap (set behind 0) same)
-          (get_or_read missed len n len_fits read 0) more ∙ ap (λ w. after_reference w x) m.view_is
+      nowhere_after = grind (arith, nowhere_step, missed_weight, moved, of_set, get_or_read, len_fits, state_of)
 
       pub nowhere_sound : IsSound g now behind (set missed len (n + 1)) probes'
       nowhere_sound =

@@ -1,6 +1,6 @@
 -- A profile after a reference: where the reference finds its block, and what the numbers say then.
 use Rattle.std.proofs.Common.{◌≡◌, ℕ, zero, suc, ◌+◌, ◌-◌, ◌<◌, ◌≤◌, ◌^◌, cond, Bool, true, false}
-use Rattle.std.proofs.Common.{not, eqb, ◌||◌, min, List, [], ◌∷◌, length, take, get_or, set, sum}
+use Rattle.std.proofs.Common.{not, eqb, ◌||◌, List, [], ◌∷◌, length, take, get_or, set, sum}
 use Rattle.std.proofs.Common.{refl, sym, ◌∙◌, ap, subst, arith}
 use Rattle.std.proofs.lemmas.Bool.{ltb-true, eqb-true}
 use Rattle.std.proofs.lemmas.List.{set-get_or, take_all}

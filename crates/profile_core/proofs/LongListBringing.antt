@@ -1,22 +1,19 @@
 -- A block that comes to the front of its list: from the row, where that tells of it, or from behind
 -- it.
-use Rattle.std.proofs.Common.{◌≡◌, ℕ, ◌+◌, ◌-◌, ◌<◌, ◌≤◌, ◌^◌, ◌⊎◌, inl, inr, Bool, true, false}
+use Rattle.std.proofs.Common.{◌≡◌, ℕ, ◌+◌, ◌-◌, ◌≤◌, ◌^◌, ◌⊎◌, inl, inr, Bool, true, false}
 use Rattle.std.proofs.Common.{cond, ltb, List, [], ◌∷◌, ◌++◌, length, take, get_or, set, refl, sym}
-use Rattle.std.proofs.Common.{◌∙◌, ap, subst, arith, append-nil, length-set, get_or-set_same}
-use Rattle.std.proofs.Common.{get_or-set_other}
+use Rattle.std.proofs.Common.{◌∙◌, ap, arith, append-nil}
 use Rattle.std.specs.List.{remove}
 use Rattle.std.proofs.lemmas.Bool.{ltb-true, ltb-false}
 use Rattle.std.proofs.lemmas.List.{length-take-le, get_or_read}
-use Rattle.deep_list.specs.Deep.{Deep, IsOnce, list_after_exchange}
+use Rattle.deep_list.specs.Deep.{Deep, list_after_exchange}
 use Rattle.profile_core.specs.internal.Moves.{index_of, is_in, move_to_front, touch_of}
 use Rattle.profile_core.specs.internal.Moves.{rest_touch_of}
-use Rattle.profile_core.specs.declared.recency.Touch.TheVariants.{Behind, New}
 use Rattle.profile_core.specs.declared.recency.Touch.{Touch}
 use Rattle.profile_core.specs.declared.long_lists.InRow.TheVariants.{Settled, Full}
 use Rattle.profile_core.specs.internal.Lists.{Lists, lists_after_touch}
-use Rattle.profile_core.specs.internal.LongLists.{whole_lists, nothing, rest_of, in_row_of}
-use Rattle.profile_core.specs.internal.LongLists.{AreSplit}
-use Rattle.profile_core.proofs.ListParts.{near_touch, once_moved, once_apart, remove_past}
+use Rattle.profile_core.specs.internal.LongLists.{nothing, in_row_of}
+use Rattle.profile_core.proofs.ListParts.{near_touch, once_apart, remove_past}
 use Rattle.profile_core.proofs.ListParts.{index_absent, length-take_le, far_moved, far_found}
 use Rattle.profile_core.proofs.ListParts.{far_new}
 use Rattle.profile_core.proofs.LongListLemmas.{HasWhole, IsRenewed, row, rest, list, within}
@@ -141,6 +138,10 @@ module _ {near : Lists} {beyond : ℕ} {far : List Deep} {x k held last : ℕ} {
       let blocks : d.blocks ≡ left = ap (λ e. e.blocks) put ∙
       ap (λ n. take n (last ∷ remove behind (index_of x behind))) cap in
       renewed f.whole x d (ap (λ e. e.cap) put ∙ cap)
-      (omega (arith, ap length blocks, length-take_le beyond (last ∷ remove behind
-      (index_of x behind)))) (λ _. row_long)
+      (omega (
+        arith,
+        ap length blocks,
+        length-take_le beyond (last ∷ remove behind
+            (index_of x behind)),
+      )) (λ _. row_long)
       (moved ∙ ap (λ zs. take near.depth (move_to_front x front) ++ zs) (sym blocks)) is refl

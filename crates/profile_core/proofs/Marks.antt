@@ -1,6 +1,6 @@
 -- A walk over the places of a list in slots that have a block's mark: the marks from a place on are
 -- the bits of a number.
-use Rattle.std.proofs.Common.{◌≡◌, ℕ, zero, suc, ◌+◌, ◌-◌, ◌/◌, ◌^◌, ◌<◌, ◌≤◌, ◌∙◌, ◌⊎◌, inl, inr}
+use Rattle.std.proofs.Common.{◌≡◌, ℕ, zero, suc, ◌+◌, ◌-◌, ◌/◌, ◌^◌, ◌<◌, ◌≤◌, ◌∙◌, inl, inr}
 use Rattle.std.proofs.Common.{Bool, true, false, List, [], ◌∷◌, take, drop, map, sym, ap}
 use Rattle.std.proofs.Common.{arith, eqb, length, subst, get_or}
 use Rattle.std.specs.Int.Count.{count_trailing_zeros}

@@ -1,5 +1,5 @@
 -- Parts of n numbers of an array, as rows are: what is read of one, and one of them written anew.
-use Rattle.std.proofs.Common.{◌≡◌, ℕ, ◌+◌, ◌*◌, ◌-◌, ◌<◌, ◌≤◌, inl, inr, List, ◌++◌, length, take, drop}
+use Rattle.std.proofs.Common.{◌≡◌, ℕ, ◌+◌, ◌*◌, ◌-◌, ◌<◌, ◌≤◌, List, length, take, drop}
 use Rattle.std.proofs.Common.{get_or, set, sym, ◌∙◌, ap, arith, length-drop, get_or-take}
 use Rattle.std.proofs.Common.{get_or-drop, Vec}
 use Rattle.std.proofs.Math.Nat.{mul-le-mul_right}
@@ -46,12 +46,7 @@ module _ (b n : ℕ) (xs : List ℕ) (ends : b + n ≤ length xs) where
 pub part_other : (p q n : ℕ) (xs new : List ℕ) → p * n ≤ length xs → length new ≡ n →
     (q ≡ p → ⊥) →
     take n (drop (q * n) (put_mid (p * n) n xs new)) ≡ take n (drop (q * n) xs)
-part_other p q n xs new begins long other = elim (cases_lt q p) [
-  | inl lt ↦ part_same (q * n) n (put_mid (p * n) n xs new) xs
-      (take-put_mid_below (p * n) n xs new (q * n + n) (in_front q p n lt) begins)
-  | inr ge ↦ ap (take n) (drop-put_mid (p * n) n xs new (q * n)
-      (in_front p q n (grind (arith, ge, other))) begins long)
-]
+part_other p q n xs new begins long other = grind (arith, cases_lt, part_same, take-put_mid_below, in_front, drop-put_mid)
 
 -- a part as code lends it, and as it is put back
 pub part_lent : (b n : ℕ) {xs now : List ℕ} → now ≡ xs →

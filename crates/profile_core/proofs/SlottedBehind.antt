@@ -1,12 +1,12 @@
 -- A block that comes to the front of a list whose blocks behind the second are in slots.
 use Rattle.std.proofs.Common.{◌≡◌, ℕ, zero, suc, ◌+◌, ◌-◌, ◌<◌, ◌≤◌, inl, inr, List, [], ◌∷◌}
-use Rattle.std.proofs.Common.{length, take, min, cond, refl, sym, ◌∙◌, ap, subst, arith}
+use Rattle.std.proofs.Common.{length, take, min, refl, sym, ◌∙◌, ap, subst, arith}
 use Rattle.std.specs.List.{remove}
 use Rattle.std.proofs.lemmas.Bool.{cases_lt}
 use Rattle.std.proofs.lemmas.List.{take_all, take-take, length-take-le}
 use Rattle.profile_core.specs.declared.recency.Touch.TheVariants.{Behind, New}
 use Rattle.profile_core.specs.declared.slotted_rests.Slots.{Slots}
-use Rattle.profile_core.specs.internal.Moves.{index_of, touch_of, rest_touch_of}
+use Rattle.profile_core.specs.internal.Moves.{index_of, touch_of}
 use Rattle.profile_core.specs.internal.Slots.{listed}
 use Rattle.profile_core.proofs.Feeding.{FoundAt, FoundNowhere, found_behind, found_nowhere}
 use Rattle.profile_core.proofs.Shifting.{length-remove, remove_end}

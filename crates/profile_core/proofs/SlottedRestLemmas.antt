@@ -16,9 +16,9 @@ use Rattle.profile_core.specs.internal.SlottedRests.{no_slots, slots_at, slotted
 use Rattle.profile_core.specs.internal.SlottedRests.{IsSlotted}
 use Rattle.profile_core.proofs.Elements.{all_set, all_same}
 use Rattle.profile_core.proofs.Places.{places_then, one_more, place_left, place_here, place_other}
-use Rattle.profile_core.proofs.Places.{places_taken, taken_few, taken_none, none_taken}
+use Rattle.profile_core.proofs.Places.{places_taken, taken_none, none_taken}
 use Rattle.profile_core.proofs.RowsOf.{HasRow, rows_kept, row_is, rows_blank, row_put}
-use Rattle.profile_core.proofs.SlotLemmas.{length-listed, listed_take, blank_order}
+use Rattle.profile_core.proofs.SlotLemmas.{listed_take, blank_order}
 
 -- slots that have an order
 abbrev pub AreOrdered : Slots → Type 0

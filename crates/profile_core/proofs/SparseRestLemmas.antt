@@ -1,5 +1,5 @@
 -- Rests that stand in one array: where they stand, one of them written anew, and one taken.
-use Rattle.std.proofs.Common.{◌≡◌, ℕ, ◌+◌, ◌*◌, ◌/◌, ◌<◌, ◌≤◌, ◌^◌, inl, inr, List, ◌++◌, length}
+use Rattle.std.proofs.Common.{◌≡◌, ℕ, ◌+◌, ◌*◌, ◌/◌, ◌<◌, ◌≤◌, ◌^◌, List, ◌++◌, length}
 use Rattle.std.proofs.Common.{take, drop, get_or, set, sym, ◌∙◌, ap, subst, arith}
 use Rattle.std.proofs.Common.{length-append, length-set, Vec, ◌-◌}
 use Rattle.std.specs.Prelude.{replicate}
@@ -8,13 +8,13 @@ use Rattle.std.proofs.lemmas.Bool.{cases_eq}
 use Rattle.std.proofs.lemmas.List.{take-append-le, take-replicate, drop_at, take-take}
 use Rattle.std.proofs.lemmas.List.{length-replicate, length-take-le}
 use Rattle.std.specs.Vec.{with_items}
-use borrow.Rule.Slice.PartMut.{put_mid, same_len_mid}
+use borrow.Rule.Slice.PartMut.{put_mid}
 use Rattle.profile_core.specs.internal.Rows.{RowsValue, rows_of, row_for, with_row}
-use Rattle.profile_core.specs.internal.Places.{taken, ArePlaces}
+use Rattle.profile_core.specs.internal.Places.{taken}
 use Rattle.profile_core.specs.internal.SparseRests.{sparse_rest, IsSparse}
 use Rattle.profile_core.proofs.Elements.{all_same}
 use Rattle.profile_core.proofs.Places.{places_then, one_more, place_left, place_here, place_other}
-use Rattle.profile_core.proofs.Places.{places_taken, taken_few, taken_none, none_taken}
+use Rattle.profile_core.proofs.Places.{places_taken}
 use Rattle.profile_core.proofs.RowParts.{in_front, part_long, part_here, part_other, part_same}
 use Rattle.profile_core.proofs.RowParts.{part_lent, part_back}
 use Rattle.profile_core.proofs.RowsOf.{HasRow, rows_kept, row_is, rows_blank, row_put}
@@ -182,7 +182,4 @@ module _ (n m : ℕ) {places numbers : List ℕ} (some : 1 ≤ n) (none : places
 
   pub new_rests : rows_of (length places) (sparse_rest n places numbers) ≡
       replicate m (replicate n 0)
-  new_rests = ap (λ j. rows_of j (sparse_rest n places numbers)) place_count ∙
-      rows_blank m n (sparse_rest n places numbers)
-      (λ k lt. ap (λ p. take n (drop (p * n) numbers)) (place_none k) ∙ at_first n numbers
-      ∙ ap (take n) zeros ∙ take-replicate n n 0 (omega arith))
+  new_rests = grind (arith, place_count, rows_blank, place_none, at_first, take-replicate)

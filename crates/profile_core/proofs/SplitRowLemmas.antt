@@ -1,13 +1,12 @@
 -- A list whose first two blocks stand elsewhere, and the others in a rest, as a block is brought to
 -- its front.
-use Rattle.std.proofs.Common.{◌≡◌, ℕ, suc, ◌+◌, ◌-◌, ◌<◌, ◌≤◌, ◌^◌, false, cond, eqb, inl, inr, List, [], ◌∷◌}
+use Rattle.std.proofs.Common.{◌≡◌, ℕ, suc, ◌+◌, ◌-◌, ◌<◌, ◌≤◌, ◌^◌, false, eqb, List, [], ◌∷◌}
 use Rattle.std.proofs.Common.{length, take, get_or, set, sym, ◌∙◌, ap, subst, arith, length-set}
 use Rattle.std.proofs.Common.{get_or-set_same, get_or-set_other}
 use Rattle.std.specs.List.{remove}
 use Rattle.std.specs.Prelude.{replicate}
 use Rattle.std.proofs.lemmas.Bool.{ne_eqb}
 use Rattle.std.proofs.lemmas.List.{take_all, get_or-replicate, length-replicate, set-get_or}
-use Rattle.profile_core.specs.declared.recency.Touch.TheVariants.{Behind, New}
 use Rattle.profile_core.specs.internal.Moves.{index_of, is_in, is_front, is_second, move_to_front}
 use Rattle.profile_core.specs.internal.Moves.{touch_of, rest_touch_of}
 use Rattle.profile_core.specs.internal.Rows.{RowsValue, rows_of, row_for, with_row}
@@ -106,8 +105,7 @@ module _ (m : ℕ) {firsts : List ℕ} {rests : RowsValue} (none : firsts ≡ re
   count = ap (λ v. length v.rows) blank ∙ length-replicate m (replicate rests.stride 0)
 
   rest_at : (k : ℕ) → k < m → get_or rests.rows k [] ≡ replicate rests.stride 0
-  rest_at k lt = ap (λ v. get_or v.rows k []) blank ∙
-      get_or-replicate m k (replicate rests.stride 0) [] lt
+  rest_at k lt = grind (arith, get_or-replicate)
 
   pub new_split : 1 ≤ rests.stride → rests.stride ≤ 2 ^ 21 → AreSplitRows firsts rests
   new_split some small = record {
