@@ -137,12 +137,6 @@ module _ (v : ProfileState) (x k : ℕ) (of_set : k ≡ set_of_block v.geometry 
   abbrev xs : List ℕ
   xs = list_of v (set_of_block v.geometry x)
 
-  lists_step : (lists' : List (List ℕ)) →
-      lists' ≡ set v.lists k (take v.geometry.e (move_to_front x (list_of v k)))
-      → lists' ≡ set v.lists (set_of_block v.geometry x) (take v.geometry.e (move_to_front x xs))
-  lists_step lists' moved = moved ∙
-      ap (λ j. set v.lists j (take v.geometry.e (move_to_front x (list_of v j)))) of_set
-
   pub found_step : (distance probes' : ℕ) (lists' : List (List ℕ)) (distances' : List ℕ) →
       FoundAt x distance (list_of v k)
       → lists' ≡ set v.lists k (take v.geometry.e (move_to_front x (list_of v k))) →

@@ -1,4 +1,5 @@
 -- Numbers in slots: an order of the slots, and one of them brought to the front of it.
+use Rattle.std.proofs.Common.{rules}
 use Rattle.std.proofs.Common.{◌≡◌, ℕ, zero, suc, ◌<◌, ◌≤◌, inl, inr, cond}
 use Rattle.std.proofs.Common.{false, eqb, leb, ◌-◌, List, [], ◌∷◌, length, take, get_or, map}
 use Rattle.std.proofs.Common.{set, refl, sym, ◌∙◌, ap, subst, arith, w8, replicate}
@@ -110,40 +111,7 @@ each_below (suc n) P all (suc k) lt = each_below n (λ j. P (suc j)) all.1 k (om
 
 sixteen_at : (xs : List ℕ) (k : ℕ) → k < 16 → get_or xs k 0 ≡ get_or (sixteen xs) k 0
 sixteen_at xs = let P : ℕ → Type 0 = λ k. get_or xs k 0 ≡ get_or (sixteen xs) k 0 in
-    each_below 16 P (
-      refl,
-      (
-        refl,
-        (
-          refl,
-          (
-            refl,
-            (
-              refl,
-              (
-                refl,
-                (
-                  refl,
-                  (
-                    refl,
-                    (
-                      refl,
-                      (
-                        refl,
-                        (
-                          refl,
-                          (refl, (refl, (refl, (refl, (refl, tt))))),
-                        ),
-                      ),
-                    ),
-                  ),
-                ),
-              ),
-            ),
-          ),
-        ),
-      ),
-    )
+    each_below 16 P (search rules)
 
 is_sixteen : (xs : List ℕ) → length xs ≡ 16 → xs ≡ sixteen xs
 is_sixteen xs long = ext_get_or 0 xs (sixteen xs) long (λ k lt. sixteen_at xs k (omega arith))
@@ -237,40 +205,7 @@ counted_slots = 0 ∷ 1 ∷ 2 ∷ 3 ∷ 4 ∷ 5 ∷ 6 ∷ 7 ∷ 8 ∷ 9 ∷ 10 �
 
 counted_at : (k : ℕ) → k < 16 → get_or counted_slots k 0 ≡ k
 counted_at = let P : ℕ → Type 0 = λ k. get_or counted_slots k 0 ≡ k in
-    each_below 16 P (
-      refl,
-      (
-        refl,
-        (
-          refl,
-          (
-            refl,
-            (
-              refl,
-              (
-                refl,
-                (
-                  refl,
-                  (
-                    refl,
-                    (
-                      refl,
-                      (
-                        refl,
-                        (
-                          refl,
-                          (refl, (refl, (refl, (refl, (refl, tt))))),
-                        ),
-                      ),
-                    ),
-                  ),
-                ),
-              ),
-            ),
-          ),
-        ),
-      ),
-    )
+    each_below 16 P (search rules)
 
 counted_within : (k : ℕ) → get_or counted_slots k 0 < 16
 counted_within k = grind (arith, counted_at, get_or_past)
@@ -303,40 +238,7 @@ with_sixteen x xs =
     let P : ℕ → Type 0 = λ p. sel_l (map (top 7)
     (zip2 (λ a b. cond (eqb a b) 255 0) FIRST_LANE (replicate 16 255))) (replicate 16 x)
     (swz_l w8 16 (sixteen xs) 0 (get_or TURNS p [])) ≡ x ∷ remove (sixteen xs) p in
-    each_below 16 P (
-      refl,
-      (
-        refl,
-        (
-          refl,
-          (
-            refl,
-            (
-              refl,
-              (
-                refl,
-                (
-                  refl,
-                  (
-                    refl,
-                    (
-                      refl,
-                      (
-                        refl,
-                        (
-                          refl,
-                          (refl, (refl, (refl, (refl, (refl, tt))))),
-                        ),
-                      ),
-                    ),
-                  ),
-                ),
-              ),
-            ),
-          ),
-        ),
-      ),
-    )
+    each_below 16 P (search rules)
 
 turned_with_is : (x : ℕ) (xs : List ℕ) (p : ℕ) → p < 16 → length xs ≡ 16 → sel_l (map (top 7)
     (zip2 (λ a b. cond (eqb a b) 255 0) FIRST_LANE (replicate 16 255))) (replicate 16 x)

@@ -107,15 +107,6 @@ module _ (m : ℕ) {firsts : List ℕ} {rests : RowsValue} (none : firsts ≡ re
   rest_at : (k : ℕ) → k < m → get_or rests.rows k [] ≡ replicate rests.stride 0
   rest_at k lt = grind (arith, get_or-replicate)
 
-  pub new_split : 1 ≤ rests.stride → rests.stride ≤ 2 ^ 21 → AreSplitRows firsts rests
-  new_split some small = record {
-    all = ap length none ∙ length-replicate m 0 ∙ sym count;
-    long = λ k lt. ap length (rest_at k (omega (arith, lt, count))) ∙
-        length-replicate rests.stride 0;
-    some = some;
-    small = small;
-  }
-
   pub new_rows : as_rows firsts rests ≡ blank_rows m (rests.stride + 1)
   new_rows =
       let next : suc rests.stride ≡ rests.stride + 1 = omega arith in
@@ -177,9 +168,6 @@ module _ {k : ℕ} {firsts : List ℕ} {rests rows : RowsValue} (r : HasSplit k 
   -- its first number alone
   rest_same : rests ≡ with_row rests k (row_for rests k)
   rest_same = ap (λ rs. record rests { rows = rs }) (sym (set-get_or rests.rows k []))
-
-  pub first_sound : (y : ℕ) → AreSplitRows (set firsts k y) rests
-  first_sound y = written_sound (row_for rests k) rest_long rest_same y
 
   pub first_written : {y first : ℕ} → first ≡ y →
       as_rows (set firsts k first) rests ≡ with_row rows k (y ∷ row_for rests k)
