@@ -10,10 +10,9 @@ use Rattle.std.proofs.lemmas.Bool.Decides.{nat_tests}
 use Rattle.std.proofs.lemmas.Bool.{ltb-true}
 use Rattle.std.proofs.lemmas.List.{take_all, take_at, length-take-le}
 use Rattle.cache_core.proofs.Lists.{list_any_is}
-use Rattle.profile_core.specs.declared.recency.Touch.TheVariants.{Behind, New}
 use Rattle.profile_core.specs.declared.row.Shifted.TheVariants.{Found, Out}
 use Rattle.profile_core.specs.internal.Moves.{index_of, is_front, is_second, move_to_front}
-use Rattle.profile_core.specs.internal.Moves.{touch_of, shifted_of}
+use Rattle.profile_core.specs.internal.Moves.{shifted_of}
 use Rattle.profile_core.specs.internal.Lists.{IsBroughtInRow}
 use Rattle.profile_core.proofs.Shifting.{other_front, index_behind, index-le, length-remove}
 use Rattle.profile_core.proofs.Shifting.{remove_end}
@@ -82,11 +81,7 @@ module _ {x y h : ℕ} {rest after : List ℕ} (s : IsShifted x y h rest after) 
 
   pub row_found : index_of x list ≤ h → take (suc h) (x ∷ (after ++ drop h rest)) ≡ take
       (length rest + 1) (move_to_front x list)
-  row_found le =
-      let short : length others ≡ h =
-      omega (arith, length-remove list (index_of x list) (omega (arith, size, le)), size) in
-      row_kept (take_all h others (omega (arith, short)) ∙
-      sym (take_all (length rest) others (omega (arith, short, s.within))))
+  row_found le = grind (arith, row_kept, length-remove, size, take_all)
 
   pub row_full : length rest ≤ h → take (suc h) (x ∷ (after ++ drop h rest)) ≡ take
       (length rest + 1) (move_to_front x list)

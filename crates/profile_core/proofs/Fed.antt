@@ -7,15 +7,16 @@ use Rattle.std.proofs.Common.{length-set, length-take}
 use Rattle.std.proofs.Math.Nat.{suc-mul}
 use Rattle.std.proofs.lemmas.List.{get_or_read}
 use Rattle.cache_core.specs.Geometry.{GeometryValue, set_of_block}
+use Rattle.profile_core.specs.declared.recency.Touch.TheVariants.{Behind, New}
 use Rattle.profile_core.specs.declared.histograms.Histograms.{Histograms}
-use Rattle.profile_core.specs.internal.Moves.{is_front, move_to_front}
+use Rattle.profile_core.specs.internal.Moves.{is_front, move_to_front, touch_of}
 use Rattle.profile_core.specs.internal.Lists.{Lists, lists_after_touch}
 use Rattle.profile_core.specs.internal.State.{ProfileState, IsSound, IsNext, list_of, fed_of}
 use Rattle.profile_core.specs.internal.State.{after_reference, compared_behind, distances_of}
 use Rattle.profile_core.specs.internal.State.{most_references, profile_of, MayBeFed}
 use Rattle.profile_core.proofs.Feeding.{FoundAt, FoundNowhere, behind_front, first-raised}
 use Rattle.profile_core.proofs.Feeding.{raised_behind, sum-distances, after_fed, found_step}
-use Rattle.profile_core.proofs.Feeding.{nowhere_step}
+use Rattle.profile_core.proofs.Feeding.{nowhere_step, found_behind, found_nowhere}
 use Rattle.profile_core.proofs.Weighing.{raised_fits, weighed-raised}
 
 -- the value of a profile, by its fields
@@ -126,6 +127,13 @@ module _ {g : GeometryValue} {was now : Lists} {behind missed : List ℕ} {probe
   sets : length now.lists ≡ length was.lists
   sets = ap length moved ∙ length-set was.lists k _
 
+  -- where it was found
+  pub found_of : {distance : ℕ} → Behind distance ≡ touch_of x list → FoundAt x distance list
+  found_of {distance} at = found_behind x distance list at
+
+  pub nowhere_of : {len : ℕ} → New len ≡ touch_of x list → FoundNowhere x len list
+  nowhere_of {len} at = found_nowhere x len list at
+
   -- found at a distance behind the front
   module _ {distance : ℕ} (f : FoundAt x distance list) where
     pub distance_fits : distance < length behind
@@ -146,19 +154,11 @@ module _ {g : GeometryValue} {was now : Lists} {behind missed : List ℕ} {probe
 
       weight : compared_behind (set behind distance (n + 1)) missed ≡ compared_behind behind
           missed + (1 + distance)
-      weight = omega (arith, weighed-raised 1 behind distance n distance_fits read)
+      weight = grind (arith, weighed-raised, distance_fits)
 
       pub found_after : state_of g now (set behind distance (n + 1)) missed
           probes' ≡ after_reference v x
-      found_after =
-          let h : ℕ = probes - compared_behind behind missed in
-          let same : probes' - compared_behind (set behind distance (n + 1)) missed ≡ h =
-          omega (arith, weight, more, m.sound.told) in
-          found_step (state_of g was behind missed probes) x k of_set distance probes'
-          now.lists _ f moved
-          (ap (set (set behind distance (n + 1)) 0) same ∙ raised_behind behind distance n h some
-          (get_or_read behind distance n distance_fits read 0)) more
-          ∙ ap (λ w. after_reference w x) m.view_is
+      found_after = grind (arith, found_step, raised_behind, weight, some, moved, of_set, get_or_read, distance_fits, state_of)
 
       pub found_sound : IsSound g now (set behind distance (n + 1)) missed probes'
       found_sound =
@@ -183,13 +183,7 @@ module _ {g : GeometryValue} {was now : Lists} {behind missed : List ℕ} {probe
 
       pub nowhere_after : state_of g now behind (set missed len (n + 1))
           probes' ≡ after_reference v x
-      nowhere_after =
-          let same : probes' - compared_behind behind (set missed len (n + 1)) ≡ probes -
-          compared_behind behind missed =
-          omega (arith, missed_weight, more, m.sound.told) in
-          nowhere_step (state_of g was behind missed probes) x k of_set len n probes' now.lists _ f
-          moved (ap (set behind 0) same)
-          (get_or_read missed len n len_fits read 0) more ∙ ap (λ w. after_reference w x) m.view_is
+      nowhere_after = grind (arith, nowhere_step, missed_weight, moved, of_set, get_or_read, len_fits, state_of)
 
       pub nowhere_sound : IsSound g now behind (set missed len (n + 1)) probes'
       nowhere_sound =

@@ -1,6 +1,6 @@
 -- A profile after a reference: where the reference finds its block, and what the numbers say then.
 use Rattle.std.proofs.Common.{◌≡◌, ℕ, zero, suc, ◌+◌, ◌-◌, ◌<◌, ◌≤◌, ◌^◌, cond, Bool, true, false}
-use Rattle.std.proofs.Common.{not, eqb, ◌||◌, min, List, [], ◌∷◌, length, take, get_or, set, sum}
+use Rattle.std.proofs.Common.{not, eqb, ◌||◌, List, [], ◌∷◌, length, take, get_or, set, sum}
 use Rattle.std.proofs.Common.{refl, sym, ◌∙◌, ap, subst, arith}
 use Rattle.std.proofs.lemmas.Bool.{ltb-true, eqb-true}
 use Rattle.std.proofs.lemmas.List.{set-get_or, take_all}
@@ -17,8 +17,8 @@ use Rattle.profile_core.specs.internal.Lists.{Lists}
 use Rattle.profile_core.specs.internal.State.{ProfileState, IsSound, list_of, one_more_at}
 use Rattle.profile_core.specs.internal.State.{after_reference, fed_of, weighed, compared_behind}
 use Rattle.profile_core.specs.internal.State.{distances_of, empty}
+use Rattle.profile_core.proofs.Elements.{all_same}
 use Rattle.profile_core.proofs.Bringing.{absent_at}
-use Rattle.profile_core.proofs.Emptying.{zero_at}
 use Rattle.profile_core.proofs.Shifting.{other_front, index_behind, index-le}
 use Rattle.profile_core.proofs.Weighing.{weighed-zeros, sum-zeros}
 
@@ -137,32 +137,13 @@ module _ (v : ProfileState) (x k : ℕ) (of_set : k ≡ set_of_block v.geometry 
   abbrev xs : List ℕ
   xs = list_of v (set_of_block v.geometry x)
 
-  lists_step : (lists' : List (List ℕ)) →
-      lists' ≡ set v.lists k (take v.geometry.e (move_to_front x (list_of v k)))
-      → lists' ≡ set v.lists (set_of_block v.geometry x) (take v.geometry.e (move_to_front x xs))
-  lists_step lists' moved = moved ∙
-      ap (λ j. set v.lists j (take v.geometry.e (move_to_front x (list_of v j)))) of_set
-
   pub found_step : (distance probes' : ℕ) (lists' : List (List ℕ)) (distances' : List ℕ) →
       FoundAt x distance (list_of v k)
       → lists' ≡ set v.lists k (take v.geometry.e (move_to_front x (list_of v k))) →
       distances' ≡ one_more_at v.distances distance
       → probes' ≡ v.probes + (distance + 1)
       → record v { lists = lists'; distances = distances'; probes = probes' } ≡ after_reference v x
-  found_step distance probes' lists' distances' found moved raised more =
-      let f : FoundAt x distance xs = subst (λ j. FoundAt x distance (list_of v j)) of_set found in
-      let lists = lists_step lists' moved in
-      let distances : distances' ≡ cond (is_in x xs) (one_more_at v.distances (index_of x xs))
-      v.distances =
-      raised ∙ sym (ap (λ b. cond b (one_more_at v.distances (index_of x xs)) v.distances)
-      f.inside ∙ ap (one_more_at v.distances) f.distance_is) in
-      let missed : v.misses_by_occupancy ≡ cond (is_in x xs) v.misses_by_occupancy
-      (one_more_at v.misses_by_occupancy (length xs)) =
-      sym (ap (λ b. cond b v.misses_by_occupancy (one_more_at v.misses_by_occupancy (length xs)))
-      f.inside) in
-      let probes : probes' ≡ v.probes + min (index_of x xs + 1) (length xs) =
-      omega (arith, more, f.distance_is, f.within) in
-      cc
+  found_step distance probes' lists' distances' found moved raised more = grind arith
 
   pub nowhere_step : (len n probes' : ℕ) (lists' : List (List ℕ)) (distances' : List ℕ) →
       FoundNowhere x len (list_of v k)
@@ -177,22 +158,7 @@ module _ (v : ProfileState) (x k : ℕ) (of_set : k ≡ set_of_block v.geometry 
         probes = probes';
       }
       ≡ after_reference v x
-  nowhere_step len n probes' lists' distances' found moved same read more =
-      let f : FoundNowhere x len xs = subst (λ j. FoundNowhere x len (list_of v j)) of_set found in
-      let lists = lists_step lists' moved in
-      let distances : distances' ≡ cond (is_in x xs) (one_more_at v.distances (index_of x xs))
-      v.distances =
-      same ∙ sym (ap (λ b. cond b (one_more_at v.distances (index_of x xs)) v.distances)
-      f.outside) in
-      let missed : set v.misses_by_occupancy len (n + 1) ≡ cond (is_in x xs) v.misses_by_occupancy
-      (one_more_at v.misses_by_occupancy (length xs)) =
-      ap (λ m. set v.misses_by_occupancy len (m + 1)) read ∙
-      ap (one_more_at v.misses_by_occupancy) f.len_is
-      ∙ sym (ap (λ b. cond b v.misses_by_occupancy (one_more_at v.misses_by_occupancy (length xs)))
-      f.outside) in
-      let probes : probes' ≡ v.probes + min (index_of x xs + 1) (length xs) =
-      omega (arith, more, f.index_is, f.len_is) in
-      cc
+  nowhere_step len n probes' lists' distances' found moved same read more = grind arith
 
   -- the front, which stays
   pub front_step : (distances' : List ℕ) → is_front x (list_of v k) ≡ true →
@@ -205,11 +171,6 @@ module _ (v : ProfileState) (x k : ℕ) (of_set : k ≡ set_of_block v.geometry 
 first-zero : (n : ℕ) → 1 ≤ n → take {A = ℕ} 1 (replicate n 0) ≡ 0 ∷ []
 first-zero zero some = absurd (omega (arith, some))
 first-zero (suc n) some = refl
-
-pub no_list : (n k : ℕ) → length (get_or {A = List ℕ} (replicate n []) k []) ≡ 0
-no_list zero k = refl
-no_list (suc n) zero = refl
-no_list (suc n) (suc k) = no_list n k
 
 -- a profile that was fed nothing
 pub new_is : (g : GeometryValue) (lists : Lists) (behind missed : List ℕ) →
@@ -224,7 +185,7 @@ pub new_is : (g : GeometryValue) (lists : Lists) (behind missed : List ℕ) →
     } ≡ empty g
 new_is g lists behind missed sets near far =
     let none : 0 - compared_behind behind missed ≡ get_or behind 0 0 =
-    omega (arith, ap (λ ns. get_or ns 0 0) near, zero_at g.e 0) in
+    omega (arith, ap (λ ns. get_or ns 0 0) near, all_same {A = ℕ} g.e 0 0) in
     let same : distances_of 0 behind missed ≡ replicate g.e 0 =
     ap (λ n. set behind 0 n) none ∙ set-get_or behind 0 0 ∙ near in
     cc (sets, same, far)
@@ -243,7 +204,7 @@ new_sound g lists behind missed depth sets some near far =
       depth = depth;
       set_count = ap length sets ∙ length-replicate (2 ^ g.s) [];
       short = λ k. subst (λ (ls : List (List ℕ)). length (get_or ls k []) ≤ g.e) (sym sets)
-          (omega (arith, no_list (2 ^ g.s) k));
+          (omega (arith, ap length (all_same {A = List ℕ} (2 ^ g.s) k [])));
       behind_count = ap length near ∙ length-replicate g.e 0;
       none_in_front = first;
       occupancy_count = ap length far ∙ length-replicate (g.e + 1) 0;

@@ -10,7 +10,6 @@ use Rattle.std.proofs.Math.Pow.{mod-mod-pow}
 use Rattle.std.proofs.lemmas.Bool.{lt-ltb, ltb-true, eqb-true, eq-eqb, ne_eqb, cases_eq, leb-true}
 use Rattle.std.proofs.lemmas.Bool.{and_parts, or_cases}
 use Rattle.std.proofs.lemmas.Grind.{get_or-set_at}
-use Rattle.std.proofs.lemmas.List.Sums.{sum_by-set}
 use Rattle.std.proofs.lemmas.Nat.{pow-add, pow_pos, mod_below}
 use Rattle.trace_core.specs.declared.events.Ref.{Ref}
 use Rattle.trace_core.specs.declared.events.Event.{Event}
@@ -75,24 +74,12 @@ raise_if-lift : (b : Bool) (n : ℕ) (ds : List ℕ) (i : ℕ) → cond b (one_m
 raise_if-lift true n ds i = raise-lift n ds i
 raise_if-lift false n ds i = refl
 
-sum-lift : (n : ℕ) (ds : List ℕ) → 1 ≤ length ds → sum (lift n ds) ≡ sum ds + n
-sum-lift n ds some = omega (
-  arith,
-  sum_by-set (λ m. m) ds 0 (get_or ds 0 0 + n) 0
-      (omega (arith, some)),
-)
-
 pub fronts_none : (v : ProfileState) → after_fronts 0 v ≡ v
-fronts_none v = ap (λ ds. record v { distances = ds; probes = v.probes + 0 })
-    (lift-none v.distances) ∙ ap (λ n. record v { probes = n })
-    {x = v.probes + 0} {y = v.probes} (omega arith)
+fronts_none v = grind (arith, lift-none)
 
 pub fronts_fronts : (m n : ℕ) (v : ProfileState) →
     after_fronts m (after_fronts n v) ≡ after_fronts (n + m) v
 fronts_fronts m n v = grind (arith, lift-lift)
-
-pub fronts_fed : (n : ℕ) (v : ProfileState) → IsFit v → fed_of (after_fronts n v) ≡ fed_of v + n
-fronts_fed n v h = omega (arith, sum-lift n v.distances (omega (arith, h.some, h.distance_count)))
 
 -- a reference after them is one before them
 pub reference_fronts : (n : ℕ) (v : ProfileState) (x : ℕ) →
@@ -166,9 +153,6 @@ module _ {g : GeometryValue} {lists : Lists} {behind missed : List ℕ} {probes 
             (grows probes (sum (distances_of probes behind missed) + sum missed) g.e n some
             h.compared);
       }
-
-  pub counted_after : (n : ℕ) → state_of g lists behind missed (probes + n) ≡ after_fronts n v
-  counted_after n = grind (arith, state_of)
 
 -- A profile that lags behind by references that found their block in front, and catches up.
 pub caught_more : (n : ℕ) (v : ProfileState) (x : ℕ) → IsFit v → fed_of v ≤ n

@@ -18,7 +18,6 @@ pub mod SplitRowLemmas
 pub mod Elements
 pub mod ListLemmas
 pub mod Writing
-pub mod Emptying
 pub mod Weighing
 pub mod Feeding
 pub mod Fed

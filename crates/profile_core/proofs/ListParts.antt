@@ -1,6 +1,6 @@
 -- A list in two parts: its first blocks, and those behind them.
 use Rattle.std.proofs.Common.{◌≡◌, ◌≢◌, ℕ, zero, suc, ◌+◌, ◌-◌, ◌<◌, ◌≤◌, Bool, true, false, cond}
-use Rattle.std.proofs.Common.{eqb, ◌||◌, List, [], ◌∷◌, ◌++◌, length, take, drop, get_or, refl, sym}
+use Rattle.std.proofs.Common.{eqb, ◌||◌, List, [], ◌∷◌, ◌++◌, length, take, get_or, refl, sym}
 use Rattle.std.proofs.Common.{◌∙◌, ap, subst, arith, length-append, length-take, length-drop}
 use Rattle.std.specs.List.{remove}
 use Rattle.std.proofs.lemmas.Bool.{eqb-true}
@@ -71,17 +71,11 @@ once-remove (suc i) (x ∷ xs) once = (absent-remove x i xs once.0, once-remove 
 
 removed : (x y : ℕ) (xs : List ℕ) → eqb y x ≡ false →
     remove (y ∷ xs) (index_of x (y ∷ xs)) ≡ y ∷ remove xs (index_of x xs)
-removed x y xs ne =
-    let next : index_of x (y ∷ xs) ≡ suc (index_of x xs) = index-cons x y xs ∙
-    ap (λ b. cond b 0 (1 + index_of x xs)) ne ∙ omega arith in
-    ap (remove (y ∷ xs)) next
+removed x y xs ne = grind (arith, index-cons)
 
 removed_front : (x y : ℕ) (xs : List ℕ) → eqb y x ≡ true →
     remove (y ∷ xs) (index_of x (y ∷ xs)) ≡ xs
-removed_front x y xs e =
-    let here : index_of x (y ∷ xs) ≡ 0 = index-cons x y xs ∙
-    ap (λ b. cond b 0 (1 + index_of x xs)) e in
-    ap (remove (y ∷ xs)) here
+removed_front x y xs e = grind (arith, index-cons)
 
 gone_at : (b : Bool) (x y : ℕ) (xs : List ℕ) → eqb y x ≡ b → is_in y xs ≡ false →
     is_in x (remove xs (index_of x xs)) ≡ false
@@ -138,13 +132,7 @@ take_past (x ∷ xs) ys (suc w) b long =
     ap (λ zs. x ∷ zs) (take_past xs ys w b (omega (arith, long)))
 
 pub length-remove_le : (xs : List ℕ) (i : ℕ) → length (remove xs i) ≤ length xs
-length-remove_le xs i =
-    omega (
-      arith,
-      length-append (take i xs) (drop (suc i) xs),
-      length-take i xs,
-      length-drop (suc i) xs,
-    )
+length-remove_le xs i = grind (arith, length-append, length-take, length-drop)
 
 pub length-take_le : (n : ℕ) (xs : List ℕ) → length (take n xs) ≤ n
 length-take_le n xs = omega (arith, length-take n xs)
@@ -154,24 +142,10 @@ module _ (w b x : ℕ) (xs ys : List ℕ) where
   -- x is in the first part
   module _ (inside : is_in x xs ≡ true) (short : length xs ≤ w) (rest_short : length ys ≤ b) where
     pub near_touch : touch_of x xs ≡ touch_of x (xs ++ ys)
-    near_touch =
-        ap (λ t. cond t (Behind (index_of x xs)) (New (length xs))) inside
-        ∙ ap Behind (sym (index-append_left x xs ys inside))
-        ∙ sym (ap (λ t. cond t (Behind (index_of x (xs ++ ys))) (New (length (xs ++ ys))))
-        (is_in-append x xs ys ∙ ap (λ t. t || is_in x ys) inside))
+    near_touch = grind (arith, index-append_left, is_in-append)
 
     pub near_moved : take (w + b) (move_to_front x (xs ++ ys)) ≡ take w (move_to_front x xs) ++ ys
-    near_moved =
-        let lt = index-lt x xs inside in
-        let out : remove (xs ++ ys) (index_of x (xs ++ ys)) ≡ remove xs (index_of x xs) ++ ys =
-        ap (remove (xs ++ ys)) (index-append_left x xs ys inside) ∙ remove-append_left xs ys
-        (index_of x xs) lt in
-        let long : length (move_to_front x xs) ≡ length xs =
-        omega (arith, length-remove xs (index_of x xs) lt) in
-        ap (λ zs. take (w + b) (x ∷ zs)) out
-        ∙ take_all (w + b) (move_to_front x xs ++ ys)
-        (omega (arith, length-append (move_to_front x xs) ys, long, short, rest_short))
-        ∙ ap (λ zs. zs ++ ys) (sym (take_all w (move_to_front x xs) (omega (arith, long, short))))
+    near_moved = grind (arith, index-append_left, remove-append_left, take_all, length-append, length-remove, index-lt)
 
   -- x is in the second part or in none, and the first is full
   module _ (absent : is_in x xs ≡ false) (full : length xs ≡ w) (two : 2 ≤ w) where
@@ -209,16 +183,10 @@ module _ (w b x : ℕ) (xs ys : List ℕ) where
         ∙ ap (λ zs. zs ++ take b (last ∷ left)) (sym near)
 
     pub far_found : is_in x ys ≡ true → Behind (length xs + index_of x ys) ≡ touch_of x (xs ++ ys)
-    far_found inside =
-        ap Behind (sym (index-append_right x xs ys absent))
-        ∙ sym (ap (λ t. cond t (Behind (index_of x (xs ++ ys))) (New (length (xs ++ ys))))
-        (is_in-append x xs ys ∙ ap (λ t. t || is_in x ys) absent ∙ inside))
+    far_found inside = grind (arith, index-append_right, is_in-append)
 
     pub far_new : is_in x ys ≡ false → New (length xs + length ys) ≡ touch_of x (xs ++ ys)
-    far_new none =
-        ap New (sym (length-append xs ys))
-        ∙ sym (ap (λ t. cond t (Behind (index_of x (xs ++ ys))) (New (length (xs ++ ys))))
-        (is_in-append x xs ys ∙ ap (λ t. t || is_in x ys) absent ∙ none))
+    far_new none = grind (arith, length-append, is_in-append)
 
 pub none_of : (xs : List ℕ) → (xs ≢ [] → ⊥) → xs ≡ []
 none_of [] h = refl

@@ -1,22 +1,19 @@
 -- A block that comes to the front of its list: from the row, where that tells of it, or from behind
 -- it.
-use Rattle.std.proofs.Common.{◌≡◌, ℕ, ◌+◌, ◌-◌, ◌<◌, ◌≤◌, ◌^◌, ◌⊎◌, inl, inr, Bool, true, false}
+use Rattle.std.proofs.Common.{◌≡◌, ℕ, ◌+◌, ◌-◌, ◌≤◌, ◌^◌, ◌⊎◌, inl, inr, Bool, true, false}
 use Rattle.std.proofs.Common.{cond, ltb, List, [], ◌∷◌, ◌++◌, length, take, get_or, set, refl, sym}
-use Rattle.std.proofs.Common.{◌∙◌, ap, subst, arith, append-nil, length-set, get_or-set_same}
-use Rattle.std.proofs.Common.{get_or-set_other}
+use Rattle.std.proofs.Common.{◌∙◌, ap, arith, append-nil}
 use Rattle.std.specs.List.{remove}
 use Rattle.std.proofs.lemmas.Bool.{ltb-true, ltb-false}
 use Rattle.std.proofs.lemmas.List.{length-take-le, get_or_read}
-use Rattle.deep_list.specs.Deep.{Deep, IsOnce, list_after_exchange}
+use Rattle.deep_list.specs.Deep.{Deep, list_after_exchange}
 use Rattle.profile_core.specs.internal.Moves.{index_of, is_in, move_to_front, touch_of}
 use Rattle.profile_core.specs.internal.Moves.{rest_touch_of}
-use Rattle.profile_core.specs.declared.recency.Touch.TheVariants.{Behind, New}
 use Rattle.profile_core.specs.declared.recency.Touch.{Touch}
 use Rattle.profile_core.specs.declared.long_lists.InRow.TheVariants.{Settled, Full}
 use Rattle.profile_core.specs.internal.Lists.{Lists, lists_after_touch}
-use Rattle.profile_core.specs.internal.LongLists.{whole_lists, nothing, rest_of, in_row_of}
-use Rattle.profile_core.specs.internal.LongLists.{AreSplit}
-use Rattle.profile_core.proofs.ListParts.{near_touch, once_moved, once_apart, remove_past}
+use Rattle.profile_core.specs.internal.LongLists.{nothing, in_row_of}
+use Rattle.profile_core.proofs.ListParts.{near_touch, once_apart, remove_past}
 use Rattle.profile_core.proofs.ListParts.{index_absent, length-take_le, far_moved, far_found}
 use Rattle.profile_core.proofs.ListParts.{far_new}
 use Rattle.profile_core.proofs.LongListLemmas.{HasWhole, IsRenewed, row, rest, list, within}
@@ -110,9 +107,7 @@ module _ {near : Lists} {beyond : ℕ} {far : List Deep} {x k held last : ℕ} {
   far_read d read = get_or_read far k d (within_far f.whole) read nothing
 
   pub last_apart : is_in last behind ≡ false
-  last_apart =
-      ap (λ y. is_in y behind) f.last_is
-      ∙ once_apart front behind (near.depth - 1) (f.whole.sound.once k) (omega (arith, f.full, two))
+  last_apart = grind (arith, once_apart, f.last_is, f.full, two, f.whole.sound.once)
 
   small : near.depth + beyond ≤ 2 ^ 22
   small = depth_small (length near.lists) (near.depth + beyond) (omega (arith, within f.whole))
@@ -126,32 +121,13 @@ module _ {near : Lists} {beyond : ℕ} {far : List Deep} {x k held last : ℕ} {
 
   moved : take (near.depth + beyond) (move_to_front x (front ++ behind)) ≡ take near.depth
       (move_to_front x front) ++ left
-  moved =
-      far_moved near.depth beyond x front behind f.absent f.full two
-      ∙ ap (λ y. take near.depth (move_to_front x front) ++
-      take beyond (y ∷ remove behind (index_of x behind))) (sym f.last_is)
+  moved = grind (arith, far_moved, f.last_is)
 
   row_long : length (take near.depth (move_to_front x front)) ≡ near.depth
-  row_long =
-      length-take-le near.depth (move_to_front x front)
-      (omega (
-        arith,
-        ap length (remove_past front (index_of x front) (index_absent x front f.absent)),
-        f.full,
-      ))
+  row_long = grind (arith, length-take-le, remove_past, index_absent, f.absent, f.full)
 
   pub full_touch : rest_touch_of held x behind ≡ touch_of x (list f.whole)
-  full_touch =
-      ap (λ n. rest_touch_of n x behind) f.held_is
-      ∙ elim (is_or (is_in x behind)) [
-        | inl inside ↦ ap (λ t. cond t (Behind (length front + index_of x behind))
-            (New (length front + length behind))) inside
-            ∙ far_found near.depth beyond x front behind f.absent f.full two inside
-        | inr none ↦ ap (λ t. cond t (Behind (length front + index_of x behind))
-            (New (length front + length behind))) none
-            ∙ far_new near.depth beyond x front behind f.absent f.full two none
-      ]
-      ∙ ap (touch_of x) (sym (list_is f.whole))
+  full_touch = grind (arith, far_found, far_new, list_is)
 
   pub full_renewed : (d : Deep) → d ≡ list_after_exchange (get_or far k nothing) x last →
       {near' : Lists} → near' ≡ lists_after_touch near k x →
@@ -162,6 +138,10 @@ module _ {near : Lists} {beyond : ℕ} {far : List Deep} {x k held last : ℕ} {
       let blocks : d.blocks ≡ left = ap (λ e. e.blocks) put ∙
       ap (λ n. take n (last ∷ remove behind (index_of x behind))) cap in
       renewed f.whole x d (ap (λ e. e.cap) put ∙ cap)
-      (omega (arith, ap length blocks, length-take_le beyond (last ∷ remove behind
-      (index_of x behind)))) (λ _. row_long)
+      (omega (
+        arith,
+        ap length blocks,
+        length-take_le beyond (last ∷ remove behind
+            (index_of x behind)),
+      )) (λ _. row_long)
       (moved ∙ ap (λ zs. take near.depth (move_to_front x front) ++ zs) (sym blocks)) is refl

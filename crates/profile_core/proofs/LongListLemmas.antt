@@ -1,5 +1,5 @@
 -- The lists of all sets, each in two parts: the first blocks, and those behind them.
-use Rattle.std.proofs.Common.{◌≡◌, ◌≢◌, ℕ, zero, suc, ◌+◌, ◌*◌, ◌<◌, ◌≤◌, ◌^◌, ◌⊎◌, inl, inr, true}
+use Rattle.std.proofs.Common.{◌≡◌, ◌≢◌, ℕ, zero, suc, ◌+◌, ◌*◌, ◌<◌, ◌≤◌, ◌^◌, ◌⊎◌, true}
 use Rattle.std.proofs.Common.{false, List, [], ◌∷◌, ◌++◌, length, take, get_or, set, refl, sym, ◌∙◌}
 use Rattle.std.proofs.Common.{ap, subst, arith, append-nil, length-append, length-set}
 use Rattle.std.proofs.Common.{get_or-set_same, get_or-set_other}
@@ -9,7 +9,7 @@ use Rattle.std.specs.List.{sum_by}
 use Rattle.std.proofs.lemmas.List.{take_all, length-replicate, length-map, set-get_or}
 use Rattle.std.proofs.lemmas.List.Sums.{sum_by-cons}
 use Rattle.deep_list.specs.Deep.{Deep, IsOnce}
-use Rattle.profile_core.specs.internal.Moves.{index_of, is_in, is_front, is_second, move_to_front}
+use Rattle.profile_core.specs.internal.Moves.{is_in, is_front, is_second, move_to_front}
 use Rattle.profile_core.specs.internal.Lists.{Lists, lists_after_touch}
 use Rattle.profile_core.proofs.Elements.{all_set, all_same}
 use Rattle.profile_core.proofs.Shifting.{length-remove}
@@ -164,34 +164,14 @@ module _ {near : Lists} {beyond : ℕ} {far : List Deep} {k : ℕ} {v : Lists}
 
     new_moved : length row < near.depth →
         take (near.depth + beyond) (move_to_front x row) ≡ after
-    new_moved short =
-        let le : length (move_to_front x row) ≤ near.depth =
-        omega (arith, length-remove_le row (index_of x row), short) in
-        take_all (near.depth + beyond) (move_to_front x row) (omega (arith, le)) ∙
-        sym (take_all near.depth (move_to_front x row) le)
+    new_moved short = grind (arith, length-remove_le, take_all)
 
     stays_moved : StaysIn →
         take (near.depth + beyond) (move_to_front x (row ++ rest)) ≡ after ++ rest
-    stays_moved h = elim h [
-      | inl inside ↦ near_moved near.depth beyond x row rest inside (r.sound.short k)
-          (r.sound.rest_short k)
-      | inr new ↦
-          let moved : List ℕ → List ℕ = λ zs. take (near.depth + beyond) (move_to_front x zs) in
-          ap (λ zs. moved (row ++ zs)) (rest_behind new.0) ∙ ap moved (append-nil row) ∙
-          new_moved new.0 ∙ sym (append-nil after) ∙ ap (λ zs. after ++ zs) (sym (rest_behind new.0))
-    ]
+    stays_moved h = grind (arith, near_moved, rest_behind, append-nil, new_moved)
 
     after_long : StaysIn → rest ≢ [] → length after ≡ near.depth
-    after_long h some = elim h [
-      | inl inside ↦
-          let long : length (move_to_front x row) ≡ near.depth = omega (
-            arith,
-            length-remove row (index_of x row) (index-lt x row inside),
-            r.sound.full k some,
-          ) in
-          ap length (take_all near.depth (move_to_front x row) (omega (arith, long))) ∙ long
-      | inr new ↦ absurd (some (rest_behind new.0))
-    ]
+    after_long h some = grind (arith, length-remove, index-lt, take_all, rest_behind)
 
     pub stays : StaysIn → {near' : Lists} → near' ≡ lists_after_touch near k x →
         IsRenewed near' beyond far k x v
@@ -263,11 +243,7 @@ pub cleared_lists : (near near' : Lists) (far far' : List Deep) →
     near' ≡ record { depth = near.depth; lists = replicate (length near.lists) [] }
     → far' ≡ map empty_deep far → whole_lists near'.lists far' ≡ replicate
     (length (whole_lists near.lists far)) []
-cleared_lists near near' far far' is far_is =
-    ap (λ v. whole_lists v.lists far') is ∙
-    ap (whole_lists (replicate (length near.lists) [])) far_is
-    ∙ joined_empty (length near.lists) (map empty_deep far) (emptied_rest far) ∙
-    ap (λ n. replicate n []) (sym (length-joined near.lists far))
+cleared_lists near near' far far' is far_is = grind (arith, joined_empty, emptied_rest, length-joined)
 
 -- how many blocks stand in all lists
 pub sum-joined : (near : List (List ℕ)) (far : List Deep) → length far ≤ length near
@@ -324,7 +300,4 @@ pub new_lists : (near : Lists) (sets beyond : ℕ) (far : List Deep) →
     near ≡ record { depth = 64; lists = replicate sets [] }
     → far ≡ replicate sets (record { cap = beyond; blocks = [] }) →
     whole_lists near.lists far ≡ replicate sets []
-new_lists near sets beyond far is far_is =
-    ap (λ v. whole_lists v.lists far) is ∙ ap (whole_lists (replicate sets [])) far_is
-    ∙ joined_empty sets (replicate sets (record { cap = beyond; blocks = [] }))
-    (empty_rest sets beyond)
+new_lists near sets beyond far is far_is = grind (arith, joined_empty, empty_rest)

@@ -1,6 +1,6 @@
 -- A walk over the places of a list in slots that have a block's mark: the marks from a place on are
 -- the bits of a number.
-use Rattle.std.proofs.Common.{◌≡◌, ℕ, zero, suc, ◌+◌, ◌-◌, ◌/◌, ◌^◌, ◌<◌, ◌≤◌, ◌∙◌, ◌⊎◌, inl, inr}
+use Rattle.std.proofs.Common.{◌≡◌, ℕ, zero, suc, ◌+◌, ◌-◌, ◌/◌, ◌^◌, ◌<◌, ◌≤◌, ◌∙◌, inl, inr}
 use Rattle.std.proofs.Common.{Bool, true, false, List, [], ◌∷◌, take, drop, map, sym, ap}
 use Rattle.std.proofs.Common.{arith, eqb, length, subst, get_or}
 use Rattle.std.specs.Int.Count.{count_trailing_zeros}
@@ -32,9 +32,7 @@ mask_drop (suc k) (m ∷ ms) =
 
 pub marks_from : (mark k : ℕ) (marks : List ℕ) → mask_l (map (λ m. eqb m mark) marks) / 2 ^ k ≡
     mask_l (map (λ m. eqb m mark) (drop k marks))
-marks_from mark k marks =
-    let p : ℕ → Bool = λ m. eqb m mark in
-    mask_drop k (map p marks) ∙ ap (λ ms. mask_l ms) (drop-map p k marks)
+marks_from mark k marks = grind (arith, mask_drop, drop-map)
 
 -- a walk that has come to a place: no block before it is x
 pub record CameTo (marks slots blocks : List ℕ) (len x place left : ℕ) : Type 0 where
@@ -43,123 +41,92 @@ pub record CameTo (marks slots blocks : List ℕ) (len x place left : ℕ) : Typ
   pub left_is : left ≡ mask_l (map (λ m. eqb m (mark_of x)) (drop place marks))
   pub absent : is_in x (take place (listed slots blocks len)) ≡ false
 
--- none of the next blocks is x whose marks differ
-absent_past : (marks slots blocks : List ℕ) (len x place left n : ℕ) →
-    CameTo marks slots blocks len x place left →
-    n ≤ position_or_len (λ m. eqb m (mark_of x)) (drop place marks) →
-    is_in x (take (place + n) (listed slots blocks len)) ≡ false
-absent_past marks slots blocks len x place left n c le =
-    let list = listed slots blocks len in
-    let fits : len ≤ length slots = omega (arith, c.order.order_len, c.most) in
-    let long : length list ≡ len = length-listed slots blocks len fits in
-    absent_to x (place + n) list (λ k h lt e.
-    let split : (k < place) ⊎ (place ≤ k) → ⊥ =
-    λ w. elim w [
-      | inl near ↦ absent_at x place k list c.absent near lt e
-      | inr far ↦
-          (let within : k < len = omega (arith, long) in
-          let here : place + (k - place) ≡ k = omega arith in
-          let same : get_or (drop place marks) (k - place) 0 ≡ mark_of x =
-          get_or-drop place marks (k - place) 0 ∙ ap (λ j. get_or marks j 0) here
-          ∙ c.order.marked k (omega (arith, within, c.most))
-          ∙ ap mark_of (sym (listed_at slots blocks len k fits within) ∙ e) in
-          false≢true (sym (fails_before_first (λ m. eqb m (mark_of x)) (drop place marks)
-          (k - place) 0 (omega arith))
-          ∙ eq-eqb (get_or (drop place marks) (k - place) 0) (mark_of x) same))
-    ] in
-    split (cases_lt k place))
+module _ {marks slots blocks : List ℕ} {len x place left : ℕ}
+    (c : CameTo marks slots blocks len x place left) where
+  abbrev list : List ℕ
+  list = listed slots blocks len
 
--- how many places come before the next with the mark
-others_are : (marks slots blocks : List ℕ) (len x place left : ℕ) →
-    CameTo marks slots blocks len x place left → 0 < left →
-    count_trailing_zeros 64 left ≡ position_or_len (λ m. eqb m (mark_of x)) (drop place marks)
-others_are marks slots blocks len x place left c some =
-    let p : ℕ → Bool = λ m. eqb m (mark_of x) in
-    ap (count_trailing_zeros 64) c.left_is ∙ trailing_mask_l p 64 (drop place marks)
-    (omega (arith, length-drop place marks, c.order.marks_len))
-    (subst (λ n. 0 < n) c.left_is some)
+  -- the next place with a mark, and how many marks are left out
+  abbrev next : ℕ
+  next = place + count_trailing_zeros 64 left
 
--- the blocks before the next with the mark
-pub absent_before : (marks slots blocks : List ℕ) (len x place left : ℕ) →
-    CameTo marks slots blocks len x place left → 0 < left →
-    is_in x (take (place + count_trailing_zeros 64 left) (listed slots blocks len)) ≡ false
-absent_before marks slots blocks len x place left c some =
-    absent_past marks slots blocks len x place left (count_trailing_zeros 64 left) c
-    (omega (arith, others_are marks slots blocks len x place left c some))
+  fits : len ≤ length slots
+  fits = omega (arith, c.order.order_len, c.most)
 
--- a walk that has come to the end
-new_to : (marks slots blocks : List ℕ) (len x n : ℕ) → len ≤ length slots → len ≤ n →
-    is_in x (take n (listed slots blocks len)) ≡ false →
-    New len ≡ touch_of x (listed slots blocks len)
-new_to marks slots blocks len x n fits le none =
-    let list = listed slots blocks len in
-    let long : length list ≡ len = length-listed slots blocks len fits in
-    touch_new x len list long (found_nowhere x list (λ k h e.
-    absent_at x n k list none (omega (arith, long)) h e))
+  long : length list ≡ len
+  long = length-listed slots blocks len fits
 
-pub new_past : (marks slots blocks : List ℕ) (len x place left : ℕ) →
-    CameTo marks slots blocks len x place left → 0 < left →
-    len ≤ place + count_trailing_zeros 64 left →
-    New len ≡ touch_of x (listed slots blocks len)
-new_past marks slots blocks len x place left c some le =
-    new_to marks slots blocks len x (place + count_trailing_zeros 64 left)
-    (omega (arith, c.order.order_len, c.most)) le
-    (absent_before marks slots blocks len x place left c some)
+  -- none of the next blocks is x whose marks differ
+  absent_past : (n : ℕ) → n ≤ position_or_len (λ m. eqb m (mark_of x)) (drop place marks) →
+      is_in x (take (place + n) list) ≡ false
+  absent_past n le = absent_to x (place + n) list (λ k h lt e. elim (cases_lt k place) [
+    | inl near ↦ absent_at x place k list c.absent near lt e
+    | inr far ↦
+        (let within : k < len = omega (arith, long) in
+        let here : place + (k - place) ≡ k = omega arith in
+        let same : get_or (drop place marks) (k - place) 0 ≡ mark_of x =
+        get_or-drop place marks (k - place) 0 ∙ ap (λ j. get_or marks j 0) here
+        ∙ c.order.marked k (omega (arith, within, c.most))
+        ∙ ap mark_of (sym (listed_at slots blocks len k fits within) ∙ e) in
+        absurd (false≢true (sym (fails_before_first (λ m. eqb m (mark_of x)) (drop place marks)
+        (k - place) 0 (omega arith))
+        ∙ eq-eqb (get_or (drop place marks) (k - place) 0) (mark_of x) same)))
+  ])
 
-pub new_unmarked : (marks slots blocks : List ℕ) (len x place left : ℕ) →
-    CameTo marks slots blocks len x place left → left ≡ 0 →
-    New len ≡ touch_of x (listed slots blocks len)
-new_unmarked marks slots blocks len x place left c none =
-    let p : ℕ → Bool = λ m. eqb m (mark_of x) in
-    let all : position_or_len p (drop place marks) ≡ length (drop place marks) =
-    leading_from_mask_l p (drop place marks) (sym c.left_is ∙ none) in
-    new_to marks slots blocks len x (place + length (drop place marks))
-    (omega (arith, c.order.order_len, c.most))
-    (omega (arith, length-drop place marks, c.order.marks_len, c.most))
-    (absent_past marks slots blocks len x place left (length (drop place marks)) c
-    (omega (arith, all)))
+  -- a walk that has come to the end
+  new_to : (n : ℕ) → len ≤ n → is_in x (take n list) ≡ false → New len ≡ touch_of x list
+  new_to n le none = touch_new x len list long (found_nowhere x list (λ k h e.
+      absent_at x n k list none (omega (arith, long)) h e))
 
--- the next block with the mark is x, or the walk goes on behind it
-pub found_marked : (marks slots blocks : List ℕ) (len x place left : ℕ) →
-    CameTo marks slots blocks len x place left → 0 < left →
-    place + count_trailing_zeros 64 left < len →
-    get_or blocks (get_or slots (place + count_trailing_zeros 64 left) 0) 0 ≡ x →
-    Behind (place + count_trailing_zeros 64 left) ≡ touch_of x (listed slots blocks len)
-found_marked marks slots blocks len x place left c some lt at =
-    let list = listed slots blocks len in
-    let n : ℕ = place + count_trailing_zeros 64 left in
-    let fits : len ≤ length slots = omega (arith, c.order.order_len, c.most) in
-    let within : n < length list = omega (arith, length-listed slots blocks len fits) in
-    touch_found x n list (found_at x n list within
-    (λ k h e. absent_at x n k list (absent_before marks slots blocks len x place left c some) h
-    (omega arith) e)
-    (listed_at slots blocks len n fits lt ∙ at)) within
+  pub new_unmarked : left ≡ 0 → New len ≡ touch_of x list
+  new_unmarked none =
+      let all : position_or_len (λ m. eqb m (mark_of x)) (drop place marks) ≡
+      length (drop place marks) =
+      leading_from_mask_l (λ m. eqb m (mark_of x)) (drop place marks) (sym c.left_is ∙ none) in
+      new_to (place + length (drop place marks))
+      (omega (arith, length-drop place marks, c.order.marks_len, c.most))
+      (absent_past (length (drop place marks)) (omega (arith, all)))
 
-pub absent_behind : (marks slots blocks : List ℕ) (len x place left : ℕ) →
-    CameTo marks slots blocks len x place left → 0 < left →
-    place + count_trailing_zeros 64 left < len →
-    (get_or blocks (get_or slots (place + count_trailing_zeros 64 left) 0) 0 ≡ x → ⊥) →
-    is_in x (take (place + count_trailing_zeros 64 left + 1) (listed slots blocks len)) ≡ false
-absent_behind marks slots blocks len x place left c some lt other =
-    let list = listed slots blocks len in
-    let n : ℕ = place + count_trailing_zeros 64 left in
-    let fits : len ≤ length slots = omega (arith, c.order.order_len, c.most) in
-    absent_to x (n + 1) list (λ k h le e.
-    let split : (k < n) ⊎ (n ≤ k) → ⊥ =
-    λ w. elim w [
-      | inl near ↦ absent_at x n k list
-          (absent_before marks slots blocks len x place left c some) near le e
-      | inr far ↦ (let here : k ≡ n = omega arith in
-          other (sym (listed_at slots blocks len n fits lt) ∙
+  -- the marks that are left behind n more
+  pub left_behind : (n : ℕ) →
+      left / 2 ^ n / 2 ≡ mask_l (map (λ m. eqb m (mark_of x)) (drop (place + n + 1) marks))
+  left_behind n =
+      let all : ℕ = mask_l (map (λ m. eqb m (mark_of x)) marks) in
+      ap (λ b. b / 2 ^ n / 2 ^ 1) (c.left_is ∙ sym (marks_from (mark_of x) place marks))
+      ∙ ap (λ b. b / 2 ^ 1) (shr-shr all place n) ∙ shr-shr all (place + n) 1
+      ∙ marks_from (mark_of x) (place + n + 1) marks
+
+  module _ (some : 0 < left) where
+    -- how many places come before the next with the mark
+    others_are : count_trailing_zeros 64 left ≡
+        position_or_len (λ m. eqb m (mark_of x)) (drop place marks)
+    others_are =
+        ap (count_trailing_zeros 64) c.left_is ∙
+        trailing_mask_l (λ m. eqb m (mark_of x)) 64 (drop place marks)
+        (omega (arith, length-drop place marks, c.order.marks_len))
+        (subst (λ n. 0 < n) c.left_is some)
+
+    -- the blocks before it
+    absent_before : is_in x (take next list) ≡ false
+    absent_before = absent_past (count_trailing_zeros 64 left) (omega (arith, others_are))
+
+    pub new_past : len ≤ next → New len ≡ touch_of x list
+    new_past le = new_to next le absent_before
+
+    -- the next block with the mark is x, or the walk goes on behind it
+    pub found_marked : next < len → get_or blocks (get_or slots next 0) 0 ≡ x →
+        Behind next ≡ touch_of x list
+    found_marked lt at =
+        let within : next < length list = omega (arith, long) in
+        touch_found x next list (found_at x next list within
+        (λ k h e. absent_at x next k list absent_before h (omega arith) e)
+        (listed_at slots blocks len next fits lt ∙ at)) within
+
+    pub absent_behind : next < len → (get_or blocks (get_or slots next 0) 0 ≡ x → ⊥) →
+        is_in x (take (next + 1) list) ≡ false
+    absent_behind lt other = absent_to x (next + 1) list (λ k h le e. elim (cases_lt k next) [
+      | inl near ↦ absent_at x next k list absent_before near le e
+      | inr far ↦ (let here : k ≡ next = omega arith in
+          other (sym (listed_at slots blocks len next fits lt) ∙
           ap (λ j. get_or list j 0) (sym here) ∙ e))
-    ] in
-    split (cases_lt k n))
-
-pub left_behind : (mark place n left : ℕ) (marks : List ℕ) →
-    left ≡ mask_l (map (λ m. eqb m mark) (drop place marks)) →
-    left / 2 ^ n / 2 ≡ mask_l (map (λ m. eqb m mark) (drop (place + n + 1) marks))
-left_behind mark place n left marks is =
-    let all : ℕ = mask_l (map (λ m. eqb m mark) marks) in
-    ap (λ b. b / 2 ^ n / 2 ^ 1) (is ∙ sym (marks_from mark place marks))
-    ∙ ap (λ b. b / 2 ^ 1) (shr-shr all place n) ∙ shr-shr all (place + n) 1
-    ∙ marks_from mark (place + n + 1) marks
+    ])

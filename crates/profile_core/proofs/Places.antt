@@ -1,12 +1,12 @@
 -- A set that has no place of its own takes the next.
-use Rattle.std.proofs.Common.{◌≡◌, ℕ, zero, suc, ◌+◌, ◌<◌, ◌≤◌, inl, inr, not, eqb, cond, List}
-use Rattle.std.proofs.Common.{length, get_or, set, refl, sym, ◌∙◌, ap, arith, length-set}
+use Rattle.std.proofs.Common.{◌≡◌, ℕ, zero, suc, ◌+◌, ◌<◌, ◌≤◌, not, eqb, cond, List}
+use Rattle.std.proofs.Common.{length, get_or, set, refl, ap, arith, length-set}
 use Rattle.std.proofs.Common.{get_or-set_same, get_or-set_other}
 use Rattle.std.specs.Prelude.{replicate}
 use Rattle.std.proofs.lemmas.Bool.{cases_eq, ne_eqb}
 use Rattle.std.proofs.lemmas.List.Sums.{sum_by-set, count_by-le-length}
 use Rattle.profile_core.specs.internal.Places.{taken, ArePlaces}
-use Rattle.profile_core.proofs.Emptying.{zero_at}
+use Rattle.profile_core.proofs.Elements.{all_same}
 
 pub taken_few : (places : List ℕ) → taken places ≤ length places
 taken_few places = count_by-le-length (λ p. not (eqb p 0)) places
@@ -18,8 +18,8 @@ taken_none (suc m) = taken_none m
 
 pub none_taken : (m : ℕ) → ArePlaces (replicate m 0)
 none_taken m = record {
-  within = λ k. omega (arith, zero_at m k);
-  apart = λ i k own same. absurd (omega (arith, own, zero_at m i));
+  within = λ k. omega (arith, all_same {A = ℕ} m k 0);
+  apart = λ i k own same. absurd (omega (arith, own, all_same {A = ℕ} m i 0));
 }
 
 -- set k takes one
@@ -58,38 +58,11 @@ module _ {places : List ℕ} (a : ArePlaces places) {k : ℕ} (lt : k < length p
   place_other j other = get_or-set_other places k j (taken places + 1) 0 other
 
   within_then : (j : ℕ) → get_or places_then j 0 ≤ taken places_then
-  within_then j = elim (cases_eq j k) [
-    | inl same ↦ omega (arith, one_more, ap (λ i. get_or places_then i 0) same, place_here)
-    | inr other ↦ omega (arith, one_more, place_other j other, a.within j)
-  ]
+  within_then j = grind (arith, one_more, place_here, place_other, cases_eq, a.within)
 
   apart_then : (i j : ℕ) → 0 < get_or places_then i 0 →
       get_or places_then i 0 ≡ get_or places_then j 0 → i ≡ j
-  apart_then i j own same = elim (cases_eq i k) [
-    | inl here ↦ elim (cases_eq j k) [
-      | inl there ↦ here ∙ sym there
-      | inr other ↦ absurd (omega (
-        arith,
-        same,
-        ap (λ p. get_or places_then p 0) here,
-        place_here,
-        place_other j other,
-        a.within j,
-      ))
-    ]
-    | inr other ↦ elim (cases_eq j k) [
-      | inl there ↦ absurd (omega (
-        arith,
-        same,
-        ap (λ p. get_or places_then p 0) there,
-        place_here,
-        place_other i other,
-        a.within i,
-      ))
-      | inr besides ↦ a.apart i j (omega (arith, own, place_other i other))
-          (sym (place_other i other) ∙ same ∙ place_other j besides)
-    ]
-  ]
+  apart_then i j own same = grind (arith, place_here, place_other, cases_eq, a.within, a.apart)
 
   pub places_taken : ArePlaces places_then
   places_taken = record { within = within_then; apart = apart_then }

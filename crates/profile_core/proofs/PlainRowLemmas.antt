@@ -14,10 +14,7 @@ use Rattle.profile_core.proofs.RowsOf.{HasRow, known_row, rows_blank, within, ro
 -- rows of zeros
 pub blank_rows_in : (n m : ℕ) {numbers : List ℕ} → numbers ≡ replicate (m * n) 0 →
     rows_of m (plain_row n numbers) ≡ replicate m (replicate n 0)
-blank_rows_in n m {numbers} zeros = rows_blank m n (plain_row n numbers)
-    (λ k lt. ap (λ es. take n (drop (k * n) es)) zeros
-    ∙ ap (take n) (drop-replicate (k * n) (m * n) 0)
-    ∙ take-replicate n _ 0 (omega (arith, in_front k m n lt)))
+blank_rows_in n m {numbers} zeros = grind (arith, rows_blank, drop-replicate, take-replicate, in_front)
 
 -- what is known where the row of set k is asked for
 pub record HasPlain (n m k : ℕ) (numbers : List ℕ) (rows : RowsValue) : Type 0 where

@@ -4,7 +4,7 @@ use Rattle.std.proofs.Common.{take, drop, set, ◌∙◌, ap, arith, add-one}
 use Rattle.std.specs.List.{remove}
 use Rattle.profile_core.specs.declared.row.Shifted.TheVariants.{Found, Out}
 use Rattle.profile_core.specs.internal.Moves.{index_of, shifted_of}
-use Rattle.profile_core.proofs.Bringing.{IsShifted, shifted_index, shifted_last, row_found, row_full}
+use Rattle.profile_core.proofs.Bringing.{IsShifted, shifted_index, shifted_last, row_found}
 use Rattle.profile_core.proofs.Bringing.{row_grown, size}
 use Rattle.profile_core.proofs.Shifting.{index_behind, other_front}
 
@@ -36,10 +36,6 @@ module _ {x y h : ℕ} {rest after : List ℕ} (s : IsShifted x y h rest after)
   found_small distance found =
       let at = shifted_index x (y ∷ list) distance found in
       omega (arith, at.1, size s)
-
-  pub rest_full : length rest ≤ h → take h (after ++ drop h rest) ≡ take (length rest) then
-  rest_full full =
-      without_front x h (length rest) _ _ (row_full s full) ∙ ap (take (length rest)) gone
 
   pub rest_grown : (last : ℕ) → h < length rest → Out last ≡ shifted_of x (y ∷ list) →
       take (suc h) (set (after ++ drop h rest) h last) ≡ take (length rest) then

@@ -1,5 +1,5 @@
 -- Parts of n numbers of an array, as rows are: what is read of one, and one of them written anew.
-use Rattle.std.proofs.Common.{◌≡◌, ℕ, ◌+◌, ◌*◌, ◌-◌, ◌<◌, ◌≤◌, inl, inr, List, ◌++◌, length, take, drop}
+use Rattle.std.proofs.Common.{◌≡◌, ℕ, ◌+◌, ◌*◌, ◌-◌, ◌<◌, ◌≤◌, List, length, take, drop}
 use Rattle.std.proofs.Common.{get_or, set, sym, ◌∙◌, ap, arith, length-drop, get_or-take}
 use Rattle.std.proofs.Common.{get_or-drop, Vec}
 use Rattle.std.proofs.Math.Nat.{mul-le-mul_right}
@@ -22,7 +22,7 @@ part_of b n xs = sym (drop-take b n xs)
 
 pub part_same : (b n : ℕ) (xs ys : List ℕ) → take (b + n) xs ≡ take (b + n) ys →
     take n (drop b xs) ≡ take n (drop b ys)
-part_same b n xs ys same = part_of b n xs ∙ ap (drop b) same ∙ sym (part_of b n ys)
+part_same b n xs ys same = grind (arith, part_of)
 
 module _ (b n : ℕ) (xs : List ℕ) (ends : b + n ≤ length xs) where
   pub part_long : length (take n (drop b xs)) ≡ n
@@ -31,10 +31,7 @@ module _ (b n : ℕ) (xs : List ℕ) (ends : b + n ≤ length xs) where
   -- what is read of it
   pub part_read : {i at x : ℕ} → i < n → at ≡ b + i → x ≡ get_or xs at x →
       x ≡ get_or (take n (drop b xs)) i 0
-  part_read {i} {at} {x} lt is read =
-      get_or_read xs at x (omega (arith, lt, is, ends)) read 0
-      ∙ ap (λ j. get_or xs j 0) is
-      ∙ sym (get_or-take n (drop b xs) i 0 lt ∙ get_or-drop b xs i 0)
+  part_read {i} {at} {x} lt is read = grind (arith, get_or_read, get_or-take, get_or-drop)
 
   -- its first number written is the whole part written
   pub part_first : (x : ℕ) → 0 < n → set xs b x ≡ put_mid b n xs (set (take n (drop b xs)) 0 x)
@@ -43,27 +40,18 @@ module _ (b n : ℕ) (xs : List ℕ) (ends : b + n ≤ length xs) where
 
   -- the part written anew
   pub part_here : (new : List ℕ) → length new ≡ n → take n (drop b (put_mid b n xs new)) ≡ new
-  part_here new long =
-      ap (take n) (drop_at (take b xs) (new ++ drop n (drop b xs)) b
-      (length-take-le b xs (omega (arith, ends))))
-      ∙ take_at new (drop n (drop b xs)) n long
+  part_here new long = grind (arith, drop_at, length-take-le, take_at)
 
 -- the row at place p written anew, and that at another place
 pub part_other : (p q n : ℕ) (xs new : List ℕ) → p * n ≤ length xs → length new ≡ n →
     (q ≡ p → ⊥) →
     take n (drop (q * n) (put_mid (p * n) n xs new)) ≡ take n (drop (q * n) xs)
-part_other p q n xs new begins long other = elim (cases_lt q p) [
-  | inl lt ↦ part_same (q * n) n (put_mid (p * n) n xs new) xs
-      (take-put_mid_below (p * n) n xs new (q * n + n) (in_front q p n lt) begins)
-  | inr ge ↦ ap (take n) (drop-put_mid (p * n) n xs new (q * n)
-      (in_front p q n (grind (arith, ge, other))) begins long)
-]
+part_other p q n xs new begins long other = grind (arith, cases_lt, part_same, take-put_mid_below, in_front, drop-put_mid)
 
 -- a part as code lends it, and as it is put back
 pub part_lent : (b n : ℕ) {xs now : List ℕ} → now ≡ xs →
     take (b + n - b) (drop b now) ≡ take n (drop b xs)
-part_lent b n {xs} {now} is = ap (λ j. take j (drop b now)) (omega arith) ∙
-    ap (λ ys. take n (drop b ys)) is
+part_lent b n {xs} {now} is = grind arith
 
 pub part_back : {Z : Type 0} (v : Vec ℕ Z) (b n : ℕ) {now : List ℕ} (new : List ℕ) → now ≡ v.items →
     length now ≡ v.len → length new ≡ length (take (b + n - b) (drop b now)) →

@@ -39,6 +39,17 @@ pub known_row : {n m k : ℕ} {row : ℕ → List ℕ} {rows : RowsValue} →
     HasRow n m k row rows
 known_row seen is_set = record { seen = seen; is_set = is_set }
 
+-- the same rows, stored in another way
+pub rows_kept : {n m m' k : ℕ} {row row' : ℕ → List ℕ} {rows : RowsValue} →
+    record { stride = n; rows = rows_of m row } ≡ rows → k < length rows.rows → m' ≡ m →
+    ((j : ℕ) → row' j ≡ row j) → HasRow n m' k row' rows
+rows_kept {n} {m} {m'} {k} {row} {row'} seen is_set count same = record {
+  seen = ap (λ rs. record { stride = n; rows = rs }) (rows_same m' row' (rows_of m row)
+      (length-rows_of m row ∙ sym count)
+      (λ j lt. same j ∙ sym (rows_at m j row (omega (arith, lt, count))))) ∙ seen;
+  is_set = is_set;
+}
+
 module _ {n m k : ℕ} {row : ℕ → List ℕ} {rows : RowsValue} (r : HasRow n m k row rows) where
   pub stride_is : n ≡ rows.stride
   stride_is = ap (λ v. v.stride) r.seen

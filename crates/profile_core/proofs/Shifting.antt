@@ -55,16 +55,11 @@ is_absent x xs at = list_any_is (λ y. eqb y x) xs ∙ le-ltb (index_of x xs) (l
 
 pub shifted_found : (x i : ℕ) (xs : List ℕ) → index_of x xs ≡ i → i < length xs →
     Found i ≡ shifted_of x xs
-shifted_found x i xs at lt =
-    ap (λ p. Found p) (sym at) ∙ sym
-    (ap (λ b. cond b (Found (index_of x xs)) (Out (get_or xs (length xs - 1) 0)))
-    (is_found x i xs at lt))
+shifted_found x i xs at lt = grind (arith, is_found)
 
 pub shifted_out : (x last : ℕ) (xs : List ℕ) → index_of x xs ≡ length xs →
     last ≡ get_or xs (length xs - 1) 0 → Out last ≡ shifted_of x xs
-shifted_out x last xs at is =
-    ap (λ l. Out l) is ∙ sym (ap (λ b. cond b (Found (index_of x xs))
-    (Out (get_or xs (length xs - 1) 0))) (is_absent x xs at))
+shifted_out x last xs at is = grind (arith, is_absent)
 
 -- the whole list after the pass
 pub length-remove : (xs : List ℕ) (i : ℕ) → i < length xs → suc (length (remove xs i)) ≡ length xs
@@ -117,9 +112,7 @@ module _ {x y i carried : ℕ} {xs now : List ℕ} (p : IsPassed x y i carried x
     at_is = ap (λ l. get_or l i 0) p.now_is ∙ passed_at y xs i lt
 
     stepped : {put : ℕ} → put ≡ carried → set now i put ≡ take (i + 1) (y ∷ xs) ++ drop (i + 1) xs
-    stepped put =
-        ap (set now i) put ∙ ap (λ l. set l i carried) p.now_is ∙
-        ap (set (take i (y ∷ xs) ++ drop i xs) i) p.carried_is ∙ passed_more y xs i lt
+    stepped put = grind (arith, passed_more)
 
     -- the next is another block
     pub passed_next : {other put : ℕ} → put ≡ carried → other ≡ get_or now i 0 →
@@ -147,9 +140,7 @@ module _ {x y i carried : ℕ} {xs now : List ℕ} (p : IsPassed x y i carried x
 
       pub found_moved : {put : ℕ} → put ≡ carried → set now i put ≡ take (length xs)
           (remove (y ∷ xs) (index_of x (y ∷ xs)))
-      found_moved put = stepped put ∙ moved_found x y i xs found_here lt
-          ∙ ap (λ j. take (length xs) (remove (y ∷ xs) j))
-          (sym (index_behind x y xs (other_front x y xs other)))
+      found_moved put = grind (arith, stepped, moved_found, found_here, index_behind, other_front)
 
   -- all were passed
   module _ (end : length xs ≤ i) (other : is_front x (y ∷ xs) ≡ false) where
@@ -164,5 +155,4 @@ module _ {x y i carried : ℕ} {xs now : List ℕ} (p : IsPassed x y i carried x
         (p.carried_is ∙ ap (λ j. get_or (y ∷ xs) j 0) (omega (arith, end, p.within)))
 
     pub nowhere_moved : now ≡ take (length xs) (remove (y ∷ xs) (index_of x (y ∷ xs)))
-    nowhere_moved = p.now_is ∙ moved_out x y i xs nowhere (omega (arith, end, p.within))
-        ∙ ap (λ j. take (length xs) (remove (y ∷ xs) j)) (sym none_is)
+    nowhere_moved = grind (arith, moved_out, none_is, nowhere, p.now_is, p.within)

@@ -1,9 +1,11 @@
 -- Numbers in slots: an order of the slots, and one of them brought to the front of it.
-use Rattle.std.proofs.Common.{◌≡◌, ℕ, zero, suc, ◌+◌, ◌<◌, ◌≤◌, ◌≢◌, ◌⊎◌, inl, inr, cond}
-use Rattle.std.proofs.Common.{false, eqb, ltb, List, [], ◌∷◌, length, take, get_or, map}
+use Rattle.std.proofs.Common.{rules}
+use Rattle.std.proofs.Common.{◌≡◌, ℕ, zero, suc, ◌<◌, ◌≤◌, inl, inr, cond}
+use Rattle.std.proofs.Common.{false, eqb, leb, ◌-◌, List, [], ◌∷◌, length, take, get_or, map}
 use Rattle.std.proofs.Common.{set, refl, sym, ◌∙◌, ap, subst, arith, w8, replicate}
 use Rattle.std.proofs.Common.{get_or-set_same, get_or-set_other, length-take}
-use Rattle.std.proofs.lemmas.Bool.{false≢true, cases_lt, ne_eqb, lt-ltb, le-ltb, eq-eqb}
+use Rattle.std.proofs.lemmas.Bool.Decides.{nat_tests}
+use Rattle.std.proofs.lemmas.Bool.{cases_lt, ne_eqb, eq-eqb}
 use Rattle.std.proofs.lemmas.List.Folds.{list_any_at}
 use Rattle.std.proofs.lemmas.List.{get_or_past, ext_get_or, length-map, length-take-le, get_or-take}
 use Rattle.std.proofs.lemmas.List.{get_or-map, length-set, take-take, take-map}
@@ -15,7 +17,7 @@ use Rattle.profile_core.specs.declared.recency.Touch.TheVariants.{Behind, New}
 use Rattle.profile_core.specs.declared.slotted_rests.TheConstants.{TURNS, FIRST_LANE}
 use Rattle.profile_core.specs.internal.Moves.{index_of, is_in, touch_of}
 use Rattle.profile_core.specs.internal.Slots.{mark_of, listed, IsOrder}
-use Rattle.profile_core.proofs.Emptying.{zero_at}
+use Rattle.profile_core.proofs.Elements.{all_same}
 use Rattle.profile_core.proofs.Shifting.{index_found, index_end, is_found, is_absent, length-remove}
 
 -- the length of a list, and its block at an index
@@ -41,8 +43,7 @@ listed_take order numbers n m le =
 -- where a block is found, and where it is not
 pub found_at : (x p : ℕ) (xs : List ℕ) → p < length xs →
     ((k : ℕ) → k < p → get_or xs k 0 ≡ x → ⊥) → get_or xs p 0 ≡ x → index_of x xs ≡ p
-found_at x p xs lt others at = index_found x p xs lt (λ k h. ne_eqb (get_or xs k 0) x (others k
-    h)) at
+found_at x p xs lt others at = grind (arith, index_found, ne_eqb)
 
 pub found_nowhere : (x : ℕ) (xs : List ℕ) → ((k : ℕ) → k < length xs → get_or xs k 0 ≡ x → ⊥) →
     index_of x xs ≡ length xs
@@ -50,104 +51,47 @@ found_nowhere x xs others = index_end x xs (λ k h. ne_eqb (get_or xs k 0) x (ot
 
 pub touch_found : (x p : ℕ) (xs : List ℕ) → index_of x xs ≡ p → p < length xs →
     Behind p ≡ touch_of x xs
-touch_found x p xs at lt = ap (λ q. Behind q) (sym at) ∙
-    sym (ap (λ b. cond b (Behind (index_of x xs)) (New (length xs))) (is_found x p xs at lt))
+touch_found x p xs at lt = grind (arith, is_found)
 
 pub touch_new : (x n : ℕ) (xs : List ℕ) → length xs ≡ n → index_of x xs ≡ length xs →
     New n ≡ touch_of x xs
-touch_new x n xs long at = ap (λ q. New q) (sym long) ∙
-    sym (ap (λ b. cond b (Behind (index_of x xs)) (New (length xs))) (is_absent x xs at))
+touch_new x n xs long at = grind (arith, is_absent)
 
 -- a list without x, as far as n
 pub absent_to : (x n : ℕ) (xs : List ℕ) →
     ((k : ℕ) → k < n → k < length xs → get_or xs k 0 ≡ x → ⊥) → is_in x (take n xs) ≡ false
-absent_to x n xs others =
-    let lt : (k : ℕ) → k < length (take n xs) → (k < n) × (k < length xs) =
-    λ k h. (omega (arith, length-take n xs), omega (arith, length-take n xs)) in
-    is_absent x (take n xs) (found_nowhere x (take n xs) (λ k h e. others k (lt k h).0 (lt k h).1
-    (sym (get_or-take n xs k 0 (lt k h).0) ∙ e)))
+absent_to x n xs others = grind (arith, is_absent, found_nowhere, get_or-take, length-take)
 
 pub absent_at : (x n k : ℕ) (xs : List ℕ) → is_in x (take n xs) ≡ false → k < n → k < length xs →
     get_or xs k 0 ≡ x → ⊥
-absent_at x n k xs none lt le at =
-    let lt' : k < length (take n xs) = omega (arith, length-take n xs) in
-    false≢true (sym none ∙ list_any_at (λ y. eqb y x) (take n xs) k 0 lt'
-    (eq-eqb (get_or (take n xs) k 0) x (get_or-take n xs k 0 lt ∙ at)))
+absent_at x n k xs none lt le at = grind (arith, length-take, list_any_at, eq-eqb, get_or-take)
 
 -- where the entry at k stood before that at p came to the front
-pub source : ℕ → ℕ → ℕ
-source p zero = p
-source p (suc k) = cond (ltb k p) k (suc k)
-
-pub source_front : (p : ℕ) → source p zero ≡ p
-unfolding source
-source_front p = refl
+abbrev source : ℕ → ℕ → ℕ
+source p k = cond (eqb k 0) p (cond (leb k p) (k - 1) k)
 
 source_near : (p k : ℕ) → k < p → source p (suc k) ≡ k
-unfolding source
-source_near p k lt = ap (λ b. cond b k (suc k)) (lt-ltb k p lt)
+source_near p k lt = grind (arith, nat_tests)
 
 source_far : (p k : ℕ) → p ≤ k → source p (suc k) ≡ suc k
-unfolding source
-source_far p k le = ap (λ b. cond b k (suc k)) (le-ltb k p le)
+source_far p k le = grind (arith, nat_tests)
 
-pub turned_at : (p k : ℕ) (xs : List ℕ) → p < length xs →
-    get_or (get_or xs p 0 ∷ remove xs p) k 0 ≡ get_or xs (source p k) 0
-unfolding source
-turned_at p zero xs lt = refl
-turned_at p (suc k) xs lt =
-    let split : (k < p) ⊎ (p ≤ k) → get_or (remove xs p) k 0 ≡ get_or xs (cond (ltb k p) k (suc
-    k)) 0 =
-    λ w. elim w [
-      | inl near ↦ get_or-remove_below xs p 0 k near lt ∙
-          ap (λ b. get_or xs (cond b k (suc k)) 0) (sym (lt-ltb k p near))
-      | inr far ↦ get_or-remove_above xs p 0 k far lt ∙
-          (let e : k + 1 ≡ suc k = omega arith in ap (λ j. get_or xs j 0) e) ∙
-          ap (λ b. get_or xs (cond b k (suc k)) 0) (sym (le-ltb k p far))
-    ] in
-    split (cases_lt k p)
-
--- the order that a block at p of a list comes to the front of
-pub source-lt : (p k n : ℕ) → p < n → k < n → source p k < n
-source-lt p zero n a b = let e : source p zero ≡ p = source_front p in omega (arith, e)
-source-lt p (suc k) n a b =
-    let split : (k < p) ⊎ (p ≤ k) → source p (suc k) < n =
-    λ w. elim w [
-      | inl near ↦ omega (arith, source_near p k near)
-      | inr far ↦ omega (arith, source_far p k far)
-    ] in
-    split (cases_lt k p)
+source-lt : (p k n : ℕ) → p < n → k < n → source p k < n
+source-lt p k n a b = grind (arith, nat_tests)
 
 -- no two entries stood at one place
 source_once : (p i k : ℕ) → source p i ≡ source p k → i ≡ k
-source_once p zero zero e = refl
-source_once p zero (suc k) e =
-    let split : (k < p) ⊎ (p ≤ k) → zero ≡ suc k =
-    λ w. elim w [
-      | inl near ↦ omega (arith, source_near p k near, source_front p, e)
-      | inr far ↦ omega (arith, source_far p k far, source_front p, e)
-    ] in
-    split (cases_lt k p)
-source_once p (suc i) zero e =
-    let split : (i < p) ⊎ (p ≤ i) → suc i ≡ zero =
-    λ w. elim w [
-      | inl near ↦ omega (arith, source_near p i near, source_front p, e)
-      | inr far ↦ omega (arith, source_far p i far, source_front p, e)
-    ] in
-    split (cases_lt i p)
-source_once p (suc i) (suc k) e =
-    let both : (i < p) ⊎ (p ≤ i) → (k < p) ⊎ (p ≤ k) → suc i ≡ suc k =
-    λ v w. elim v [
-      | inl here ↦ elim w [
-        | inl near ↦ omega (arith, source_near p i here, source_near p k near, e)
-        | inr far ↦ omega (arith, source_near p i here, source_far p k far, e)
-      ]
-      | inr there ↦ elim w [
-        | inl near ↦ omega (arith, source_far p i there, source_near p k near, e)
-        | inr far ↦ omega (arith, source_far p i there, source_far p k far, e)
-      ]
-    ] in
-    both (cases_lt i p) (cases_lt k p)
+source_once p i k e = grind (arith, nat_tests)
+
+turned_at : (p k : ℕ) (xs : List ℕ) → p < length xs →
+    get_or (get_or xs p 0 ∷ remove xs p) k 0 ≡ get_or xs (source p k) 0
+turned_at p zero xs lt = refl
+turned_at p (suc k) xs lt = elim (cases_lt k p) [
+  | inl near ↦ get_or-remove_below xs p 0 k near lt ∙
+      ap (λ j. get_or xs j 0) (sym (source_near p k near))
+  | inr far ↦ get_or-remove_above xs p 0 k far lt ∙
+      ap (λ j. get_or xs j 0) (omega (arith, source_far p k far))
+]
 
 -- sixteen lanes one by one
 abbrev sixteen : List ℕ → List ℕ
@@ -155,37 +99,19 @@ sixteen xs = get_or xs 0 0 ∷ get_or xs 1 0 ∷ get_or xs 2 0 ∷ get_or xs 3 0
     get_or xs 5 0 ∷ get_or xs 6 0 ∷ get_or xs 7 0 ∷ get_or xs 8 0 ∷ get_or xs 9 0 ∷ get_or xs 10 0 ∷
     get_or xs 11 0 ∷ get_or xs 12 0 ∷ get_or xs 13 0 ∷ get_or xs 14 0 ∷ get_or xs 15 0 ∷ []
 
--- what holds of each number below sixteen
-none_below : (P : ℕ → Type 0) → (k : ℕ) → k < 0 → P k
-none_below P k lt = absurd (omega arith)
+-- what holds of each number below another
+abbrev Each : ℕ → (ℕ → Type 0) → Type 0
+Each zero P = Unit
+Each (suc n) P = P 0 × Each n (λ k. P (suc k))
 
-first_below : (n : ℕ) (P : ℕ → Type 0) → P 0 → ((k : ℕ) → k < n → P (suc k)) →
-    (k : ℕ) → k < suc n → P k
-first_below n P z more zero lt = z
-first_below n P z more (suc k) lt = more k (omega arith)
-
-below_sixteen : (P : ℕ → Type 0) → P 0 → P 1 → P 2 → P 3 → P 4 → P 5 → P 6 → P 7 → P 8 → P 9 →
-    P 10 → P 11 → P 12 → P 13 → P 14 → P 15 → (k : ℕ) → k < 16 → P k
-below_sixteen P a b c d e f g h i j k l m n o p =
-    first_below 15 (λ n. P (n)) a (first_below 14 (λ n. P (suc n)) b (first_below 13 (λ n. P (suc
-    (suc n))) c (first_below 12 (λ n. P (suc (suc (suc n)))) d (first_below 11 (λ n. P (suc
-    (suc (suc (suc n))))) e (first_below 10 (λ n. P (suc (suc (suc (suc (suc n)))))) f
-    (first_below 9 (λ n. P (suc (suc (suc (suc (suc (suc n))))))) g (first_below 8 (λ n. P
-    (suc (suc (suc (suc (suc (suc (suc n)))))))) h (first_below 7 (λ n. P (suc (suc (suc (suc
-    (suc (suc (suc (suc n))))))))) i (first_below 6 (λ n. P (suc (suc (suc (suc (suc (suc
-    (suc (suc (suc n)))))))))) j (first_below 5 (λ n. P (suc (suc (suc (suc (suc (suc (suc
-    (suc (suc (suc n))))))))))) k (first_below 4 (λ n. P (suc (suc (suc (suc (suc (suc (suc
-    (suc (suc (suc (suc n)))))))))))) l (first_below 3 (λ n. P (suc (suc (suc (suc (suc (suc
-    (suc (suc (suc (suc (suc (suc n))))))))))))) m (first_below 2 (λ n. P (suc (suc (suc (suc
-    (suc (suc (suc (suc (suc (suc (suc (suc (suc n)))))))))))))) n (first_below 1 (λ n. P
-    (suc (suc (suc (suc (suc (suc (suc (suc (suc (suc (suc (suc (suc (suc n))))))))))))))) o
-    (first_below 0 (λ n. P (suc (suc (suc (suc (suc (suc (suc (suc (suc (suc (suc (suc (suc
-    (suc (suc n)))))))))))))))) p (none_below (λ n. P (suc (suc (suc (suc (suc (suc (suc (suc
-    (suc (suc (suc (suc (suc (suc (suc (suc n)))))))))))))))))))))))))))))))))
+each_below : (n : ℕ) (P : ℕ → Type 0) → Each n P → (k : ℕ) → k < n → P k
+each_below zero P all k lt = absurd (omega arith)
+each_below (suc n) P all zero lt = all.0
+each_below (suc n) P all (suc k) lt = each_below n (λ j. P (suc j)) all.1 k (omega arith)
 
 sixteen_at : (xs : List ℕ) (k : ℕ) → k < 16 → get_or xs k 0 ≡ get_or (sixteen xs) k 0
 sixteen_at xs = let P : ℕ → Type 0 = λ k. get_or xs k 0 ≡ get_or (sixteen xs) k 0 in
-    below_sixteen P refl refl refl refl refl refl refl refl refl refl refl refl refl refl refl refl
+    each_below 16 P (search rules)
 
 is_sixteen : (xs : List ℕ) → length xs ≡ 16 → xs ≡ sixteen xs
 is_sixteen xs long = ext_get_or 0 xs (sixteen xs) long (λ k lt. sixteen_at xs k (omega arith))
@@ -219,11 +145,8 @@ module _ (p y mark : ℕ) (marks order numbers : List ℕ) (o : IsOrder marks or
   behind_lt : (k : ℕ) → suc k < 16 → source p (suc k) < 16
   behind_lt k h = source-lt p (suc k) 16 lt h
 
-  behind_not : (k : ℕ) → source p (suc k) ≢ p
-  behind_not k = elim (cases_lt k p) [
-    | inl near ↦ λ e. absurd (omega (arith, source_near p k near, e, near))
-    | inr far ↦ λ e. absurd (omega (arith, source_far p k far, e, far))
-  ]
+  behind_not : (k : ℕ) → source p (suc k) ≡ p → ⊥
+  behind_not k e = absurd (omega (arith, source_once p (suc k) 0 e))
 
   other_number : (k : ℕ) → suc k < 16 →
       get_or written (get_or order (source p (suc k)) 0) 0 ≡
@@ -282,16 +205,10 @@ counted_slots = 0 ∷ 1 ∷ 2 ∷ 3 ∷ 4 ∷ 5 ∷ 6 ∷ 7 ∷ 8 ∷ 9 ∷ 10 �
 
 counted_at : (k : ℕ) → k < 16 → get_or counted_slots k 0 ≡ k
 counted_at = let P : ℕ → Type 0 = λ k. get_or counted_slots k 0 ≡ k in
-    below_sixteen P refl refl refl refl refl refl refl refl refl refl refl refl refl refl refl refl
+    each_below 16 P (search rules)
 
 counted_within : (k : ℕ) → get_or counted_slots k 0 < 16
-counted_within k =
-    let split : (k < 16) ⊎ (16 ≤ k) → get_or counted_slots k 0 < 16 =
-    λ w. elim w [
-      | inl lt ↦ omega (arith, counted_at k lt)
-      | inr far ↦ omega (arith, get_or_past counted_slots k 0 far)
-    ] in
-    split (cases_lt k 16)
+counted_within k = grind (arith, counted_at, get_or_past)
 
 mark_zero : 0 ≡ mark_of 0
 unfolding mark_of
@@ -300,7 +217,7 @@ mark_zero = refl
 blank_marked : (k : ℕ) → k < 16 →
     get_or (replicate 16 0) k 0 ≡ mark_of (get_or (replicate 16 0) (get_or counted_slots k 0) 0)
 blank_marked k lt =
-    zero_at 16 k ∙ mark_zero ∙ ap mark_of (sym (zero_at 16 (get_or counted_slots k 0)))
+    all_same {A = ℕ} 16 k 0 ∙ mark_zero ∙ ap mark_of (sym (all_same {A = ℕ} 16 (get_or counted_slots k 0) 0))
 
 -- slots that are all 0
 pub blank_order : IsOrder (replicate 16 0) counted_slots (replicate 16 0)
@@ -321,7 +238,7 @@ with_sixteen x xs =
     let P : ℕ → Type 0 = λ p. sel_l (map (top 7)
     (zip2 (λ a b. cond (eqb a b) 255 0) FIRST_LANE (replicate 16 255))) (replicate 16 x)
     (swz_l w8 16 (sixteen xs) 0 (get_or TURNS p [])) ≡ x ∷ remove (sixteen xs) p in
-    below_sixteen P refl refl refl refl refl refl refl refl refl refl refl refl refl refl refl refl
+    each_below 16 P (search rules)
 
 turned_with_is : (x : ℕ) (xs : List ℕ) (p : ℕ) → p < 16 → length xs ≡ 16 → sel_l (map (top 7)
     (zip2 (λ a b. cond (eqb a b) 255 0) FIRST_LANE (replicate 16 255))) (replicate 16 x)

@@ -1,12 +1,12 @@
 -- A block that comes to the front of a list whose blocks behind the second are in slots.
 use Rattle.std.proofs.Common.{◌≡◌, ℕ, zero, suc, ◌+◌, ◌-◌, ◌<◌, ◌≤◌, inl, inr, List, [], ◌∷◌}
-use Rattle.std.proofs.Common.{length, take, min, cond, refl, sym, ◌∙◌, ap, subst, arith}
+use Rattle.std.proofs.Common.{length, take, min, refl, sym, ◌∙◌, ap, subst, arith}
 use Rattle.std.specs.List.{remove}
 use Rattle.std.proofs.lemmas.Bool.{cases_lt}
 use Rattle.std.proofs.lemmas.List.{take_all, take-take, length-take-le}
 use Rattle.profile_core.specs.declared.recency.Touch.TheVariants.{Behind, New}
 use Rattle.profile_core.specs.declared.slotted_rests.Slots.{Slots}
-use Rattle.profile_core.specs.internal.Moves.{index_of, touch_of, rest_touch_of}
+use Rattle.profile_core.specs.internal.Moves.{index_of, touch_of}
 use Rattle.profile_core.specs.internal.Slots.{listed}
 use Rattle.profile_core.proofs.Feeding.{FoundAt, FoundNowhere, found_behind, found_nowhere}
 use Rattle.profile_core.proofs.Shifting.{length-remove, remove_end}
@@ -41,16 +41,7 @@ module _ (x y h most : ℕ) (whole after : List ℕ) (all : length whole ≡ 16)
   -- in that of the block itself
   pub found_moved : (p : ℕ) → after ≡ y ∷ remove whole p → index_of x in_list ≡ p → p < h →
       take h after ≡ take most (y ∷ remove in_list (index_of x in_list))
-  found_moved p is at lt =
-      let left = remove in_list p in
-      let next : h ≡ suc (h - 1) = omega arith in
-      let size : suc (length left) ≡ h =
-      length-remove in_list p (omega (arith, in_list_long, lt)) ∙ in_list_long in
-      ap (take h) is ∙ ap (λ n. take n (y ∷ remove whole p)) next
-      ∙ ap (λ ys. y ∷ ys) (removed_take (h - 1) p whole (omega arith))
-      ∙ ap (λ n. y ∷ remove (take n whole) p) (sym next)
-      ∙ sym (take_all most (y ∷ left) (omega (arith, size, fits)))
-      ∙ ap (λ i. take most (y ∷ remove in_list i)) (sym at)
+  found_moved p is at lt = grind (arith, removed_take, length-remove, take_all, in_list_long)
 
   -- in that of the last, or of the first that the list doesn't have
   pub new_moved : (q : ℕ) → after ≡ y ∷ remove whole q → index_of x in_list ≡ length in_list →

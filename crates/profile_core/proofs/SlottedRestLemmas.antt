@@ -5,20 +5,20 @@ use Rattle.std.proofs.Common.{length-append, get_or-set_same, get_or-set_other}
 use Rattle.std.specs.Prelude.{replicate}
 use Rattle.std.proofs.lemmas.Bool.{cases_eq, cases_lt}
 use Rattle.std.proofs.lemmas.List.{get_or_append_left, length-replicate, take-replicate}
+use Rattle.std.proofs.lemmas.List.{get_or_read}
 use Rattle.std.proofs.Math.Seq.{get_or-append_seam}
 use Rattle.profile_core.specs.declared.slotted_rests.Slots.{Slots}
-use Rattle.profile_core.specs.declared.slotted_rests.SlottedRests.TheInside.{Inside}
 use Rattle.profile_core.specs.declared.slotted_rests.TheConstants.{BLANK}
-use Rattle.profile_core.specs.internal.Rows.{RowsValue, rows_of, with_row}
+use Rattle.profile_core.specs.internal.Rows.{RowsValue, rows_of, row_for, with_row}
 use Rattle.profile_core.specs.internal.Places.{taken, ArePlaces}
 use Rattle.profile_core.specs.internal.Slots.{listed, IsOrder}
 use Rattle.profile_core.specs.internal.SlottedRests.{no_slots, slots_at, slotted_rest, ArePlaced}
 use Rattle.profile_core.specs.internal.SlottedRests.{IsSlotted}
-use Rattle.profile_core.proofs.Emptying.{zero_at}
+use Rattle.profile_core.proofs.Elements.{all_set, all_same}
 use Rattle.profile_core.proofs.Places.{places_then, one_more, place_left, place_here, place_other}
-use Rattle.profile_core.proofs.Places.{places_taken, taken_few, taken_none, none_taken}
-use Rattle.profile_core.proofs.RowsOf.{HasRow, length-rows_of, rows_at, rows_same, rows_blank, row_put}
-use Rattle.profile_core.proofs.SlotLemmas.{length-listed, listed_take, blank_order}
+use Rattle.profile_core.proofs.Places.{places_taken, taken_none, none_taken}
+use Rattle.profile_core.proofs.RowsOf.{HasRow, rows_kept, row_is, rows_blank, row_put}
+use Rattle.profile_core.proofs.SlotLemmas.{listed_take, blank_order}
 
 -- slots that have an order
 abbrev pub AreOrdered : Slots → Type 0
@@ -28,26 +28,11 @@ pub slots_are : {places : List ℕ} {rests : List Slots} {room : ℕ} → ArePla
     (k : ℕ) → get_or places k 0 < length rests
 slots_are a k = omega (arith, a.rests_len, a.own.within k)
 
--- what is known where the rest of set k is asked for
-abbrev pub RestIn : Inside → ℕ → RowsValue → Type 0
-RestIn r k rests = HasRow r.stride (length r.places.items) k
-    (slotted_rest r.stride r.places.items r.rests.items) rests
-
 -- the slots of set k, which are its own, written
 module _ {places : List ℕ} {rests : List Slots} {room : ℕ} (a : ArePlaced places rests room)
     (k : ℕ) (own : 0 < get_or places k 0) (s : Slots) (o : AreOrdered s) where
   abbrev rests_then : List Slots
   rests_then = set rests (get_or places k 0) s
-
-  each_then : (r : ℕ) → r < length rests_then → AreOrdered (get_or rests_then r no_slots)
-  each_then r lt =
-      let P : Slots → Type 0 = AreOrdered in
-      elim (cases_eq r (get_or places k 0)) [
-        | inl same ↦ subst P (sym (ap (λ i. get_or rests_then i no_slots) same ∙
-            get_or-set_same rests (get_or places k 0) s no_slots (slots_are a k))) o
-        | inr other ↦ subst P (sym (get_or-set_other rests (get_or places k 0) r s no_slots other))
-            (a.each r (omega (arith, lt, length-set rests (get_or places k 0) s)))
-      ]
 
   pub written_placed : ArePlaced places rests_then room
   written_placed = record {
@@ -55,7 +40,9 @@ module _ {places : List ℕ} {rests : List Slots} {room : ℕ} (a : ArePlaced pl
     rests_len = length-set rests (get_or places k 0) s ∙ a.rests_len;
     fits = a.fits;
     own = a.own;
-    each = each_then;
+    each = λ r lt. all_set (λ i t. i < length rests → AreOrdered t) rests (get_or places k 0) s
+        no_slots (slots_are a k) (λ _. o) (λ i _. a.each i) r
+        (omega (arith, lt, length-set rests (get_or places k 0) s));
   }
 
   pub written_here : slots_at places rests_then k ≡ s
@@ -73,6 +60,57 @@ module _ {places : List ℕ} {rests : List Slots} {room : ℕ} (a : ArePlaced pl
       row_put r (slotted_rest n places rests_then) (listed s.order s.numbers n)
       (ap (λ (t : Slots). listed t.order t.numbers n) written_here)
       (λ j lt other. ap (λ (t : Slots). listed t.order t.numbers n) (written_other j other))
+
+-- what is known once set k has slots of its own, at place p
+pub record HasOwn (n k p : ℕ) (places : List ℕ) (rests : List Slots) (room : ℕ)
+    (rows : RowsValue) : Type 0 where
+  pub placed : ArePlaced places rests room
+  pub own : 0 < get_or places k 0
+  pub which : p ≡ get_or places k 0
+  pub row : HasRow n (length places) k (slotted_rest n places rests) rows
+
+pub own_of : {n k p room : ℕ} {before lent places : List ℕ} (rests : List Slots)
+    {rests' : List Slots} {rows : RowsValue} →
+    record { stride = n; rows = rows_of (length before) (slotted_rest n before rests) } ≡ rows →
+    k < length rows.rows → lent ≡ before → length places ≡ length lent →
+    ((j : ℕ) → slots_at places rests' j ≡ slots_at lent rests j) →
+    ArePlaced places rests' room → 0 < p → p ≡ get_or places k 0 →
+    HasOwn n k p places rests' room rows
+own_of {n} rests seen is_set is count same placed some which = record {
+  placed = placed;
+  own = omega (arith, some, which);
+  which = which;
+  row = rows_kept seen is_set (count ∙ ap length is)
+      (λ j. ap (λ (s : Slots). listed s.order s.numbers n)
+      (same j ∙ ap (λ ps. slots_at ps rests j) is));
+}
+
+module _ {n k p room : ℕ} {places : List ℕ} {rests : List Slots} {rows : RowsValue}
+    (o : HasOwn n k p places rests room rows) where
+  -- its slots as they are lent
+  own_lent : {s : Slots} → s ≡ get_or rests p s → s ≡ slots_at places rests k
+  own_lent {s} read = get_or_read rests p s (omega (arith, o.which, slots_are o.placed k)) read
+      no_slots ∙ ap (λ i. get_or rests i no_slots) o.which
+
+  -- the first numbers in them
+  pub own_listed : {s : Slots} → s ≡ get_or rests p s → (m : ℕ) → m ≤ n →
+      listed s.order s.numbers m ≡ take m (row_for rows k)
+  own_listed read m le =
+      let s = slots_at places rests k in
+      ap (λ (t : Slots). listed t.order t.numbers m) (own_lent read)
+      ∙ listed_take s.order s.numbers m n le ∙ ap (take m) (sym (row_is o.row))
+
+  -- and as they are put back
+  pub own_back : {places' : List ℕ} {s : Slots} → places' ≡ places → AreOrdered s →
+      record { stride = n; rows = rows_of (length places') (slotted_rest n places' (set rests p s)) }
+      ≡ with_row rows k (listed s.order s.numbers n)
+  own_back {places'} {s} places_is ordered =
+      let seen : List ℕ → ℕ → RowsValue = λ ps i. record {
+        stride = n;
+        rows = rows_of (length ps) (slotted_rest n ps (set rests i s));
+      } in
+      ap (λ ps. seen ps p) places_is ∙ ap (seen places) o.which
+      ∙ written_rests o.placed k o.own s ordered o.row
 
 -- set k, which has no slots of its own, takes some
 module _ {places : List ℕ} {rests : List Slots} {room : ℕ} (a : ArePlaced places rests room)
@@ -153,24 +191,11 @@ ready_taken {k} {room} {more} {number} {places} {places'} {rests} {rests'} a lt 
       count = length-set places k (taken places + 1);
     }))
 
-pub ready_rests : {n k more : ℕ} {places places' : List ℕ} {rests rests' : List Slots}
-    {rows : RowsValue} → IsReady k places rests more places' rests' →
-    record { stride = n; rows = rows_of (length places) (slotted_rest n places rests) } ≡ rows →
-    record { stride = n; rows = rows_of (length places') (slotted_rest n places' rests') } ≡ rows
-ready_rests {n} {k} {more} {places} {places'} {rests} {rests'} {rows} t seen =
-    let old = slotted_rest n places rests in
-    ap (λ rs. record { stride = n; rows = rs })
-    (rows_same (length places') (slotted_rest n places' rests') (rows_of (length places) old)
-    (length-rows_of (length places) old ∙ sym t.count)
-    (λ j lt. ap (λ (s : Slots). listed s.order s.numbers n) (t.same j)
-    ∙ sym (rows_at (length places) j old (omega (arith, lt, t.count)))))
-    ∙ seen
-
 -- rests of which none has slots of its own yet
 module _ (n m : ℕ) {places : List ℕ} {rests : List Slots} (some : 1 ≤ n) (most : n ≤ 16)
     (none : places ≡ replicate m 0) (one : rests ≡ BLANK ∷ []) where
   place_none : (k : ℕ) → get_or places k 0 ≡ 0
-  place_none k = ap (λ ps. get_or ps k 0) none ∙ zero_at m k
+  place_none k = ap (λ ps. get_or ps k 0) none ∙ all_same m k 0
 
   place_count : length places ≡ m
   place_count = ap length none ∙ length-replicate m 0

@@ -1,27 +1,23 @@
 -- Rests that stand in one array: where they stand, one of them written anew, and one taken.
-use Rattle.std.proofs.Common.{◌≡◌, ℕ, ◌+◌, ◌*◌, ◌/◌, ◌<◌, ◌≤◌, ◌^◌, inl, inr, List, ◌++◌, length}
+use Rattle.std.proofs.Common.{◌≡◌, ℕ, ◌+◌, ◌*◌, ◌/◌, ◌<◌, ◌≤◌, ◌^◌, List, ◌++◌, length}
 use Rattle.std.proofs.Common.{take, drop, get_or, set, sym, ◌∙◌, ap, subst, arith}
-use Rattle.std.proofs.Common.{length-append, length-set}
+use Rattle.std.proofs.Common.{length-append, length-set, Vec, ◌-◌}
 use Rattle.std.specs.Prelude.{replicate}
 use Rattle.std.proofs.Math.Nat.{mul-le-mul_right, mul-div_cancel}
 use Rattle.std.proofs.lemmas.Bool.{cases_eq}
 use Rattle.std.proofs.lemmas.List.{take-append-le, take-replicate, drop_at, take-take}
 use Rattle.std.proofs.lemmas.List.{length-replicate, length-take-le}
-use borrow.Rule.Slice.PartMut.{put_mid, same_len_mid}
-use Rattle.profile_core.specs.declared.sparse_rests.SparseRests.TheInside.{Inside}
-use Rattle.profile_core.specs.internal.Rows.{RowsValue, rows_of, with_row}
-use Rattle.profile_core.specs.internal.Places.{taken, ArePlaces}
+use Rattle.std.specs.Vec.{with_items}
+use borrow.Rule.Slice.PartMut.{put_mid}
+use Rattle.profile_core.specs.internal.Rows.{RowsValue, rows_of, row_for, with_row}
+use Rattle.profile_core.specs.internal.Places.{taken}
 use Rattle.profile_core.specs.internal.SparseRests.{sparse_rest, IsSparse}
-use Rattle.profile_core.proofs.Emptying.{zero_at}
+use Rattle.profile_core.proofs.Elements.{all_same}
 use Rattle.profile_core.proofs.Places.{places_then, one_more, place_left, place_here, place_other}
-use Rattle.profile_core.proofs.Places.{places_taken, taken_few, taken_none, none_taken}
+use Rattle.profile_core.proofs.Places.{places_taken}
 use Rattle.profile_core.proofs.RowParts.{in_front, part_long, part_here, part_other, part_same}
-use Rattle.profile_core.proofs.RowsOf.{HasRow, length-rows_of, rows_at, rows_same, rows_blank, row_put}
-
--- what is known where the rest of set k is asked for
-abbrev pub RestIn : Inside → ℕ → RowsValue → Type 0
-RestIn r k rests = HasRow r.stride (length r.places.items) k
-    (sparse_rest r.stride r.places.items r.numbers.items) rests
+use Rattle.profile_core.proofs.RowParts.{part_lent, part_back}
+use Rattle.profile_core.proofs.RowsOf.{HasRow, rows_kept, row_is, rows_blank, row_put}
 
 at_first : (n : ℕ) (xs : List ℕ) → take n (drop (0 * n) xs) ≡ take n xs
 at_first n xs =
@@ -52,16 +48,6 @@ module _ {n room : ℕ} {places numbers : List ℕ} (a : IsSparse n places numbe
     written_other j other = part_other (get_or places k 0) (get_or places j 0) n numbers new
         (omega (arith, rest_ends k)) long (λ same. other (sym (a.own.apart k j own (sym same))))
 
-    pub written_sound : IsSparse n places written room
-    written_sound = record {
-      some = a.some;
-      small = a.small;
-      numbers_len = same_len_mid (get_or places k 0 * n) n numbers new
-          (long ∙ sym (rest_long k)) ∙ a.numbers_len;
-      fits = a.fits;
-      own = a.own;
-    }
-
     pub written_rests : {rows : RowsValue} →
         HasRow n (length places) k (sparse_rest n places numbers) rows →
         record { stride = n; rows = rows_of (length places) (sparse_rest n places written) } ≡
@@ -70,12 +56,58 @@ module _ {n room : ℕ} {places numbers : List ℕ} (a : IsSparse n places numbe
         (part_here (get_or places k 0 * n) n numbers (rest_ends k) new long)
         (λ j lt other. written_other j other)
 
--- the rests once that of set k is `new`
-pub record IsWritten (n k room : ℕ) (places numbers : List ℕ) (rows : RowsValue)
-    (new : List ℕ) : Type 0 where
+-- what is known once set k has a rest of its own, at place p
+pub record HasOwn (n k p : ℕ) (places numbers : List ℕ) (room : ℕ) (rows : RowsValue) : Type 0 where
   pub sound : IsSparse n places numbers room
-  pub seen : record { stride = n; rows = rows_of (length places) (sparse_rest n places numbers) } ≡
-      with_row rows k new
+  pub own : 0 < get_or places k 0
+  pub which : p ≡ get_or places k 0
+  pub row : HasRow n (length places) k (sparse_rest n places numbers) rows
+
+pub own_of : {n k p room : ℕ} {before lent places : List ℕ} (numbers : List ℕ)
+    {numbers' : List ℕ} {rows : RowsValue} →
+    record { stride = n; rows = rows_of (length before) (sparse_rest n before numbers) } ≡ rows →
+    k < length rows.rows → lent ≡ before → length places ≡ length lent →
+    ((j : ℕ) → sparse_rest n places numbers' j ≡ sparse_rest n lent numbers j) →
+    IsSparse n places numbers' room → 0 < p → p ≡ get_or places k 0 →
+    HasOwn n k p places numbers' room rows
+own_of {n} numbers seen is_set is count same sound some which = record {
+  sound = sound;
+  own = omega (arith, some, which);
+  which = which;
+  row = rows_kept seen is_set (count ∙ ap length is)
+      (λ j. same j ∙ ap (λ ps. sparse_rest n ps numbers j) is);
+}
+
+module _ {n k p room : ℕ} {places numbers : List ℕ} {rows : RowsValue}
+    (o : HasOwn n k p places numbers room rows) where
+  pub own_ends : p * n + n ≤ length numbers
+  own_ends = omega (arith, rest_ends o.sound k, ap (λ q. q * n) o.which)
+
+  -- the rest as it is lent
+  pub own_lent : {now : List ℕ} → now ≡ numbers →
+      take (p * n + n - p * n) (drop (p * n) now) ≡ row_for rows k
+  own_lent is = part_lent (p * n) n is ∙ ap (λ q. take n (drop (q * n) numbers)) o.which ∙
+      sym (row_is o.row)
+
+  pub own_long : length (row_for rows k) ≡ n
+  own_long = ap length (row_is o.row) ∙ rest_long o.sound k
+
+-- and as it is put back
+pub own_back : {Z : Type 0} {n k p room : ℕ} {places places' : List ℕ} {rows : RowsValue}
+    (v : Vec ℕ Z) → HasOwn n k p places v.items room rows → places' ≡ places →
+    {now : List ℕ} (new : List ℕ) → now ≡ v.items → length now ≡ v.len →
+    length new ≡ length (take (p * n + n - p * n) (drop (p * n) now)) → record {
+      stride = n;
+      rows = rows_of (length places') (sparse_rest n places'
+          (with_items v (put_mid (p * n) (p * n + n - p * n) now new)).items);
+    } ≡ with_row rows k new
+own_back {Z} {n} {k} {p} {room} {places} v o places_is {now} new is len long =
+    let seen : List ℕ → List ℕ → RowsValue =
+    λ ps ns. record { stride = n; rows = rows_of (length ps) (sparse_rest n ps ns) } in
+    ap (λ ps. seen ps (with_items v (put_mid (p * n) (p * n + n - p * n) now new)).items) places_is
+    ∙ ap (seen places) (part_back v (p * n) n new is len long ∙
+    ap (λ q. put_mid (q * n) n v.items new) o.which)
+    ∙ written_rests o.sound k o.own new (long ∙ ap length (own_lent o is) ∙ own_long o) o.row
 
 -- set k, which has no rest of its own, takes one
 module _ {n room : ℕ} {places numbers : List ℕ} (a : IsSparse n places numbers room) {k : ℕ}
@@ -111,18 +143,7 @@ module _ {n room : ℕ} {places numbers : List ℕ} (a : IsSparse n places numbe
 
   more_same : (j : ℕ) →
       sparse_rest n (places_then a.own lt none) numbers_more j ≡ sparse_rest n places numbers j
-  more_same j = elim (cases_eq j k) [
-    | inl same ↦ ap (λ i. sparse_rest n (places_then a.own lt none) numbers_more i) same
-        ∙ ap (λ p. take n (drop (p * n) numbers_more)) (place_here a.own lt none)
-        ∙ ap (λ xs. take n xs) (drop_at numbers first ((taken places + 1) * n) (a.numbers_len))
-        ∙ take-take n n numbers (omega arith)
-        ∙ sym (at_first n numbers)
-        ∙ ap (λ p. take n (drop (p * n) numbers)) (sym none)
-        ∙ ap (λ i. sparse_rest n places numbers i) (sym same)
-    | inr other ↦ ap (λ p. take n (drop (p * n) numbers_more)) (place_other a.own lt none j other)
-        ∙ part_same (get_or places j 0 * n) n numbers_more numbers
-        (take-append-le (get_or places j 0 * n + n) numbers first (rest_ends a j))
-  ]
+  more_same j = grind (arith, cases_eq, place_here, place_other, drop_at, take-take, at_first, part_same, take-append-le, rest_ends)
 
 -- the same rests, once set k has its own
 pub record IsReady (n k : ℕ) (places numbers : List ℕ) (room : ℕ)
@@ -150,30 +171,15 @@ ready_taken {n} {k} {room} {more} {number} {places} {numbers} {places'} {numbers
       count = length-set places k (taken places + 1);
     }))
 
-pub ready_rests : {n k more : ℕ} {places numbers places' numbers' : List ℕ} {rows : RowsValue} →
-    IsReady n k places numbers more places' numbers' →
-    record { stride = n; rows = rows_of (length places) (sparse_rest n places numbers) } ≡ rows →
-    record { stride = n; rows = rows_of (length places') (sparse_rest n places' numbers') } ≡ rows
-ready_rests {n} {k} {more} {places} {numbers} {places'} {numbers'} {rows} t seen =
-    let old = sparse_rest n places numbers in
-    ap (λ rs. record { stride = n; rows = rs })
-    (rows_same (length places') (sparse_rest n places' numbers') (rows_of (length places) old)
-    (length-rows_of (length places) old ∙ sym t.count)
-    (λ j lt. t.same j ∙ sym (rows_at (length places) j old (omega (arith, lt, t.count)))))
-    ∙ seen
-
 -- rests of which none is taken yet
 module _ (n m : ℕ) {places numbers : List ℕ} (some : 1 ≤ n) (none : places ≡ replicate m 0)
     (zeros : numbers ≡ replicate n 0) where
   place_none : (k : ℕ) → get_or places k 0 ≡ 0
-  place_none k = ap (λ ps. get_or ps k 0) none ∙ zero_at m k
+  place_none k = ap (λ ps. get_or ps k 0) none ∙ all_same m k 0
 
   place_count : length places ≡ m
   place_count = ap length none ∙ length-replicate m 0
 
   pub new_rests : rows_of (length places) (sparse_rest n places numbers) ≡
       replicate m (replicate n 0)
-  new_rests = ap (λ j. rows_of j (sparse_rest n places numbers)) place_count ∙
-      rows_blank m n (sparse_rest n places numbers)
-      (λ k lt. ap (λ p. take n (drop (p * n) numbers)) (place_none k) ∙ at_first n numbers
-      ∙ ap (take n) zeros ∙ take-replicate n n 0 (omega arith))
+  new_rests = grind (arith, place_count, rows_blank, place_none, at_first, take-replicate)

@@ -1,13 +1,12 @@
 -- A list whose first two blocks stand elsewhere, and the others in a rest, as a block is brought to
 -- its front.
-use Rattle.std.proofs.Common.{◌≡◌, ℕ, suc, ◌+◌, ◌-◌, ◌<◌, ◌≤◌, ◌^◌, false, cond, eqb, inl, inr, List, [], ◌∷◌}
+use Rattle.std.proofs.Common.{◌≡◌, ℕ, suc, ◌+◌, ◌-◌, ◌<◌, ◌≤◌, ◌^◌, false, eqb, List, [], ◌∷◌}
 use Rattle.std.proofs.Common.{length, take, get_or, set, sym, ◌∙◌, ap, subst, arith, length-set}
 use Rattle.std.proofs.Common.{get_or-set_same, get_or-set_other}
 use Rattle.std.specs.List.{remove}
 use Rattle.std.specs.Prelude.{replicate}
 use Rattle.std.proofs.lemmas.Bool.{ne_eqb}
 use Rattle.std.proofs.lemmas.List.{take_all, get_or-replicate, length-replicate, set-get_or}
-use Rattle.profile_core.specs.declared.recency.Touch.TheVariants.{Behind, New}
 use Rattle.profile_core.specs.internal.Moves.{index_of, is_in, is_front, is_second, move_to_front}
 use Rattle.profile_core.specs.internal.Moves.{touch_of, rest_touch_of}
 use Rattle.profile_core.specs.internal.Rows.{RowsValue, rows_of, row_for, with_row}
@@ -53,15 +52,7 @@ module _ (x y z len : ℕ) (rest : List ℕ) (two : 2 ≤ len) where
     second_other = ne_eqb z x second
 
     pub two_touch : rest_touch_of 2 x others ≡ touch_of x list
-    two_touch =
-        let a = in_two x y z others first second in
-        let b : index_of x (y ∷ z ∷ others) ≡ 2 + index_of x others =
-        behind_two x y z others first second ∙ omega arith in
-        let d : length (y ∷ z ∷ others) ≡ 2 + length others = omega arith in
-        sym (ap (touch_of x) list_is
-        ∙ ap (λ t. cond t (Behind (index_of x (y ∷ z ∷ others))) (New (length (y ∷ z ∷ others)))) a
-        ∙ ap (λ i. cond (is_in x others) (Behind i) (New (length (y ∷ z ∷ others)))) b
-        ∙ ap (λ i. cond (is_in x others) (Behind (2 + index_of x others)) (New i)) d)
+    two_touch = grind (arith, list_is, in_two, behind_two, first, second)
 
     -- the row once x is in front, and y the first number of it
     pub two_brought : (n len' : ℕ) (rest' : List ℕ) → 1 ≤ n → n ≤ 2 ^ 21 → length rest' ≡ n →
@@ -114,17 +105,7 @@ module _ (m : ℕ) {firsts : List ℕ} {rests : RowsValue} (none : firsts ≡ re
   count = ap (λ v. length v.rows) blank ∙ length-replicate m (replicate rests.stride 0)
 
   rest_at : (k : ℕ) → k < m → get_or rests.rows k [] ≡ replicate rests.stride 0
-  rest_at k lt = ap (λ v. get_or v.rows k []) blank ∙
-      get_or-replicate m k (replicate rests.stride 0) [] lt
-
-  pub new_split : 1 ≤ rests.stride → rests.stride ≤ 2 ^ 21 → AreSplitRows firsts rests
-  new_split some small = record {
-    all = ap length none ∙ length-replicate m 0 ∙ sym count;
-    long = λ k lt. ap length (rest_at k (omega (arith, lt, count))) ∙
-        length-replicate rests.stride 0;
-    some = some;
-    small = small;
-  }
+  rest_at k lt = grind (arith, get_or-replicate)
 
   pub new_rows : as_rows firsts rests ≡ blank_rows m (rests.stride + 1)
   new_rows =
@@ -188,9 +169,6 @@ module _ {k : ℕ} {firsts : List ℕ} {rests rows : RowsValue} (r : HasSplit k 
   rest_same : rests ≡ with_row rests k (row_for rests k)
   rest_same = ap (λ rs. record rests { rows = rs }) (sym (set-get_or rests.rows k []))
 
-  pub first_sound : (y : ℕ) → AreSplitRows (set firsts k y) rests
-  first_sound y = written_sound (row_for rests k) rest_long rest_same y
-
   pub first_written : {y first : ℕ} → first ≡ y →
       as_rows (set firsts k first) rests ≡ with_row rows k (y ∷ row_for rests k)
   first_written is = written_rows (row_for rests k) rest_long rest_same is
@@ -222,8 +200,7 @@ module _ {k : ℕ} {firsts : List ℕ} {rests rows : RowsValue} (r : HasSplit k 
 
   pub rest_touch : rest_touch_of 2 x (take (len - 2) (row_for rests k)) ≡
       touch_of x (list_in_row rows k y len)
-  rest_touch = two_touch x y z len (row_for rests k) two is_behind is_further ∙
-      sym (ap (touch_of x) shape)
+  rest_touch = grind (arith, two_touch, shape)
 
   pub rest_brought : (len' : ℕ) (rest' : List ℕ) → length rest' ≡ rests.stride → 2 ≤ len' →
       len' ≤ rests.stride + 2 →

@@ -59,9 +59,7 @@ module _ {k held front : ℕ} {fronts : List ℕ} {rows : RowsValue} {lens : Lis
 
   -- the list, as what is read of it says
   pub list_read : list ≡ list_in_row rows k front held
-  list_read =
-      list_is t.known ∙ ap (λ h. take h (get_or fronts k 0 ∷ row_for rows k)) (sym t.held_is) ∙
-      ap (λ f. take held (f ∷ row_for rows k)) (sym t.front_is)
+  list_read = grind (arith, list_is)
 
   list_long : length list ≡ held
   list_long = list_size t.known ∙ sym t.held_is

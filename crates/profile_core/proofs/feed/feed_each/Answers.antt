@@ -1,6 +1,6 @@
 -- Each reference is fed, or left out if it finds its block in front.
 use Rattle.std.proofs.Common.{◌<◌, ◌∙◌, sym, length, arith}
-use Rattle.profile_core.proofs.Batches.{IsFedTo, fed_front, fed_behind}
+use Rattle.profile_core.proofs.Batches.{fed_front, fed_behind}
 use Rattle.profile_core.proofs.feed.feed_each.Goals as goal
 use Rattle.profile_core.proofs.feed.feed_each.Goals.{then-not-feed_in_batch}
 use Rattle.profile_core.proofs.feed.feed_each.Goals.{else-not-feed_in_batch}

@@ -1,7 +1,7 @@
 -- A rest that gets another block in front, and lacks the one that was there, or its last.
 use Rattle.std.proofs.Common.{◌≡◌, ◌∙◌, ◌+◌, ◌-◌, ◌++◌, suc, take, drop, set, ap, arith}
 use Rattle.profile_core.proofs.Bringing.{IsShifted}
-use Rattle.profile_core.proofs.RestBringing.{rest_found, rest_grown, rest_full, found_small}
+use Rattle.profile_core.proofs.RestBringing.{rest_found, rest_grown, found_small}
 use Rattle.profile_core.proofs.row.bring_behind.Goals as goal
 use Rattle.profile_core.proofs.row.bring_behind.Goals.{After-shift_past}
 

@@ -1,6 +1,6 @@
 -- Empty lists, with nothing behind their rows.
-use Rattle.std.proofs.Common.{◌≡◌, ◌+◌, ◌-◌, ◌*◌, ◌≤◌, ◌^◌, ◌∙◌, ℕ, List, []}
-use Rattle.std.proofs.Common.{ap, arith, subst}
+use Rattle.std.proofs.Common.{◌+◌, ◌-◌, ◌∙◌, ℕ, List, []}
+use Rattle.std.proofs.Common.{ap, arith}
 use Rattle.std.specs.Prelude.{replicate}
 use Rattle.profile_core.specs.internal.Lists.{Lists}
 use Rattle.profile_core.specs.internal.LongLists.{whole_lists}

@@ -1,5 +1,5 @@
 -- References found in front are counted: the lists stay.
-use Rattle.profile_core.proofs.Fronts.{counted_sound, counted_after}
+use Rattle.profile_core.proofs.Fronts.{counted_sound}
 use Rattle.profile_core.proofs.profile.Profile.count_fronts.Goals as goal
 
 pub invariant_of-self : goal.invariant_of-self

@@ -1,5 +1,5 @@
 -- A list has a block if its length is not 0.
-use Rattle.std.proofs.Common.{ap, arith}
+use Rattle.std.proofs.Common.{arith}
 use Rattle.profile_core.proofs.ListLemmas.{known, within, list_size, len_read}
 use Rattle.profile_core.proofs.recency.RecencyListsSetLists.has_block.Goals as goal
 

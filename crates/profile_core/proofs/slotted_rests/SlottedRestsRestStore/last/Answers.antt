@@ -1,36 +1,33 @@
 -- The last number of a rest.
-use Rattle.std.proofs.Common.{◌≡◌, ◌-◌, ◌∙◌, get_or, ap, arith, sym, subst}
+use Rattle.std.proofs.Common.{◌≡◌, ◌<◌, length, ◌-◌, ◌∙◌, get_or, ap, arith, sym, subst}
 use Rattle.std.proofs.lemmas.List.{get_or_read}
 use Rattle.profile_core.specs.internal.SlottedRests.{no_slots, slots_at}
 use Rattle.profile_core.specs.internal.Rows.{row_for}
-use Rattle.profile_core.proofs.RowsOf.{within, stride_is, row_is}
+use Rattle.profile_core.proofs.RowsOf.{known_row, within, stride_is, row_is}
 use Rattle.profile_core.proofs.SlotLemmas.{listed_at}
-use Rattle.profile_core.proofs.SlottedRestLemmas.{AreOrdered, RestIn, slots_are}
+use Rattle.profile_core.proofs.SlottedRestLemmas.{AreOrdered, slots_are}
 use Rattle.profile_core.proofs.slotted_rests.SlottedRestsRestStore.last.Goals as goal
-use Rattle.profile_core.proofs.slotted_rests.SlottedRestsRestStore.last.Goals.{After-self, After-index}
+use Rattle.profile_core.proofs.slotted_rests.SlottedRestsRestStore.last.Goals.{After-index}
 use Rattle.profile_core.proofs.slotted_rests.SlottedRestsRestStore.last.Goals.{After-index-2}
-
-rest : (c : After-self) → RestIn c.self.inside c.args.set c.args.self.now
-rest c = record { seen = c.self.view_is; is_set = c.requires.within }
 
 pub index-requires : goal.index-requires
 index-requires c = omega (
   arith,
-  within (rest (goal.at.index-requires c).After-self),
+  within (known_row c.self.view_is c.requires.within),
   c.self.inside.places.ok.0,
 )
 
-place : (c : After-index) → RestIn c.self.inside c.args.set c.args.self.now →
+place : (c : After-index) → c.args.set < length c.self.inside.places.items →
     c.index.result.now ≡ get_or c.self.inside.places.items c.args.set 0
-place c r = get_or_read c.self.inside.places.items c.args.set c.index.result.now
-    (within r) c.index.ensures 0
+place c lt = get_or_read c.self.inside.places.items c.args.set c.index.result.now lt
+    c.index.ensures 0
 
 pub index-requires-2 : goal.index-requires-2
 index-requires-2 c =
     let at = goal.at.index-requires-2 c in
     omega (
       arith,
-      place at.After-index (rest at.After-self),
+      place at.After-index (within (known_row c.self.view_is c.requires.within)),
       slots_are c.self.invariant.placed c.args.set,
       c.self.inside.rests.ok.0,
     )
@@ -44,19 +41,19 @@ here c place = get_or_read c.self.inside.rests.items c.index.result.now c.index-
 pub number_at-requires-clause-sound : goal.number_at-requires-clause-sound
 number_at-requires-clause-sound c =
     let at = goal.at.number_at-requires-clause-sound c in
-    subst AreOrdered (sym (here at.After-index-2 (place at.After-index (rest at.After-self))))
+    subst AreOrdered (sym (here at.After-index-2 (place at.After-index (within (known_row c.self.view_is c.requires.within)))))
     (c.self.invariant.placed.each _ (slots_are c.self.invariant.placed c.args.set))
 
 pub returns : goal.returns
 returns c =
     let at = goal.at.returns c in
-    let r = rest at.After-self in
+    let r = known_row c.self.view_is c.requires.within in
     let n = c.self.inside.stride in
     let s = slots_at c.self.inside.places.items c.self.inside.rests.items c.args.set in
     let o = c.self.invariant.placed.each _ (slots_are c.self.invariant.placed c.args.set) in
     c.number_at.ensures
     ∙ ap (λ t. get_or t.numbers (get_or t.order (n - 1) 0) 0) (here at.After-index-2
-    (place at.After-index (rest at.After-self)))
+    (place at.After-index (within (known_row c.self.view_is c.requires.within))))
     ∙ sym (listed_at s.order s.numbers n (n - 1) (omega (arith, o.order_len, c.self.invariant.most))
     (omega (arith, c.self.invariant.some)))
     ∙ ap (λ xs. get_or xs (n - 1) 0) (sym (row_is r))

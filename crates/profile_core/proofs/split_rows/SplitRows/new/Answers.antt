@@ -1,7 +1,7 @@
 -- Rows of zeros.
 use Rattle.std.proofs.Common.{◌≡◌}
 use Rattle.std.specs.Prelude.{replicate}
-use Rattle.profile_core.proofs.SplitRowLemmas.{new_split, new_rows}
+use Rattle.profile_core.proofs.SplitRowLemmas.{new_rows}
 use Rattle.profile_core.proofs.split_rows.SplitRows.new.Goals as goal
 use Rattle.profile_core.proofs.split_rows.SplitRows.new.Goals.{In_ok-vec}
 use Rattle.profile_core.proofs.split_rows.SplitRows.new.Given.{Over}

@@ -3,9 +3,9 @@ use Rattle.std.proofs.Common.{◌≡◌, ◌∙◌, ◌<◌, ◌≤◌, ℕ, len
 use Rattle.std.proofs.lemmas.List.{get_or_read}
 use Rattle.profile_core.specs.internal.Rows.{row_for}
 use Rattle.profile_core.proofs.RowsOf.{row_is, stride_is, put_is, put_others}
-use Rattle.profile_core.proofs.SplitRowLemmas.{HasSplit, known, is_first, is_rest, rest_long}
-use Rattle.profile_core.proofs.SplitRowLemmas.{first_sound, first_written, one_brought, brought_as}
-use Rattle.profile_core.proofs.SplitRowLemmas.{written_sound, written_rows, second_apart}
+use Rattle.profile_core.proofs.SplitRowLemmas.{known, is_first, is_rest, rest_long}
+use Rattle.profile_core.proofs.SplitRowLemmas.{first_written, one_brought, brought_as}
+use Rattle.profile_core.proofs.SplitRowLemmas.{written_rows, second_apart}
 use Rattle.profile_core.proofs.SplitRowLemmas.{rest_touch, rest_brought}
 use Rattle.profile_core.proofs.split_rows.SplitRowsRowStore.bring.Goals as goal
 use Rattle.profile_core.proofs.split_rows.SplitRowsRowStore.bring.Goals.{After-replace-second}
