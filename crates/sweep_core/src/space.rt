@@ -99,7 +99,7 @@ pub struct SpaceFault {
 const MAX_POWER: u64 = 1 << MAX_BITS;
 
 /// The configurations of a sweep: a lowest and a greatest value for each number, and for the size
-/// in bytes.
+/// in bytes. The clause `limits` of `configs` says that they are within the limits.
 #[derive(Clone, Copy, Debug)]
 pub struct Space {
     bsize: (u64, u64),
